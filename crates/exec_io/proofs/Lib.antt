@@ -1,0 +1,3 @@
+mod ShelfLemmas
+pub mod SinkLemmas
+mod SourceLemmas

@@ -1,0 +1,69 @@
+-- What the objects in memory show of themselves.
+use Rattle.std.specs.Prelude.{◌≡◌, if◌then◌else◌, min, length, Option, None, Some, ℕ, ◌+◌, List, [], ◌++◌, take, map, zip, Bool, true, false, String, Vec, string_bytes, vec_items}
+use Rattle.std.specs.declared.alloc.Global.{Global}
+use Rattle.exec_io.specs.Calls.{Calls, no_calls, after_call}
+use Rattle.exec_io.specs.Shelves.{Texts}
+
+-- A source: the bytes that are left to read, and its calls.
+pub record SourceState : Type 0 where
+  pub left : List ℕ
+  pub calls : Calls
+
+-- A sink: the bytes written, how many aren't handed on, the most that a write takes, and its calls.
+pub record SinkState : Type 0 where
+  pub bytes : List ℕ
+  pub outstanding : ℕ
+  pub most : ℕ
+  pub calls : Calls
+
+-- A sink into which nothing was written.
+abbrev pub no_bytes : ℕ → List ℕ → SinkState
+no_bytes most fails = record { bytes = []; outstanding = 0; most = most; calls = no_calls fails }
+
+-- After a write took this many bytes of a piece.
+abbrev pub after_write : SinkState → List ℕ → ℕ → SinkState
+after_write sink piece count = record sink {
+  bytes = sink.bytes ++ take count piece;
+  outstanding = sink.outstanding + count;
+  calls = after_call sink.calls false;
+}
+
+-- After everything was handed on.
+abbrev pub after_finish : SinkState → SinkState
+after_finish sink = record sink { outstanding = 0; calls = after_call sink.calls false }
+
+-- After a call that failed: only the calls have changed.
+abbrev pub after_failure : SinkState → SinkState
+after_failure sink = record sink { calls = after_call sink.calls true }
+
+-- A shelf: its texts, and its calls.
+pub record ShelfState : Type 0 where
+  pub texts : Texts
+  pub calls : Calls
+
+-- Each name with the text at its place.
+abbrev pub named_texts : List (String Global) → List (Vec ℕ Global) → Texts
+named_texts names texts = zip (map string_bytes names) (map vec_items texts)
+
+-- After a read, which failed or didn't.
+abbrev pub after_read : ShelfState → Bool → ShelfState
+after_read shelf failed = record shelf { calls = after_call shelf.calls failed }
+
+-- What never fails: the object that it stands over, and whether it still tells what that one holds.
+pub record NeverFailsState (T : Type 0) : Type 0 where
+  pub inner : T
+  pub tells : Bool
+
+-- The bytes written, while it tells them.
+abbrev pub told_bytes : NeverFailsState SinkState → Option (List ℕ)
+told_bytes sink = if sink.tells then Some sink.inner.bytes else None
+
+-- How many of them aren't handed on, while it tells that.
+abbrev pub told_outstanding : NeverFailsState SinkState → Option ℕ
+told_outstanding sink = if sink.tells then Some sink.inner.outstanding else None
+
+-- The sink under it took as many bytes as it takes in a write, and nothing else changed.
+pub record WritesInner (old new : NeverFailsState SinkState) (piece : List ℕ) (count : ℕ)
+    : Type 0 where
+  pub took : count ≡ min old.inner.most (length piece)
+  pub after : new ≡ record old { inner = after_write old.inner piece count }
