@@ -1,0 +1,13 @@
+pub mod Bytes
+pub mod Equal
+pub mod ErrorName
+pub mod Kinds
+pub mod Line
+pub mod Number
+pub mod OneToOne
+pub mod Place
+pub mod Record
+pub mod Sum
+pub mod Summary
+pub mod Text
+pub mod Writing

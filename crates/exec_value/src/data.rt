@@ -1,0 +1,152 @@
+//! Data, and the lists of them that values are.
+ghost use Rattle.std.specs.Prelude.{◌≡◌, ◌<◌, ◌≤◌, [], ◌∷◌, ◌++◌, List, length, IsOk, IfOk, IfErr, OnOk, OnErr};
+ghost use Rattle.exec_value.specs.declared.limits.TheConstants.{DATA};
+ghost use Rattle.exec_value.specs.Place.{AreInPlace};
+
+use crate::kinds::Kind;
+use crate::limits::{DATA, INLINE_DATA};
+use crate::nums::Nums;
+use crate::txt::Txt;
+use smallvec::SmallVec;
+use std::alloc::{AllocError, Global};
+use std::marker::Model;
+
+/// One datum.
+#[derive(Clone, Debug, Default, Drop, PartialEq, Eq)]
+pub enum Datum {
+    Int(i64),
+    Text(Txt),
+    Row(Nums),
+    /// A number where there may be none.
+    SomeInt(i64),
+    /// A text where there may be none.
+    SomeText(Txt),
+    /// No number, or no text, where there may be one.
+    #[default]
+    Nothing,
+}
+
+impl Datum {
+    ghost use Rattle.std.specs.Prelude.{◌↔◌, IsTrue};
+    ghost use Rattle.exec_value.specs.Kinds.{HasKind, IsConstant};
+
+    /// Whether the datum is of this kind. `Nothing` is of both maybe kinds.
+    pub fn is_of(&self, kind: Kind) -> bool
+        ensures { IsTrue result ↔ HasKind self.now kind }
+    {
+        match self {
+            Datum::Int(_) => matches!(kind, Kind::Int),
+            Datum::Text(_) => matches!(kind, Kind::Text),
+            Datum::Row(_) => matches!(kind, Kind::Row),
+            Datum::SomeInt(_) => matches!(kind, Kind::MaybeInt),
+            Datum::SomeText(_) => matches!(kind, Kind::MaybeText),
+            Datum::Nothing => matches!(kind, Kind::MaybeInt | Kind::MaybeText),
+        }
+    }
+
+    /// Whether a plan may have the datum as a constant: an int, a text or a row.
+    pub fn is_constant(&self) -> bool
+        ensures { IsTrue result ↔ IsConstant self.now }
+    {
+        matches!(self, Datum::Int(_) | Datum::Text(_) | Datum::Row(_))
+    }
+}
+
+/// What a value completion carries: a list of at most 64 data. One datum stands in place and
+/// needs no allocation.
+#[derive(Debug, Drop)]
+pub struct Data {
+    items: SmallVec<Datum, INLINE_DATA>,
+}
+
+impl Model for Data {
+    ghost use Rattle.std.specs.Prelude.{◌≤◌, List, length};
+    ghost use Rattle.exec_value.specs.declared.data.Datum.{Datum};
+    ghost use Rattle.exec_value.specs.declared.limits.TheConstants.{DATA, INLINE_DATA};
+
+    ghost Value = { List Datum };
+
+    ghost view = { λ d. d.items.items };
+
+    ghost invariant = { λ d. (length d.items.items ≤ DATA) × (INLINE_DATA ≤ d.items.capacity) };
+}
+
+impl Data {
+    /// The list of no data. It takes no memory.
+    pub fn empty(alloc: Global) -> Data
+        ensures { result ≡ [] }
+    {
+        Data {
+            items: SmallVec::new(alloc),
+        }
+    }
+
+    /// The list of one datum. It takes no memory.
+    pub fn one(alloc: Global, datum: Datum) -> Data
+        ensures { result ≡ datum ∷ [] }
+    {
+        Data {
+            items: SmallVec::from_buf(alloc, [datum]),
+        }
+    }
+
+    /// Appends a datum. Where there is no memory the datum comes back, which a first datum never
+    /// does.
+    pub fn push(&mut self, datum: Datum) -> Result<(), Datum>
+        requires { length self.old < DATA }
+        ensures ok { OnOk result (self.new ≡ self.old ++ datum ∷ []) }
+        ensures err { OnErr result (self.new ≡ self.old) }
+        ensures back { IfErr result (λ returned. returned ≡ datum) }
+        ensures first { self.old ≡ [] → IsOk result }
+    {
+        self.items.push(datum).map_err(|failed| failed.value)
+    }
+
+    /// The data.
+    pub fn as_slice(&self) -> &[Datum]
+        ensures data { result.now ≡ self.now }
+        ensures few { length self.now ≤ DATA }
+    {
+        self.items.as_slice()
+    }
+}
+
+impl Clone for Data {
+    ghost is_clone = { λ values copy. copy ≡ values };
+
+    ghost is_infallible = { AreInPlace };
+
+    fn clone(&self) -> Result<Self, AllocError> {
+        copy_data(*self.items.allocator(), self)
+    }
+}
+
+impl PartialEq for Data {
+    ghost use Rattle.std.specs.Cmp.{partial_equiv_from_equiv};
+    ghost use Rattle.std.specs.Cmp.Lexicographic.{pointwise, lists_per};
+    ghost use Rattle.exec_value.specs.Equal.{datum_eq, datum_equiv};
+
+    ghost eq = { pointwise datum_eq };
+
+    ghost laws = { lists_per (partial_equiv_from_equiv datum_equiv) };
+
+    fn eq(&self, other: &Self) -> bool {
+        self.as_slice() == other.as_slice()
+    }
+}
+
+impl Eq for Data {
+    ghost use Rattle.std.specs.Cmp.Lexicographic.{lists_equiv};
+    ghost use Rattle.exec_value.specs.Equal.{datum_equiv};
+
+    ghost laws = { lists_equiv datum_equiv };
+}
+
+/// An equal list of data. A copy of one datum that stands in place wants no memory.
+pub fn copy_data(alloc: Global, values: &Data) -> Result<Data, AllocError>
+    ensures ok { IfOk result (λ copy. copy ≡ values.now) }
+    ensures in_place { AreInPlace values.now → IsOk result }
+{
+    let items = SmallVec::from_clones(alloc, values.as_slice())?;
+    Ok(Data { items })
+}
