@@ -1,0 +1,5 @@
+pub mod Answer
+pub mod Apply
+pub mod Element
+pub mod Fault
+pub mod Takes
