@@ -1,0 +1,17 @@
+pub mod Frames
+pub mod Fitting
+pub mod ScopeFrames
+pub mod Puts
+pub mod Trees
+pub mod Holding
+pub mod RestTake
+pub mod Begin
+pub mod Finish
+pub mod Report
+pub mod Members
+pub mod Await
+pub mod Claim
+pub mod Quiet
+pub mod Released
+pub mod ReleaseOwned
+pub mod Release

@@ -1,0 +1,4 @@
+pub mod Frames
+pub mod Counts
+pub mod Rouse
+pub mod Steps

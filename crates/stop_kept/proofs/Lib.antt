@@ -1,0 +1,17 @@
+pub mod StopFrames
+pub mod Standing
+pub mod Phases
+pub mod Notes
+pub mod Sources
+pub mod ScanAt
+pub mod Passes
+pub mod Asking
+pub mod Grounds
+pub mod Arm
+pub mod Look
+pub mod Withdraw
+pub mod Request
+pub mod Run
+pub mod EndRun
+pub mod SealScan
+pub mod Skip
