@@ -1,0 +1,3 @@
+pub mod Object
+pub mod Node
+pub mod Plan
