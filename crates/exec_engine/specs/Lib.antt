@@ -1,0 +1,17 @@
+pub mod Accepts
+pub mod Answered
+pub mod Answers
+pub mod Chain
+pub mod Command
+pub mod Ends
+pub mod Lawful
+pub mod Noted
+pub mod Notes
+pub mod Opening
+pub mod Printed
+pub mod Ran
+pub mod Sinks
+pub mod Sofar
+pub mod Status
+pub mod StopState
+pub mod Untouched

@@ -1,0 +1,36 @@
+-- What notes hold of each status.
+use Rattle.std.specs.Prelude.{◌≡◌, ◌≢◌, ◌⊎◌, ℕ, List, [], Option}
+use Rattle.exec_io.specs.Shelves.{Texts}
+use Rattle.chain_plan.specs.declared.fault.ChainFault.{ChainFault}
+use Rattle.exec_engine.specs.declared.status.Status.{Status}
+use Rattle.exec_engine.specs.declared.status.Status.TheVariants.{AllValues, NotAllValues, Usage, PlanRefused, NoMemory, ReadFault, WriteFault, Limit}
+use Rattle.exec_engine.specs.Sinks.{SinkView, TellsAll, TellsFront}
+use Rattle.exec_engine.specs.Notes.{note_of, refusal_of}
+use Rattle.exec_engine.specs.Opening.{HasRefusal}
+
+-- The whole text was told, or a front of it where a call of notes failed.
+abbrev pub Tells : SinkView → SinkView → List ℕ → Type 0
+Tells old new text = TellsAll old new text ⊎ TellsFront old new text
+
+-- The note of this status was told as far as notes took it, or there is none.
+pub data Concludes (status : Status) (old new : SinkView) : Status → Type 0 where
+  quiet : note_of status ≡ [] → new ≡ old → Concludes status old new status
+  told : note_of status ≢ [] → TellsAll old new (note_of status) → Concludes status old new status
+  failed : note_of status ≢ [] → TellsFront old new (note_of status)
+      → Concludes status old new WriteFault
+
+-- What notes hold where the words ask for a run of the plan of this name. Where they fail at the
+-- note of another status, the answer is a write fault.
+module _ (texts : Option Texts) (name : List ℕ) (old new : SinkView) where
+  abbrev pub Noted : Status → Type 0
+  Noted AllValues = new ≡ old
+  Noted NotAllValues = new ≡ old
+  Noted Usage = ⊥
+  Noted PlanRefused =
+      (fault : ChainFault) × HasRefusal texts name fault × Tells old new (refusal_of fault)
+  Noted NoMemory = TellsAll old new (note_of NoMemory)
+  Noted ReadFault = TellsAll old new (note_of ReadFault)
+  Noted WriteFault =
+      TellsAll old new (note_of WriteFault)
+      ⊎ ((status : Status) × TellsFront old new (note_of status))
+  Noted Limit = TellsAll old new (note_of Limit)
