@@ -1,0 +1,63 @@
+//! Reads records from standard input, runs each by the plan in a file, and writes a line for each.
+//!
+//! The program is `exec_engine::run` over the files of the system and its standard streams. The
+//! adapters tell nothing of what these hold: that the system does as it says is taken on trust.
+#![tactic(auto)]
+
+mod faults;
+mod shelf;
+mod sink;
+mod source;
+#[cfg(test)]
+mod tests;
+
+use exec_engine::{Status, run};
+use shelf::FileShelf;
+use sink::Writing;
+use source::Reading;
+use std::alloc::AllocError;
+use std::env;
+use std::io::{BufWriter, ErrorKind};
+use std::process::ExitCode;
+use std::rt::Env;
+
+/// How many bytes of output are kept back at most.
+const OUT_BYTES: usize = 65_536;
+
+fn main(rt: HostRuntime) -> ExitCode {
+    let status = run_on_system(&rt).unwrap_or(Status::NoMemory);
+    ExitCode::from(status.code())
+}
+
+/// Runs the command that the program's words give. Its one error comes before the run.
+fn run_on_system(rt: &HostRuntime) -> Result<Status, AllocError> {
+    let alloc = rt.alloc();
+    let owned = words_of_command(rt)?;
+    let words: Vec<&str> = owned.iter().map(|word| word.as_str()).collect(alloc)?;
+    let buffer = BufWriter::with_capacity(alloc, OUT_BYTES, rt.stdout());
+    let mut out = Writing::new(buffer.map_err(|_| AllocError)?);
+    let mut notes = Writing::new(rt.stderr());
+    let mut records = Reading::new(rt.stdin());
+    let mut shelf = FileShelf::new(rt);
+    let status = run(
+        alloc,
+        &words,
+        &mut shelf,
+        &mut records,
+        &mut out,
+        &mut notes,
+    );
+    // What a failed write left in the buffer isn't written any more.
+    let _ = out.into_inner().into_parts();
+    Ok(status)
+}
+
+/// The words after the program's name. A command line with a word that isn't UTF-8 is faulty, and
+/// so is one without words, which is the answer then.
+fn words_of_command<R: Env + AllocGlobal>(rt: &R) -> Result<Vec<String>, AllocError> {
+    match env::args(rt) {
+        Ok(all) => all.skip(1).collect(rt.alloc()),
+        Err(error) if error.kind() == ErrorKind::OutOfMemory => Err(AllocError),
+        Err(_) => Ok(Vec::new(rt.alloc())),
+    }
+}
