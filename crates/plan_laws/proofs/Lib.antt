@@ -1,0 +1,10 @@
+pub mod Tables
+pub mod Children
+pub mod Parts
+pub mod Steps
+pub mod Readings
+pub mod Covers
+pub mod Memory
+pub mod Joining
+pub mod Evaluation
+pub mod OneCompletion
