@@ -5,7 +5,7 @@ use Rattle.std.specs.Option.{option_map_or, option_and_then}
 use Rattle.std.proofs.lemmas.Bool.{and_parts, ltb-true, cond-true, cond-false, cases_lt, both_ways}
 use Rattle.std.proofs.lemmas.Option.{slice_get_past, slice_get-get_or}
 use Rattle.life_rules.specs.declared.tree.TreeNode.{TreeNode}
-use Rattle.life_rules.specs.Tree.{IsTree, Nearest, TheScope, TheNode, Nowhere, parent_of, has_source, is_unstoppable, is_root, has_place, given_by, source_above, nearest}
+use Rattle.life_rules.specs.Tree.{IsTree, TheScope, TheNode, Nowhere, parent_of, has_source, is_unstoppable, is_root, has_place, given_by, source_above, nearest}
 use Rattle.life_rules.proofs.Tests.{either}
 use Rattle.node_tree.specs.declared.nearest.NearestSource.{NearestSource}
 use Rattle.node_tree.specs.declared.nearest.NearestSource.TheVariants.{Scope, Node, Nowhere as NoNode}

@@ -33,7 +33,7 @@ impl Error for TreeFault {}
 
 /// A tree of operations, seen as the list of its nodes: at least one, at most `MOST_NODES`. Each node
 /// but the last, the root, has a parent of greater number.
-#[derive(Clone, Debug, Drop)]
+#[derive(Debug, Drop)]
 pub struct Tree {
     nodes: Vec<TreeNode>,
     /// The nearest source of each node, so that no walk is made for it.
@@ -50,6 +50,17 @@ impl Model for Tree {
     ghost view = { λ tree. tree.nodes.items };
 
     ghost invariant = { λ tree. IsTreeWith tree.nodes.items tree.nearest.items };
+}
+
+impl Clone for Tree {
+    ghost is_clone = { λ tree copy. copy ≡ tree };
+
+    fn clone(&self) -> Result<Tree, AllocError> {
+        Ok(Tree {
+            nodes: self.nodes.clone()?,
+            nearest: self.nearest.clone()?,
+        })
+    }
 }
 
 impl Tree {

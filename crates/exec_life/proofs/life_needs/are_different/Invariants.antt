@@ -1,0 +1,6 @@
+use Rattle.std.proofs.Common.{◌≡◌, drop}
+use Rattle.life_rules.specs.LifeSteps.{are_different}
+use Rattle.exec_life.proofs.life_needs.are_different.Given as goal
+
+abbrev pub invariant-loop-index : goal.invariant-loop-index
+invariant-loop-index l = are_different l.nodes ≡ are_different (drop l.index l.nodes)

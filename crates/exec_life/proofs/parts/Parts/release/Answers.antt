@@ -1,0 +1,23 @@
+use Rattle.std.proofs.Common.{◌∙◌, List, length, sym, subst}
+use Rattle.std.proofs.lemmas.List.{with_items_is}
+use Rattle.life_rules.specs.LifeSteps.{after_release}
+use Rattle.exec_life.specs.Parts.{lists_of, shown, Means}
+use Rattle.exec_life.specs.ViewLists.{ViewLists}
+use Rattle.exec_life.specs.ViewWrites.{ForgetsFirst}
+use Rattle.exec_life.proofs.ReleaseMeans.{release-means}
+use Rattle.exec_life.proofs.parts.Parts.release.Goals as goal
+
+pub returns : goal.returns
+returns c =
+    let d = lists_of c.args.self.now in
+    let views = c.forget_each.new.views in
+    let w = c.clear_places.new.self in
+    let lent = c.deref_mut.ensures.value in
+    let forgets : ForgetsFirst d.views views c.args.block (length d.views) =
+    subst (λ (old : List ViewLists). ForgetsFirst old views c.args.block (length old)) lent c.forget_each.ensures in
+    let e = with_items_is c.args.self.now.views views (forgets.count ∙ sym c.args.self.now.views.ok.0) in
+    let means = release-means d c.set_block.new.self w views c.args.hand c.args.block c.requires.ready.state
+    c.requires.ready.hand_is c.requires.needs
+    (rw (c.next_word.ensures, c.block-word.ensures) at c.set_block.ensures) c.clear_places.ensures forgets in
+    subst (λ (items : List ViewLists). Means (record d { words = w; views = items }) (after_release (shown c.args.self.now) c.args.hand c.args.block))
+    (sym e) means

@@ -1,0 +1,53 @@
+use Rattle.std.proofs.Common.{ap, sym, ◌∙◌}
+use Rattle.std.proofs.lemmas.Bool.{and_parts}
+use Rattle.life_rules.specs.declared.event.Place.{Place}
+use Rattle.life_rules.specs.States.{is_place}
+use Rattle.life_rules.specs.Words.{one_less, pending}
+use Rattle.exec_life.specs.declared.view.Role.TheVariants.{Nothing}
+use Rattle.exec_life.specs.Parts.{lists_of, shown}
+use Rattle.exec_life.proofs.Puts.{hand-view, knows-place, still-knows}
+use Rattle.exec_life.proofs.ReportMeans.{report-means, last_report-means, parent-place}
+use Rattle.exec_life.proofs.Roles.{role-cells}
+use Rattle.exec_life.proofs.parts.Parts.report.Goals as goal
+
+pub set_role-requires : goal.set_role-requires
+set_role-requires c =
+    let d = lists_of c.args.self.now in
+    let v = c.index_mut-view.result.now in
+    let has = hand-view d c.args.hand v c.requires.ready.state c.requires.ready.hand_is c.index_mut-view.ensures.value in
+    knows-place d c.args.hand v c.args.place has
+    (and_parts (is_place (shown c.args.self.now) c.args.place) _ c.requires.needs).0
+
+pub set_role-requires-then-pending-eq1 : goal.set_role-requires-then-pending-eq1
+set_role-requires-then-pending-eq1 c =
+    let d = lists_of c.args.self.now in
+    let v = c.index_mut-view.result.now in
+    let p = c.args.place in
+    let q = c.in-Some.node in
+    let has = hand-view d c.args.hand v c.requires.ready.state c.requires.ready.hand_is c.index_mut-view.ensures.value in
+    let parent : Place = record { block = p.block; node = q } in
+    still-knows v c.set_role.new.self parent
+    (role-cells v c.set_role.new.self p.block p.node Nothing c.set_role.ensures)
+    (knows-place d c.args.hand v parent has
+    (parent-place d c.args.hand v p q has c.requires.needs (sym c.in-Some.ensures)))
+
+pub returns-then-pending-eq1 : goal.returns-then-pending-eq1
+returns-then-pending-eq1 c =
+    let d = lists_of c.args.self.now in
+    let v = c.index_mut-view.result.now in
+    let has = hand-view d c.args.hand v c.requires.ready.state c.requires.ready.hand_is c.index_mut-view.ensures.value in
+    let word = c.one_less.ensures ∙ ap one_less c.control-word.ensures in
+    let only = ap pending (sym c.control-word.ensures) ∙ sym c.pending.ensures ∙ c.if-pending-eq1.true in
+    last_report-means d c.set_control.new.self c.args.hand v c.set_role.new.self c.args.place c.in-Some.node has
+    c.requires.needs (sym c.in-Some.ensures) (rw word at c.set_control.ensures) c.set_role.ensures
+    c.set_role-then-pending-eq1.new.self only c.set_role-then-pending-eq1.ensures
+
+pub returns-else-pending-eq1 : goal.returns-else-pending-eq1
+returns-else-pending-eq1 c =
+    let d = lists_of c.args.self.now in
+    let v = c.index_mut-view.result.now in
+    let has = hand-view d c.args.hand v c.requires.ready.state c.requires.ready.hand_is c.index_mut-view.ensures.value in
+    let word = c.one_less.ensures ∙ ap one_less c.control-word.ensures in
+    report-means d c.set_control.new.self c.args.hand v c.set_role.new.self c.args.place c.in-Some.node has
+    c.requires.needs (sym c.in-Some.ensures) (rw word at c.set_control.ensures) c.set_role.ensures
+    (λ only. c.if-pending-eq1.false (c.pending.ensures ∙ ap pending c.control-word.ensures ∙ only))

@@ -1,0 +1,22 @@
+use Rattle.std.proofs.Common.{refl, ◌∙◌, ap, get_or, List, length}
+use Rattle.std.proofs.lemmas.List.{length-replicate}
+use Rattle.life_rules.specs.declared.words.BlockWord.{BlockWord}
+use Rattle.exec_life.specs.WordLists.{first_word}
+use Rattle.exec_life.proofs.GridLemmas.{replicate-read}
+use Rattle.exec_life.proofs.words.Words.new.Goals as goal
+
+pub returns : goal.returns
+returns c =
+    let filled = c.in_ok-vec.ensures.items_if_clones_equal (λ y same. same) in
+    record {
+      blocks_are = ap length filled ∙ length-replicate c.args.blocks first_word;
+      nodes_are = refl;
+      block_is =
+          (λ t b. (ap (λ (xs : List BlockWord). get_or xs b first_word) filled
+          ∙ replicate-read c.args.blocks b first_word) t);
+      control_is = c.in_ok-new.ensures.cells_are;
+      callback_is = c.in_ok-new-2.ensures.cells_are;
+      source_is = c.in_ok-new-3.ensures.cells_are;
+      scope_source_is = refl;
+      scope_is = refl;
+    }

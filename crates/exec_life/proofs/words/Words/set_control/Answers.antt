@@ -1,0 +1,6 @@
+use Rattle.std.proofs.Common.{refl}
+use Rattle.life_rules.specs.declared.words.ControlWord.TheVariants.{Idle}
+use Rattle.exec_life.proofs.words.Words.set_control.Goals as goal
+
+pub returns : goal.returns
+returns c = rw (← c.self.view_is) (record { word_is = c.set.ensures.cell Idle; rest = refl })

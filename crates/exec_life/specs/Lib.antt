@@ -1,0 +1,10 @@
+pub mod Grids
+pub mod WordLists
+pub mod ViewLists
+pub mod WordWrites
+pub mod ViewWrites
+pub mod StateLists
+pub mod ViewInside
+pub mod WordInside
+pub mod Parts
+pub mod Reading
