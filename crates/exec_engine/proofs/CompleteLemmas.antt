@@ -16,6 +16,7 @@ use Rattle.exec_engine.specs.declared.status.Status.{Status}
 use Rattle.exec_engine.specs.declared.status.Status.TheVariants.{AllValues, NotAllValues, Usage, PlanRefused, NoMemory, ReadFault, WriteFault, Limit}
 use Rattle.exec_engine.specs.Command.{command_of, plan_of}
 use Rattle.exec_engine.specs.Sinks.{SinkView}
+use Rattle.exec_engine.specs.Sources.{SourceView}
 use Rattle.exec_engine.specs.Opening.{IsRefused, HasRefusal}
 use Rattle.exec_engine.specs.Untouched.{IsHandedOn}
 use Rattle.exec_engine.specs.Answers.{Lines, Says}
@@ -47,24 +48,24 @@ within_reads (Some all) None bytes consumed at_end within = absurd consumed
 within_reads (Some all) (Some rest) bytes consumed at_end within =
     λ beyond. within (subst IsBeyond (consumed ∙ ap (λ bs. bytes ++ bs) at_end ∙ append-nil bytes) beyond)
 
-module _ (texts : Option Texts) (name : List ℕ) (source left : Option (List ℕ)) (old new : SinkView) where
+module _ (texts : Option Texts) (name : List ℕ) (before after : SourceView) (old new : SinkView) where
   -- a limit is answered where the source passes one
-  pub Limit-beyond : (status : Status) → Says texts name source left old new status → status ≡ Limit → IfSome source IsBeyond
+  pub Limit-beyond : (status : Status) → Says texts name before after old new status → status ≡ Limit → IfSome before.left IsBeyond
   Limit-beyond status says is =
-      let P : Status → Type 0 = Says texts name source left old new in
+      let P : Status → Type 0 = Says texts name before after old new in
       let limit = subst P is says in
-      beyond_reads source left limit.1.bytes limit.1.reads.consumed (limit.1.reads.beyond refl)
+      beyond_reads before.left after.left limit.1.bytes limit.1.reads.consumed (limit.1.reads.beyond refl)
 
   -- and the end where it doesn't
-  pub Values-within : (status : Status) → Says texts name source left old new status → (status ≡ AllValues) ⊎ (status ≡ NotAllValues) → IfSome source (λ all. ¬ IsBeyond all)
+  pub Values-within : (status : Status) → Says texts name before after old new status → (status ≡ AllValues) ⊎ (status ≡ NotAllValues) → IfSome before.left (λ all. ¬ IsBeyond all)
   Values-within status says (inl is) =
-      let P : Status → Type 0 = Says texts name source left old new in
+      let P : Status → Type 0 = Says texts name before after old new in
       let values = subst P is says in
-      within_reads source left values.1.bytes values.1.reads.consumed (values.1.reads.at_end refl) (values.1.reads.within (λ e. cc))
+      within_reads before.left after.left values.1.bytes values.1.reads.consumed (values.1.reads.at_end refl) (values.1.reads.within (λ e. cc))
   Values-within status says (inr is) =
-      let P : Status → Type 0 = Says texts name source left old new in
+      let P : Status → Type 0 = Says texts name before after old new in
       let values = subst P is says in
-      within_reads source left values.1.bytes values.1.reads.consumed (values.1.reads.at_end refl) (values.1.reads.within (λ e. cc))
+      within_reads before.left after.left values.1.bytes values.1.reads.consumed (values.1.reads.at_end refl) (values.1.reads.within (λ e. cc))
 
 none_not_some : {D : Type 0} (P : D → Type 0) (json : Option D) → IsSomeAnd json P → json ≡ None → ⊥
 none_not_some P None some is = some
@@ -91,18 +92,18 @@ not_given (Some known) name constants fault accepts refusal = told (text_of know
     told (Some text) plan given = not_refused fault refusal.bytes constants (let P : List ℕ → Type 0 = λ bytes. IsPlanOf bytes constants in subst P (sym given) plan) refusal.refused
 
 -- without a fault a run of such a plan, whose records are within the limits, comes to the end
-pub Says-finished : (texts : Option Texts) (name : List ℕ) (constants : List ℤ) (source left : Option (List ℕ)) (old new : SinkView) (status : Status)
+pub Says-finished : (texts : Option Texts) (name : List ℕ) (constants : List ℤ) (before after : SourceView) (old new : SinkView) (status : Status)
     → IsSomeAnd texts (λ known. IsSomeAnd (text_of known name) (λ text. IsPlanOf (take (MAX_PLAN_BYTES + 1) text) constants))
-    → IsSomeAnd source (λ all. ¬ IsBeyond all) → ¬ (status ≡ ReadFault) → ¬ (status ≡ WriteFault) → Says texts name source left old new status → IsFinished status
-Says-finished texts name constants source left old new AllValues accepts within read write says = inl refl
-Says-finished texts name constants source left old new NotAllValues accepts within read write says = inr (inl refl)
-Says-finished texts name constants source left old new Usage accepts within read write says = absurd says
-Says-finished texts name constants source left old new PlanRefused accepts within read write says = absurd (not_given texts name constants says.0.0 accepts says.0.1)
-Says-finished texts name constants source left old new NoMemory accepts within read write says = inr (inr refl)
-Says-finished texts name constants source left old new ReadFault accepts within read write says = absurd (read refl)
-Says-finished texts name constants source left old new WriteFault accepts within read write says = absurd (write refl)
-Says-finished texts name constants source left old new Limit accepts within read write says =
-    absurd (both source (beyond_reads source left says.1.bytes says.1.reads.consumed (says.1.reads.beyond refl)) within)
+    → IsSomeAnd before.left (λ all. ¬ IsBeyond all) → ¬ (status ≡ ReadFault) → ¬ (status ≡ WriteFault) → Says texts name before after old new status → IsFinished status
+Says-finished texts name constants before after old new AllValues accepts within read write says = inl refl
+Says-finished texts name constants before after old new NotAllValues accepts within read write says = inr (inl refl)
+Says-finished texts name constants before after old new Usage accepts within read write says = absurd says
+Says-finished texts name constants before after old new PlanRefused accepts within read write says = absurd (not_given texts name constants says.0.0 accepts says.0.1)
+Says-finished texts name constants before after old new NoMemory accepts within read write says = inr (inr refl)
+Says-finished texts name constants before after old new ReadFault accepts within read write says = absurd (read refl)
+Says-finished texts name constants before after old new WriteFault accepts within read write says = absurd (write refl)
+Says-finished texts name constants before after old new Limit accepts within read write says =
+    absurd (both before.left (beyond_reads before.left after.left says.1.bytes says.1.reads.consumed (says.1.reads.beyond refl)) within)
   where
     both : (source : Option (List ℕ)) → IfSome source IsBeyond → IsSomeAnd source (λ all. ¬ IsBeyond all) → ⊥
     both None beyond within = within
@@ -113,16 +114,16 @@ pub Tells-handed : {old new : SinkView} {text : List ℕ} → Tells old new text
 Tells-handed (inl all) still = inl all.handed_on
 Tells-handed (inr front) still = absurd (still front.cause)
 
-pub Noted-handed : (texts : Option Texts) (name : List ℕ) {old new : SinkView} (status : Status) → Noted texts name old new status → ¬ Rose old.faults new.faults → IsHandedOn old new
-Noted-handed texts name AllValues noted still = inr noted
-Noted-handed texts name NotAllValues noted still = inr noted
-Noted-handed texts name Usage noted still = absurd noted
-Noted-handed texts name PlanRefused noted still = Tells-handed noted.2 still
-Noted-handed texts name NoMemory noted still = inl noted.handed_on
-Noted-handed texts name ReadFault noted still = inl noted.handed_on
-Noted-handed texts name WriteFault (inl all) still = inl all.handed_on
-Noted-handed texts name WriteFault (inr front) still = absurd (still front.1.cause)
-Noted-handed texts name Limit noted still = inl noted.handed_on
+pub Noted-handed : (came : Status → Type 0) (texts : Option Texts) (name : List ℕ) {old new : SinkView} (status : Status) → Noted came texts name old new status → ¬ Rose old.faults new.faults → IsHandedOn old new
+Noted-handed came texts name AllValues noted still = inr noted
+Noted-handed came texts name NotAllValues noted still = inr noted
+Noted-handed came texts name Usage noted still = absurd noted
+Noted-handed came texts name PlanRefused noted still = Tells-handed noted.2 still
+Noted-handed came texts name NoMemory noted still = inl noted.handed_on
+Noted-handed came texts name ReadFault noted still = inl noted.handed_on
+Noted-handed came texts name WriteFault (inl all) still = inl all.handed_on
+Noted-handed came texts name WriteFault (inr front) still = absurd (still front.front.cause)
+Noted-handed came texts name Limit noted still = inl noted.handed_on
 
 -- the plan of words that ask for one stands on the shelf
 pub Accepts-asked : (texts : Option Texts) (words : List (Bor (List ℕ))) (constants : List ℤ) (command : Command) (name : List ℕ) → command_of words ≡ Some command → name ≡ plan_of command → Accepts texts words constants → IsSomeAnd texts (λ known. IsSomeAnd (text_of known name) (λ text. IsPlanOf (take (MAX_PLAN_BYTES + 1) text) constants))
@@ -184,17 +185,17 @@ bytes_of_source P (Some all) None bytes consumed at_end holds = absurd consumed
 bytes_of_source P (Some all) (Some rest) bytes consumed at_end holds = subst P (consumed ∙ ap (λ bs. bytes ++ bs) at_end ∙ append-nil bytes) holds
 
 -- records that settle to values alone have no other line
-pub Says-values : (texts : Option Texts) (name : List ℕ) (constants : List ℤ) (source left : Option (List ℕ)) (old new : SinkView) (status : Status)
+pub Says-values : (texts : Option Texts) (name : List ℕ) (constants : List ℤ) (before after : SourceView) (old new : SinkView) (status : Status)
     → IsSomeAnd texts (λ known. IsSomeAnd (text_of known name) (λ text. IsPlanOf (take (MAX_PLAN_BYTES + 1) text) constants))
-    → IsSomeAnd source (SettlesToValues constants) → IsFinished status → Says texts name source left old new status → (status ≡ AllValues) ⊎ (status ≡ NoMemory)
-Says-values texts name constants source left old new status stands settles (inl all) says = inl all
-Says-values texts name constants source left old new status stands settles (inr (inr none)) says = inr none
-Says-values texts name constants source left old new status stands settles (inr (inl some)) says =
-    let S : Status → Type 0 = Says texts name source left old new in
+    → IsSomeAnd before.left (SettlesToValues constants) → IsFinished status → Says texts name before after old new status → (status ≡ AllValues) ⊎ (status ≡ NoMemory)
+Says-values texts name constants before after old new status stands settles (inl all) says = inl all
+Says-values texts name constants before after old new status stands settles (inr (inr none)) says = inr none
+Says-values texts name constants before after old new status stands settles (inr (inl some)) says =
+    let S : Status → Type 0 = Says texts name before after old new in
     let prints = subst S some says in
     let lines = prints.1 in
     let bytes = lines.bytes in
     let P : List ℤ → Type 0 = λ constants. Lawful (terms_of constants) (records_of bytes Ended) prints.0 in
     let lawful : Lawful (terms_of constants) (records_of bytes Ended) prints.0 = subst P (sym (same_plan texts name constants lines.constants stands lines.plan)) lines.lawful in
-    let here : SettlesToValues constants bytes = bytes_of_source (SettlesToValues constants) source left bytes lines.reads.consumed (lines.reads.at_end refl) settles in
+    let here : SettlesToValues constants bytes = bytes_of_source (SettlesToValues constants) before.left after.left bytes lines.reads.consumed (lines.reads.at_end refl) settles in
     absurd (omega (arith, all_values constants bytes prints.0 here lawful, prints.2.0, prints.2.1))

@@ -8,7 +8,8 @@ use Rattle.exec_engine.specs.Lawful.{Terms, Lawful}
 
 -- Since the start these records were answered: their outcomes are lawful, and their lines are
 -- printed.
-pub record Answered (terms : Terms) (records : List (List ℕ)) (start now : SinkView) (printer : Printer) : Type 0 where
+pub record Answered (terms : Terms) (records : List (List ℕ)) (start now : SinkView) (printer : Printer)
+    : Type 0 where
   pub outcomes : List Outcome
   pub lawful : Lawful terms records outcomes
   pub printed : Printed start now printer outcomes

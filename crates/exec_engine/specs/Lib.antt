@@ -12,6 +12,7 @@ pub mod Printed
 pub mod Ran
 pub mod Sinks
 pub mod Sofar
+pub mod Sources
 pub mod Status
 pub mod StopState
 pub mod Untouched

@@ -19,9 +19,16 @@ pub data Concludes (status : Status) (old new : SinkView) : Status → Type 0 wh
   failed : note_of status ≢ [] → TellsFront old new (note_of status)
       → Concludes status old new WriteFault
 
--- What notes hold where the words ask for a run of the plan of this name. Where they fail at the
--- note of another status, the answer is a write fault.
-module _ (texts : Option Texts) (name : List ℕ) (old new : SinkView) where
+-- Notes failed while they were told of a status to which the run had come.
+pub record Interrupts (came : Status → Type 0) (old new : SinkView) : Type 0 where
+  pub status : Status
+  pub to_status : came status
+  pub has_note : note_of status ≢ []
+  pub front : TellsFront old new (note_of status)
+
+-- What notes hold where the words ask for a run of the plan of this name. `came` says what it is for
+-- the run to have come to a status: where notes fail at its note, the answer is a write fault.
+module _ (came : Status → Type 0) (texts : Option Texts) (name : List ℕ) (old new : SinkView) where
   abbrev pub Noted : Status → Type 0
   Noted AllValues = new ≡ old
   Noted NotAllValues = new ≡ old
@@ -30,7 +37,5 @@ module _ (texts : Option Texts) (name : List ℕ) (old new : SinkView) where
       (fault : ChainFault) × HasRefusal texts name fault × Tells old new (refusal_of fault)
   Noted NoMemory = TellsAll old new (note_of NoMemory)
   Noted ReadFault = TellsAll old new (note_of ReadFault)
-  Noted WriteFault =
-      TellsAll old new (note_of WriteFault)
-      ⊎ ((status : Status) × TellsFront old new (note_of status))
+  Noted WriteFault = TellsAll old new (note_of WriteFault) ⊎ Interrupts came old new
   Noted Limit = TellsAll old new (note_of Limit)

@@ -17,7 +17,8 @@ pub record Counted (printer : Printer) (outcomes : List Outcome) : Type 0 where
 
 -- Since the start the printer has printed these outcomes: their text, or a front of it where a
 -- write was lost.
-pub record Printed (start now : SinkView) (printer : Printer) (outcomes : List Outcome) : Type 0 where
+pub record Printed (start now : SinkView) (printer : Printer) (outcomes : List Outcome)
+    : Type 0 where
   pub counted : Counted printer outcomes
   pub part : AppendsFront start.written now.written (text_from 1 outcomes)
   pub whole : printer.lost ≡ false → Appends start.written now.written (text_from 1 outcomes)

@@ -18,7 +18,8 @@ pub record Reads (source left : Option (List ℕ)) (end : End) (bytes : List ℕ
   pub within : end ≢ Limit → ¬ IsBeyond bytes
 
 -- Bytes were read until this end, and their records were answered.
-pub record Ran (terms : Terms) (end : End) (source left : Option (List ℕ)) (start now : SinkView) (printer : Printer) : Type 0 where
+pub record Ran (terms : Terms) (end : End) (source left : Option (List ℕ)) (start now : SinkView)
+    (printer : Printer) : Type 0 where
   pub bytes : List ℕ
   pub reads : Reads source left end bytes
   pub answered : Answered terms (records_of bytes end) start now printer

@@ -1,10 +1,11 @@
 -- What a call leaves as it was, and what it leaves with nothing to hand on.
-use Rattle.std.specs.Prelude.{◌≡◌, ◌⊎◌, ℕ, List, Option, IfSome}
+use Rattle.std.specs.Prelude.{◌≡◌, ◌⊎◌, IfSome}
 use Rattle.exec_engine.specs.Sinks.{SinkView}
+use Rattle.exec_engine.specs.Sources.{SourceView}
 
 -- Nothing was read of a source, and nothing was done to a sink.
-pub record IsUntouched (source left : Option (List ℕ)) (old new : SinkView) : Type 0 where
-  pub source_same : left ≡ source
+pub record IsUntouched (before after : SourceView) (old new : SinkView) : Type 0 where
+  pub source_same : after ≡ before
   pub sink_same : new ≡ old
 
 -- A sink that tells it has nothing left to hand on; or nothing was done to it.

@@ -8,6 +8,7 @@ ghost use Rattle.exec_engine.specs.Command.{command_of, plan_of};
 ghost use Rattle.exec_engine.specs.Noted.{Noted, Tells};
 ghost use Rattle.exec_engine.specs.Notes.{note_of};
 ghost use Rattle.exec_engine.specs.Sinks.{view_of};
+ghost use Rattle.exec_engine.specs.Sources.{source_view};
 ghost use Rattle.exec_engine.specs.Untouched.{IsUntouched, IsHandedOn};
 
 use crate::notes::{conclude, note_of, refusal_of, refuse};
@@ -27,10 +28,16 @@ fn run_plan<F: Shelf, S: Source, K: Sink, N: Sink>(
     out: &mut K,
     notes: &mut N,
 ) -> Status
-    ensures says { Says (F.texts shelf.old) name.now (S.left records.old) (S.left records.new)
+    ensures says { Says (F.texts shelf.old) name.now
+        (source_view S.left S.faults records.old) (source_view S.left S.faults records.new)
         (view_of K.written K.outstanding K.faults out.old)
         (view_of K.written K.outstanding K.faults out.new) result }
-    ensures noted { Noted (F.texts shelf.old) name.now
+    ensures noted { Noted
+        (Says (F.texts shelf.old) name.now
+        (source_view S.left S.faults records.old) (source_view S.left S.faults records.new)
+        (view_of K.written K.outstanding K.faults out.old)
+        (view_of K.written K.outstanding K.faults out.new))
+        (F.texts shelf.old) name.now
         (view_of N.written N.outstanding N.faults notes.old)
         (view_of N.written N.outstanding N.faults notes.new) result }
     ensures read_fault { result ≡ Status.ReadFault →
@@ -77,22 +84,29 @@ pub fn run<F: Shelf, S: Source, K: Sink, N: Sink>(
         Tells (view_of N.written N.outstanding N.faults notes.old)
         (view_of N.written N.outstanding N.faults notes.new) (note_of Status.Usage) }
     ensures usage_leaves { result ≡ Status.Usage →
-        IsUntouched (S.left records.old) (S.left records.new)
+        IsUntouched
+        (source_view S.left S.faults records.old) (source_view S.left S.faults records.new)
         (view_of K.written K.outstanding K.faults out.old)
         (view_of K.written K.outstanding K.faults out.new) }
 
     // What the status says of the plan, the records and the lines, and what notes hold.
     ensures says { IfSome (command_of words.now) (λ command.
-        Says (F.texts shelf.old) (plan_of command) (S.left records.old) (S.left records.new)
+        Says (F.texts shelf.old) (plan_of command)
+        (source_view S.left S.faults records.old) (source_view S.left S.faults records.new)
         (view_of K.written K.outstanding K.faults out.old)
         (view_of K.written K.outstanding K.faults out.new) result) }
     ensures noted { IfSome (command_of words.now) (λ command.
-        Noted (F.texts shelf.old) (plan_of command)
+        Noted
+        (Says (F.texts shelf.old) (plan_of command)
+        (source_view S.left S.faults records.old) (source_view S.left S.faults records.new)
+        (view_of K.written K.outstanding K.faults out.old)
+        (view_of K.written K.outstanding K.faults out.new))
+        (F.texts shelf.old) (plan_of command)
         (view_of N.written N.outstanding N.faults notes.old)
         (view_of N.written N.outstanding N.faults notes.new) result) }
 
-    // A fault is answered only where a count of faults rose in this call, and where none is answered
-    // no call of the shelf, the records or out failed (of out `says` tells it).
+    // A fault is answered only where a count of faults rose in this call, and where none is
+    // answered no call of the shelf, the records or out failed (of out `says` tells it).
     ensures read_fault { result ≡ Status.ReadFault →
         Rose (F.faults shelf.old) (F.faults shelf.new)
         ⊎ Rose (S.faults records.old) (S.faults records.new) }

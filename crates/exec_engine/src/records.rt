@@ -5,6 +5,7 @@ ghost use Rattle.exec_engine.specs.Chain.{terms_of};
 ghost use Rattle.exec_engine.specs.Ends.{Runs};
 ghost use Rattle.exec_engine.specs.Sinks.{SinkView, view_of};
 ghost use Rattle.exec_engine.specs.Sofar.{Sofar};
+ghost use Rattle.exec_engine.specs.Sources.{source_view};
 
 use crate::session::Session;
 use crate::status::Status;
@@ -38,7 +39,8 @@ pub fn run_records<S: Source, K: Sink>(
         → Rose (S.faults records.old) (S.faults records.new) }
     ensures still { result ≢ Status.ReadFault → result ≢ Status.WriteFault
         → S.faults records.new ≡ S.faults records.old }
-    ensures runs { Runs (terms_of constants.now) (S.left records.old) (S.left records.new)
+    ensures runs { Runs (terms_of constants.now)
+        (source_view S.left S.faults records.old) (source_view S.left S.faults records.new)
         (view_of K.written K.outstanding K.faults out.old)
         (view_of K.written K.outstanding K.faults out.new) result }
 {

@@ -10,6 +10,7 @@ ghost use Rattle.record_lines.specs.Lines.{text_of, whole_lines};
 ghost use Rattle.record_lines.specs.Records.{records_of};
 ghost use Rattle.record_lines.specs.Cutters.{StandsAfter};
 ghost use Rattle.exec_engine.specs.Sinks.{SinkView, view_of};
+ghost use Rattle.exec_engine.specs.Sources.{source_view};
 ghost use Rattle.record_lines.specs.declared.limits.TheConstants.{MOST_RECORDS, MOST_BYTES};
 
 use crate::answer::{answer, answer_last};
@@ -271,7 +272,8 @@ impl Session {
             → Rose (S.faults records.old) (S.faults records.new) }
         ensures still { result ≢ Status.ReadFault → result ≢ Status.WriteFault
             → S.faults records.new ≡ S.faults records.old }
-        ensures ends { Ends (terms_of constants.now) (S.left records.old) (S.left records.new)
+        ensures ends { Ends (terms_of constants.now)
+            (source_view S.left S.faults records.old) (source_view S.left S.faults records.new)
             (view_of K.written K.outstanding K.faults out.old)
             (view_of K.written K.outstanding K.faults out.new) result }
     {

@@ -1,6 +1,12 @@
+use Rattle.std.proofs.Common.{◌≡◌, Bool, true, false, refl}
 use Rattle.exec_engine.specs.Sinks.{view_of}
 use Rattle.exec_engine.proofs.SofarLemmas.{Going-nil}
 use Rattle.exec_engine.proofs.session.Session.run.Goals as goal
+
+-- what isn't lost afterwards wasn't lost before
+not_lost : (before after : Bool) → (before ≡ true → after ≡ true) → after ≡ false → before ≡ false
+not_lost true after stays kept = let lost : after ≡ true = stays refl in cc
+not_lost false after stays kept = refl
 
 pub returns-clause-ends : goal.returns-clause-ends
 returns-clause-ends g c =
@@ -13,5 +19,6 @@ returns-clause-ends g c =
       printer = c.close-printer.result;
       ran = c.close-printer.ensures.ran start source left halts;
       settled = c.close-printer.ensures.settled;
+      cause = λ is kept. c.read_all-end.ensures.cause is (not_lost _ _ c.close-printer.ensures.stays_lost kept);
       is = c.status.ensures;
     }
