@@ -14,6 +14,8 @@ pub mod StopMeans
 pub mod ScanMeans
 pub mod ScopeMeans
 pub mod Sources
+pub mod ReleasedNames
+pub mod ForgetMeans
 pub mod ReleaseMeans
 pub mod OpeningMeans
 pub mod Tells

@@ -2,6 +2,7 @@
 use Rattle.std.specs.Prelude.{◌≡◌, ℕ, ◌+◌, ◌*◌, ◌==◌, nat_lt, if◌then◌else◌, List, slice_index_or}
 use Rattle.life_rules.specs.States.{set_at}
 
+-- the cells of a grid, which are of this type
 pub record Cells (A : Type 0) : Type 0 where
   -- the blocks
   pub rows : ℕ

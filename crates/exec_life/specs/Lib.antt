@@ -8,3 +8,16 @@ pub mod ViewInside
 pub mod WordInside
 pub mod Parts
 pub mod Reading
+-- the definitions that the public contracts cite
+pub use Rattle.life_rules.specs.Tree
+pub use Rattle.life_rules.specs.Words
+pub use Rattle.life_rules.specs.Scopes
+pub use Rattle.life_rules.specs.Views
+pub use Rattle.life_rules.specs.States
+pub use Rattle.life_rules.specs.LifeSteps
+pub use Rattle.life_rules.specs.StopSteps
+pub use Rattle.life_rules.specs.Steps
+pub use Rattle.life_rules.specs.Opening
+pub use Rattle.life_rules.specs.Sound
+pub use Rattle.life_laws.specs.Reached
+pub use Rattle.life_laws.specs.Laws

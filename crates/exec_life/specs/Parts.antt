@@ -13,6 +13,7 @@ use Rattle.life_rules.specs.Words.{is_idle}
 use Rattle.exec_life.specs.declared.parts.Parts.{Parts}
 use Rattle.exec_life.specs.StateLists.{StateLists, machine, IsFitted, IsState}
 
+-- the lists that the parts are
 abbrev pub lists_of : Parts → StateLists
 lists_of p =
     record { tree = p.tree; kind = p.kind; most = p.most; words = p.words; views = p.views.items }

@@ -12,8 +12,10 @@ use Rattle.exec_life.specs.WordLists.{WordLists, block_word, control_word, callb
 -- each word is the state's, as it reads at the present generation
 pub record TellWords (s : State) (w : WordLists) : Type 0 where
   pub block : (b : ℕ) → block_word w b ≡ s.block b
-  pub control : (p : Place) → is_place s p ≡ true → control_word w p.block p.node ≡ control_at s (name_at s p)
-  pub callback : (p : Place) → is_place s p ≡ true → callback_word w p.block p.node ≡ phase_at s (name_at s p)
+  pub control : (p : Place) → is_place s p ≡ true →
+      control_word w p.block p.node ≡ control_at s (name_at s p)
+  pub callback : (p : Place) → is_place s p ≡ true →
+      callback_word w p.block p.node ≡ phase_at s (name_at s p)
   pub source : (t : SourceAt) → is_source s t ≡ true → bits_in w t ≡ bits_at s (source_of s t)
   pub scope : w.scope ≡ s.scope
   -- and they are those of as many places
@@ -22,10 +24,14 @@ pub record TellWords (s : State) (w : WordLists) : Type 0 where
 
 -- each cell says what the hand's view has of the place at the present generation
 pub record TellsView (s : State) (hand : ℕ) (v : ViewLists) : Type 0 where
-  pub holds : (p : Place) → (s.view hand).holds (name_at s p) ≡ one (is_holder (role_in v p.block p.node))
-  pub starts : (p : Place) → (s.view hand).starts (name_at s p) ≡ one (is_starter (role_in v p.block p.node))
-  pub reports : (p : Place) → (s.view hand).reports (name_at s p) ≡ one (is_reporter (role_in v p.block p.node))
-  pub finished : (b : ℕ) → (s.view hand).finished (root_of s b) ≡ one (is_finisher (role_in v b (v.nodes - 1)))
+  pub holds : (p : Place) →
+      (s.view hand).holds (name_at s p) ≡ one (is_holder (role_in v p.block p.node))
+  pub starts : (p : Place) →
+      (s.view hand).starts (name_at s p) ≡ one (is_starter (role_in v p.block p.node))
+  pub reports : (p : Place) →
+      (s.view hand).reports (name_at s p) ≡ one (is_reporter (role_in v p.block p.node))
+  pub finished : (b : ℕ) →
+      (s.view hand).finished (root_of s b) ≡ one (is_finisher (role_in v b (v.nodes - 1)))
   pub runs : (p : Place) → (s.view hand).runs (name_at s p) ≡ one (runs_in v p.block p.node)
   pub scans : (t : SourceAt) → (s.view hand).scan (source_of s t) ≡ scan_in v t
   pub seen : (t : SourceAt) → (s.view hand).seen (source_of s t) ≡ seen_in v t

@@ -13,6 +13,7 @@ use Rattle.life_rules.specs.Views.{View, one, blank}
 use Rattle.exec_life.specs.ViewLists.{ViewLists, role_in, runs_in, unlooked_in, seen_after_in, seen_at, scan_of, is_holder, is_starter, is_reporter, is_finisher}
 use Rattle.exec_life.specs.WordLists.{WordLists, block_word, control_word, callback_word, source_word}
 
+-- the lists of a state
 pub record StateLists : Type 0 where
   pub tree : List TreeNode
   pub kind : ScopeKind
@@ -30,6 +31,7 @@ abbrev pub said_of : {A : Type 0} → (ℕ → ℕ) → A → (ℕ → ℕ → A
 said_of present nothing f x =
     if x.generation == present x.block then f x.block x.node else nothing
 
+-- the same of a source: the scope's has a cell of its own
 abbrev pub said_of_source : {A : Type 0} → (ℕ → ℕ) → A → A → (ℕ → ℕ → A) → SourceRef → A
 said_of_source present nothing scope f Scope = scope
 said_of_source present nothing scope f (Node x) = said_of present nothing f x

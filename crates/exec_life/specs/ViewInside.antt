@@ -2,6 +2,7 @@
 use Rattle.exec_life.specs.declared.view.View.TheInside.{Inside as ViewInside}
 use Rattle.exec_life.specs.ViewLists.{ViewLists}
 
+-- the lists that the fields are
 abbrev pub cells_of : ViewInside → ViewLists
 cells_of v =
     record {

@@ -8,6 +8,7 @@ use Rattle.exec_life.specs.declared.view.Role.{Role}
 use Rattle.exec_life.specs.declared.view.Role.TheVariants.{Nothing, Holds, OwesStart, OwesReport, HoldsFinished}
 use Rattle.exec_life.specs.Grids.{Cells, at, HasSize}
 
+-- the lists of a view: a grid for each thing that it notes of places
 pub record ViewLists : Type 0 where
   pub blocks : ℕ
   pub nodes : ℕ
@@ -45,21 +46,27 @@ pub record KnowsPlace (v : ViewLists) (place : Place) : Type 0 where
   pub block : place.block < v.blocks
   pub node : place.node < v.nodes
 
+-- what the view has of a block and a node
 abbrev pub role_in : ViewLists → ℕ → ℕ → Role
 role_in v = at Nothing v.roles
 
+-- whether it runs the callback there
 abbrev pub runs_in : ViewLists → ℕ → ℕ → Bool
 runs_in v = at false v.runs
 
+-- whether it armed the place and hasn't looked after it yet
 abbrev pub unlooked_in : ViewLists → ℕ → ℕ → Bool
 unlooked_in v = at false v.unlooked
 
+-- whether it has seen the request after arming the place
 abbrev pub seen_after_in : ViewLists → ℕ → ℕ → Bool
 seen_after_in v = at false v.seen_after
 
+-- whether it has seen the request on the place's own source
 abbrev pub seen_at : ViewLists → ℕ → ℕ → Bool
 seen_at v = at false v.seen
 
+-- from where its scan of the place's own source goes on
 abbrev pub scan_of : ViewLists → ℕ → ℕ → Option ℕ
 scan_of v = at None v.scans
 
@@ -78,6 +85,7 @@ abbrev pub KnowsSource : ViewLists → SourceAt → Type 0
 KnowsSource v Scope = Unit {0}
 KnowsSource v (At place) = KnowsPlace v place
 
+-- the hand holds the node
 abbrev pub is_holder : Role → Bool
 is_holder Nothing = false
 is_holder Holds = true
@@ -85,6 +93,7 @@ is_holder OwesStart = false
 is_holder OwesReport = false
 is_holder HoldsFinished = false
 
+-- it owes the node's start
 abbrev pub is_starter : Role → Bool
 is_starter Nothing = false
 is_starter Holds = false
@@ -92,6 +101,7 @@ is_starter OwesStart = true
 is_starter OwesReport = false
 is_starter HoldsFinished = false
 
+-- it owes the node's report
 abbrev pub is_reporter : Role → Bool
 is_reporter Nothing = false
 is_reporter Holds = false
@@ -99,6 +109,7 @@ is_reporter OwesStart = false
 is_reporter OwesReport = true
 is_reporter HoldsFinished = false
 
+-- it holds the finished root
 abbrev pub is_finisher : Role → Bool
 is_finisher Nothing = false
 is_finisher Holds = false

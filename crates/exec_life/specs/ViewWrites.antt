@@ -18,7 +18,8 @@ pub record SetsRole (old new : ViewLists) (b n : ℕ) (role : Role) : Type 0 whe
 -- the roles of these nodes of the block
 pub record OwesStarts (old new : ViewLists) (b : ℕ) (nodes : List ℕ) : Type 0 where
   pub cell :
-      role_in new ≡ (λ i j. if i == b && list_any (λ m. m == j) nodes then OwesStart else role_in old i j)
+      role_in new
+      ≡ (λ i j. if i == b && list_any (λ m. m == j) nodes then OwesStart else role_in old i j)
   pub rest : new ≡ record old { roles = new.roles }
 
 -- whether it runs this place
@@ -26,6 +27,7 @@ pub record SetsRuns (old new : ViewLists) (b n : ℕ) (runs : Bool) : Type 0 whe
   pub cell : runs_in new ≡ set_at (runs_in old) b n runs
   pub rest : new ≡ record old { runs = new.runs }
 
+-- whether it is yet to look after this place
 pub record SetsUnlooked (old new : ViewLists) (b n : ℕ) (unlooked : Bool) : Type 0 where
   pub cell : unlooked_in new ≡ set_at (unlooked_in old) b n unlooked
   pub rest : new ≡ record old { unlooked = new.unlooked }
@@ -35,13 +37,16 @@ pub record LooksAfter (old new : ViewLists) (place : Place) (read : Bool) : Type
   pub unlooked_is : unlooked_in new ≡ set_at (unlooked_in old) place.block place.node false
   pub seen_after_is :
       seen_after_in new
-      ≡ set_at (seen_after_in old) place.block place.node (seen_after_in old place.block place.node || read)
+      ≡ set_at (seen_after_in old) place.block place.node
+      (seen_after_in old place.block place.node || read)
   pub rest : new ≡ record old { unlooked = new.unlooked; seen_after = new.seen_after }
 
+-- whether it has seen the request on this place's own source
 pub record SetsSeenAt (old new : ViewLists) (b n : ℕ) (seen : Bool) : Type 0 where
   pub cell : seen_at new ≡ set_at (seen_at old) b n seen
   pub rest : new ≡ record old { seen = new.seen }
 
+-- from where its scan of this place's own source goes on
 pub record SetsScanOf (old new : ViewLists) (b n : ℕ) (scan : Option ℕ) : Type 0 where
   pub cell : scan_of new ≡ set_at (scan_of old) b n scan
   pub rest : new ≡ record old { scans = new.scans }

@@ -2,6 +2,7 @@
 use Rattle.exec_life.specs.declared.words.Words.TheInside.{Inside}
 use Rattle.exec_life.specs.WordLists.{WordLists}
 
+-- the lists that the fields are
 abbrev pub words_of : Inside → WordLists
 words_of w =
     record {

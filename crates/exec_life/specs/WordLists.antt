@@ -14,6 +14,7 @@ use Rattle.life_rules.specs.declared.words.ControlWord.TheVariants.{Idle}
 use Rattle.life_rules.specs.Words.{clear}
 use Rattle.exec_life.specs.Grids.{Cells, at, HasSize}
 
+-- the lists of the words: one for the blocks, and a grid for each word of a place
 pub record WordLists : Type 0 where
   -- how many nodes each block has
   pub nodes : ℕ
@@ -39,15 +40,19 @@ pub record HasPlace (w : WordLists) (place : Place) : Type 0 where
 abbrev pub first_word : BlockWord
 first_word = record { generation = 0; state = Free }
 
+-- a block's word
 abbrev pub block_word : WordLists → ℕ → BlockWord
 block_word w b = slice_index_or w.blocks b first_word
 
+-- the control word of a block and a node
 abbrev pub control_word : WordLists → ℕ → ℕ → ControlWord
 control_word w = at Idle w.control
 
+-- the callback word there
 abbrev pub callback_word : WordLists → ℕ → ℕ → CallbackPhase
 callback_word w = at Never w.callback
 
+-- the source word there
 abbrev pub source_word : WordLists → ℕ → ℕ → Bits
 source_word w = at clear w.source
 

@@ -18,7 +18,8 @@ pub struct Grid<T> {
 impl<T> Model for Grid<T> {
     ghost Value = { Cells T };
 
-    ghost view = { λ grid. record { rows = grid.rows; columns = grid.columns; cells = grid.cells.items } };
+    ghost view = { λ grid.
+        record { rows = grid.rows; columns = grid.columns; cells = grid.cells.items } };
 
     ghost invariant = { λ grid. length grid.cells.items ≡ grid.rows * grid.columns };
 }
@@ -41,6 +42,7 @@ impl<T: Copy> Grid<T> {
         })
     }
 
+    /// The value of the cell.
     pub fn get(&self, place: Place) -> T
         requires row { place.block < self.now.rows }
         requires column { place.node < self.now.columns }
@@ -49,6 +51,7 @@ impl<T: Copy> Grid<T> {
         self.cells[place.block as usize * self.columns as usize + place.node as usize]
     }
 
+    /// Puts the value into the cell.
     pub fn set(&mut self, place: Place, value: T)
         requires row { place.block < self.old.rows }
         requires column { place.node < self.old.columns }

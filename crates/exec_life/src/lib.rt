@@ -1,4 +1,8 @@
 //! The pure machine of operations: a state, its steps, and what can be read of it.
+//!
+//! It stands on life_rules, which has the definitions, on life_laws, whose laws hold for every list
+//! of events, and on node_tree. It keeps one promise: `State::step` is exactly the step relation,
+//! and so each state is sound.
 #![tactic(auto)]
 
 mod grid;
@@ -9,6 +13,7 @@ mod scan_needs;
 mod scan_steps;
 mod scope_needs;
 mod scope_steps;
+mod scope_word;
 mod state;
 mod steps;
 mod stop_needs;
@@ -18,12 +23,14 @@ mod tests;
 mod view;
 mod words;
 
+pub use life_laws::{callbacks_run_once, operations_end_once, scopes_join_once, sound_is_kept};
 pub use life_rules::{
     Bits, BlockState, BlockWord, CallbackPhase, ControlWord, Event, MOST_BLOCKS, MOST_HANDS,
     MOST_NODES, Name, NodeList, Place, Refused, Resting, ScopeKind, ScopeState, ScopeWord,
     SourceAt, SourceRef, TreeNode,
 };
 pub use node_tree::{NearestSource, Tree, TreeFault};
+pub use scope_word::{refusal, scope_state};
 pub use state::{State, opening};
 pub use view::View;
 pub use words::Words;

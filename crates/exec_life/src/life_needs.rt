@@ -34,6 +34,7 @@ fn are_different(nodes: &[u32]) -> bool
 }
 
 impl Parts {
+    /// Claim: the block is free.
     pub fn may_claim(&self, block: u32) -> bool
         requires { IsState (lists_of self.now) }
         ensures { (hand : ℕ) → result ≡ may_claim (shown self.now) hand block }
@@ -41,6 +42,7 @@ impl Parts {
         block < self.words.blocks() && matches!(self.words.block(block).state, BlockState::Free)
     }
 
+    /// Begin: the hand owes the start.
     pub fn may_begin(&self, hand: u32, place: Place) -> bool
         requires { IsReady self.now hand }
         ensures { result ≡ may_begin (shown self.now) hand place }
@@ -52,7 +54,8 @@ impl Parts {
     fn may_leave_node(&self, hand: u32, place: Place) -> bool
         requires ready { IsReady self.now hand }
         requires place { is_place (shown self.now) place ≡ true }
-        ensures { let s = shown self.now in result ≡ may_leave_node (s.view hand) (name_at s place) }
+        ensures { let s = shown self.now in
+            result ≡ may_leave_node (s.view hand) (name_at s place) }
     {
         self.holds(hand, place) && !self.scans_at(hand, place)
     }
@@ -73,10 +76,12 @@ impl Parts {
         matches!(self.control(below), ControlWord::Idle)
     }
 
+    // Each of these nodes is a child of the place's node, and hasn't begun.
     fn may_all_be_awaited(&self, place: Place, children: &[u32]) -> bool
         requires state { IsState (lists_of self.now) }
         requires place { is_place (shown self.now) place ≡ true }
-        ensures { let s = shown self.now in result ≡ list_all (may_be_awaited s (name_at s place)) children.now }
+        ensures { let s = shown self.now in
+            result ≡ list_all (may_be_awaited s (name_at s place)) children.now }
     {
         for child in children {
             if !self.may_be_awaited(place, *child) {
@@ -86,6 +91,8 @@ impl Parts {
         true
     }
 
+    /// Await: the hand holds the node, and names different children that haven't begun, at least
+    /// one.
     pub fn may_await(&self, hand: u32, place: Place, children: &NodeList) -> bool
         requires { IsReady self.now hand }
         ensures { result ≡ may_await (shown self.now) hand place children.now }
@@ -98,6 +105,7 @@ impl Parts {
             && self.may_all_be_awaited(place, children)
     }
 
+    /// Rest: the hand holds the node.
     pub fn may_rest(&self, hand: u32, place: Place) -> bool
         requires { IsReady self.now hand }
         ensures { result ≡ may_rest (shown self.now) hand place }
@@ -105,6 +113,7 @@ impl Parts {
         self.is_place(place) && self.may_leave_node(hand, place)
     }
 
+    /// Take: the node rests, ready in a context that the hand serves, or parked.
     pub fn may_take(&self, hand: u32, place: Place) -> bool
         requires { IsReady self.now hand }
         ensures { result ≡ may_take (shown self.now) hand place }
@@ -112,6 +121,7 @@ impl Parts {
         self.is_place(place) && may_be_taken(self.control(place), hand)
     }
 
+    /// Finish: the hand holds the node, whose callback isn't armed and doesn't run.
     pub fn may_finish(&self, hand: u32, place: Place) -> bool
         requires { IsReady self.now hand }
         ensures { result ≡ may_finish (shown self.now) hand place }
@@ -124,6 +134,7 @@ impl Parts {
             )
     }
 
+    /// Report: the hand owes the child's report, and makes no scan of the parent's source.
     pub fn may_report(&self, hand: u32, place: Place) -> bool
         requires { IsReady self.now hand }
         ensures { result ≡ may_report (shown self.now) hand place }
@@ -143,6 +154,7 @@ impl Parts {
         }
     }
 
+    /// Release: the hand holds the finished root.
     pub fn may_release(&self, hand: u32, block: u32) -> bool
         requires { IsReady self.now hand }
         ensures { result ≡ may_release (shown self.now) hand block }

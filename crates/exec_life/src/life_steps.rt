@@ -63,7 +63,8 @@ impl Parts {
     // What the hand has of a node that is done: its report, or the finished root.
     fn ending_role(&self, node: u32) -> Role
         requires { node < size (shown self.now) }
-        ensures { result ≡ (if is_root (shown self.now).tree node then HoldsFinished else OwesReport) }
+        ensures { let tree = (shown self.now).tree in
+            result ≡ (if is_root tree node then HoldsFinished else OwesReport) }
     {
         let size = self.tree.size();
         if node + 1 == size {

@@ -47,6 +47,7 @@ impl Parts {
         &self.views[hand as usize]
     }
 
+    /// Whether the place exists.
     pub fn is_place(&self, place: Place) -> bool
         requires { IsState (lists_of self.now) }
         ensures { result ≡ is_place (shown self.now) place }
@@ -58,7 +59,8 @@ impl Parts {
     pub fn holds(&self, hand: u32, place: Place) -> bool
         requires ready { IsReady self.now hand }
         requires place { is_place (shown self.now) place ≡ true }
-        ensures { let s = shown self.now in result ≡ nat_le 1 ((s.view hand).holds (name_at s place)) }
+        ensures { let s = shown self.now in
+            result ≡ nat_le 1 ((s.view hand).holds (name_at s place)) }
     {
         self.view_at(hand, place).holds(place)
     }
@@ -67,7 +69,8 @@ impl Parts {
     pub fn owes_start(&self, hand: u32, place: Place) -> bool
         requires ready { IsReady self.now hand }
         requires place { is_place (shown self.now) place ≡ true }
-        ensures { let s = shown self.now in result ≡ nat_le 1 ((s.view hand).starts (name_at s place)) }
+        ensures { let s = shown self.now in
+            result ≡ nat_le 1 ((s.view hand).starts (name_at s place)) }
     {
         self.view_at(hand, place).owes_start(place)
     }
@@ -76,7 +79,8 @@ impl Parts {
     pub fn owes_report(&self, hand: u32, place: Place) -> bool
         requires ready { IsReady self.now hand }
         requires place { is_place (shown self.now) place ≡ true }
-        ensures { let s = shown self.now in result ≡ nat_le 1 ((s.view hand).reports (name_at s place)) }
+        ensures { let s = shown self.now in
+            result ≡ nat_le 1 ((s.view hand).reports (name_at s place)) }
     {
         self.view_at(hand, place).owes_report(place)
     }
@@ -85,7 +89,8 @@ impl Parts {
     pub fn holds_finished(&self, hand: u32, block: u32) -> bool
         requires ready { IsReady self.now hand }
         requires block { block < (shown self.now).blocks }
-        ensures { let s = shown self.now in result ≡ nat_le 1 ((s.view hand).finished (root_of s block)) }
+        ensures { let s = shown self.now in
+            result ≡ nat_le 1 ((s.view hand).finished (root_of s block)) }
     {
         self.view(hand).holds_finished(block)
     }
@@ -94,17 +99,21 @@ impl Parts {
     pub fn runs(&self, hand: u32, place: Place) -> bool
         requires ready { IsReady self.now hand }
         requires place { is_place (shown self.now) place ≡ true }
-        ensures some { let s = shown self.now in result ≡ nat_le 1 ((s.view hand).runs (name_at s place)) }
-        ensures none { let s = shown self.now in not result ≡ ((s.view hand).runs (name_at s place) == 0) }
+        ensures some { let s = shown self.now in
+            result ≡ nat_le 1 ((s.view hand).runs (name_at s place)) }
+        ensures none { let s = shown self.now in
+            not result ≡ ((s.view hand).runs (name_at s place) == 0) }
     {
         self.view_at(hand, place).runs(place)
     }
 
-    /// Whether the hand holds the node, owes its start or its report, or holds it as a finished root.
+    /// Whether the hand holds the node, owes its start or its report, or holds it as a finished
+    /// root.
     pub fn has_role(&self, hand: u32, place: Place) -> bool
         requires ready { IsReady self.now hand }
         requires place { is_place (shown self.now) place ≡ true }
-        ensures { let s = shown self.now in result ≡ nat_le 1 (roles_of (s.view hand) (name_at s place)) }
+        ensures { let s = shown self.now in
+            result ≡ nat_le 1 (roles_of (s.view hand) (name_at s place)) }
     {
         !matches!(self.view_at(hand, place).role(place), Role::Nothing)
     }
@@ -122,7 +131,8 @@ impl Parts {
     pub fn scans_at(&self, hand: u32, place: Place) -> bool
         requires ready { IsReady self.now hand }
         requires place { is_place (shown self.now) place ≡ true }
-        ensures { let s = shown self.now in result ≡ is_scanning (s.view hand) (Node (name_at s place)) }
+        ensures { let s = shown self.now in
+            result ≡ is_scanning (s.view hand) (Node (name_at s place)) }
     {
         self.view_at(hand, place).scans(SourceAt::At(place))
     }
@@ -163,6 +173,7 @@ impl Parts {
         self.words.source(source)
     }
 
+    /// The node's parent: none for the root.
     pub fn parent(&self, node: u32) -> Option<u32>
         requires { node < size (shown self.now) }
         ensures { result ≡ parent_of (shown self.now).tree node }
@@ -170,6 +181,7 @@ impl Parts {
         self.tree.node(node).parent
     }
 
+    /// Whether the node has a source.
     pub fn has_source(&self, node: u32) -> bool
         requires { node < size (shown self.now) }
         ensures { result ≡ has_source (shown self.now).tree node }
@@ -177,6 +189,7 @@ impl Parts {
         self.tree.node(node).source
     }
 
+    /// Whether there is such a source: the scope's, or that of a node that has one.
     pub fn is_source(&self, source: SourceAt) -> bool
         requires { IsState (lists_of self.now) }
         ensures { result ≡ is_source (shown self.now) source }
@@ -191,7 +204,8 @@ impl Parts {
     pub fn nearest(&self, place: Place) -> Option<SourceAt>
         requires state { IsState (lists_of self.now) }
         requires place { is_place (shown self.now) place ≡ true }
-        ensures source { let s = shown self.now in option_map (source_of s) result ≡ nearest_of s (name_at s place) }
+        ensures source { let s = shown self.now in
+            option_map (source_of s) result ≡ nearest_of s (name_at s place) }
         ensures exists { IfSome result (λ source. is_source (shown self.now) source ≡ true) }
     {
         match self.tree.nearest(place.node) {
@@ -208,7 +222,8 @@ impl Parts {
     pub fn is_nearest(&self, place: Place, source: SourceAt) -> bool
         requires state { IsState (lists_of self.now) }
         requires place { is_place (shown self.now) place ≡ true }
-        ensures { let s = shown self.now in result ≡ is_nearest s (name_at s place) (source_of s source) }
+        ensures { let s = shown self.now in
+            result ≡ is_nearest s (name_at s place) (source_of s source) }
     {
         self.nearest(place) == Some(source)
     }

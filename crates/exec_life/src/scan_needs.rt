@@ -32,7 +32,8 @@ impl Parts {
     fn has_none(&self, source: SourceAt, from: u32, to: u32) -> bool
         requires state { IsState (lists_of self.now) }
         requires within { to ≤ end (shown self.now) }
-        ensures { let s = shown self.now in result ≡ has_none s (source_of s source) from (to - from) }
+        ensures { let s = shown self.now in
+            result ≡ has_none s (source_of s source) from (to - from) }
     {
         let size = self.tree.size();
         for number in from..to {
@@ -51,7 +52,8 @@ impl Parts {
     fn is_next_in(&self, hand: u32, source: SourceAt, place: Place) -> bool
         requires ready { IsReady self.now hand }
         requires place { is_place (shown self.now) place ≡ true }
-        ensures { let s = shown self.now in result ≡ is_next_in s (s.view hand) (source_of s source) (name_at s place) }
+        ensures { let s = shown self.now in
+            result ≡ is_next_in s (s.view hand) (source_of s source) (name_at s place) }
     {
         match self.scan(hand, source) {
             None => false,
@@ -64,6 +66,7 @@ impl Parts {
         }
     }
 
+    /// Run: the place is the next of the hand's scan, and its callback doesn't run.
     pub fn may_run(&self, hand: u32, source: SourceAt, place: Place) -> bool
         requires { IsReady self.now hand }
         ensures { result ≡ may_run (shown self.now) hand source place }
@@ -71,6 +74,7 @@ impl Parts {
         self.is_place(place) && self.is_next_in(hand, source, place) && !self.runs(hand, place)
     }
 
+    /// Seal scan: the hand's scan has passed all places.
     pub fn may_seal_scan(&self, hand: u32, source: SourceAt) -> bool
         requires { IsReady self.now hand }
         ensures { result ≡ may_seal_scan (shown self.now) hand source }
@@ -81,7 +85,8 @@ impl Parts {
         }
     }
 
-    // The next place of the hand's scan of the scope lies in the block, and its callback doesn't run.
+    // The next place of the hand's scan of the scope lies in the block, and its callback doesn't
+    // run.
     fn may_go_past(&self, hand: u32, block: u32) -> bool
         requires ready { IsReady self.now hand }
         requires block { block < (shown self.now).blocks }
@@ -95,6 +100,7 @@ impl Parts {
         false
     }
 
+    /// Skip: the next place of the hand's scan of the scope lies in this block, which is free.
     pub fn may_skip(&self, hand: u32, block: u32) -> bool
         requires { IsReady self.now hand }
         ensures { result ≡ may_skip (shown self.now) hand block }

@@ -22,7 +22,8 @@ impl Parts {
         }
     }
 
-    // The hand no longer runs the place, whose callback is in this phase, and its scan has passed it.
+    // The hand no longer runs the place, whose callback is then in this phase, and its scan has
+    // passed it.
     fn leave_run(&mut self, hand: u32, place: Place, phase: CallbackPhase)
         requires ready { IsReady self.old hand }
         requires needs { may_end_run (shown self.old) hand place ≡ true }

@@ -1,27 +1,13 @@
-//! The needs of the steps of the counting scope, and of the step that wakes a parked node.
-//!
-//! # The scope's word (P3149, [exec.scope])
-//!
-//! Four bits, none of which is ever cleared, and the count of associations:
-//!
-//! | joined | joining | used or count above 0 | closed | the scope is |
-//! |---|---|---|---|---|
-//! | no | no | no | no | unused: closing makes it unused and closed, joining lets it be joined at once |
-//! | no | no | no | yes | unused and closed |
-//! | no | no | yes | no | open: associations are made |
-//! | no | no | yes | yes | closed: associations are refused |
-//! | no | yes | either | no | open and joining: the last to leave seals it |
-//! | no | yes | either | yes | closed and joining |
-//! | yes | yes | either | either | joined, for good |
+//! The needs of the steps of the counting scope (P3149), and of the step that wakes a parked node.
 ghost use Rattle.std.specs.Prelude.{◌≡◌, ℕ};
-ghost use Rattle.life_rules.specs.Scopes.{is_refused, may_seal};
-ghost use Rattle.life_rules.specs.ScopeSteps.{may_rouse, may_enter, may_mark_used, may_leave, may_seal_as, same_word};
+ghost use Rattle.life_rules.specs.ScopeSteps.{may_rouse, may_enter, may_mark_used, may_leave, may_seal_as};
 ghost use Rattle.exec_life.specs.Parts.{shown, IsReady};
 
 use crate::parts::Parts;
 use life_rules::{ControlWord, Place, ScopeWord};
 
 impl Parts {
+    /// Rouse: the node is parked. The hand runs its callback, or is hand 0.
     pub fn may_rouse(&self, hand: u32, place: Place) -> bool
         requires { IsReady self.now hand }
         ensures { result ≡ may_rouse (shown self.now) hand place }
@@ -31,6 +17,7 @@ impl Parts {
             && (self.runs(hand, place) || hand == 0)
     }
 
+    /// Enter: the hand has no association in the making or being refused.
     pub fn may_enter(&self, hand: u32) -> bool
         requires { IsReady self.now hand }
         ensures { result ≡ may_enter (shown self.now) hand }
@@ -39,6 +26,7 @@ impl Parts {
         view.making() == 0 && view.refused() == 0
     }
 
+    /// Mark used: the hand has an association in the making.
     pub fn may_mark_used(&self, hand: u32) -> bool
         requires { IsReady self.now hand }
         ensures { result ≡ may_mark_used (shown self.now) hand }
@@ -46,6 +34,7 @@ impl Parts {
         self.view(hand).making() >= 1
     }
 
+    /// Leave: the hand has an association that is made or being refused.
     pub fn may_leave(&self, hand: u32) -> bool
         requires { IsReady self.now hand }
         ensures { result ≡ may_leave (shown self.now) hand }
@@ -54,6 +43,7 @@ impl Parts {
         view.made() >= 1 || view.refused() >= 1
     }
 
+    /// Seal: the word is as expected, joining, not joined, and counts none.
     pub fn may_seal(&self, expected: ScopeWord) -> bool
         ensures { result ≡ may_seal_as (shown self.now) expected }
     {

@@ -6,13 +6,14 @@ ghost use Rattle.exec_life.specs.Parts.{lists_of, shown, IsReady, Means};
 ghost use Rattle.exec_life.specs.StateLists.{IsState};
 
 use crate::parts::Parts;
+use crate::scope_word::refusal;
 use life_rules::{ControlWord, Place, ScopeWord};
 
 // Whether a scope turns an association away.
 fn is_refused(word: ScopeWord, most: u32) -> bool
     ensures { result ≡ is_refused word most }
 {
-    word.joined || word.closed || word.count >= most
+    refusal(word, most).is_some()
 }
 
 impl Parts {
@@ -51,7 +52,8 @@ impl Parts {
         self.views[hand as usize].finish_making();
     }
 
-    /// The count falls, and an association of the hand is gone: one that is being refused goes first.
+    /// The count falls, and an association of the hand is gone: one that is being refused goes
+    /// first.
     pub fn leave(&mut self, hand: u32)
         requires ready { IsReady self.old hand }
         requires needs { may_leave (shown self.old) hand ≡ true }

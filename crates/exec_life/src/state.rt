@@ -2,6 +2,7 @@
 ghost use Rattle.std.specs.Prelude.{◌≡◌, ◌<◌, ◌≤◌, ◌^◌, IfOk, slice_get, Some, length};
 ghost use Rattle.std.specs.Bool.{OnTrue, OnFalse};
 ghost use Rattle.life_rules.specs.Opening.{opening};
+ghost use Rattle.life_rules.specs.Sound.{Sound};
 ghost use Rattle.life_rules.specs.States.{is_place};
 ghost use Rattle.life_rules.specs.Steps.{may_happen, after};
 ghost use Rattle.life_rules.specs.declared.tree.TheConstants.{MOST_BLOCKS, MOST_HANDS};
@@ -34,8 +35,9 @@ impl Model for State {
     ghost invariant = { λ s. IsState (lists_of s.parts) };
 }
 
-/// The state with which all begins: all blocks are free at generation 0, the scope is unused, and no
-/// hand has done anything.
+/// The state with which all begins: all blocks are free at generation 0, the scope is unused, and
+/// no hand has done anything. There are up to 256 blocks and 1 to 32 hands, and the scope takes at
+/// most `most` associations, up to 65,535. It fails only for want of memory.
 pub fn opening(
     alloc: Global,
     tree: &Tree,
@@ -94,10 +96,11 @@ impl State {
         self.parts.is_place(place)
     }
 
-    /// The words, as they read.
+    /// The words, as they read. What they say together with the views is sound.
     pub fn words(&self) -> &Words
         ensures words { result.now ≡ self.now.words }
         ensures tells { TellWords (machine self.now) result.now }
+        ensures sound { Sound (machine self.now) }
     {
         &self.parts.words
     }

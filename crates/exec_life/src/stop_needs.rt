@@ -9,6 +9,7 @@ use crate::parts::Parts;
 use life_rules::{CallbackPhase, ControlWord, Place, ScopeKind, SourceAt};
 
 impl Parts {
+    /// Arm: the hand holds the node, whose callback place is none, and whose nearest source is one.
     pub fn may_arm(&self, hand: u32, place: Place) -> bool
         requires { IsReady self.now hand }
         ensures { result ≡ may_arm (shown self.now) hand place }
@@ -19,6 +20,8 @@ impl Parts {
             && self.nearest(place).is_some()
     }
 
+    /// Look: at any source; or, after an arming that wasn't looked after yet, at that place's
+    /// nearest.
     pub fn may_look(&self, hand: u32, source: SourceAt, after: Option<Place>) -> bool
         requires { IsReady self.now hand }
         ensures { result ≡ may_look (shown self.now) hand source after }
@@ -38,7 +41,8 @@ impl Parts {
         requires ready { IsReady self.now hand }
         requires place { is_place (shown self.now) place ≡ true }
         requires node { node < size (shown self.now) }
-        ensures { let s = shown self.now in result ≡ owes_report_of s (s.view hand) (name_at s place) node }
+        ensures { let s = shown self.now in
+            result ≡ owes_report_of s (s.view hand) (name_at s place) node }
     {
         let below = Place {
             block: place.block,
@@ -51,7 +55,8 @@ impl Parts {
     fn owes_report_below(&self, hand: u32, place: Place) -> bool
         requires ready { IsReady self.now hand }
         requires place { is_place (shown self.now) place ≡ true }
-        ensures { let s = shown self.now in result ≡ owes_report_below s (s.view hand) (name_at s place) }
+        ensures { let s = shown self.now in
+            result ≡ owes_report_below s (s.view hand) (name_at s place) }
     {
         for node in 0..self.tree.size() {
             if self.owes_report_of(hand, place, node) {
@@ -93,7 +98,8 @@ impl Parts {
     fn has_seen_nearest(&self, hand: u32, place: Place) -> bool
         requires ready { IsReady self.now hand }
         requires place { is_place (shown self.now) place ≡ true }
-        ensures { let s = shown self.now in result ≡ has_seen_nearest s (s.view hand) (name_at s place) }
+        ensures { let s = shown self.now in
+            result ≡ has_seen_nearest s (s.view hand) (name_at s place) }
     {
         match self.nearest(place) {
             None => false,
@@ -140,7 +146,8 @@ impl Parts {
     fn is_live_for(&self, hand: u32, source: SourceAt) -> bool
         requires ready { IsReady self.now hand }
         requires source { is_source (shown self.now) source ≡ true }
-        ensures { let s = shown self.now in result ≡ is_live_for s (s.view hand) (source_of s source) }
+        ensures { let s = shown self.now in
+            result ≡ is_live_for s (s.view hand) (source_of s source) }
     {
         match source {
             SourceAt::Scope => true,
@@ -148,6 +155,8 @@ impl Parts {
         }
     }
 
+    // A first request: on the scope by hand 0; on a node because a child failed, whose report the
+    // hand owes, or to pass a request on.
     fn may_request_first(&self, hand: u32, source: SourceAt, failure: bool) -> bool
         requires ready { IsReady self.now hand }
         requires source { is_source (shown self.now) source ≡ true }
@@ -165,14 +174,17 @@ impl Parts {
         }
     }
 
+    // A request again, by a hand that has seen it.
     fn may_repeat(&self, hand: u32, source: SourceAt, failure: bool) -> bool
         requires ready { IsReady self.now hand }
         requires source { is_source (shown self.now) source ≡ true }
-        ensures { let s = shown self.now in result ≡ may_repeat s (s.view hand) (source_of s source) failure }
+        ensures { let s = shown self.now in
+            result ≡ may_repeat s (s.view hand) (source_of s source) failure }
     {
         !failure && self.has_seen(hand, source) && self.is_live_for(hand, source)
     }
 
+    /// Request: a first one, or one again.
     pub fn may_request(&self, hand: u32, source: SourceAt, failure: bool) -> bool
         requires { IsReady self.now hand }
         ensures { result ≡ may_request (shown self.now) hand source failure }
@@ -182,6 +194,7 @@ impl Parts {
                 || self.may_repeat(hand, source, failure))
     }
 
+    /// End run: the hand runs the place, and makes no scan of the node's own source.
     pub fn may_end_run(&self, hand: u32, place: Place) -> bool
         requires { IsReady self.now hand }
         ensures { result ≡ may_end_run (shown self.now) hand place }
@@ -189,6 +202,8 @@ impl Parts {
         self.is_place(place) && self.runs(hand, place) && !self.scans_at(hand, place)
     }
 
+    /// Withdraw: the hand holds the node and doesn't run its callback, which is armed, running or
+    /// ran.
     pub fn may_withdraw(&self, hand: u32, place: Place) -> bool
         requires { IsReady self.now hand }
         ensures { result ≡ may_withdraw (shown self.now) hand place }
@@ -202,6 +217,8 @@ impl Parts {
             )
     }
 
+    /// Withdraw own: the hand holds the node, runs its callback, and doesn't scan the node's own
+    /// source.
     pub fn may_withdraw_own(&self, hand: u32, place: Place) -> bool
         requires { IsReady self.now hand }
         ensures { result ≡ may_withdraw_own (shown self.now) hand place }

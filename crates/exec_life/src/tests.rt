@@ -61,6 +61,18 @@ fn start(state: &mut State, hand: u32, block: u32) -> bool {
     step(state, hand, Event::Claim { block }) && step(state, hand, Event::Begin { place: root })
 }
 
+// The root of the block, which the hand holds, awaits its child, and the hand begins that.
+fn start_child(
+    alloc: Global,
+    state: &mut State,
+    hand: u32,
+    block: u32,
+) -> Result<bool, AllocError> {
+    let awaits = await_one(alloc, at(block, 1), 0)?;
+    let child = at(block, 0);
+    Ok(step(state, hand, awaits) && step(state, hand, Event::Begin { place: child }))
+}
+
 fn await_one(alloc: Global, place: Place, child: u32) -> Result<Event, AllocError> {
     Ok(Event::Await {
         place,

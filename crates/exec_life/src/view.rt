@@ -1,14 +1,18 @@
-//! What one hand knows of its own doings. A hand is the token by which one thread works on the words.
+//! What one hand knows of its own doings. A hand is the token by which one thread works on the
+//! words.
 //!
 //! Each place has cells, meant at its block's present generation. What the hand has of a node:
 //!
-//!     nothing --claim, await--> owes its start --begin--> holds --finish--> owes its report
-//!                                                                           or holds the finished root
+//!     nothing --claim, await--> owes its start --begin--> holds
 //!     holds --await, rest--> nothing --take, the last report--> holds
+//!     holds --finish--> owes its report, or holds the finished root
 //!     owes its report --report--> nothing        holds the finished root --release--> nothing
-ghost use Rattle.std.specs.Prelude.{◌≡◌, ◌<◌, ◌^◌, ◌*◌, ◌-◌, ◌+◌, IfOk, is_some, All, ◌||◌, length};
-ghost use Rattle.exec_life.specs.ViewLists.{KnowsPlace, KnowsSource, role_in, runs_in, unlooked_in, seen_in, scan_in, is_holder, is_starter, is_reporter, is_finisher, root_in, IsBlankView, AreBlankViews};
-ghost use Rattle.exec_life.specs.ViewWrites.{SetsRole, OwesStarts, SetsRuns, SetsUnlooked, LooksAfter, SetsSeen, SetsScan, BeginsScan, Forgets, ForgetsFirst, with_one, without_one};
+ghost use Rattle.std.specs.Prelude.{◌≡◌, ◌<◌, ◌^◌, ◌*◌, ◌-◌, IfOk, is_some, All, length};
+ghost use Rattle.exec_life.specs.ViewLists.{KnowsPlace, KnowsSource, role_in, runs_in, seen_in, scan_in, is_holder, is_starter, is_reporter, is_finisher, root_in, IsBlankView, AreBlankViews};
+ghost use Rattle.exec_life.specs.ViewWrites.{ForgetsFirst};
+
+mod associations;
+mod cells;
 
 use crate::grid::Grid;
 use life_rules::{Place, SourceAt};
@@ -126,7 +130,7 @@ impl View {
     }
 }
 
-// What the steps read and write besides.
+// How a view begins.
 impl View {
     /// The view of a hand that has done nothing.
     pub(crate) fn new(alloc: Global, blocks: u32, nodes: u32) -> Result<View, AllocError>
@@ -149,181 +153,6 @@ impl View {
             refused: 0,
             requested: false,
         })
-    }
-
-    pub(crate) fn role(&self, place: Place) -> Role
-        requires { KnowsPlace self.now place }
-        ensures { result ≡ role_in self.now place.block place.node }
-    {
-        self.roles.get(place)
-    }
-
-    pub(crate) fn unlooked(&self, place: Place) -> bool
-        requires { KnowsPlace self.now place }
-        ensures { result ≡ unlooked_in self.now place.block place.node }
-    {
-        self.unlooked.get(place)
-    }
-
-    pub(crate) fn scan(&self, source: SourceAt) -> Option<u32>
-        requires { KnowsSource self.now source }
-        ensures { result ≡ scan_in self.now source }
-    {
-        match source {
-            SourceAt::Scope => self.scope_scan,
-            SourceAt::At(place) => self.scans.get(place),
-        }
-    }
-
-    pub(crate) fn set_role(&mut self, place: Place, role: Role)
-        requires { KnowsPlace self.old place }
-        ensures { SetsRole self.old self.new place.block place.node role }
-    {
-        self.roles.set(place, role);
-    }
-
-    /// The hand is to begin these nodes of the block.
-    pub(crate) fn owe_starts(&mut self, block: u32, nodes: &[u32])
-        requires block { block < self.old.blocks }
-        requires nodes { All (λ n. n < self.old.nodes) nodes.now }
-        ensures { OwesStarts self.old self.new block nodes.now }
-    {
-        for node in nodes {
-            let place = Place { block, node: *node };
-            self.set_role(place, Role::OwesStart);
-        }
-    }
-
-    pub(crate) fn set_runs(&mut self, place: Place, runs: bool)
-        requires { KnowsPlace self.old place }
-        ensures { SetsRuns self.old self.new place.block place.node runs }
-    {
-        self.runs.set(place, runs);
-    }
-
-    pub(crate) fn set_unlooked(&mut self, place: Place, unlooked: bool)
-        requires { KnowsPlace self.old place }
-        ensures { SetsUnlooked self.old self.new place.block place.node unlooked }
-    {
-        self.unlooked.set(place, unlooked);
-    }
-
-    /// The place is looked after, and a request that was read is seen after it.
-    pub(crate) fn look_after(&mut self, place: Place, read: bool)
-        requires { KnowsPlace self.old place }
-        ensures { LooksAfter self.old self.new place read }
-    {
-        let seen_after = self.seen_after.get(place) || read;
-        self.seen_after.set(place, seen_after);
-        self.unlooked.set(place, false);
-    }
-
-    pub(crate) fn set_seen(&mut self, source: SourceAt, seen: bool)
-        requires { KnowsSource self.old source }
-        ensures { SetsSeen self.old self.new source seen }
-    {
-        match source {
-            SourceAt::Scope => self.scope_seen = seen,
-            SourceAt::At(place) => self.seen.set(place, seen),
-        }
-    }
-
-    /// A request that was read on this source is seen.
-    pub(crate) fn note(&mut self, source: SourceAt, read: bool)
-        requires { KnowsSource self.old source }
-        ensures { SetsSeen self.old self.new source (seen_in self.old source || read) }
-    {
-        let seen = self.seen(source) || read;
-        self.set_seen(source, seen);
-    }
-
-    pub(crate) fn set_scan(&mut self, source: SourceAt, scan: Option<u32>)
-        requires { KnowsSource self.old source }
-        ensures { SetsScan self.old self.new source scan }
-    {
-        match source {
-            SourceAt::Scope => self.scope_scan = scan,
-            SourceAt::At(place) => self.scans.set(place, scan),
-        }
-    }
-
-    /// A scan of this source begins: the hand made the request.
-    pub(crate) fn begin_scan(&mut self, source: SourceAt)
-        requires { KnowsSource self.old source }
-        ensures { BeginsScan self.old self.new source }
-    {
-        match source {
-            SourceAt::Scope => {
-                self.scope_scan = Some(0);
-                self.requested = true;
-            }
-            SourceAt::At(place) => self.scans.set(place, Some(0)),
-        }
-    }
-
-    /// Clears all that the view knows of the block's places.
-    pub(crate) fn forget(&mut self, block: u32)
-        requires { block < self.old.blocks }
-        ensures { Forgets self.old self.new block }
-    {
-        self.roles.clear_row(block, Role::Nothing);
-        self.runs.clear_row(block, false);
-        self.unlooked.clear_row(block, false);
-        self.seen_after.clear_row(block, false);
-        self.seen.clear_row(block, false);
-        self.scans.clear_row(block, None);
-    }
-
-    pub(crate) fn made(&self) -> u32
-        ensures { result ≡ self.now.made }
-    {
-        self.made
-    }
-
-    pub(crate) fn making(&self) -> u32
-        ensures { result ≡ self.now.making }
-    {
-        self.making
-    }
-
-    pub(crate) fn refused(&self) -> u32
-        ensures { result ≡ self.now.refused }
-    {
-        self.refused
-    }
-
-    /// An association is entered: it is being refused, made, or in the making.
-    pub(crate) fn add_association(&mut self, refused: bool, used: bool)
-        requires { self.old.made + self.old.making + self.old.refused < 2 ^ 32 - 1 }
-        ensures { self.new ≡ with_one refused used self.old }
-    {
-        if refused {
-            self.refused += 1;
-        } else if used {
-            self.made += 1;
-        } else {
-            self.making += 1;
-        }
-    }
-
-    /// An association in the making is made.
-    pub(crate) fn finish_making(&mut self)
-        requires { self.old.made < 2 ^ 32 - 1 }
-        ensures { self.new ≡ record self.old { making = self.old.making - 1; made = self.old.made + 1 } }
-    {
-        self.making = self.making.saturating_sub(1);
-        self.made += 1;
-    }
-
-    /// An association is gone: one that is being refused goes first.
-    pub(crate) fn drop_association(&mut self)
-        ensures { self.new ≡ without_one self.old }
-    {
-        if self.refused >= 1 {
-            self.refused -= 1;
-        } else {
-            self.made = self.made.saturating_sub(1);
-        }
     }
 }
 

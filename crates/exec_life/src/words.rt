@@ -17,8 +17,8 @@
 //!                    armed --withdraw--> removed
 //!                                   running --withdraw_own--> removed
 //!
-//! Each arrow is a step of a hand. A place's word is meant at its block's present generation: `release`
-//! takes the words of all places back to the first.
+//! Each arrow is a step of a hand. A place's word is meant at its block's present generation:
+//! `release` takes the words of all places back to the first.
 ghost use Rattle.std.specs.Prelude.{◌≡◌, ◌<◌, ◌^◌, ◌*◌, IfOk, length};
 ghost use Rattle.exec_life.specs.WordLists.{HasPlace, HasSource, block_word, control_word, callback_word, source_word, bits_in, AreFirstWords};
 ghost use Rattle.exec_life.specs.WordWrites.{SetsBlock, SetsControl, SetsCallback, SetsSource, ClearsWords};
@@ -144,6 +144,7 @@ impl Words {
         self.blocks.len() as u32
     }
 
+    /// Writes the word of the block.
     pub(crate) fn set_block(&mut self, block: u32, word: BlockWord)
         requires { block < length self.old.blocks }
         ensures { SetsBlock self.old self.new block word }
@@ -151,6 +152,7 @@ impl Words {
         self.blocks[block as usize] = word;
     }
 
+    /// Writes the control word of the place.
     pub(crate) fn set_control(&mut self, place: Place, word: ControlWord)
         requires { HasPlace self.old place }
         ensures { SetsControl self.old self.new place.block place.node word }
@@ -158,6 +160,7 @@ impl Words {
         self.control.set(place, word);
     }
 
+    /// Writes the callback word of the place.
     pub(crate) fn set_callback(&mut self, place: Place, phase: CallbackPhase)
         requires { HasPlace self.old place }
         ensures { SetsCallback self.old self.new place.block place.node phase }
@@ -165,6 +168,7 @@ impl Words {
         self.callback.set(place, phase);
     }
 
+    /// Writes the word of the source.
     pub(crate) fn set_source(&mut self, source: SourceAt, bits: Bits)
         requires { HasSource self.old source }
         ensures { SetsSource self.old self.new source bits }
@@ -175,6 +179,7 @@ impl Words {
         }
     }
 
+    /// Writes the word of the scope.
     pub(crate) fn set_scope(&mut self, word: ScopeWord)
         ensures { self.new ≡ record self.old { scope = word } }
     {
