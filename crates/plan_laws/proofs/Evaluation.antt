@@ -1,6 +1,6 @@
--- Plain evaluation gives what is allowed where no stop comes.
+-- Plain evaluation gives what is allowed: where no stop comes, and where one was asked before.
 use Rattle.std.specs.Prelude.{Option, Some, None, Result, Ok, slice_index, map}
-use Rattle.std.proofs.Common.{◌≡◌, ℕ, List, [], ◌∷◌, length, refl, sym, ◌∙◌, subst, inl, inr}
+use Rattle.std.proofs.Common.{◌≡◌, ℕ, Bool, true, false, List, [], ◌∷◌, length, refl, sym, ◌∙◌, subst, inl, inr}
 use Rattle.exec_value.specs.declared.data.Datum.{Datum}
 use Rattle.exec_value.specs.declared.data.Datum.TheVariants.{Int}
 use Rattle.exec_value.specs.declared.outcome.Completion.{Completion}
@@ -8,29 +8,36 @@ use Rattle.exec_value.specs.declared.outcome.Completion.TheVariants.{Value, Erro
 use Rattle.exec_job.specs.declared.job.Job.{Job}
 use Rattle.exec_job.specs.Apply.{apply_of}
 use Rattle.plan_rules.specs.declared.node.Node.{Node}
-use Rattle.plan_rules.specs.declared.node.Node.TheVariants.{Input, ReadEnv, Then, UponError, UponStopped, LetValue, LetError, LetStopped, StartsOn, ContinuesOn, StoppedAsOptional, StoppedAsError, Bulk, WhenAll, Unstoppable, Ahead}
+use Rattle.plan_rules.specs.declared.node.Node.TheVariants.{Input, Schedule, Delay, ReadEnv, Then, UponError, UponStopped, LetValue, LetError, LetStopped, StartsOn, ContinuesOn, StoppedAsOptional, StoppedAsError, Bulk, WhenAll, Unstoppable, Ahead}
 use Rattle.plan_rules.specs.declared.node.Query.{Query}
 use Rattle.plan_rules.specs.declared.node.Query.TheVariants.{Stop, Record}
 use Rattle.plan_rules.specs.declared.stop.StopState.{StopState}
 use Rattle.plan_rules.specs.declared.stop.StopState.TheVariants.{Never, May}
 use Rattle.plan_rules.specs.Images.{value_data, error_data, stopped_data}
-use Rattle.plan_rules.specs.Allowed.{Meaning, Asks, body_at, PickedBy, LetOf, Lets, IsFailure, FailsWith, AllOf, Joined2, Case}
-use Rattle.plan_rules.specs.Settle.{asked_of, picked_of, let_of, all_of, ahead_of, IsValue, settle_case}
+use Rattle.plan_rules.specs.Allowed.{Meaning, OrStopped, Asks, body_at, PickedBy, LetOf, Lets, IsFailure, FailsWith, AllOf, Joined2, Case}
+use Rattle.plan_rules.specs.Settle.{stop_state, unless_asked, shown_of, picked_of, let_of, lets_of, all_of, ahead_of, Settled, settle_case}
+use Rattle.plan_rules.specs.Calm.{IsValue}
 use Rattle.plan_laws.specs.Laws.{SettledIsAllowed, SettledHasMemory}
 use Rattle.plan_laws.proofs.Tables.{by_first, nodes-hold}
 use Rattle.plan_laws.proofs.Steps.{absent, first_allowed}
 use Rattle.plan_laws.proofs.Covers.{first-covers}
 use Rattle.plan_laws.proofs.Memory.{HasMemory, first-memory, allowed-memory}
 use Rattle.plan_laws.proofs.Joining.{all-values, Tells, all-tells}
-use Rattle.plan_laws.proofs.Readings.{Settled}
 
 -- what the first m nodes settle to
 abbrev pub first_settled : List Node → ℕ → ℕ → Settled
-first_settled nodes r m = by_first (λ _. Stopped) (settle_case nodes r) nodes m
+first_settled nodes r m = by_first (λ _ _. Stopped) (settle_case nodes r) nodes m
 
-asked-allowed : (query : Query) (number : ℕ) → Asks query number Never (asked_of query number)
-asked-allowed Record number = refl
-asked-allowed Stop number = refl
+unless-allowed : (Child : Completion → Type 0) (c : Completion) → Child c → (asked : Bool) →
+    OrStopped (stop_state asked) Child (unless_asked asked c)
+unless-allowed Child c allowed true = refl
+unless-allowed Child c allowed false = allowed
+
+shown-allowed : (query : Query) (number : ℕ) (asked : Bool) →
+    Asks query number (stop_state asked) (shown_of query number asked)
+shown-allowed Record number asked = refl
+shown-allowed Stop number true = refl
+shown-allowed Stop number false = refl
 
 picked-allowed : (answer : Result (List Datum) (List ℕ)) (bodies : List ℕ) (Body : ℕ → Completion → Type 0)
     (body : ℕ → Completion) → ((n : ℕ) → Body n (body n)) →
@@ -39,7 +46,7 @@ picked-allowed (Ok (Int k ∷ [])) bodies Body body each = each (body_at bodies 
 picked-allowed answer bodies Body body each = refl
 
 let-allowed : (values : Option (List Datum)) (pick : Job) (bodies : List ℕ)
-    (Body : ℕ → List Datum → Completion → Type 0) (body : Settled) →
+    (Body : ℕ → List Datum → Completion → Type 0) (body : ℕ → List Datum → Completion) →
     ((n : ℕ) (b : List Datum) → Body n b (body n b)) → (d : Completion) →
     LetOf values pick bodies Body d (let_of values pick bodies body d)
 let-allowed None pick bodies Body body each d = refl
@@ -107,60 +114,71 @@ ahead-allowed First Second x Stopped first second mx my = inl (second, tt)
 ahead-allowed First Second x NoMemory first second mx my = absurd my
 
 module _ (Below : ℕ → Meaning) (below : Settled)
-    (allowed : (k : ℕ) (a : List Datum) → Below k a Never (below k a))
-    (covered : (k : ℕ) (a : List Datum) → Below k a May (below k a))
-    (memory : (k : ℕ) (a : List Datum) → HasMemory (below k a)) where
+    (allowed : (k : ℕ) (a : List Datum) (asked : Bool) → Below k a (stop_state asked) (below k a asked))
+    (covered : (k : ℕ) (a : List Datum) → Below k a May (below k a false))
+    (memory : (k : ℕ) (a : List Datum) (asked : Bool) → HasMemory (below k a asked)) where
   lets-allowed : (channel : Completion → Option (List Datum)) (x : ℕ) (pick : Job) (xs : List ℕ)
-      (a : List Datum) →
-      Lets channel pick xs (λ n values d. Below n values Never d) (Below x a Never)
-      (let_of (channel (below x a)) pick xs below (below x a))
-  lets-allowed channel x pick xs a = (
-    below x a,
-    allowed x a,
-    let-allowed (channel (below x a)) pick xs (λ n values d. Below n values Never d) below allowed
-        (below x a),
+      (a : List Datum) (asked : Bool) →
+      Lets channel pick xs (λ n values d. Below n values (stop_state asked) d)
+      (Below x a (stop_state asked))
+      (lets_of channel pick xs (λ n b. below n b asked) (below x a asked))
+  lets-allowed channel x pick xs a asked = (
+    below x a asked,
+    allowed x a asked,
+    let-allowed (channel (below x a asked)) pick xs (λ n values d. Below n values (stop_state asked) d)
+        (λ n b. below n b asked) (λ n b. allowed n b asked) (below x a asked),
   )
 
-  case-allowed : (nodes : List Node) (r : ℕ) (node : Node) (a : List Datum) →
-      Case nodes r node Below a Never (settle_case nodes r node below a)
-  case-allowed nodes r Input a = refl
-  case-allowed nodes r (ReadEnv query) a = asked-allowed query r
-  case-allowed nodes r (Then x job) a = (below x a, allowed x a, refl)
-  case-allowed nodes r (UponError x job) a = (below x a, allowed x a, refl)
-  case-allowed nodes r (UponStopped x job) a = (below x a, allowed x a, refl)
-  case-allowed nodes r (LetValue x pick xs) a = lets-allowed value_data x pick xs a
-  case-allowed nodes r (LetError x pick xs) a = lets-allowed error_data x pick xs a
-  case-allowed nodes r (LetStopped x pick xs) a = lets-allowed stopped_data x pick xs a
-  case-allowed nodes r (StartsOn on x) a = allowed x a
-  case-allowed nodes r (ContinuesOn x on) a = allowed x a
-  case-allowed nodes r (StoppedAsOptional x of) a = (below x a, allowed x a, refl)
-  case-allowed nodes r (StoppedAsError x e) a = (below x a, allowed x a, refl)
-  case-allowed nodes r (Bulk x job) a = (below x a, allowed x a, refl)
-  case-allowed nodes r (WhenAll xs) a =
-      all-allowed (λ s i d. Below (slice_index xs i) a s d) (λ n. below n a) xs
-      (λ i. allowed (slice_index xs i) a) (λ i. covered (slice_index xs i) a)
-      (all_of (map (λ n. below n a) xs)) (all-tells (λ n. below n a) (λ n. memory n a) xs) refl
-  case-allowed nodes r (Unstoppable x) a = allowed x a
-  case-allowed nodes r (Ahead x y) a =
-      ahead-allowed (Below x a Never) (Below y a Never) (below x a) (below y a)
-      (allowed x a) (allowed y a) (memory x a) (memory y a)
-  case-allowed nodes r _ a = refl
+  case-allowed : (nodes : List Node) (r : ℕ) (node : Node) (a : List Datum) (asked : Bool) →
+      Case nodes r node Below a (stop_state asked) (settle_case nodes r node below a asked)
+  case-allowed nodes r Input a asked = refl
+  case-allowed nodes r (Schedule on) a asked =
+      unless-allowed (λ d. d ≡ Value []) (Value []) refl asked
+  case-allowed nodes r (Delay turns) a asked =
+      unless-allowed (λ d. d ≡ Value []) (Value []) refl asked
+  case-allowed nodes r (ReadEnv query) a asked = shown-allowed query r asked
+  case-allowed nodes r (Then x job) a asked = (below x a asked, allowed x a asked, refl)
+  case-allowed nodes r (UponError x job) a asked = (below x a asked, allowed x a asked, refl)
+  case-allowed nodes r (UponStopped x job) a asked = (below x a asked, allowed x a asked, refl)
+  case-allowed nodes r (LetValue x pick xs) a asked = lets-allowed value_data x pick xs a asked
+  case-allowed nodes r (LetError x pick xs) a asked = lets-allowed error_data x pick xs a asked
+  case-allowed nodes r (LetStopped x pick xs) a asked = lets-allowed stopped_data x pick xs a asked
+  case-allowed nodes r (StartsOn on x) a asked =
+      unless-allowed (Below x a (stop_state asked)) (below x a asked) (allowed x a asked) asked
+  case-allowed nodes r (ContinuesOn x on) a asked =
+      unless-allowed (Below x a (stop_state asked)) (below x a asked) (allowed x a asked) asked
+  case-allowed nodes r (StoppedAsOptional x of) a asked = (below x a asked, allowed x a asked, refl)
+  case-allowed nodes r (StoppedAsError x e) a asked = (below x a asked, allowed x a asked, refl)
+  case-allowed nodes r (Bulk x job) a asked = (below x a asked, allowed x a asked, refl)
+  case-allowed nodes r (WhenAll xs) a true = refl
+  case-allowed nodes r (WhenAll xs) a false =
+      all-allowed (λ s i d. Below (slice_index xs i) a s d) (λ n. below n a false) xs
+      (λ i. allowed (slice_index xs i) a false) (λ i. covered (slice_index xs i) a)
+      (all_of (map (λ n. below n a false) xs))
+      (all-tells (λ n. below n a false) (λ n. memory n a false) xs) refl
+  case-allowed nodes r (Unstoppable x) a asked = allowed x a false
+  case-allowed nodes r (Ahead x y) a asked =
+      ahead-allowed (Below x a (stop_state asked)) (Below y a (stop_state asked))
+      (below x a asked) (below y a asked)
+      (allowed x a asked) (allowed y a asked) (memory x a asked) (memory y a asked)
+  case-allowed nodes r _ a asked = refl
 
-first-settled : (nodes : List Node) (r m n : ℕ) (a : List Datum) →
-    first_allowed nodes r m n a Never (first_settled nodes r m n a)
+first-settled : (nodes : List Node) (r m n : ℕ) (a : List Datum) (asked : Bool) →
+    first_allowed nodes r m n a (stop_state asked) (first_settled nodes r m n a asked)
 first-settled nodes r m n =
-    nodes-hold (λ Next next. (a : List Datum) → Next a Never (next a))
-    absent (Case nodes r) (λ _. Stopped) (settle_case nodes r) nodes (λ a. refl)
+    nodes-hold (λ Next next. (a : List Datum) (asked : Bool) → Next a (stop_state asked) (next a asked))
+    absent (Case nodes r) (λ _ _. Stopped) (settle_case nodes r) nodes (λ a asked. refl)
     (λ m node before.
     case-allowed (first_allowed nodes r m) (first_settled nodes r m) before
-    (λ k a. first-covers nodes r m k a Never (first_settled nodes r m k a) (before k a))
-    (λ k a. first-memory nodes r m k a Never (first_settled nodes r m k a) (before k a))
+    (λ k a. first-covers nodes r m k a Never (first_settled nodes r m k a false) (before k a false))
+    (λ k a s. first-memory nodes r m k a (stop_state s) (first_settled nodes r m k a s) (before k a s))
     nodes r node) m n
 
 pub settled-allowed : SettledIsAllowed
-settled-allowed nodes n a r = first-settled nodes r (length nodes) n a
+settled-allowed nodes n a r asked = first-settled nodes r (length nodes) n a asked
 
 pub settled-memory : SettledHasMemory
-settled-memory nodes n a r e =
-    allowed-memory nodes n a r Never
-    (subst (first_allowed nodes r (length nodes) n a Never) e (settled-allowed nodes n a r))
+settled-memory nodes n a r asked e =
+    allowed-memory nodes n a r (stop_state asked)
+    (subst (first_allowed nodes r (length nodes) n a (stop_state asked)) e
+    (settled-allowed nodes n a r asked))

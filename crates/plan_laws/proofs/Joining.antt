@@ -6,7 +6,8 @@ use Rattle.exec_value.specs.declared.data.Datum.{Datum}
 use Rattle.exec_value.specs.declared.outcome.Completion.{Completion}
 use Rattle.exec_value.specs.declared.outcome.Completion.TheVariants.{Value, Error, Stopped, NoMemory}
 use Rattle.plan_rules.specs.Allowed.{Ends, joined}
-use Rattle.plan_rules.specs.Settle.{and_then, all_of, IsValue}
+use Rattle.plan_rules.specs.Settle.{and_then, all_of}
+use Rattle.plan_rules.specs.Calm.{IsValue}
 use Rattle.plan_laws.proofs.Memory.{HasMemory}
 
 joined-front : (values : ℕ → List Datum) (n : ℕ) →

@@ -1,6 +1,6 @@
 -- The cases of plain evaluation and of calm records, by the nodes before and by all.
 use Rattle.std.specs.Prelude.{ℤ, All, Option, Some, None, Result, Ok, slice_index, map}
-use Rattle.std.proofs.Common.{◌≡◌, ℕ, ◌<◌, List, [], ◌∷◌, refl, sym, ap, ap₂, ◌∙◌, subst}
+use Rattle.std.proofs.Common.{◌≡◌, ℕ, ◌<◌, Bool, false, List, [], ◌∷◌, refl, sym, ap, ap₂, ◌∙◌, subst}
 use Rattle.exec_value.specs.declared.data.Datum.{Datum}
 use Rattle.exec_value.specs.declared.data.Datum.TheVariants.{Int}
 use Rattle.exec_value.specs.declared.outcome.Completion.{Completion}
@@ -12,15 +12,12 @@ use Rattle.plan_rules.specs.declared.node.Node.TheVariants.{Input, Then, UponErr
 use Rattle.plan_rules.specs.Images.{value_data, error_data, stopped_data, then_of, upon_error_of, upon_stopped_of, as_optional, as_error}
 use Rattle.plan_rules.specs.Bulks.{bulk_of}
 use Rattle.plan_rules.specs.Allowed.{body_at}
-use Rattle.plan_rules.specs.Settle.{picked_of, let_of, all_of, ahead_of, settle_case, settle_of, CalmBody, CalmLet, CalmFirst, CalmCase, Calm}
-use Rattle.plan_laws.specs.Order.{children_of}
+use Rattle.plan_rules.specs.Settle.{unless_asked, picked_of, let_of, lets_of, all_of, ahead_of, Settled, settle_case, settle_of}
+use Rattle.plan_rules.specs.Calm.{CalmBody, CalmLet, CalmFirst, CalmCase, Calm}
+use Rattle.plan_rules.specs.Children.{named_by}
 use Rattle.plan_laws.specs.Laws.{SettledByCase, CalmByCase}
 use Rattle.plan_laws.proofs.Tables.{by_first, node-at, first-same}
 use Rattle.plan_laws.proofs.Children.{HasZero, below-zero, head-of, tail-of, second-of, body-of}
-
--- the completions of the nodes, by their arguments
-abbrev pub Settled : Type 0
-Settled = ℕ → List Datum → Completion
 
 picked-same : (answer : Result (List Datum) (List ℕ)) (bodies : List ℕ) (first second : ℕ → Completion) →
     ((k : ℤ) → first (body_at bodies k) ≡ second (body_at bodies k)) →
@@ -28,13 +25,14 @@ picked-same : (answer : Result (List Datum) (List ℕ)) (bodies : List ℕ) (fir
 picked-same (Ok (Int k ∷ [])) bodies first second same = same k
 picked-same answer bodies first second same = refl
 
-let-same : (values : Option (List Datum)) (pick : Job) (bodies : List ℕ) (first second : Settled) →
-    ((k : ℤ) → first (body_at bodies k) ≡ second (body_at bodies k)) → (d : Completion) →
-    let_of values pick bodies first d ≡ let_of values pick bodies second d
+let-same : (values : Option (List Datum)) (pick : Job) (bodies : List ℕ)
+    (first second : ℕ → List Datum → Completion) →
+    ((k : ℤ) (b : List Datum) → first (body_at bodies k) b ≡ second (body_at bodies k) b) →
+    (d : Completion) → let_of values pick bodies first d ≡ let_of values pick bodies second d
 let-same None pick bodies first second same d = refl
 let-same (Some values) pick bodies first second same d =
     picked-same (apply_of pick values) bodies (λ n. first n values) (λ n. second n values)
-    (λ k. ap (λ (f : List Datum → Completion). f values) (same k))
+    (λ k. same k values)
 
 map-same : (These : ℕ → Type 0) (first second : ℕ → Completion) →
     ((k : ℕ) → These k → first k ≡ second k) → (xs : List ℕ) → All These xs → map first xs ≡ map second xs
@@ -43,51 +41,54 @@ map-same These first second same (x ∷ xs) all =
     ap₂ ◌∷◌ (same x (head-of These x xs all)) (map-same These first second same xs (tail-of These x xs all))
 
 module _ (These : ℕ → Type 0) (zeroth : HasZero These) (first second : Settled)
-    (same : (k : ℕ) → These k → first k ≡ second k) where
-  child-same : (x : ℕ) (xs : List ℕ) → All These (x ∷ xs) → (a : List Datum) → first x a ≡ second x a
-  child-same x xs all a = ap (λ (f : List Datum → Completion). f a) (same x (head-of These x xs all))
+    (same : (k : ℕ) → These k → (a : List Datum) (asked : Bool) → first k a asked ≡ second k a asked) where
+  child-same : (x : ℕ) (xs : List ℕ) → All These (x ∷ xs) → (a : List Datum) (asked : Bool) →
+      first x a asked ≡ second x a asked
+  child-same x xs all a asked = same x (head-of These x xs all) a asked
 
   bodies-same : (channel : Completion → Option (List Datum)) (x : ℕ) (pick : Job) (xs : List ℕ) →
-      All These (x ∷ xs) → (a : List Datum) →
-      let_of (channel (first x a)) pick xs first (first x a)
-      ≡ let_of (channel (second x a)) pick xs second (second x a)
-  bodies-same channel x pick xs all a =
-      let-same (channel (first x a)) pick xs first second
-      (λ k. same (body_at xs k) (body-of These zeroth x xs all k)) (first x a)
-      ∙ ap (λ d. let_of (channel d) pick xs second d) (child-same x xs all a)
+      All These (x ∷ xs) → (a : List Datum) (asked : Bool) →
+      lets_of channel pick xs (λ n b. first n b asked) (first x a asked)
+      ≡ lets_of channel pick xs (λ n b. second n b asked) (second x a asked)
+  bodies-same channel x pick xs all a asked =
+      let-same (channel (first x a asked)) pick xs (λ n b. first n b asked) (λ n b. second n b asked)
+      (λ k b. same (body_at xs k) (body-of These zeroth x xs all k) b asked) (first x a asked)
+      ∙ ap (lets_of channel pick xs (λ n b. second n b asked)) (child-same x xs all a asked)
 
-  settle-same : (nodes : List Node) (r : ℕ) (node : Node) → All These (children_of node) →
-      (a : List Datum) → settle_case nodes r node first a ≡ settle_case nodes r node second a
-  settle-same nodes r Input all a = refl
-  settle-same nodes r (Then x job) all a = ap (then_of job) (child-same x [] all a)
-  settle-same nodes r (UponError x job) all a = ap (upon_error_of job) (child-same x [] all a)
-  settle-same nodes r (UponStopped x job) all a = ap (upon_stopped_of job) (child-same x [] all a)
-  settle-same nodes r (LetValue x pick xs) all a = bodies-same value_data x pick xs all a
-  settle-same nodes r (LetError x pick xs) all a = bodies-same error_data x pick xs all a
-  settle-same nodes r (LetStopped x pick xs) all a = bodies-same stopped_data x pick xs all a
-  settle-same nodes r (StartsOn on x) all a = child-same x [] all a
-  settle-same nodes r (ContinuesOn x on) all a = child-same x [] all a
-  settle-same nodes r (StoppedAsOptional x of) all a = ap as_optional (child-same x [] all a)
-  settle-same nodes r (StoppedAsError x e) all a = ap (as_error e) (child-same x [] all a)
-  settle-same nodes r (Bulk x job) all a = ap (bulk_of job) (child-same x [] all a)
-  settle-same nodes r (WhenAll xs) all a =
-      ap all_of (map-same These (λ n. first n a) (λ n. second n a)
-      (λ k this. ap (λ (f : List Datum → Completion). f a) (same k this)) xs all)
-  settle-same nodes r (Unstoppable x) all a = child-same x [] all a
-  settle-same nodes r (Ahead x y) all a =
-      ap₂ ahead_of (child-same x (y ∷ []) all a)
-      (ap (λ (f : List Datum → Completion). f a) (same y (second-of These x y [] all)))
-  settle-same nodes r _ all a = refl
+  settle-same : (nodes : List Node) (r : ℕ) (node : Node) → All These (named_by node) →
+      (a : List Datum) (asked : Bool) →
+      settle_case nodes r node first a asked ≡ settle_case nodes r node second a asked
+  settle-same nodes r Input all a asked = refl
+  settle-same nodes r (Then x job) all a asked = ap (then_of job) (child-same x [] all a asked)
+  settle-same nodes r (UponError x job) all a asked = ap (upon_error_of job) (child-same x [] all a asked)
+  settle-same nodes r (UponStopped x job) all a asked =
+      ap (upon_stopped_of job) (child-same x [] all a asked)
+  settle-same nodes r (LetValue x pick xs) all a asked = bodies-same value_data x pick xs all a asked
+  settle-same nodes r (LetError x pick xs) all a asked = bodies-same error_data x pick xs all a asked
+  settle-same nodes r (LetStopped x pick xs) all a asked = bodies-same stopped_data x pick xs all a asked
+  settle-same nodes r (StartsOn on x) all a asked = ap (unless_asked asked) (child-same x [] all a asked)
+  settle-same nodes r (ContinuesOn x on) all a asked = ap (unless_asked asked) (child-same x [] all a asked)
+  settle-same nodes r (StoppedAsOptional x of) all a asked = ap as_optional (child-same x [] all a asked)
+  settle-same nodes r (StoppedAsError x e) all a asked = ap (as_error e) (child-same x [] all a asked)
+  settle-same nodes r (Bulk x job) all a asked = ap (bulk_of job) (child-same x [] all a asked)
+  settle-same nodes r (WhenAll xs) all a asked =
+      ap (λ cs. unless_asked asked (all_of cs))
+      (map-same These (λ n. first n a false) (λ n. second n a false) (λ k this. same k this a false) xs all)
+  settle-same nodes r (Unstoppable x) all a asked = child-same x [] all a false
+  settle-same nodes r (Ahead x y) all a asked =
+      ap₂ ahead_of (child-same x (y ∷ []) all a asked) (same y (second-of These x y [] all) a asked)
+  settle-same nodes r _ all a asked = refl
 
 pub settled-by-case : SettledByCase
-settled-by-case nodes ordered n node at a r =
-    let dull : List Datum → Completion = λ _. Stopped in
+settled-by-case nodes ordered n node at a r asked =
+    let dull : List Datum → Bool → Completion = λ _ _. Stopped in
     let first : Settled = by_first dull (settle_case nodes r) nodes n in
-    let second : Settled = λ k b. settle_of nodes k b r in
-    ap (λ (f : List Datum → Completion). f a) (node-at dull (settle_case nodes r) nodes n node at)
+    let second : Settled = λ k b s. settle_of nodes k b r s in
+    ap (λ (f : List Datum → Bool → Completion). f a asked) (node-at dull (settle_case nodes r) nodes n node at)
     ∙ settle-same (λ k. k < n) (below-zero n) first second
-    (λ k before. first-same dull (settle_case nodes r) nodes n k node at before)
-    nodes r node (ordered n node at) a
+    (λ k before b s. ap (λ (f : List Datum → Bool → Completion). f b s)
+    (first-same dull (settle_case nodes r) nodes n k node at before))
+    nodes r node (ordered n node at) a asked
 
 -- whether the nodes are calm, by their arguments
 abbrev pub Calmness : Type 1
@@ -118,7 +119,7 @@ module _ (These : ℕ → Type 0) (zeroth : HasZero These) (First Second : Calmn
   calm-bodies values x pick xs all h =
       calm-let values pick xs First Second (λ k. goes (body_at xs k) (body-of These zeroth x xs all k)) h
 
-  calm-goes : (nodes : List Node) (r : ℕ) (node : Node) → All These (children_of node) → (a : List Datum) →
+  calm-goes : (nodes : List Node) (r : ℕ) (node : Node) → All These (named_by node) → (a : List Datum) →
       CalmCase nodes r node First a → CalmCase nodes r node Second a
   calm-goes nodes r Input all a h = h
   calm-goes nodes r (Then x job) all a h = goes x (head-of These x [] all) a h
@@ -126,15 +127,15 @@ module _ (These : ℕ → Type 0) (zeroth : HasZero These) (First Second : Calmn
   calm-goes nodes r (UponStopped x job) all a h = goes x (head-of These x [] all) a h
   calm-goes nodes r (LetValue x pick xs) all a h = (
     goes x (head-of These x xs all) a h.0,
-    calm-bodies (value_data (settle_of nodes x a r)) x pick xs all h.1,
+    calm-bodies (value_data (settle_of nodes x a r false)) x pick xs all h.1,
   )
   calm-goes nodes r (LetError x pick xs) all a h = (
     goes x (head-of These x xs all) a h.0,
-    calm-bodies (error_data (settle_of nodes x a r)) x pick xs all h.1,
+    calm-bodies (error_data (settle_of nodes x a r false)) x pick xs all h.1,
   )
   calm-goes nodes r (LetStopped x pick xs) all a h = (
     goes x (head-of These x xs all) a h.0,
-    calm-bodies (stopped_data (settle_of nodes x a r)) x pick xs all h.1,
+    calm-bodies (stopped_data (settle_of nodes x a r false)) x pick xs all h.1,
   )
   calm-goes nodes r (StartsOn on x) all a h = goes x (head-of These x [] all) a h
   calm-goes nodes r (ContinuesOn x on) all a h = goes x (head-of These x [] all) a h
@@ -146,7 +147,7 @@ module _ (These : ℕ → Type 0) (zeroth : HasZero These) (First Second : Calmn
   calm-goes nodes r (Unstoppable x) all a h = goes x (head-of These x [] all) a h
   calm-goes nodes r (Ahead x y) all a h = (
     goes y (second-of These x y [] all) a h.0,
-    calm-first (settle_of nodes y a r) (First x a) (Second x a) (goes x (head-of These x (y ∷ []) all) a) h.1,
+    calm-first (settle_of nodes y a r false) (First x a) (Second x a) (goes x (head-of These x (y ∷ []) all) a) h.1,
   )
   calm-goes nodes r _ all a h = h
 

@@ -12,7 +12,8 @@ use Rattle.plan_rules.specs.declared.stop.StopState.TheVariants.{Never, May}
 use Rattle.plan_rules.specs.Images.{value_data, error_data, stopped_data, then_of, upon_error_of, upon_stopped_of, as_optional, as_error}
 use Rattle.plan_rules.specs.Bulks.{bulk_of}
 use Rattle.plan_rules.specs.Allowed.{Meaning, Case, Allowed, AllOf, Lets, body_at}
-use Rattle.plan_laws.specs.Order.{children_of, IsOrdered}
+use Rattle.plan_rules.specs.Children.{named_by}
+use Rattle.plan_laws.specs.Order.{IsOrdered}
 use Rattle.plan_laws.specs.Laws.{AllowedByCase}
 use Rattle.plan_laws.proofs.Tables.{by_first, node-at, first-same}
 use Rattle.plan_laws.proofs.Children.{HasZero, below-zero, head-of, second-of, body-of}
@@ -48,7 +49,7 @@ module _ (up : Bool) (These : ℕ → Type 0) (zeroth : HasZero These) (First Se
       (First x a q) (Second x a (rise up q)) (child-goes x xs all a q)
 
   -- a case goes on as its children do
-  pub case_goes : (nodes : List Node) (r : ℕ) (node : Node) → All These (children_of node) →
+  pub case_goes : (nodes : List Node) (r : ℕ) (node : Node) → All These (named_by node) →
       (a : List Datum) (q : StopState) →
       Goes (Case nodes r node First a q) (Case nodes r node Second a (rise up q))
   case_goes nodes r (Schedule on) all a q c h =

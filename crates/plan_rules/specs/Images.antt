@@ -1,5 +1,7 @@
 -- What adaptors make of one completion of their child.
-use Rattle.std.specs.Prelude.{ℕ, List, [], ◌∷◌, Option, Some, None}
+use Rattle.std.specs.Prelude.{ℕ, Bool, true, false, List, [], ◌∷◌, Option, Some, None}
+use Rattle.exec_value.specs.declared.kinds.Kind.{Kind}
+use Rattle.exec_value.specs.declared.kinds.Kind.TheVariants.{Int as IntKind, Text as TextKind}
 use Rattle.exec_value.specs.declared.data.Datum.{Datum}
 use Rattle.exec_value.specs.declared.data.Datum.TheVariants.{Int, Text, Row, SomeInt, SomeText, Nothing}
 use Rattle.exec_value.specs.declared.outcome.Completion.{Completion}
@@ -58,3 +60,9 @@ as_optional c = c
 abbrev pub as_error : List ℕ → Completion → Completion
 as_error name Stopped = Error name
 as_error name c = c
+
+-- a kind of which there is a maybe kind
+abbrev pub has_maybe : Kind → Bool
+has_maybe IntKind = true
+has_maybe TextKind = true
+has_maybe kind = false

@@ -1,5 +1,5 @@
--- Plain evaluation on one thread, where no stop is ever requested.
-use Rattle.std.specs.Prelude.{ℕ, ◌<◌, pos, List, [], ◌∷◌, ◌++◌, length, map, slice_index, Option, Some, None, Result, Ok}
+-- Plain evaluation on one thread: with no stop request, or where one was made before the start.
+use Rattle.std.specs.Prelude.{ℕ, pos, Bool, true, false, List, [], ◌∷◌, ◌++◌, map, Option, Some, None, Result, Ok}
 use Rattle.exec_value.specs.declared.data.Datum.{Datum}
 use Rattle.exec_value.specs.declared.data.Datum.TheVariants.{Int}
 use Rattle.exec_value.specs.declared.outcome.Completion.{Completion}
@@ -10,23 +10,43 @@ use Rattle.plan_rules.specs.declared.node.Node.{Node}
 use Rattle.plan_rules.specs.declared.node.Node.TheVariants.{Input, Just, JustError, JustStopped, Schedule, Delay, ReadEnv, Then, UponError, UponStopped, LetValue, LetError, LetStopped, StartsOn, ContinuesOn, StoppedAsOptional, StoppedAsError, Bulk, WhenAll, Part, Unstoppable, Ahead}
 use Rattle.plan_rules.specs.declared.node.Query.{Query}
 use Rattle.plan_rules.specs.declared.node.Query.TheVariants.{Stop, Record}
+use Rattle.plan_rules.specs.declared.stop.StopState.{StopState}
+use Rattle.plan_rules.specs.declared.stop.StopState.TheVariants.{Never, Stands}
 use Rattle.plan_rules.specs.Tables.{by_node}
 use Rattle.plan_rules.specs.Images.{value_data, error_data, stopped_data, then_of, upon_error_of, upon_stopped_of, as_optional, as_error}
 use Rattle.plan_rules.specs.Bulks.{bulk_of, job_of_bulk, part_ending}
 use Rattle.plan_rules.specs.Allowed.{body_at}
 
-abbrev pub asked_of : Query → ℕ → Completion
-asked_of Stop number = Value (Int (pos 0) ∷ [])
-asked_of Record number = Value (Int (pos number) ∷ [])
+-- the stop state of an operation, where a stop was asked before its start, and where none ever is
+abbrev pub stop_state : Bool → StopState
+stop_state true = Stands
+stop_state false = Never
+
+-- stopped where a stop was asked, else so
+abbrev pub unless_asked : Bool → Completion → Completion
+unless_asked true c = Stopped
+unless_asked false c = c
+
+-- what the environment shows: 1 where a stop was asked, else 0
+abbrev pub shown_of : Query → ℕ → Bool → Completion
+shown_of Stop number true = Value (Int (pos 1) ∷ [])
+shown_of Stop number false = Value (Int (pos 0) ∷ [])
+shown_of Record number asked = Value (Int (pos number) ∷ [])
 
 -- the picked body's completion, or what else the pick gives
 abbrev pub picked_of : Result (List Datum) (List ℕ) → List ℕ → (ℕ → Completion) → Completion
 picked_of (Ok (Int k ∷ [])) bodies body = body (body_at bodies k)
 picked_of answer bodies body = ending answer
 
+-- a let's child completes with d: where it has data for the let, the picked body runs on them, and
+-- else d passes
 abbrev pub let_of : Option (List Datum) → Job → List ℕ → (ℕ → List Datum → Completion) → Completion → Completion
 let_of None pick bodies body d = d
 let_of (Some values) pick bodies body d = picked_of (apply_of pick values) bodies (λ n. body n values)
+
+-- the same, where the channel's data are read from d
+abbrev pub lets_of : (Completion → Option (List Datum)) → Job → List ℕ → (ℕ → List Datum → Completion) → Completion → Completion
+lets_of channel pick bodies body d = let_of (channel d) pick bodies body d
 
 -- a child's completion, in order, before those of the children after it: all values are joined, else
 -- the first error, else stopped
@@ -34,7 +54,7 @@ abbrev pub and_then : Completion → Completion → Completion
 and_then (Value front) (Value values) = Value (front ++ values)
 and_then (Value front) c = c
 and_then (Error e) c = Error e
-and_then Stopped (Error e) = Error e
+and_then c (Error e) = Error e
 and_then c d = Stopped
 
 abbrev pub all_of : List Completion → Completion
@@ -47,85 +67,40 @@ ahead_of (Value front) (Value values) = Value (front ++ values)
 ahead_of c (Value values) = c
 ahead_of c d = d
 
-abbrev pub settle_case : List Node → ℕ → Node → (ℕ → List Datum → Completion) → List Datum → Completion
-settle_case nodes r Input below a = Value a
-settle_case nodes r (Just values) below a = Value values
-settle_case nodes r (JustError e) below a = Error e
-settle_case nodes r JustStopped below a = Stopped
-settle_case nodes r (Schedule on) below a = Value []
-settle_case nodes r (Delay turns) below a = Value []
-settle_case nodes r (ReadEnv query) below a = asked_of query r
-settle_case nodes r (Then child job) below a = then_of job (below child a)
-settle_case nodes r (UponError child job) below a = upon_error_of job (below child a)
-settle_case nodes r (UponStopped child job) below a = upon_stopped_of job (below child a)
-settle_case nodes r (LetValue child pick bodies) below a =
-    let d = below child a in let_of (value_data d) pick bodies below d
-settle_case nodes r (LetError child pick bodies) below a =
-    let d = below child a in let_of (error_data d) pick bodies below d
-settle_case nodes r (LetStopped child pick bodies) below a =
-    let d = below child a in let_of (stopped_data d) pick bodies below d
-settle_case nodes r (StartsOn on child) below a = below child a
-settle_case nodes r (ContinuesOn child on) below a = below child a
-settle_case nodes r (StoppedAsOptional child of) below a = as_optional (below child a)
-settle_case nodes r (StoppedAsError child e) below a = as_error e (below child a)
-settle_case nodes r (Bulk child job) below a = bulk_of job (below child a)
-settle_case nodes r (WhenAll children) below a = all_of (map (λ n. below n a) children)
-settle_case nodes r (Part bulk part) below a = part_ending (job_of_bulk nodes bulk) a
-settle_case nodes r (Unstoppable child) below a = below child a
-settle_case nodes r (Ahead first second) below a = ahead_of (below first a) (below second a)
+-- the completions of nodes, by their arguments and whether a stop was asked
+abbrev pub Settled : Type 0
+Settled = ℕ → List Datum → Bool → Completion
+
+-- what a node completes with, as those before it do; a hop completes stopped where a stop was asked
+abbrev pub settle_case : List Node → ℕ → Node → Settled → List Datum → Bool → Completion
+settle_case nodes r Input below a asked = Value a
+settle_case nodes r (Just values) below a asked = Value values
+settle_case nodes r (JustError e) below a asked = Error e
+settle_case nodes r JustStopped below a asked = Stopped
+settle_case nodes r (Schedule on) below a asked = unless_asked asked (Value [])
+settle_case nodes r (Delay turns) below a asked = unless_asked asked (Value [])
+settle_case nodes r (ReadEnv query) below a asked = shown_of query r asked
+settle_case nodes r (Then child job) below a asked = then_of job (below child a asked)
+settle_case nodes r (UponError child job) below a asked = upon_error_of job (below child a asked)
+settle_case nodes r (UponStopped child job) below a asked = upon_stopped_of job (below child a asked)
+settle_case nodes r (LetValue child pick bodies) below a asked =
+    lets_of value_data pick bodies (λ n b. below n b asked) (below child a asked)
+settle_case nodes r (LetError child pick bodies) below a asked =
+    lets_of error_data pick bodies (λ n b. below n b asked) (below child a asked)
+settle_case nodes r (LetStopped child pick bodies) below a asked =
+    lets_of stopped_data pick bodies (λ n b. below n b asked) (below child a asked)
+settle_case nodes r (StartsOn on child) below a asked = unless_asked asked (below child a asked)
+settle_case nodes r (ContinuesOn child on) below a asked = unless_asked asked (below child a asked)
+settle_case nodes r (StoppedAsOptional child of) below a asked = as_optional (below child a asked)
+settle_case nodes r (StoppedAsError child e) below a asked = as_error e (below child a asked)
+settle_case nodes r (Bulk child job) below a asked = bulk_of job (below child a asked)
+settle_case nodes r (WhenAll children) below a asked =
+    unless_asked asked (all_of (map (λ n. below n a false) children))
+settle_case nodes r (Part bulk part) below a asked = part_ending (job_of_bulk nodes bulk) a
+settle_case nodes r (Unstoppable child) below a asked = below child a false
+settle_case nodes r (Ahead first second) below a asked =
+    ahead_of (below first a asked) (below second a asked)
 
 -- the completion of node n by plain evaluation
-abbrev pub settle_of : List Node → ℕ → List Datum → ℕ → Completion
-settle_of nodes n a r = by_node (λ _. Stopped) (settle_case nodes r) nodes n a
-
-abbrev pub IsValue : Completion → Type 0
-IsValue (Value values) = Unit {0}
-IsValue _ = ⊥
-
--- the body that is evaluated is calm; where none is, nothing is asked
-abbrev pub CalmBody : Result (List Datum) (List ℕ) → List ℕ → (ℕ → Type 0) → Type 0
-CalmBody (Ok (Int k ∷ [])) bodies Calm = Calm (body_at bodies k)
-CalmBody answer bodies Calm = Unit {0}
-
-abbrev pub CalmLet : Option (List Datum) → Job → List ℕ → (ℕ → List Datum → Type 0) → Type 0
-CalmLet None pick bodies Calm = Unit {0}
-CalmLet (Some values) pick bodies Calm = CalmBody (apply_of pick values) bodies (λ n. Calm n values)
-
--- the first of an `ahead` is evaluated where the second has a value
-abbrev pub CalmFirst : Completion → Type 0 → Type 0
-CalmFirst (Value values) Calm = Calm
-CalmFirst _ Calm = Unit {0}
-
-abbrev pub CalmCase : List Node → ℕ → Node → (ℕ → List Datum → Type 0) → List Datum → Type 0
-CalmCase nodes r Input Below a = Unit {0}
-CalmCase nodes r (Just values) Below a = Unit {0}
-CalmCase nodes r (JustError e) Below a = Unit {0}
-CalmCase nodes r JustStopped Below a = Unit {0}
-CalmCase nodes r (Schedule on) Below a = Unit {0}
-CalmCase nodes r (Delay turns) Below a = Unit {0}
-CalmCase nodes r (ReadEnv query) Below a = Unit {0}
-CalmCase nodes r (Then child job) Below a = Below child a
-CalmCase nodes r (UponError child job) Below a = Below child a
-CalmCase nodes r (UponStopped child job) Below a = Below child a
-CalmCase nodes r (LetValue child pick bodies) Below a =
-    Below child a × CalmLet (value_data (settle_of nodes child a r)) pick bodies Below
-CalmCase nodes r (LetError child pick bodies) Below a =
-    Below child a × CalmLet (error_data (settle_of nodes child a r)) pick bodies Below
-CalmCase nodes r (LetStopped child pick bodies) Below a =
-    Below child a × CalmLet (stopped_data (settle_of nodes child a r)) pick bodies Below
-CalmCase nodes r (StartsOn on child) Below a = Below child a
-CalmCase nodes r (ContinuesOn child on) Below a = Below child a
-CalmCase nodes r (StoppedAsOptional child of) Below a = Below child a
-CalmCase nodes r (StoppedAsError child e) Below a = Below child a
-CalmCase nodes r (Bulk child job) Below a = Below child a
-CalmCase nodes r (WhenAll children) Below a =
-    (i : ℕ) → i < length children →
-    Below (slice_index children i) a × IsValue (settle_of nodes (slice_index children i) a r)
-CalmCase nodes r (Part bulk part) Below a = Unit {0}
-CalmCase nodes r (Unstoppable child) Below a = Below child a
-CalmCase nodes r (Ahead first second) Below a =
-    Below second a × CalmFirst (settle_of nodes second a r) (Below first a)
-
--- no child of an evaluated `when_all` fails
-abbrev pub Calm : List Node → ℕ → List Datum → ℕ → Type 0
-Calm nodes n a r = by_node (λ _. Unit {0}) (CalmCase nodes r) nodes n a
+abbrev pub settle_of : List Node → ℕ → List Datum → ℕ → Bool → Completion
+settle_of nodes n a r asked = by_node (λ _ _. Stopped) (settle_case nodes r) nodes n a asked

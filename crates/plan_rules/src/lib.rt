@@ -1,10 +1,9 @@
-//! What a sender expression means: its nodes, the completions that it allows, plain evaluation, and
-//! the kinds that flow through it.
+//! What a sender expression means: its nodes, the completions that it allows, and plain evaluation.
 //!
 //! It stands on `exec_value`, `exec_job` and `life_rules`. The definitions are in specs/: `Allowed`
 //! says which completions a node may have under which stop state, `settle_of` which one plain
-//! evaluation gives, and `Kinds` which values can come. The crates above build plans, prove the laws
-//! of these definitions and evaluate by them.
+//! evaluation gives, and `Calm` where it gives the only one. The crates above build plans, prove the
+//! laws of these definitions and evaluate by them.
 #![tactic(auto)]
 
 mod node;
