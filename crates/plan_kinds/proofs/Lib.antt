@@ -1,0 +1,11 @@
+pub mod Jobs
+pub mod Fitting
+pub mod Agreeing
+pub mod Running
+pub mod Signed
+pub mod OneChild
+pub mod Elements
+pub mod Lets
+pub mod Joining
+pub mod Cases
+pub mod Kept

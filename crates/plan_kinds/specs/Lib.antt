@@ -1,0 +1,10 @@
+pub mod Equal
+pub mod Shapes
+pub mod Gives
+pub mod Runs
+pub mod Values
+pub mod Flags
+pub mod Signatures
+pub mod Reached
+pub mod Built
+pub mod Laws
