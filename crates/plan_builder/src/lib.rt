@@ -1,0 +1,22 @@
+//! Plans by calls: a builder takes sender expressions node by node, and ends in a plan.
+//!
+//! It stands on `plan_shape`, whose definitions say which nodes a call adds, which it refuses and
+//! why, and what makes a plan. Each call answers exactly these, unless it finds no memory; after a
+//! refusal the builder is as it was.
+#![tactic(auto)]
+
+mod builder;
+mod calls;
+mod check;
+mod finish;
+mod position;
+mod push;
+mod room;
+#[cfg(test)]
+mod tests;
+mod tree;
+
+pub use builder::PlanBuilder;
+pub use plan_rules::{Context, Node, NodeId, Query, Settings};
+pub use plan_shape::{BuildFault, Plan};
+pub use push::Built;

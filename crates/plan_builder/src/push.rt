@@ -1,0 +1,90 @@
+//! How a builder adds a node that it doesn't refuse.
+ghost use Rattle.std.specs.Prelude.{◌≡◌, ◌+◌, ◌≤◌, [], ◌∷◌, ◌++◌, None, vec_len, vec_capacity, true, OnOk};
+ghost use Rattle.plan_shape.specs.Added.{parts_of};
+ghost use Rattle.plan_rules.specs.Children.{named_by};
+ghost use Rattle.plan_shape.specs.Children.{part_count};
+ghost use Rattle.plan_shape.specs.Conditions.{MeetsConditions, has_lawful_count};
+ghost use Rattle.plan_shape.specs.Depths.{depth_of, depth_over};
+ghost use Rattle.plan_shape.specs.Refusals.{Adds, fault_of};
+
+use crate::builder::PlanBuilder;
+use crate::position::{Position, append_positions};
+use crate::room::append;
+use plan_rules::{Node, NodeId};
+use plan_shape::{BULK_PARTS, BuildFault};
+use std::alloc::AllocError;
+
+/// What a call of a builder answers: the number of the new node, or why there is none.
+pub type Built = Result<NodeId, BuildFault>;
+
+// How many parts a node has.
+fn part_count(node: &Node) -> u32
+    ensures { result ≡ part_count node.now }
+{
+    match node {
+        Node::Bulk { .. } => BULK_PARTS,
+        _ => 0,
+    }
+}
+
+// Makes room for so many more nodes and their positions.
+fn reserve(
+    nodes: &mut Vec<Node>,
+    positions: &mut Vec<Position>,
+    more: usize,
+) -> Result<(), AllocError>
+    ensures nodes { nodes.new.items ≡ nodes.old.items }
+    ensures positions { positions.new.items ≡ positions.old.items }
+    ensures node_room { OnOk result (vec_len nodes.new + more ≤ vec_capacity nodes.new) }
+    ensures position_room { OnOk result
+        (vec_len positions.new + more ≤ vec_capacity positions.new) }
+{
+    nodes.reserve(more)?;
+    positions.reserve(more)
+}
+
+// Appends a node behind so many parts, where there is room.
+fn append_node(nodes: &mut Vec<Node>, node: Node, number: NodeId, parts: u32)
+    requires { vec_len nodes.old + parts + 1 ≤ vec_capacity nodes.old }
+    ensures { nodes.new.items ≡ nodes.old.items ++ (parts_of number parts ++ node ∷ []) }
+{
+    for part in 0..parts {
+        append(nodes, Node::Part { bulk: number, part });
+    }
+    append(nodes, node);
+}
+
+impl PlanBuilder {
+    /// Adds a node that isn't refused. Its children are named in two lists, one after the other.
+    pub(crate) fn push(
+        &mut self,
+        front: &[NodeId],
+        back: &[NodeId],
+        node: Node,
+        depth: u32,
+    ) -> Built
+        requires named { named_by node ≡ front.now ++ back.now }
+        requires conditions { MeetsConditions node }
+        requires allowed { fault_of self.old node ≡ None }
+        requires depth { depth ≡ depth_over (depth_of self.old) (named_by node) }
+        ensures { Adds self.old self.new node result }
+    {
+        let parts = part_count(&node);
+        reserve(&mut self.nodes, &mut self.positions, parts as usize + 1)?;
+        let number = self.nodes.len() as u32 + parts;
+        append_positions(&mut self.positions, front, back, number, parts, depth);
+        append_node(&mut self.nodes, node, number, parts);
+        Ok(number)
+    }
+
+    /// Adds a node whose children are these, unless it is refused.
+    pub(crate) fn add(&mut self, children: &[NodeId], node: Node) -> Built
+        requires named { named_by node ≡ children.now }
+        requires conditions { MeetsConditions node }
+        requires count { has_lawful_count node ≡ true }
+        ensures { Adds self.old self.new node result }
+    {
+        let depth = self.check(children, &[], part_count(&node))?;
+        self.push(children, &[], node, depth)
+    }
+}

@@ -1,0 +1,5 @@
+pub mod ListLemmas
+pub mod LeastLemmas
+pub mod DepthLemmas
+pub mod ForestLaws
+pub mod AncestorLemmas

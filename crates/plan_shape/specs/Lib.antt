@@ -1,0 +1,12 @@
+pub mod Children
+pub mod Least
+pub mod Parents
+pub mod Depths
+pub mod Conditions
+pub mod Added
+pub mod Refusals
+pub mod Forest
+pub mod Ancestors
+pub mod Finish
+pub mod Blueprint
+pub mod PlanTree
