@@ -1,0 +1,26 @@
+//! The check of a plan's kinds.
+//!
+//! It stands on `plan_kinds`, which says what signatures are and that they are kept, and on
+//! `plan_shape`, which has the plans. `check` answers the signature of every node, or the first node
+//! whose kinds don't match.
+#![tactic(auto)]
+
+mod checking;
+mod fault;
+mod finding;
+mod flags;
+mod gives;
+mod joint;
+mod matching;
+mod runs;
+mod shapes;
+mod sigs;
+#[cfg(test)]
+mod tests;
+mod values;
+mod walk;
+
+pub use checking::check;
+pub use fault::SigFault;
+pub use plan_kinds::{KindList, Sig};
+pub use sigs::Sigs;
