@@ -1,0 +1,195 @@
+-- No operand is wrong: a job takes what its node's child completes with.
+use Rattle.std.specs.Prelude.{IsTrue, IfSome, IfOk, Option, Some, None, Result, ok_or, slice_get}
+use Rattle.std.proofs.Common.{◌≡◌, ℕ, Bool, List, [], ◌∷◌, refl, sym, ap, ◌∙◌, subst}
+use Rattle.std.proofs.lemmas.Bool.{and_parts}
+use Rattle.exec_value.specs.Kinds.{HaveKinds}
+use Rattle.exec_value.specs.declared.kinds.Kind.{Kind}
+use Rattle.exec_value.specs.declared.kinds.Kind.TheVariants.{Text as TextKind}
+use Rattle.exec_value.specs.declared.data.Datum.{Datum}
+use Rattle.exec_value.specs.declared.data.Datum.TheVariants.{Text}
+use Rattle.exec_value.specs.declared.outcome.Completion.{Completion}
+use Rattle.exec_value.specs.declared.outcome.Completion.TheVariants.{Value, Error, Stopped}
+use Rattle.exec_job.specs.Apply.{TakesData}
+use Rattle.exec_job.specs.Takes.{is_int, takes}
+use Rattle.exec_job.specs.declared.job.Job.{Job}
+use Rattle.plan_rules.specs.declared.node.Node.{Node}
+use Rattle.plan_rules.specs.declared.node.Node.TheVariants.{Then, UponError, UponStopped, LetValue, LetError, LetStopped}
+use Rattle.plan_rules.specs.Images.{value_data, error_data, stopped_data}
+use Rattle.plan_kinds.specs.Shapes.{Shape, HasShape, never_or}
+use Rattle.plan_kinds.specs.Gives.{gives, picks}
+use Rattle.plan_kinds.specs.Signatures.{sig_of, Fits}
+use Rattle.plan_kinds.specs.declared.sig.Sig.{Sig}
+use Rattle.plan_shape.specs.Blueprint.{Blueprint}
+use Rattle.plan_settle.specs.declared.evaluation.Evaluation.{Evaluation}
+use Rattle.plan_settle.specs.Runs.{RunsWith, IsRunnable, MayPick}
+use Rattle.plan_settle.specs.Settles.{settled_by}
+use Rattle.plan_settle.proofs.Runs.{first, built, matched, child-fits, runs-child, before-body, bodies-run}
+use Rattle.plan_settle.proofs.ShortErrors.{IsShort, settled-short}
+use Rattle.plan_settle.proofs.InPlace.{none-in_place, one-in_place, shape-in_place, pick-in_place}
+
+shape-taken : (job : Job) (shape : Shape) (values : List Datum) → IsTrue (never_or (takes job) shape) →
+    HasShape values shape → TakesData job values
+shape-taken job None values takes have = absurd have
+shape-taken job (Some kinds) values takes have = (kinds, have, takes)
+
+value-taken : (job : Job) (sig : Sig) (done : Completion) → IsTrue (never_or (takes job) sig.value) →
+    Fits sig done → IfSome (value_data done) (TakesData job)
+value-taken job sig (Value values) takes fits = shape-taken job sig.value values takes fits
+value-taken job sig done takes fits = tt
+
+error-taken : (job : Job) (done : Completion) → IsTrue (takes job (TextKind ∷ [])) →
+    IfSome (error_data done) (TakesData job)
+error-taken job (Error name) takes = (TextKind ∷ [], (tt, tt), takes)
+error-taken job done takes = tt
+
+stopped-taken : (job : Job) (done : Completion) → IsTrue (takes job []) →
+    IfSome (stopped_data done) (TakesData job)
+stopped-taken job Stopped takes = ([], tt, takes)
+stopped-taken job done takes = tt
+
+-- data of a shape have its kinds
+have-kinds : (test : List Kind → Bool) (shape : Shape) (values : List Datum) → IsTrue (never_or test shape) →
+    HasShape values shape → (kinds : List Kind) × HaveKinds values kinds × IsTrue (test kinds)
+have-kinds test None values passes have = absurd have
+have-kinds test (Some kinds) values passes have = (kinds, have, passes)
+
+-- what holds of the data that a completion has on a channel
+value-channel : (d : Completion) (P : List Datum → Type 0) →
+    ((values : List Datum) → d ≡ Value values → P values) → IfOk (ok_or (value_data d) d) P
+value-channel (Value values) P each = each values refl
+value-channel d P each = tt
+
+error-channel : (d : Completion) (P : List Datum → Type 0) →
+    ((name : List ℕ) → d ≡ Error name → P (Text name ∷ [])) → IfOk (ok_or (error_data d) d) P
+error-channel (Error name) P each = each name refl
+error-channel d P each = tt
+
+stopped-channel : (d : Completion) (P : List Datum → Type 0) → P [] → IfOk (ok_or (stopped_data d) d) P
+stopped-channel Stopped P none = none
+stopped-channel d P none = tt
+
+split-may : (channel : Completion → Option (List Datum)) (settled done : Completion)
+    (split : Result (List Datum) Completion) (P : List Datum → Type 0) → done ≡ settled →
+    split ≡ ok_or (channel done) done → IfOk (ok_or (channel settled) settled) P → IfOk split P
+split-may channel settled done split P same is may =
+    subst (λ (x : Result (List Datum) Completion). IfOk x P)
+    (sym (is ∙ ap (λ d. ok_or (channel d) d) same)) may
+
+module _ (run : Evaluation) {n : ℕ} {args : List Datum} (runnable : IsRunnable run.plan.now)
+    (runs : RunsWith run.plan.now n args) where
+  abbrev plan : Blueprint
+  plan = run.plan.now
+
+  pub then-taken : {k : ℕ} {job : Job} {done : Completion} →
+      slice_get run.plan.now.nodes n ≡ Some (Then k job) → done ≡ settled_by run k args → IfSome (value_data done) (TakesData job)
+  then-taken {k} {job} {done} at same =
+      subst (λ d. IfSome (value_data d) (TakesData job)) (sym same)
+      (value-taken job (sig_of plan.nodes k runs.shape) (settled_by run k args)
+      (matched plan runnable n args runs (Then k job) at)
+      (child-fits plan runnable n args runs (Then k job) at k (first k []) run.number run.asked))
+
+  pub upon_error-taken : {k : ℕ} {job : Job} {done : Completion} →
+      slice_get run.plan.now.nodes n ≡ Some (UponError k job) →
+      done ≡ settled_by run k args → IfSome (error_data done) (TakesData job)
+  upon_error-taken {k} {job} {done} at same =
+      error-taken job done
+      (and_parts (takes job (TextKind ∷ [])) _ (matched plan runnable n args runs (UponError k job) at)).0
+
+  pub upon_stopped-taken : {k : ℕ} {job : Job} {done : Completion} →
+      slice_get run.plan.now.nodes n ≡ Some (UponStopped k job) →
+      done ≡ settled_by run k args → IfSome (stopped_data done) (TakesData job)
+  upon_stopped-taken {k} {job} {done} at same =
+      stopped-taken job done
+      (and_parts (takes job []) _ (matched plan runnable n args runs (UponStopped k job) at)).0
+
+  let_value-picks : (k : ℕ) (pick : Job) (bodies : List ℕ) →
+      slice_get run.plan.now.nodes n ≡ Some (LetValue k pick bodies) → (values : List Datum) →
+      settled_by run k args ≡ Value values → MayPick run.plan.now n pick bodies values
+  let_value-picks k pick bodies at values is =
+      let node : Node = LetValue k pick bodies in
+      let shape = (sig_of plan.nodes k runs.shape).value in
+      let fits = child-fits plan runnable n args runs node at k (first k []) run.number run.asked in
+      let have : HasShape values shape = subst (Fits (sig_of plan.nodes k runs.shape)) is fits in
+      let picking = and_parts (never_or (picks pick) shape) _ (matched plan runnable n args runs node at) in
+      let found = have-kinds (picks pick) shape values picking.0 have in
+      let taking = and_parts (takes pick found.0) (never_or is_int (gives pick found.0)) found.2 in
+      record {
+        takes = (found.0, found.1, taking.0);
+        some = (built plan runnable n args runs node at).whole n node at;
+        before = before-body plan runnable n args runs node at;
+        run = bodies-run plan runnable n args runs node at values have;
+        in_place = λ small. (
+          shape-in_place shape
+              (small.values k runs.shape
+              (runs-child plan runnable n args runs node at k (first k [])).reached)
+              values have,
+          pick-in_place pick (runnable.plan_is.forest.each n node at).made found.0 found.2 values found.1,
+        );
+      }
+
+  let_error-picks : (k : ℕ) (pick : Job) (bodies : List ℕ) →
+      slice_get run.plan.now.nodes n ≡ Some (LetError k pick bodies) → (name : List ℕ) →
+      settled_by run k args ≡ Error name → MayPick run.plan.now n pick bodies (Text name ∷ [])
+  let_error-picks k pick bodies at name is =
+      let node : Node = LetError k pick bodies in
+      let kinds : List Kind = TextKind ∷ [] in
+      let have : HaveKinds (Text name ∷ []) kinds = (tt, tt) in
+      let picking = and_parts (picks pick kinds) _ (matched plan runnable n args runs node at) in
+      let taking = and_parts (takes pick kinds) (never_or is_int (gives pick kinds)) picking.0 in
+      record {
+        takes = (kinds, have, taking.0);
+        some = (built plan runnable n args runs node at).whole n node at;
+        before = before-body plan runnable n args runs node at;
+        run = bodies-run plan runnable n args runs node at (Text name ∷ []) have;
+        in_place = λ small. (
+          one-in_place (Text name)
+              (subst IsShort is (settled-short plan runnable.plan_is small k args run.number run.asked)),
+          pick-in_place pick (runnable.plan_is.forest.each n node at).made kinds picking.0 (Text name ∷ []) have,
+        );
+      }
+
+  let_stopped-picks : (k : ℕ) (pick : Job) (bodies : List ℕ) →
+      slice_get run.plan.now.nodes n ≡ Some (LetStopped k pick bodies) → MayPick run.plan.now n pick bodies []
+  let_stopped-picks k pick bodies at =
+      let node : Node = LetStopped k pick bodies in
+      let kinds : List Kind = [] in
+      let picking = and_parts (picks pick kinds) _ (matched plan runnable n args runs node at) in
+      let taking = and_parts (takes pick kinds) (never_or is_int (gives pick kinds)) picking.0 in
+      record {
+        takes = (kinds, tt, taking.0);
+        some = (built plan runnable n args runs node at).whole n node at;
+        before = before-body plan runnable n args runs node at;
+        run = bodies-run plan runnable n args runs node at [] tt;
+        in_place = λ small. (
+          none-in_place,
+          pick-in_place pick (runnable.plan_is.forest.each n node at).made kinds picking.0 [] tt,
+        );
+      }
+
+  -- the pick of a let, where its child completes with done, takes what that has on the let's channel
+  pub let_value-may : {k : ℕ} {pick : Job} {bodies : List ℕ} {done : Completion}
+      {split : Result (List Datum) Completion} →
+      slice_get run.plan.now.nodes n ≡ Some (LetValue k pick bodies) → done ≡ settled_by run k args →
+      split ≡ ok_or (value_data done) done → IfOk split (MayPick run.plan.now n pick bodies)
+  let_value-may {k} {pick} {bodies} {done} {split} at same is =
+      split-may value_data (settled_by run k args) done split (MayPick plan n pick bodies) same is
+      (value-channel (settled_by run k args) (MayPick plan n pick bodies)
+      (let_value-picks k pick bodies at))
+
+  pub let_error-may : {k : ℕ} {pick : Job} {bodies : List ℕ} {done : Completion}
+      {split : Result (List Datum) Completion} →
+      slice_get run.plan.now.nodes n ≡ Some (LetError k pick bodies) → done ≡ settled_by run k args →
+      split ≡ ok_or (error_data done) done → IfOk split (MayPick run.plan.now n pick bodies)
+  let_error-may {k} {pick} {bodies} {done} {split} at same is =
+      split-may error_data (settled_by run k args) done split (MayPick plan n pick bodies) same is
+      (error-channel (settled_by run k args) (MayPick plan n pick bodies)
+      (let_error-picks k pick bodies at))
+
+  pub let_stopped-may : {k : ℕ} {pick : Job} {bodies : List ℕ} {done : Completion}
+      {split : Result (List Datum) Completion} →
+      slice_get run.plan.now.nodes n ≡ Some (LetStopped k pick bodies) → done ≡ settled_by run k args →
+      split ≡ ok_or (stopped_data done) done → IfOk split (MayPick run.plan.now n pick bodies)
+  let_stopped-may {k} {pick} {bodies} {done} {split} at same is =
+      split-may stopped_data (settled_by run k args) done split (MayPick plan n pick bodies) same is
+      (stopped-channel (settled_by run k args) (MayPick plan n pick bodies)
+      (let_stopped-picks k pick bodies at))

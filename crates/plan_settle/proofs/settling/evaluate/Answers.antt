@@ -1,0 +1,11 @@
+use Rattle.std.proofs.Common.{◌-◌, length, sym, subst}
+use Rattle.plan_settle.specs.Runs.{RunsWith}
+use Rattle.plan_settle.proofs.Root.{root-runs}
+use Rattle.plan_settle.proofs.settling.evaluate.Goals as goal
+
+pub settle-requires-clause-runs : goal.settle-requires-clause-runs
+settle-requires-clause-runs c =
+    let plan = c.args.plan.now in
+    subst (λ n. RunsWith plan (n - 1) c.in_ok-args.args) (sym c.size-root.ensures.size)
+    (subst (RunsWith plan (length plan.nodes - 1)) (sym c.in_ok-args.ensures.ok)
+    (root-runs plan c.size-root.ensures.plan c.args.datum.now c.requires.datum_kind))

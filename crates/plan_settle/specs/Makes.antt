@@ -1,0 +1,19 @@
+-- Calls that make one completion.
+use Rattle.std.specs.Prelude.{◌≡◌, ◌≤◌, ⊤, length, Result, IsOk, IfOk}
+use Rattle.std.specs.declared.alloc.AllocError.{AllocError}
+use Rattle.exec_value.specs.Place.{AreInPlace}
+use Rattle.exec_value.specs.declared.limits.TheConstants.{INLINE_BYTES}
+use Rattle.exec_value.specs.declared.outcome.Completion.{Completion}
+use Rattle.exec_value.specs.declared.outcome.Completion.TheVariants.{Value, Error, Stopped, NoMemory}
+
+-- a completion stands in place, so that making it wants no memory
+abbrev pub CompletesInPlace : Completion → Type 0
+CompletesInPlace (Value values) = AreInPlace values
+CompletesInPlace (Error name) = length name ≤ INLINE_BYTES
+CompletesInPlace Stopped = ⊤
+CompletesInPlace NoMemory = ⊤
+
+-- a call makes this completion, and finds no memory only where that doesn't stand in place
+pub record Makes (c : Completion) (result : Result Completion AllocError) : Type 0 where
+  pub exact : IfOk result (λ made. made ≡ c)
+  pub in_place : CompletesInPlace c → IsOk result

@@ -1,0 +1,25 @@
+-- What an evaluation answers.
+use Rattle.std.specs.Prelude.{◌≡◌, ℕ, List, Result, IsOk, IfOk}
+use Rattle.std.specs.declared.alloc.AllocError.{AllocError}
+use Rattle.exec_value.specs.declared.data.Datum.{Datum}
+use Rattle.exec_value.specs.declared.outcome.Completion.{Completion}
+use Rattle.plan_rules.specs.declared.node.Node.{Node}
+use Rattle.plan_rules.specs.Settle.{settle_case, settle_of}
+use Rattle.plan_shape.specs.Blueprint.{Blueprint}
+use Rattle.plan_settle.specs.declared.evaluation.Evaluation.{Evaluation}
+use Rattle.plan_settle.specs.Small.{IsSmall}
+
+-- an evaluation answers this completion, and want of memory only where the plan isn't small
+pub record Settles (plan : Blueprint) (c : Completion) (result : Result Completion AllocError) :
+    Type 0 where
+  pub exact : IfOk result (λ done. done ≡ c)
+  pub small : IsSmall plan → IsOk result
+
+-- what node n settles to, and what a node settles to by its case
+abbrev pub settled_by : Evaluation → ℕ → List Datum → Completion
+settled_by run n args = settle_of run.plan.now.nodes n args run.number run.asked
+
+abbrev pub settled_case : Evaluation → Node → List Datum → Completion
+settled_case run node args =
+    settle_case run.plan.now.nodes run.number node
+    (λ k b s. settle_of run.plan.now.nodes k b run.number s) args run.asked
