@@ -1,0 +1,5 @@
+pub mod BucketLaws
+pub mod LinkLaws
+pub mod RingLaws
+pub mod SettlingLaws
+pub mod RunLaws

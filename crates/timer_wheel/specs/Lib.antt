@@ -1,0 +1,5 @@
+pub mod Pairs
+pub mod Commands
+pub mod Buckets
+pub mod Links
+pub mod Settling
