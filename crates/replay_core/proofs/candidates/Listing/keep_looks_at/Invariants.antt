@@ -1,0 +1,11 @@
+use Rattle.std.proofs.Common.{[], ◌∷◌, take, Some}
+use Rattle.std.specs.List.{flat_map}
+use Rattle.exec_life.specs.StateLists.{machine}
+use Rattle.life_rules.specs.declared.event.Event.TheVariants.{Look}
+use Rattle.replay_core.specs.Listings.{Keeps}
+use Rattle.replay_core.proofs.candidates.Listing.keep_looks_at.Given as goal
+
+abbrev pub invariant-loop-place : goal.invariant-loop-place
+invariant-loop-place l =
+    let s = machine l.self.state.now in
+    Keeps s l.self.hand l.initial.found.items l.found.items (flat_map (λ p. Look l.source (Some p) ∷ []) (take l.place-index l.waiting))

@@ -1,0 +1,17 @@
+use Rattle.std.proofs.Common.{[], ◌∷◌, ◌++◌, Some, length, refl, sym, ap, arith}
+use Rattle.exec_life.specs.StateLists.{machine}
+use Rattle.replay_core.specs.Candidates.{places_of, sources_of, blocks_of, looks_at, runs_at, rests_at, requests_at, fresh_children}
+use Rattle.replay_core.proofs.Kept.{keeps_step, keeps_no_step, keeps_more, keeps_each, keeps_number, keeps_numbers, keeps_join}
+use Rattle.replay_core.proofs.candidates.Listing.keep_requests.Goals as goal
+
+pub loop-source-preserved : goal.loop-source-preserved
+loop-source-preserved c =
+    let s = machine c.args.self.now.state.now in
+    keeps_more requests_at c.args.self.now.sources.now (sources_of s) c.loop-source.source-index _ _ c.args.self.now.ready.sources_are
+    c.loop-source.invariant c.in_ok-keep_requests_at.ensures c.loop-source-test.true refl
+
+pub returns : goal.returns
+returns c =
+    let s = machine c.args.self.now.state.now in
+    keeps_each requests_at c.args.self.now.sources.now (sources_of s) c.loop-source.source-index c.args.self.now.ready.sources_are
+    c.loop-source.invariant (omega (arith, c.loop-source-test.false))

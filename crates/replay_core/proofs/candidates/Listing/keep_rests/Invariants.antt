@@ -1,0 +1,11 @@
+use Rattle.std.proofs.Common.{[], ◌∷◌, take, Some, true, false}
+use Rattle.std.specs.List.{flat_map, range_with_len}
+use Rattle.exec_life.specs.StateLists.{machine}
+use Rattle.replay_core.specs.Candidates.{blocks_of, places_of, sources_of, fresh_children, rests_at, looks_at, requests_at, runs_at}
+use Rattle.replay_core.specs.Listings.{Keeps}
+use Rattle.replay_core.proofs.candidates.Listing.keep_rests.Given as goal
+
+abbrev pub invariant-loop-place : goal.invariant-loop-place
+invariant-loop-place l =
+    let s = machine l.self.state.now in
+    Keeps s l.self.hand l.initial.found.items l.found.items (flat_map rests_at (take l.place-index (places_of s)))

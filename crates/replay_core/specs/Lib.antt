@@ -1,0 +1,5 @@
+pub mod Traces
+pub mod Verdicts
+pub mod Candidates
+pub mod Listings
+pub mod Replays

@@ -1,0 +1,13 @@
+pub mod Kinds
+pub mod Parts
+pub mod OpeningInside
+pub mod Setups
+pub mod Values
+pub mod TraceInside
+pub mod ScheduleInside
+pub mod Texts
+pub mod Adding
+pub mod Words
+pub mod Cuts
+pub mod Reading
+pub mod Laws
