@@ -27,47 +27,47 @@ use Rattle.life_kept.proofs.Fitting.{Fits-along, by_name, gain-here, gain-other}
 use Rattle.life_kept.proofs.Frames.{rest, over, IsFramed, runs-framed, requests-framed, missed-framed, scans-framed}
 use Rattle.life_kept.proofs.Puts.{views-same, views-each, times-same}
 
-free-closed : (w : BlockState) → is_free w ≡ true → is_open w ≡ false
+pub free-closed : (w : BlockState) → is_free w ≡ true → is_open w ≡ false
 free-closed Free h = refl
 free-closed Open h = cc
 free-closed Retired h = cc
 
-cond-dull : {A : Type 0} (b : Bool) (v dull : A) → v ≡ dull → cond b v dull ≡ dull
+pub cond-dull : {A : Type 0} (b : Bool) (v dull : A) → v ≡ dull → cond b v dull ≡ dull
 cond-dull true v dull e = e
 cond-dull false v dull e = refl
 
-and-one : (b : Bool) → (b && true) ≡ b
+pub and-one : (b : Bool) → (b && true) ≡ b
 and-one true = refl
 and-one false = refl
 
 -- what claim needs
-record MayClaim (s : State) (h b : ℕ) : Type 0 where
-  sound : Sound s
-  below : h < s.hands
-  within : b < s.blocks
-  closed : is_open (s.block b).state ≡ false
+pub record MayClaim (s : State) (h b : ℕ) : Type 0 where
+  pub sound : Sound s
+  pub below : h < s.hands
+  pub within : b < s.blocks
+  pub closed : is_open (s.block b).state ≡ false
 
 module _ (s : State) (h b : ℕ) (needs : MayClaim s h b) where
-  abbrev opened : ℕ → BlockWord
+  abbrev pub opened : ℕ → BlockWord
   opened i = if i == b then record (s.block b) { state = Open } else s.block i
 
-  abbrev claiming : View
+  abbrev pub claiming : View
   claiming = record (s.view h) { starts = gain (root_of s b) (s.view h).starts }
 
-  abbrev views : ℕ → View
+  abbrev pub views : ℕ → View
   views i = if i == h then claiming else s.view i
 
-  abbrev claimed : State
+  abbrev pub claimed : State
   claimed = over s opened s.control views
 
-  live-other : (x : Name) → (x.block == b) ≡ false → is_live claimed x ≡ is_live s x
+  pub live-other : (x : Name) → (x.block == b) ≡ false → is_live claimed x ≡ is_live s x
   live-other x apart =
       let word : opened x.block ≡ s.block x.block =
       cond-false (x.block == b) (record (s.block b) { state = Open }) (s.block x.block) apart in
       λ k. nat_lt x.block s.blocks
       && (nat_lt x.node (size s) && (is_open (word k).state && x.generation == (word k).generation))
 
-  dead-before : (x : Name) → (x.block == b) ≡ true → is_live s x ≡ false
+  pub dead-before : (x : Name) → (x.block == b) ≡ true → is_live s x ≡ false
   dead-before x at =
       let block : x.block ≡ b = eqb-true x.block b at in
       false_from_ne_true (is_live s x)
@@ -75,7 +75,7 @@ module _ (s : State) (h b : ℕ) (needs : MayClaim s h b) where
       (subst (λ i. is_open (s.block i).state ≡ true) block (lives s x live).is_opened))
 
   -- a place of the block reads as before, since its words are as at first
-  read-same : {A : Type 0} (f : ℕ → ℕ → A) (dull : A) → ((n : ℕ) → f b n ≡ dull) → (x : Name) →
+  pub read-same : {A : Type 0} (f : ℕ → ℕ → A) (dull : A) → ((n : ℕ) → f b n ≡ dull) → (x : Name) →
       cond (is_live claimed x) (f x.block x.node) dull ≡ cond (is_live s x) (f x.block x.node) dull
   read-same f dull unused x =
       either (x.block == b)
@@ -85,17 +85,17 @@ module _ (s : State) (h b : ℕ) (needs : MayClaim s h b) where
       cond-dull (is_live claimed x) (f x.block x.node) dull e ∙ sym (cond-dull (is_live s x) (f x.block x.node) dull e))
       (λ apart. λ k. cond (live-other x apart k) (f x.block x.node) dull)
 
-  unused-before : (n : ℕ) → IsUnused s b n
+  pub unused-before : (n : ℕ) → IsUnused s b n
   unused-before n = needs.sound.owned.unused b n needs.closed
 
-  control-same : (x : Name) → control_at claimed x ≡ control_at s x
+  pub control-same : (x : Name) → control_at claimed x ≡ control_at s x
   control-same = read-same s.control Idle (λ n. (unused-before n).control)
 
-  bits-same : (source : SourceRef) → bits_at claimed source ≡ bits_at s source
+  pub bits-same : (source : SourceRef) → bits_at claimed source ≡ bits_at s source
   bits-same Scope = refl
   bits-same (Node x) = read-same s.source clear (λ n. (unused-before n).source) x
 
-  generation-same : (i : ℕ) → (opened i).generation ≡ (s.block i).generation
+  pub generation-same : (i : ℕ) → (opened i).generation ≡ (s.block i).generation
   generation-same i =
       either (i == b)
       (λ at. (λ k. (cond-true (i == b) (record (s.block b) { state = Open }) (s.block i) at k).generation)
@@ -110,21 +110,21 @@ module _ (s : State) (h b : ℕ) (needs : MayClaim s h b) where
     views = views-same s h claiming rest refl;
   }
 
-  moves : (part : View → Name → ℕ) (y : Name) →
+  pub moves : (part : View → Name → ℕ) (y : Name) →
       stand claimed part y + part (s.view h) y ≡ stand s part y + part claiming y
   moves part y = stand-with_view (with_block s b (record (s.block b) { state = Open })) h claiming part y needs.below
 
-  stays : (part : View → Name → ℕ) (y : Name) → part claiming y ≡ part (s.view h) y →
+  pub stays : (part : View → Name → ℕ) (y : Name) → part claiming y ≡ part (s.view h) y →
       stand claimed part y ≡ stand s part y
   stays part y e = let m = moves part y in omega (arith, m, e)
 
-  starts-other : (y : Name) → (root_of s b ≡ y → ⊥) → stand claimed (λ v. v.starts) y ≡ stand s (λ v. v.starts) y
+  pub starts-other : (y : Name) → (root_of s b ≡ y → ⊥) → stand claimed (λ v. v.starts) y ≡ stand s (λ v. v.starts) y
   starts-other y ne = stays (λ v. v.starts) y (gain-other (root_of s b) y (s.view h).starts ne)
 
-  some-node : 0 < size s
+  pub some-node : 0 < size s
   some-node = needs.sound.tree.some
 
-  root-live : is_live claimed (root_of s b) ≡ true
+  pub root-live : is_live claimed (root_of s b) ≡ true
   root-live =
       let word : opened b ≡ record (s.block b) { state = Open } =
       cond-true (b == b) (record (s.block b) { state = Open }) (s.block b) (eq-eqb b b refl) in

@@ -34,6 +34,15 @@ pub enum SourceRef {
     Node(Name),
 }
 
+/// Where a node runs.
+#[derive(Clone, Copy, Debug, PartialEq, Eq)]
+pub enum Context {
+    /// The run loop ([exec.run.loop]).
+    Loop,
+    /// The pool of workers.
+    Pool,
+}
+
 /// Where a node rests.
 #[derive(Clone, Copy, Debug, PartialEq, Eq)]
 pub enum Resting {

@@ -10,7 +10,7 @@ mod scope;
 mod tree;
 mod words;
 
-pub use event::{Event, Name, NodeList, Place, Resting, SourceAt, SourceRef};
+pub use event::{Context, Event, Name, NodeList, Place, Resting, SourceAt, SourceRef};
 pub use scope::{Refused, ScopeKind, ScopeState, ScopeWord};
 pub use tree::{MOST_BLOCKS, MOST_HANDS, MOST_NODES, TreeNode};
 pub use words::{Bits, BlockState, BlockWord, CallbackPhase, ControlWord};

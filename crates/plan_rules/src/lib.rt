@@ -10,6 +10,7 @@ mod node;
 mod settings;
 mod stop;
 
-pub use node::{Context, Node, NodeId, Query};
+pub use life_rules::Context;
+pub use node::{Node, NodeId, Query};
 pub use settings::Settings;
 pub use stop::StopState;

@@ -1,19 +1,10 @@
 //! The nodes of a sender expression.
 use exec_job::Job;
 use exec_value::{Data, Kind, Txt};
-use life_rules::NodeList;
+use life_rules::{Context, NodeList};
 
 /// The number of a node. Children have smaller numbers than their parent.
 pub type NodeId = u32;
-
-/// Where a node runs.
-#[derive(Clone, Copy, Debug, PartialEq, Eq)]
-pub enum Context {
-    /// The run loop ([exec.run.loop]).
-    Loop,
-    /// The pool of workers.
-    Pool,
-}
 
 /// What `read_env` asks the receiver's environment ([exec.read.env]).
 #[derive(Clone, Copy, Debug, PartialEq, Eq)]
