@@ -221,24 +221,27 @@ fn an_error_comes_before_stopped(rt: HostRuntime) -> Result<(), Fail> {
     Ok(())
 }
 
-/// A `when_all` of the input, the record's number and a text.
-fn joining(alloc: Global) -> Result<Plan, BuildFault> {
+/// A `when_all` of the input, the record's number, a text and a row.
+fn joining(alloc: Global) -> Result<Plan, Fail> {
     let mut builder = PlanBuilder::new(alloc);
     let input = builder.input()?;
     let number = builder.read_env(Query::Record)?;
     let text = builder.just(Data::one(alloc, Datum::Text(Txt::short(alloc, "x"))))?;
-    let root = builder.when_all(Vec::from_slice(alloc, &[input, number, text])?)?;
-    builder.finish(root, INTS)
+    let pair = Nums::from_slice(alloc, &[1, 2])?;
+    let numbers = builder.just(Data::one(alloc, Datum::Row(pair)))?;
+    let root = builder.when_all(Vec::from_slice(alloc, &[input, number, text, numbers])?)?;
+    Ok(builder.finish(root, INTS)?)
 }
 
 #[test]
-fn a_when_all_joins_its_childrens_data_in_order(rt: HostRuntime) -> Result<(), Fail> {
+fn a_when_all_joins_three_kinds_in_order(rt: HostRuntime) -> Result<(), Fail> {
     let alloc = rt.alloc();
     let plan = joining(alloc)?;
     let done = settled(&rt, alloc, &plan, &Datum::Int(9))?;
     let mut values = Data::one(alloc, Datum::Int(9));
     values.push(Datum::Int(1))?;
     values.push(Datum::Text(Txt::short(alloc, "x")))?;
+    values.push(row(alloc, &[1, 2])?)?;
     assert_eq!(rt; done, Completion::Value(values));
     Ok(())
 }
