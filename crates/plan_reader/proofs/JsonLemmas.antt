@@ -1,0 +1,21 @@
+-- What `json_of` is, by what `serde_json` says of the bytes.
+use Rattle.std.proofs.Common.{◌≡◌, ℕ, Bool, true, false, List, Option, Some, None, cond, refl}
+use Rattle.std.specs.Str.{IsUtf8, is_utf8}
+use Rattle.std.proofs.lemmas.Str.{is_utf8-from_IsUtf8, IsUtf8-from_is_utf8}
+use Rattle.serde_json.specs.Data.{Data}
+use Rattle.serde_json.specs.Read.{read}
+use Rattle.plan_reader.specs.Plans.{json_of}
+
+pub json_of-read : (bytes : List ℕ) (d : Data) → IsUtf8 bytes → read bytes ≡ Some d
+    → json_of bytes ≡ Some d
+unfolding json_of
+json_of-read bytes d text is = rw (is_utf8-from_IsUtf8 bytes text) is
+
+only_if_utf8 : (b : Bool) (r : Option Data) → (b ≡ true → r ≡ None) → cond b r None ≡ None
+only_if_utf8 true r none = none refl
+only_if_utf8 false r none = refl
+
+pub json_of-refused : (bytes : List ℕ) → (IsUtf8 bytes → read bytes ≡ None) → json_of bytes ≡ None
+unfolding json_of
+json_of-refused bytes none =
+    only_if_utf8 (is_utf8 bytes) (read bytes) (λ text. none (IsUtf8-from_is_utf8 bytes text))

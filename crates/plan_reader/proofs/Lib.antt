@@ -1,0 +1,13 @@
+mod FaultLemmas
+mod OverLemmas
+mod FreeLemmas
+mod RootLemmas
+mod RootedWalk
+mod DescentLemmas
+mod WalkLemmas
+mod SettingsLemmas
+mod RootedPlan
+mod FinishLemmas
+mod JsonLemmas
+mod LevelLemmas
+mod AnswerLemmas

@@ -1,0 +1,202 @@
+//! What a node is made of beside its children.
+ghost use Rattle.std.specs.Prelude.{◌≡◌, IsTrue, IfOk};
+ghost use Rattle.serde_json.specs.View.{view};
+ghost use Rattle.plan_rules.specs.declared.node.Node.{Node};
+ghost use Rattle.plan_rules.specs.Images.{has_maybe};
+ghost use Rattle.plan_shape.specs.Conditions.{MeetsConditions};
+ghost use Rattle.plan_text.specs.Reading.{IfGood};
+ghost use Rattle.plan_reader.specs.NodeParts.{adaptor_node, context_at, leaf_node, let_node, of_at, of_named, context_named, query_named, query_at};
+
+use crate::node_word::{Adaptor, Leaf, Let};
+use exec_value::Kind;
+use life_rules::NodeList;
+use plan_rules::{Context, Node, NodeId, Query};
+use plan_shape::MOST_TURNS;
+use plan_text::{
+    FORM_FAULT, NAME_FAULT, Reading, constants_at, count_at, job_at, name_at, text_at,
+};
+use serde_json::Value;
+use std::alloc::{AllocError, Global};
+
+/// A node without children.
+pub(crate) fn leaf_node(
+    alloc: Global,
+    leaf: Leaf,
+    value: &Value,
+) -> Result<Reading<Node>, AllocError>
+    ensures value { IfOk result (λ reading. reading ≡ leaf_node leaf (view value.now)) }
+    ensures conditions { IfOk result (λ reading. IfGood reading MeetsConditions) }
+{
+    match leaf {
+        Leaf::Input => Ok(Reading::Good(Node::Input)),
+        Leaf::Just => match constants_at(alloc, value, "values")? {
+            Reading::Good(values) => Ok(Reading::Good(Node::Just(values))),
+            Reading::Bad(faults) => Ok(Reading::Bad(faults)),
+        },
+        Leaf::JustError => match name_at(alloc, value, "error") {
+            Reading::Good(error) => Ok(Reading::Good(Node::JustError(error))),
+            Reading::Bad(faults) => Ok(Reading::Bad(faults)),
+        },
+        Leaf::JustStopped => Ok(Reading::Good(Node::JustStopped)),
+        Leaf::Schedule => match context_at(value) {
+            Reading::Good(on) => Ok(Reading::Good(Node::Schedule(on))),
+            Reading::Bad(faults) => Ok(Reading::Bad(faults)),
+        },
+        Leaf::Delay => match count_at(value, "turns", 0, MOST_TURNS) {
+            Reading::Good(turns) => Ok(Reading::Good(Node::Delay(turns))),
+            Reading::Bad(faults) => Ok(Reading::Bad(faults)),
+        },
+        Leaf::ReadEnv => match query_at(value) {
+            Reading::Good(query) => Ok(Reading::Good(Node::ReadEnv(query))),
+            Reading::Bad(faults) => Ok(Reading::Bad(faults)),
+        },
+    }
+}
+
+/// A node over this child.
+pub(crate) fn adaptor_node(
+    alloc: Global,
+    adaptor: Adaptor,
+    value: &Value,
+    child: NodeId,
+) -> Result<Reading<Node>, AllocError>
+    ensures value { IfOk result (λ reading. reading ≡ adaptor_node adaptor (view value.now) child) }
+    ensures conditions { IfOk result (λ reading. IfGood reading MeetsConditions) }
+{
+    match adaptor {
+        Adaptor::Then => match job_at(alloc, value, "job")? {
+            Reading::Good(job) => Ok(Reading::Good(Node::Then { child, job })),
+            Reading::Bad(faults) => Ok(Reading::Bad(faults)),
+        },
+        Adaptor::UponError => match job_at(alloc, value, "job")? {
+            Reading::Good(job) => Ok(Reading::Good(Node::UponError { child, job })),
+            Reading::Bad(faults) => Ok(Reading::Bad(faults)),
+        },
+        Adaptor::UponStopped => match job_at(alloc, value, "job")? {
+            Reading::Good(job) => Ok(Reading::Good(Node::UponStopped { child, job })),
+            Reading::Bad(faults) => Ok(Reading::Bad(faults)),
+        },
+        Adaptor::StartsOn => match context_at(value) {
+            Reading::Good(on) => Ok(Reading::Good(Node::StartsOn { on, child })),
+            Reading::Bad(faults) => Ok(Reading::Bad(faults)),
+        },
+        Adaptor::ContinuesOn => match context_at(value) {
+            Reading::Good(on) => Ok(Reading::Good(Node::ContinuesOn { child, on })),
+            Reading::Bad(faults) => Ok(Reading::Bad(faults)),
+        },
+        Adaptor::StoppedAsOptional => match of_at(value) {
+            Reading::Good(of) => Ok(Reading::Good(Node::StoppedAsOptional { child, of })),
+            Reading::Bad(faults) => Ok(Reading::Bad(faults)),
+        },
+        Adaptor::StoppedAsError => match name_at(alloc, value, "error") {
+            Reading::Good(error) => Ok(Reading::Good(Node::StoppedAsError { child, error })),
+            Reading::Bad(faults) => Ok(Reading::Bad(faults)),
+        },
+        Adaptor::Unstoppable => Ok(Reading::Good(Node::Unstoppable { child })),
+    }
+}
+
+/// A node over this child and these bodies.
+pub(crate) fn let_node(
+    alloc: Global,
+    binding: Let,
+    value: &Value,
+    child: NodeId,
+    bodies: NodeList,
+) -> Result<Reading<Node>, AllocError>
+    ensures value { IfOk result
+        (λ reading. reading ≡ let_node binding (view value.now) child bodies) }
+    ensures conditions { IfOk result (λ reading. IfGood reading MeetsConditions) }
+{
+    match job_at(alloc, value, "pick")? {
+        Reading::Good(pick) => match binding {
+            Let::Value => Ok(Reading::Good(Node::LetValue {
+                child,
+                pick,
+                bodies,
+            })),
+            Let::Error => Ok(Reading::Good(Node::LetError {
+                child,
+                pick,
+                bodies,
+            })),
+            Let::Stopped => Ok(Reading::Good(Node::LetStopped {
+                child,
+                pick,
+                bodies,
+            })),
+        },
+        Reading::Bad(faults) => Ok(Reading::Bad(faults)),
+    }
+}
+
+/// The context at the key `on`.
+fn context_at(value: &Value) -> Reading<Context>
+    ensures { result ≡ context_at (view value.now) }
+{
+    match text_at(value, "on") {
+        Some(name) => Reading::known(context_named(name)),
+        None => Reading::Bad(FORM_FAULT),
+    }
+}
+
+/// The context of this name.
+fn context_named(name: &str) -> Option<Context>
+    ensures { result ≡ context_named name.now }
+{
+    if name == "loop" {
+        Some(Context::Loop)
+    } else if name == "pool" {
+        Some(Context::Pool)
+    } else {
+        None
+    }
+}
+
+/// The query at the key `query`.
+fn query_at(value: &Value) -> Reading<Query>
+    ensures { result ≡ query_at (view value.now) }
+{
+    match text_at(value, "query") {
+        Some(name) => Reading::known(query_named(name)),
+        None => Reading::Bad(FORM_FAULT),
+    }
+}
+
+/// The query of this name.
+fn query_named(name: &str) -> Option<Query>
+    ensures { result ≡ query_named name.now }
+{
+    if name == "stop" {
+        Some(Query::Stop)
+    } else if name == "record" {
+        Some(Query::Record)
+    } else {
+        None
+    }
+}
+
+/// The kind at the key `of`.
+fn of_at(value: &Value) -> Reading<Kind>
+    ensures value { result ≡ of_at (view value.now) }
+    ensures maybe { IfGood result (λ of. IsTrue (has_maybe of)) }
+{
+    match text_at(value, "of") {
+        Some(name) => of_named(name),
+        None => Reading::Bad(FORM_FAULT),
+    }
+}
+
+/// The kind of this name that may be missing.
+fn of_named(name: &str) -> Reading<Kind>
+    ensures value { result ≡ of_named name.now }
+    ensures maybe { IfGood result (λ of. IsTrue (has_maybe of)) }
+{
+    if name == "int" {
+        Reading::Good(Kind::Int)
+    } else if name == "text" {
+        Reading::Good(Kind::Text)
+    } else {
+        Reading::Bad(NAME_FAULT)
+    }
+}
