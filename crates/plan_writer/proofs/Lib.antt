@@ -1,0 +1,10 @@
+pub mod Shapes
+pub mod Orders
+pub mod Prefixes
+pub mod JobsBack
+pub mod NodesBack
+pub mod WalksBack
+pub mod Small
+pub mod SettingsBack
+pub mod PlansBack
+pub mod CountLemmas
