@@ -65,7 +65,8 @@ fn a_scan_passes_free_blocks(rt: HostRuntime) -> Result<(), Fail> {
 
 #[test]
 fn the_other_kinds_of_entry_are_taken_where_they_are_steps(rt: HostRuntime) -> Result<(), Fail> {
-    let runs: [(&str, u32); 5] = [
+    let runs: [(&str, u32); 6] = [
+        ("0 claim 0\n0 begin 0.1\n0 rest 0.1 loop\n0 take 0.1\n", 4),
         ("0 claim 0\n0 begin 0.1\n0 rest 0.1 pool\n0 take 0.1\n", 4),
         (
             "0 claim 0\n0 begin 0.1\n0 rest 0.1 parked\n0 rouse 0.1\n0 take 0.1\n",
@@ -89,6 +90,24 @@ fn the_other_kinds_of_entry_are_taken_where_they_are_steps(rt: HostRuntime) -> R
         let verdict = checked(rt.alloc(), PARENT_AND_CHILD, entries)?;
         assert_eq!(rt; verdict, Verdict::Taken(count));
     }
+    Ok(())
+}
+
+#[test]
+fn a_child_that_failed_reports_after_the_scan_for_its_siblings(
+    rt: HostRuntime,
+) -> Result<(), Fail> {
+    let opening = "exec 3 1 1 counting 1\nnode 2 plain\nnode 2 plain\nnode - source\n";
+    let failed = "0 claim 0\n0 begin 0.2\n0 await 0.2 0,1\n0 begin 0.0\n0 finish 0.0\n\
+        0 request 0.2 failure\n";
+    let in_time = format!(in rt.alloc();
+        "{failed}0 run 0.2 0.0\n0 run 0.2 0.1\n0 seal_scan 0.2\n0 report 0.0\n"
+    )?;
+    let verdict = checked(rt.alloc(), opening, in_time.as_str())?;
+    assert_eq!(rt; verdict, Verdict::Taken(10));
+    let too_early = format!(in rt.alloc(); "{failed}0 report 0.0\n")?;
+    let verdict = checked(rt.alloc(), opening, too_early.as_str())?;
+    assert_eq!(rt; verdict, Verdict::Refused(7));
     Ok(())
 }
 

@@ -6,3 +6,4 @@ pub mod ReadLaws
 pub mod LineLaws
 pub mod HeaderLaws
 pub mod RoundTrip
+pub mod OneText

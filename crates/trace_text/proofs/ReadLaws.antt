@@ -24,10 +24,10 @@ with_byte b h = record { front = b ∷ h.front; rest = h.rest }
 abbrev after_line : Halves → Lines
 after_line h = record { ended = h.front ∷ (lines_in h.rest).ended; rest = (lines_in h.rest).rest }
 
-some-same : {A : Type 0} (x y : A) → Some x ≡ Some y → x ≡ y
+pub some-same : {A : Type 0} (x y : A) → Some x ≡ Some y → x ≡ y
 some-same x y e = cc
 
-none-some : {A G : Type 0} (x : A) → None ≡ Some x → G
+pub none-some : {A G : Type 0} (x : A) → None ≡ Some x → G
 none-some x e = cc
 
 -- a line that is cut off is the first

@@ -35,7 +35,7 @@ mod writing;
 pub use entry::{Choice, Entry};
 pub use fault::TraceFault;
 pub use kinds::{BareKind, BlockKind, PlaceKind};
-pub use law::texts_are_read_back;
+pub use law::{each_has_one_text, texts_are_read_back};
 pub use limits::{ASSOCIATIONS, BLOCKS, ENTRIES, FILE_BYTES, HANDS, NODES};
 pub use opening::Opening;
 pub use parts::{Parts, parts_of};

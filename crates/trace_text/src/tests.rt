@@ -23,9 +23,13 @@ fn a_first_line_that_is_not_of_the_form_is_told(rt: HostRuntime) -> Result<(), F
         "exec 1 1 1 other 1\nnode - plain\n",
         "exec 01 1 1 counting 1\nnode - plain\n",
         "exec 1 1 1 counting 1 \nnode - plain\n",
+        "exec  1 1 1 counting 1\nnode - plain\n",
+        "exec 1 1 1 counting 1 1\nnode - plain\n",
         "exec 0 1 1 counting 1\n",
         "exec 129 1 1 counting 1\n",
+        "exec 1 0 1 counting 1\nnode - plain\n",
         "exec 1 9 1 counting 1\nnode - plain\n",
+        "exec 1 1 0 counting 1\nnode - plain\n",
         "exec 1 1 9 counting 1\nnode - plain\n",
         "exec 1 1 1 counting 0\nnode - plain\n",
         "exec 1 1 1 counting 65536\nnode - plain\n",
@@ -85,9 +89,53 @@ fn an_entry_that_goes_wrong_is_told(rt: HostRuntime) -> Result<(), Fail> {
         "0 seal 0 0 0 0 x",
         "0 seal 0 0 0 2 0",
         "0 enter 0",
+        "0 enter\r",
+        "0  enter",
+        " 0 enter",
     ];
     for entry in entries {
         let fault = fault_of_entry(rt.alloc(), entry)?;
+        assert_eq!(rt; fault, Some(TraceFault::Line(4)));
+    }
+    Ok(())
+}
+
+#[test]
+fn a_last_line_without_a_line_feed_is_told(rt: HostRuntime) -> Result<(), Fail> {
+    let entries = "0 claim 0\n0 begin 0.1\n0 await 0.1 0\n0 begin 0.0\n0 finish 0.0\n\
+        0 report 0.0\n0 finish 0.1\n0 release 0";
+    let text = format!(in rt.alloc(); "{OPENING}{entries}")?;
+    assert_eq!(rt;
+        fault_of(rt.alloc(), text.as_str()),
+        Some(TraceFault::Line(11))
+    );
+    let text = format!(in rt.alloc(); "{OPENING}{entries}\n")?;
+    assert_eq!(rt; fault_of(rt.alloc(), text.as_str()), None);
+    Ok(())
+}
+
+#[test]
+fn a_choice_that_goes_wrong_is_told(rt: HostRuntime) -> Result<(), Fail> {
+    let alloc = rt.alloc();
+    let choices = [
+        "",
+        "0",
+        "0 ",
+        "0 x",
+        "0 00",
+        "0 +1",
+        "0 4294967296",
+        "0 0 0",
+        "0 0 ",
+        "0  0",
+        " 0 0",
+        "0 0\r",
+        "1 0",
+        "0 claim 0",
+    ];
+    for choice in choices {
+        let text = format!(in alloc; "{OPENING}{choice}\n")?;
+        let fault = read_schedule(alloc, text.as_bytes()).err();
         assert_eq!(rt; fault, Some(TraceFault::Line(4)));
     }
     Ok(())
