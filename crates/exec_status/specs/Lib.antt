@@ -1,0 +1,4 @@
+pub mod Status
+pub mod Sinks
+pub mod Notes
+pub mod Noted
