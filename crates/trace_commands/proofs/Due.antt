@@ -1,0 +1,89 @@
+-- The status that is due to a file is one.
+use Rattle.std.proofs.Common.{◌≡◌, ℕ, ◌+◌, ◌-◌, ◌<◌, ◌≤◌, List, length, take, Option, None, Some, Result, Ok, Err, refl, sym, ◌∙◌, subst, inl, inr, arith}
+use Rattle.std.specs.Prelude.{IsSomeAnd}
+use Rattle.std.proofs.lemmas.Bool.{false≢true, cases_lt}
+use Rattle.exec_io.specs.Shelves.{Texts, text_of}
+use Rattle.exec_status.specs.declared.status.Status.{Status}
+use Rattle.exec_status.specs.declared.status.Status.TheVariants.{PlanRefused}
+use Rattle.trace_text.specs.declared.limits.TheConstants.{FILE_BYTES}
+use Rattle.trace_text.specs.declared.fault.TraceFault.{TraceFault}
+use Rattle.trace_text.specs.declared.fault.TraceFault.TheVariants.{TooLong as TooLongFault, Line as LineFault, NoMemory as NoTraceMemory}
+use Rattle.trace_text.specs.Reading.{trace_in, schedule_in}
+use Rattle.trace_text.specs.Values.{TraceValue}
+use Rattle.replay_core.specs.declared.check.Verdict.{Verdict}
+use Rattle.replay_core.specs.declared.check.Verdict.TheVariants.{Taken, Refused}
+use Rattle.replay_core.specs.Verdicts.{IsVerdict}
+use Rattle.trace_commands.specs.declared.file.Refusal.{Refusal}
+use Rattle.trace_commands.specs.declared.file.Refusal.TheVariants.{TooLong, Line}
+use Rattle.trace_commands.specs.Answers.{Question, IsRefused, IsChecked, IsReplayed, the_check, the_replay, verdict_status, IsDue}
+use Rattle.trace_commands.specs.Files.{Gives, Has}
+use Rattle.trace_commands.specs.Refusals.{IsFaultOf, fault_of}
+
+-- bytes that are answered or refused so have no other status
+pub record IsDecided (question : Question) : Type 0 where
+  pub answered : (bytes : List ℕ) (status due : Status) (text : List ℕ) → question.answers bytes status text → IsDue question bytes due → status ≡ due
+  pub refused : (bytes : List ℕ) (refusal : Refusal) (due : Status) → question.refuses bytes refusal → IsDue question bytes due → PlanRefused ≡ due
+
+-- bytes that are read are not refused
+read_or_refused : {A : Type 0} (read : List ℕ → Result A ℕ) (bytes : List ℕ) (x : A) (refusal : Refusal) → length bytes ≤ FILE_BYTES → read bytes ≡ Ok x → IsRefused read bytes refusal → ⊥
+read_or_refused read bytes x TooLong short is refused = omega (arith, short, refused)
+read_or_refused read bytes x (Line n) short is refused = let e : Ok x ≡ Err n = sym is ∙ refused.1 in cc
+
+ok-one : {A : Type 0} (x y : A) → ◌≡◌ {A = Result A ℕ} (Ok x) (Ok y) → x ≡ y
+ok-one x y e = cc
+
+-- two verdicts of one trace have one status
+one_status : (t : TraceValue) (v w : Verdict) → IsVerdict t v → IsVerdict t w → verdict_status v ≡ verdict_status w
+one_status t (Taken n) (Taken m) one other = refl
+one_status t (Refused e) (Refused f) one other = refl
+one_status t (Taken n) (Refused e) all first = absurd (false≢true (sym first.refused ∙ all.each (e - 1) (omega (arith, all.count, first.from_one, first.within))))
+one_status t (Refused e) (Taken n) first all = absurd (false≢true (sym first.refused ∙ all.each (e - 1) (omega (arith, all.count, first.from_one, first.within))))
+
+one_check : (bytes : List ℕ) (status due : Status) (text other : List ℕ) → IsChecked bytes status text → IsChecked bytes due other → status ≡ due
+one_check bytes status due text other one two =
+    let same : two.trace ≡ one.trace = ok-one two.trace one.trace (sym two.read ∙ one.read) in
+    let P : TraceValue → Type 0 = λ t. IsVerdict t two.verdict in
+    one.status_is ∙ one_status one.trace one.verdict two.verdict one.is (subst P same two.is) ∙ sym two.status_is
+
+check-answered : (bytes : List ℕ) (status due : Status) (text : List ℕ) → IsChecked bytes status text → IsDue the_check bytes due → status ≡ due
+check-answered bytes status due text is (inl other) = one_check bytes status due text other.0 is other.1
+check-answered bytes status due text is (inr refusal) = absurd (read_or_refused trace_in bytes is.trace refusal.0.0 is.short is.read refusal.0.1)
+
+check-refused : (bytes : List ℕ) (refusal : Refusal) (due : Status) → IsRefused trace_in bytes refusal → IsDue the_check bytes due → PlanRefused ≡ due
+check-refused bytes refusal due refused (inl other) = absurd (read_or_refused trace_in bytes other.1.trace refusal other.1.short other.1.read refused)
+check-refused bytes refusal due refused (inr again) = sym again.1
+
+pub check-decided : IsDecided the_check
+check-decided = record { answered = check-answered; refused = check-refused }
+
+replay-answered : (bytes : List ℕ) (status due : Status) (text : List ℕ) → IsReplayed bytes status text → IsDue the_replay bytes due → status ≡ due
+replay-answered bytes status due text is (inl other) = is.status_is ∙ sym other.1.status_is
+replay-answered bytes status due text is (inr refusal) = absurd (read_or_refused schedule_in bytes is.schedule refusal.0.0 is.short is.read refusal.0.1)
+
+replay-refused : (bytes : List ℕ) (refusal : Refusal) (due : Status) → IsRefused schedule_in bytes refusal → IsDue the_replay bytes due → PlanRefused ≡ due
+replay-refused bytes refusal due refused (inl other) = absurd (read_or_refused schedule_in bytes other.1.schedule refusal other.1.short other.1.read refused)
+replay-refused bytes refusal due refused (inr again) = sym again.1
+
+pub replay-decided : IsDecided the_replay
+replay-decided = record { answered = replay-answered; refused = replay-refused }
+
+-- the shelf gives these bytes and no others
+pub same_bytes : (texts : Option Texts) (name bytes other : List ℕ) → Gives texts name bytes → Has texts name other → bytes ≡ other
+same_bytes None name bytes other gives has = absurd has
+same_bytes (Some known) name bytes other gives has = given (text_of known name) gives has
+  where
+    given : (found : Option (List ℕ)) → IsSomeAnd found (λ text. bytes ≡ take (FILE_BYTES + 1) text) → IsSomeAnd found (λ text. other ≡ take (FILE_BYTES + 1) text) → bytes ≡ other
+    given None gives has = absurd gives
+    given (Some text) gives has = gives ∙ sym has
+
+-- a fault of the reading is one of the file
+pub fault-is : {A : Type 0} (read : List ℕ → Result A ℕ) (bytes : List ℕ) (fault : TraceFault) → (answers : List ℕ → Status → List ℕ → Type 0) →
+    (fault ≡ TooLongFault → FILE_BYTES < length bytes) → (FILE_BYTES < length bytes → fault ≡ TooLongFault) → ((n : ℕ) → fault ≡ LineFault n → read bytes ≡ Err n) →
+    IsFaultOf (record { refuses = IsRefused read; answers = answers }) bytes (fault_of fault)
+fault-is read bytes TooLongFault answers long too_long line = long refl
+fault-is read bytes (LineFault n) answers long too_long line =
+    elim (cases_lt FILE_BYTES (length bytes)) [
+      | inl more ↦ absurd (let e : LineFault n ≡ TooLongFault = too_long more in cc)
+      | inr short ↦ (short, line n refl)
+    ]
+fault-is read bytes NoTraceMemory answers long too_long line = tt

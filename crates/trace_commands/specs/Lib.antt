@@ -1,0 +1,5 @@
+pub mod Files
+pub mod Answers
+pub mod Refusals
+pub mod Says
+pub mod Ends

@@ -1,0 +1,98 @@
+//! The file of a command: how its bytes are read, and what is told where it gives no answer.
+ghost use Rattle.std.specs.Prelude.{◌≡◌, ◌≢◌, ◌≤◌, IfOk, IfErr, OnOk, OnErr, Err};
+ghost use Rattle.exec_io.specs.Causes.{Rose};
+ghost use Rattle.io_views.specs.Sinks.{view_of};
+ghost use Rattle.exec_status.specs.Sinks.{Tells, TellsAll, TellsFront};
+ghost use Rattle.trace_commands.specs.Files.{Gives, IsOfShelf};
+ghost use Rattle.trace_commands.specs.Refusals.{refusal_text, fault_of, GivesUp};
+
+use exec_io::{Failed, Shelf, ShelfFault, Sink};
+use exec_status::{Status, conclude, tell, tell_numbered};
+use replay_core::{FILE_BYTES, TraceFault};
+use std::alloc::Global;
+
+/// Why a file is none of a trace or a schedule.
+#[derive(Clone, Copy, Debug, PartialEq, Eq)]
+pub enum Refusal {
+    /// It has more than `FILE_BYTES` bytes.
+    TooLong,
+    /// This line, from 1, is the first that goes wrong.
+    Line(u32),
+}
+
+/// Why a file has no answer.
+#[derive(Clone, Copy, Debug, PartialEq, Eq)]
+pub enum FileFault {
+    /// Its bytes are refused.
+    Refused(Refusal),
+    /// The shelf failed.
+    ReadFault,
+    /// There was no memory for the bytes or the answer.
+    NoMemory,
+}
+
+/// The bytes of the file of this name: all of them, or one more than a file may have.
+pub fn read_file<F: Shelf>(alloc: Global, name: &str, shelf: &mut F) -> Result<Vec<u8>, FileFault>
+    ensures later { F.faults shelf.old ≤ F.faults shelf.new }
+    ensures cause { result ≡ Err FileFault.ReadFault
+        → Rose (F.faults shelf.old) (F.faults shelf.new) }
+    ensures still { result ≢ Err FileFault.ReadFault → F.faults shelf.new ≡ F.faults shelf.old }
+    ensures given { IfOk result (λ bytes. Gives (F.texts shelf.old) name.now bytes.items) }
+    ensures fault { IfErr result IsOfShelf }
+{
+    match shelf.read(alloc, name, FILE_BYTES) {
+        Ok(bytes) => Ok(bytes),
+        Err(ShelfFault::Failed) => Err(FileFault::ReadFault),
+        Err(ShelfFault::NoMemory) => Err(FileFault::NoMemory),
+    }
+}
+
+/// Why bytes that weren't read as a trace or a schedule have no answer.
+pub fn fault_of(fault: TraceFault) -> FileFault
+    ensures { result ≡ fault_of fault }
+{
+    match fault {
+        TraceFault::TooLong => FileFault::Refused(Refusal::TooLong),
+        TraceFault::Line(line) => FileFault::Refused(Refusal::Line(line)),
+        TraceFault::NoMemory => FileFault::NoMemory,
+    }
+}
+
+/// Tells why there is no answer, and gives the status that stands then. A refusal stands also where
+/// notes fail.
+pub fn give_up<N: Sink>(fault: FileFault, notes: &mut N) -> Status
+    ensures later { N.faults notes.old ≤ N.faults notes.new }
+    ensures gives_up { GivesUp fault (view_of N.written N.outstanding N.faults notes.old)
+        (view_of N.written N.outstanding N.faults notes.new) result }
+{
+    match fault {
+        FileFault::Refused(refusal) => {
+            tell_refusal(refusal, notes);
+            Status::PlanRefused
+        }
+        FileFault::ReadFault => conclude(Status::ReadFault, notes),
+        FileFault::NoMemory => conclude(Status::NoMemory, notes),
+    }
+}
+
+// Tells of a refusal, as far as notes take it.
+fn tell_refusal<N: Sink>(refusal: Refusal, notes: &mut N)
+    ensures later { N.faults notes.old ≤ N.faults notes.new }
+    ensures tells { Tells (view_of N.written N.outstanding N.faults notes.old)
+        (view_of N.written N.outstanding N.faults notes.new) (refusal_text refusal) }
+{
+    let _ = put_refusal(refusal, notes);
+}
+
+fn put_refusal<N: Sink>(refusal: Refusal, notes: &mut N) -> Result<(), Failed>
+    ensures later { N.faults notes.old ≤ N.faults notes.new }
+    ensures ok { OnOk result (TellsAll (view_of N.written N.outstanding N.faults notes.old)
+        (view_of N.written N.outstanding N.faults notes.new) (refusal_text refusal)) }
+    ensures err { OnErr result (TellsFront (view_of N.written N.outstanding N.faults notes.old)
+        (view_of N.written N.outstanding N.faults notes.new) (refusal_text refusal)) }
+{
+    match refusal {
+        Refusal::TooLong => tell(b"trace refused: too long\n", notes),
+        Refusal::Line(line) => tell_numbered(b"trace refused: line ", line, notes),
+    }
+}
