@@ -1,0 +1,97 @@
+-- How the next record is put in flight.
+use Rattle.std.proofs.Common.{◌≡◌, ◌≢◌, ◌⊎◌, ℕ, ◌+◌, ◌<◌, ◌≤◌, Bool, true, false, List, [], ◌∷◌, ◌++◌, length, Option, Some, None, refl, sym, ap, ◌∙◌, subst, inl, inr, append_assoc, length-append, arith}
+use Rattle.std.specs.Prelude.{is_some, option_and_then}
+use Rattle.std.proofs.lemmas.Bool.{leb-false}
+use Rattle.std.proofs.Common.{nat_le}
+use Rattle.exec_value.specs.Record.{record_of}
+use Rattle.exec_value.specs.declared.kinds.Kind.{Kind}
+use Rattle.exec_value.specs.declared.kinds.Kind.TheVariants.{Int}
+use Rattle.plan_rules.specs.declared.settings.Settings.{Settings}
+use Rattle.plan_shape.specs.Blueprint.{Blueprint}
+use Rattle.record_lines.specs.Lines.{text_of}
+use Rattle.run_rules.specs.Lawful.{Terms, datum_of}
+use Rattle.run_rules.specs.Moments.{Moment, is_asked, IsCaused, IsTimely}
+use Rattle.run_rules.specs.StopStates.{rules_of}
+use Rattle.record_loop.specs.Beginning.{BeginsSlot, BeginsText}
+use Rattle.record_loop.specs.declared.in_flight.InFlight.{InFlight}
+use Rattle.record_loop.specs.declared.printer.Printer.{Printer}
+use Rattle.record_loop.specs.declared.slot.Slot.{Slot}
+use Rattle.record_loop.specs.declared.slot.Slot.TheVariants.{Running, Bad, NoMemory}
+use Rattle.record_loop.specs.Flights.{read_of}
+use Rattle.record_loop.specs.Printing.{Printed}
+use Rattle.io_views.specs.Sinks.{SinkView}
+use Rattle.record_loop.specs.Standing.{Opening, terms_at, IsBegun, StandsFor, StandForAll, Standing, Counted}
+use Rattle.record_loop.specs.Works.{Begun, Work, Keeps}
+use Rattle.record_loop.proofs.SlotLaws.{StandForAll-kept, StandForAll-push}
+use Rattle.record_loop.proofs.StandingLaws.{read-lines, read-count}
+
+-- all operations are kept, once a slot was begun
+begun-keeps : (old new : Work) (kind : Kind) (number : ℕ) (text : Option (List ℕ)) (slot : Slot) → BeginsSlot old new kind number text slot → Keeps old new
+begun-keeps old new kind number text (Running block) begins = begins.begins.keeps
+begun-keeps old new kind number text Bad begins = begins.1
+begun-keeps old new kind number text NoMemory begins = begins.1
+
+-- the record is asked exactly where the request was made, since the moment comes no later
+asked-now : (moment : Option Moment) (number : ℕ) → ((m : Moment) → moment ≡ Some m → m.first ≤ number) → is_some moment ≡ is_asked moment number
+asked-now None number early = refl
+asked-now (Some m) number early = by (nat_le m.first number) refl
+  where
+    by : (b : Bool) → nat_le m.first number ≡ b → true ≡ b
+    by true is = refl
+    by false is = absurd (omega (arith, leb-false m.first number is, early m refl))
+
+module _ {Wants : Blueprint → Type 0} {opening : Opening} {lines : List (List ℕ)} {old : Work} {now : SinkView} {flight : InFlight} (new : Work) (next : InFlight) (line : List ℕ) (slot : Slot) (kind : Kind) (number : ℕ) (text : Option (List ℕ))
+    (counted : Counted Wants opening lines old now flight) (begins : BeginsSlot old new kind number text slot)
+    (kind_is : kind ≡ flight.settings.input) (number_is : number ≡ read_of flight + 1) (text_is : text ≡ text_of line) where
+  kind-is : kind ≡ opening.plan.settings.input
+  kind-is = kind_is ∙ ap (λ (s : Settings). s.input) counted.standing.settings_are
+
+  number-is : number ≡ length lines + 1
+  number-is = number_is ∙ ap (λ n. n + 1) (read-count counted.standing)
+
+  shows-as : option_and_then (record_of kind) text ≡ datum_of opening.plan.settings.input line
+  shows-as = ap (λ (k : Kind). option_and_then (record_of k) text) kind-is ∙ ap (option_and_then (record_of opening.plan.settings.input)) text_is
+
+  asked-is : old.requested ≡ is_asked counted.standing.moment number
+  asked-is = counted.standing.requested ∙ asked-now counted.standing.moment number (λ m is. omega (arith, counted.early m is, number-is))
+
+  -- the slot stands for the record
+  stands-next : StandsFor (terms_at Wants opening) new counted.standing.moment number line slot
+  stands-next = of slot begins
+    where
+      of : (slot : Slot) → BeginsSlot old new kind number text slot → StandsFor (terms_at Wants opening) new counted.standing.moment number line slot
+      of (Running block) begun = record {
+        datum = begun.datum;
+        shows = sym shows-as ∙ begun.shows;
+        begun = begun.begins.begun ∙ ap (λ (asked : Bool). Some (record { number = number; datum = begun.datum; asked = asked })) asked-is;
+      }
+      of Bad bad = sym shows-as ∙ bad.0
+      of NoMemory wants = inl (λ int. wants.0 (kind-is ∙ int))
+
+  -- the next record is in flight
+  pub Counted-begins : next.slots.items ≡ flight.slots.items ++ slot ∷ [] → next.slots.capacity ≡ flight.slots.capacity → length flight.slots.items < flight.slots.capacity
+      → next.printer ≡ flight.printer → next.settings ≡ flight.settings → next.requested ≡ flight.requested → Standing Wants opening (length (lines ++ line ∷ [])) (lines ++ line ∷ []) new now next
+  Counted-begins items capacity room printer settings requested =
+      let standing = counted.standing in
+      let keeps = begun-keeps old new kind number text slot begins in
+      let place : number ≡ length standing.outcomes + length flight.slots.items + 1 = omega (arith, number-is, read-lines standing) in
+      let waiting = StandForAll-push (terms_at Wants opening) new standing.moment (length standing.outcomes) flight.slots.items standing.back slot line number place
+      (StandForAll-kept (terms_at Wants opening) old new standing.moment (length standing.outcomes) flight.slots.items standing.back keeps.blocks standing.waiting) stands-next in
+      record {
+        outcomes = standing.outcomes;
+        front = standing.front;
+        back = standing.back ++ line ∷ [];
+        moment = standing.moment;
+        split = ap (λ (xs : List (List ℕ)). xs ++ line ∷ []) standing.split ∙ append_assoc standing.front standing.back (line ∷ []);
+        licensed = standing.licensed;
+        waiting = subst (λ (s : List Slot). StandForAll (terms_at Wants opening) new standing.moment (length standing.outcomes) s (standing.back ++ line ∷ [])) (sym items) waiting;
+        caused = subst (λ (n : ℕ). IsCaused (terms_at Wants opening).rules opening.window n standing.outcomes standing.moment) (sym (length-append lines (line ∷ []))) standing.caused;
+        printed = subst (λ (p : Printer). Printed opening.form opening.sink now p standing.outcomes) (sym printer) standing.printed;
+        requested = keeps.requested ∙ standing.requested;
+        known = requested ∙ standing.known;
+        plan_is = keeps.plan ∙ standing.plan_is;
+        settings_are = settings ∙ standing.settings_are;
+        window_is = capacity ∙ standing.window_is;
+        fits = omega (arith, ap length items, length-append flight.slots.items (slot ∷ []), room, standing.window_is);
+        may_run = standing.may_run;
+      }

@@ -1,0 +1,139 @@
+-- What stands once all records are written.
+use Rattle.std.proofs.Common.{◌≡◌, ◌≢◌, ◌⊎◌, ℕ, ◌+◌, ◌<◌, ◌≤◌, Bool, true, false, List, [], ◌∷◌, ◌++◌, length, Option, Some, None, refl, sym, ap, ◌∙◌, subst, inl, inr, length-append, append-nil, arith}
+use Rattle.std.proofs.lemmas.List.{nil_from_length}
+use Rattle.std.specs.Io.KnownBytes.{Consumes}
+use Rattle.exec_io.specs.Causes.{Rose}
+use Rattle.plan_shape.specs.Blueprint.{Blueprint}
+use Rattle.record_lines.specs.declared.ending.End.{End}
+use Rattle.record_lines.specs.declared.ending.End.TheVariants.{Ended, Fault, Limit}
+use Rattle.record_lines.specs.declared.limits.TheConstants.{MOST_RECORDS, MOST_BYTES}
+use Rattle.record_lines.specs.declared.line_end.LineEnd.{LineEnd}
+use Rattle.record_lines.specs.Lines.{whole_lines, rest_of, without_cr}
+use Rattle.record_lines.specs.Records.{records_of, last_line, IsBeyond}
+use Rattle.record_lines.specs.Cutters.{Held, StandsAfter, HasLine, EndsStream}
+use Rattle.record_lines.proofs.RecordLaws.{IsBeyond-none}
+use Rattle.run_rules.specs.Lawful.{Lawful}
+use Rattle.run_rules.specs.Moments.{IsCaused, Licensed}
+use Rattle.run_rules.proofs.LicenseLaws.{Lawful-from_licensed}
+use Rattle.run_rules.proofs.PlanLaws.{plan-covers}
+use Rattle.record_loop.specs.Cutting.{IsCutting}
+use Rattle.record_loop.specs.declared.closing.Closing.{Closing}
+use Rattle.record_loop.specs.declared.in_flight.InFlight.{InFlight}
+use Rattle.record_loop.specs.declared.session.Session.{Session}
+use Rattle.record_loop.specs.Flights.{read_of}
+use Rattle.record_loop.specs.Printing.{Printed, Finished}
+use Rattle.record_loop.specs.Ran.{Answered, Ran}
+use Rattle.record_loop.specs.Reading.{Place, on, point_of, HasRoom, IsTaking, TakenAt, PassesLimit, Halts, HasHalted, Reads, AllTaken}
+use Rattle.io_views.specs.Sinks.{SinkView}
+use Rattle.io_views.specs.Sources.{SourceView}
+use Rattle.record_loop.specs.Standing.{Opening, terms_at, Point, at, Standing, StandsAt}
+use Rattle.record_loop.specs.Works.{Work}
+use Rattle.record_loop.proofs.StandingLaws.{read-lines, waiting-length}
+use Rattle.record_loop.proofs.ReadingLaws.{taken-count, stands-as}
+
+module _ {Wants : Blueprint → Type 0} {opening : Opening} {lines : List (List ℕ)} {work : Work} {now : SinkView} {flight : InFlight} (standing : Standing Wants opening (length lines) lines work now flight) (none : flight.slots.items ≡ []) where
+  -- all records have a line
+  all-front : lines ≡ standing.front
+  all-front =
+      let no_back : standing.back ≡ [] = nil_from_length standing.back (sym (waiting-length standing) ∙ ap length none) in
+      standing.split ∙ ap (λ (xs : List (List ℕ)). standing.front ++ xs) no_back ∙ append-nil standing.front
+
+  -- and the lines are lawful
+  pub all-lawful : Lawful (terms_at Wants opening) lines standing.outcomes
+  all-lawful =
+      let few : length lines ≡ length standing.outcomes = omega (arith, read-lines standing, ap length none) in
+      Lawful-from_licensed (terms_at Wants opening) (plan-covers Wants opening.plan opening.window) standing.moment lines standing.outcomes
+      (subst (λ (n : ℕ). IsCaused (terms_at Wants opening).rules opening.window n standing.outcomes standing.moment) few standing.caused)
+      (subst (λ (xs : List (List ℕ)). Licensed (terms_at Wants opening) standing.moment xs standing.outcomes) (sym all-front) standing.licensed)
+
+-- within the limits no byte passes one
+within-limits : (bytes : List ℕ) → length bytes ≤ MOST_BYTES → HasRoom bytes → IsBeyond bytes → ⊥
+within-limits bytes size room = IsBeyond-none bytes size room
+
+module _ {Wants : Blueprint → Type 0} {opening : Opening} {source left : Option (List ℕ)} where
+  -- the reading stopped at a fault or a limit, and nothing is left to take
+  pub AllTaken-stopped : (end : End) {work : Work} {sink : SinkView} {session : Session} → end ≢ Ended → Halts Wants opening end source left (on work sink session) → AllTaken Wants opening end source left (at work sink session.flight)
+  AllTaken-stopped Ended other halts = absurd (other refl)
+  AllTaken-stopped Fault {session = session} other halts = record {
+    bytes = halts.bytes;
+    reads = record {
+      consumed = halts.consumed;
+      at_end = λ is. cc;
+      beyond = λ is. cc;
+      within = λ _. within-limits halts.bytes (omega (arith, session.few_bytes, halts.stops.taken)) halts.stops.room;
+    };
+    standing = halts.stops.standing;
+  }
+  AllTaken-stopped Limit other halts = record {
+    bytes = halts.bytes;
+    reads = record {
+      consumed = halts.consumed;
+      at_end = λ is. cc;
+      beyond = λ _. halts.stops.beyond;
+      within = λ not. absurd (not refl);
+    };
+    standing = halts.stops.standing;
+  }
+
+  -- the input ended, and its last record is taken, where there is one
+  pub AllTaken-ended : {before after : Work} {now later : SinkView} {session : Session} (end : End) (flight : InFlight) → end ≡ Ended → (halts : Halts Wants opening end source left (on before now session))
+      → (StandsAfter session.cutter halts.bytes → StandsAt Wants opening (whole_lines halts.bytes) (at before now session.flight) → StandsAt Wants opening (records_of halts.bytes Ended) (at after later flight))
+      → AllTaken Wants opening end source left (at after later flight)
+  AllTaken-ended {session = session} Ended flight is halts takes = record {
+    bytes = halts.bytes;
+    reads = record {
+      consumed = halts.consumed;
+      at_end = halts.at_end;
+      beyond = λ is. cc;
+      within = λ _. within-limits halts.bytes (omega (arith, session.few_bytes, halts.stops.taken)) halts.stops.room;
+    };
+    standing = takes halts.stops.stands halts.stops.standing;
+  }
+  AllTaken-ended Fault flight is halts takes = cc
+  AllTaken-ended Limit flight is halts takes = cc
+
+-- a last line comes after fewer than the most records
+pub last-few : {Wants : Blueprint → Type 0} {opening : Opening} {bytes : List ℕ} (place : Place) (new : Held) (end : LineEnd) → TakenAt Wants opening bytes place → EndsStream new bytes end → read_of place.session.flight < MOST_RECORDS
+unfolding last_line
+last-few {bytes = bytes} place new end taken ends = by taken.room
+  where
+    longer : length (records_of bytes Ended) ≡ length (whole_lines bytes) + 1
+    longer = ap length ends.lines ∙ length-append (whole_lines bytes) (without_cr (rest_of bytes) ∷ [])
+
+    none : rest_of bytes ≡ [] → length (records_of bytes Ended) ≡ length (whole_lines bytes)
+    none is = ap (λ rest. length (whole_lines bytes ++ last_line rest)) is ∙ ap length (append-nil (whole_lines bytes))
+
+    by : HasRoom bytes → read_of place.session.flight < MOST_RECORDS
+    by (inl fewer) = omega (arith, fewer, taken-count taken)
+    by (inr full) = absurd (omega (arith, longer, none full.1))
+
+-- what was printed of all records, and how the run ended
+pub Ran-closes : {Wants : Blueprint → Type 0} {opening : Opening} {work : Work} {now later : SinkView} {flight : InFlight} (end : End) (before after : SourceView) (closing : Closing)
+    → (taken : AllTaken Wants opening end before.left after.left (at work now flight)) → flight.slots.items ≡ []
+    → ((outcomes : _) → Printed opening.form opening.sink now flight.printer outcomes → Finished opening.form opening.sink later closing.summary closing.lost outcomes)
+    → closing.end ≡ end → (end ≡ Fault → closing.lost ≡ false → Rose before.faults after.faults) → Ran Wants opening before after later closing
+Ran-closes {Wants = Wants} {opening = opening} {later = later} end before after closing taken none closes is cause = record {
+  bytes = taken.bytes;
+  reads = subst (λ (e : End). Reads before.left after.left e taken.bytes) (sym is) taken.reads;
+  answered = subst (λ (e : End). Answered Wants opening (records_of taken.bytes e) later closing) (sym is) (record {
+    outcomes = taken.standing.outcomes;
+    lawful = all-lawful taken.standing none;
+    finished = closes taken.standing.outcomes taken.standing.printed;
+  });
+  cause = λ fault kept. cause (sym is ∙ fault) kept;
+}
+
+-- a session whose input ended has taken the bytes
+pub halted-taken : {Wants : Blueprint → Type 0} {place : Place} (end : End) → end ≡ Ended → HasHalted Wants end place → IsTaking Wants place
+halted-taken Ended is halted = record { opening = halted.opening; bytes = halted.halts.bytes; taken = halted.halts.stops }
+halted-taken Fault is halted = absurd (let e : Fault ≡ Ended = is in cc)
+halted-taken Limit is halted = absurd (let e : Limit ≡ Ended = is in cc)
+
+-- all records are written
+pub AllTaken-stays : {Wants : Blueprint → Type 0} {opening : Opening} {end : End} {source left : Option (List ℕ)} {old new : Point} → ((lines : List (List ℕ)) → StandsAt Wants opening lines old → StandsAt Wants opening lines new) → AllTaken Wants opening end source left old → AllTaken Wants opening end source left new
+AllTaken-stays {end = end} stays taken = record { bytes = taken.bytes; reads = taken.reads; standing = stays (records_of taken.bytes end) taken.standing }
+
+-- a write that isn't lost in the end wasn't lost before
+pub not-lost : (before after : Bool) → (before ≡ true → after ≡ true) → after ≡ false → before ≡ false
+not-lost true after stays kept = let lost : after ≡ true = stays refl in cc
+not-lost false after stays kept = refl

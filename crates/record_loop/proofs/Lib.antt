@@ -1,0 +1,10 @@
+pub mod BeginningLaws
+pub mod ClosingLaws
+pub mod GeneratedLaws
+pub mod OpeningLaws
+pub mod PrintingLaws
+pub mod ReadingLaws
+pub mod SlotLaws
+pub mod StandingLaws
+pub mod WorkLaws
+pub mod WritingLaws

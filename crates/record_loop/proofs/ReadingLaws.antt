@@ -1,0 +1,237 @@
+-- How a session takes the bytes of a source.
+use Rattle.std.proofs.Common.{◌≡◌, ◌≢◌, ◌⊎◌, ℕ, ◌+◌, ◌<◌, ◌≤◌, Bool, true, false, List, [], ◌∷◌, ◌++◌, length, take, drop, Option, Some, None, refl, sym, ap, ◌∙◌, subst, inl, inr, length-append, append_assoc, append-nil, length-drop, arith}
+use Rattle.std.proofs.lemmas.List.Elements.{All-nil}
+use Rattle.std.specs.Io.KnownBytes.{Consumes, Keeps, IsAtEnd}
+use Rattle.std.proofs.lemmas.List.{take-append-drop}
+use Rattle.plan_shape.specs.Blueprint.{Blueprint}
+use Rattle.record_lines.specs.declared.ending.End.{End}
+use Rattle.record_lines.specs.declared.ending.End.TheVariants.{Ended, Fault, Limit}
+use Rattle.record_lines.specs.declared.limits.TheConstants.{LINE_FEED, MOST_RECORDS, MOST_BYTES}
+use Rattle.record_lines.specs.declared.line_end.LineEnd.{LineEnd}
+use Rattle.record_lines.specs.Lines.{whole_lines, rest_of, cut}
+use Rattle.record_lines.specs.LineEnds.{through}
+use Rattle.record_lines.specs.Records.{records_of, IsBeyond}
+use Rattle.record_lines.specs.Cutters.{Held, StandsAfter, GoesOn, HasLine, EndsLine, line_after}
+use Rattle.record_lines.proofs.LineLaws.{rest_of-line}
+use Rattle.record_lines.proofs.LimitLaws.{limited_lines-full}
+use Rattle.record_lines.proofs.RecordLaws.{IsBeyond-append, IsBeyond-none, full_from_IsBeyond, limit_passed}
+use Rattle.record_loop.specs.Cutting.{IsCutting}
+use Rattle.record_loop.specs.declared.in_flight.InFlight.{InFlight}
+use Rattle.record_loop.specs.declared.session.Session.{Session}
+use Rattle.record_loop.specs.Flights.{read_of}
+use Rattle.record_loop.specs.Reading.{Place, on, point_of, HasRoom, TakenAt, Advances, PassesLimit, TakesPiece, Going, Halts, Reads, AllTaken}
+use Rattle.io_views.specs.Sinks.{SinkView}
+use Rattle.record_loop.specs.Standing.{Opening, Point, at, Standing, StandsAt}
+use Rattle.record_loop.specs.Works.{Work}
+use Rattle.record_loop.proofs.StandingLaws.{read-count}
+
+-- no bytes have no line
+whole_lines-nil : whole_lines [] ≡ []
+unfolding whole_lines cut
+whole_lines-nil = refl
+
+rest_of-nil : rest_of [] ≡ []
+unfolding rest_of cut
+rest_of-nil = refl
+
+-- one part of a source is read after another
+Consumes-trans : (source left rest : Option (List ℕ)) (bytes more : List ℕ) → Consumes source left bytes → Consumes left rest more → Consumes source rest (bytes ++ more)
+Consumes-trans None left rest bytes more first second = tt
+Consumes-trans (Some xs) None rest bytes more first second = absurd first
+Consumes-trans (Some xs) (Some ys) None bytes more first second = absurd second
+Consumes-trans (Some xs) (Some ys) (Some zs) bytes more first second = first ∙ ap (λ bs. bytes ++ bs) second ∙ sym (append_assoc bytes more zs)
+
+-- the rest is empty behind a line feed
+rest_of-through : (bytes front : List ℕ) → rest_of (bytes ++ (front ++ LINE_FEED ∷ [])) ≡ []
+rest_of-through bytes front = ap rest_of (sym (append_assoc bytes front (LINE_FEED ∷ []))) ∙ rest_of-line (bytes ++ front) [] (All-nil (λ b. b ≢ LINE_FEED))
+
+-- what a source tells stays as it was
+Consumes-kept : (source left rest : Option (List ℕ)) (bytes : List ℕ) → Consumes source left bytes → Keeps left rest → Consumes source rest bytes
+Consumes-kept None left rest bytes consumed kept = tt
+Consumes-kept (Some xs) None rest bytes consumed kept = absurd consumed
+Consumes-kept (Some xs) (Some ys) None bytes consumed kept = absurd kept
+Consumes-kept (Some xs) (Some ys) (Some zs) bytes consumed kept = consumed ∙ ap (λ bs. bytes ++ bs) (sym kept)
+
+pub Keeps-nil : (left : Option (List ℕ)) → Keeps left left
+Keeps-nil None = tt
+Keeps-nil (Some xs) = refl
+
+module _ {Wants : Blueprint → Type 0} {opening : Opening} where
+  -- a run stands with these lines, which are those
+  pub stands-as : {xs ys : List (List ℕ)} (point : Point) → xs ≡ ys → StandsAt Wants opening xs point → StandsAt Wants opening ys point
+  stands-as point same standing = subst (λ (lines : List (List ℕ)). StandsAt Wants opening lines point) same standing
+
+  -- a session that has taken no bytes
+  pub TakenAt-nil : (work : Work) (sink : SinkView) (flight : InFlight) (session : Session) → IsCutting flight session → StandsAt Wants opening [] (at work sink flight) → TakenAt Wants opening [] (on work sink session)
+  TakenAt-nil work sink flight session cutting standing = record {
+    standing = stands-as (at work sink session.flight) (sym whole_lines-nil)
+        (subst (λ (f : InFlight). StandsAt Wants opening [] (at work sink f)) (sym cutting.flight_is) standing);
+    stands = cutting.stands;
+    taken = cutting.taken;
+    room = inr (omega (arith, ap length whole_lines-nil), rest_of-nil);
+  }
+
+  -- as many records were read as lines ended
+  pub taken-count : {bytes : List ℕ} {place : Place} → TakenAt Wants opening bytes place → read_of place.session.flight ≡ length (whole_lines bytes)
+  taken-count taken = read-count taken.standing
+
+  -- a piece without a line feed is taken
+  pub Advances-goes_on : (piece : List ℕ) {bytes : List ℕ} {work : Work} {sink : SinkView} {old new : Session} → TakenAt Wants opening bytes (on work sink old) → read_of old.flight < MOST_RECORDS → GoesOn piece new.cutter bytes → new.flight ≡ old.flight → new.taken ≡ old.taken + length piece → Advances Wants opening bytes piece [] (on work sink new)
+  Advances-goes_on piece {bytes = bytes} {work = work} {sink = sink} {old = old} {new = new} at_old few goes flight taken = record {
+    front = piece;
+    split = sym (append-nil piece);
+    taken = record {
+      standing = stands-as (at work sink new.flight) (sym goes.lines)
+          (subst (λ (f : InFlight). StandsAt Wants opening (whole_lines bytes) (at work sink f)) (sym flight) at_old.standing);
+      stands = goes.stands;
+      taken = omega (arith, taken, at_old.taken, length-append bytes piece);
+      room = inl (omega (arith, few, ap length goes.lines, taken-count at_old));
+    };
+  }
+
+  -- a line is ended and taken
+  pub Advances-ends : (piece : List ℕ) (end : LineEnd) {bytes : List ℕ} {before after : Work} {now later : SinkView} {old new : Session} → TakenAt Wants opening bytes (on before now old) → read_of old.flight < MOST_RECORDS → EndsLine new.cutter bytes end → piece ≡ through end ++ end.rest.now
+      → ((lines : List (List ℕ)) (line : List ℕ) → HasLine new.cutter end line → StandsAt Wants opening lines (at before now old.flight) → StandsAt Wants opening (lines ++ line ∷ []) (at after later new.flight))
+      → new.taken + length end.rest.now ≡ old.taken + length piece → Advances Wants opening bytes piece end.rest.now (on after later new)
+  Advances-ends piece end {bytes = bytes} {after = after} {later = later} {new = new} at_old few ends split takes taken = record {
+    front = through end;
+    split = split;
+    taken = record {
+      standing = stands-as (at after later new.flight) (sym ends.lines) (takes (whole_lines bytes) (line_after bytes end) ends.line at_old.standing);
+      stands = ends.stands;
+      taken = omega (arith, taken, at_old.taken, length-append bytes (through end), ap length split, length-append (through end) end.rest.now);
+      room = inr (
+        omega (arith, few, ap length ends.lines, length-append (whole_lines bytes) (line_after bytes end ∷ []), taken-count at_old),
+        rest_of-through bytes end.front.now,
+      );
+    };
+  }
+
+  -- nothing of the piece is taken yet
+  pub Advances-none : (bytes piece : List ℕ) {place : Place} → TakenAt Wants opening bytes place → Advances Wants opening bytes piece piece place
+  Advances-none bytes piece {place = place} taken = record {
+    front = [];
+    split = refl;
+    taken = subst (λ (bs : List ℕ). TakenAt Wants opening bs place) (sym (append-nil bytes)) taken;
+  }
+
+  -- one part of a piece after another
+  pub Advances-trans : (bytes piece left more : List ℕ) {place next : Place} → Advances Wants opening bytes piece left place
+      → ((bs : List ℕ) → TakenAt Wants opening bs place → Advances Wants opening bs left more next)
+      → Advances Wants opening bytes piece more next
+  Advances-trans bytes piece left more {next = next} first goes =
+      let second = goes (bytes ++ first.front) first.taken in
+      record {
+        front = first.front ++ second.front;
+        split = first.split ∙ ap (λ bs. first.front ++ bs) second.split ∙ sym (append_assoc first.front second.front more);
+        taken = subst (λ (bs : List ℕ). TakenAt Wants opening bs next) (append_assoc bytes first.front second.front) second.taken;
+      }
+
+  -- all of a piece is taken
+  pub TakenAt-all : (bytes piece left : List ℕ) {place : Place} → Advances Wants opening bytes piece left place → length left ≡ 0 → TakenAt Wants opening (bytes ++ piece) place
+  TakenAt-all bytes piece [] {place = place} advances none =
+      subst (λ (bs : List ℕ). TakenAt Wants opening (bytes ++ bs) place) (sym (advances.split ∙ append-nil advances.front)) advances.taken
+  TakenAt-all bytes piece (b ∷ left) advances none = absurd (omega arith)
+
+  -- a byte that is left after the most records passes the limit
+  pub PassesLimit-left : (bytes piece left : List ℕ) {place : Place} → Advances Wants opening bytes piece left place → (left ≡ [] → ⊥) → read_of place.session.flight ≡ MOST_RECORDS → place.session.taken ≤ MOST_BYTES → PassesLimit Wants opening (bytes ++ piece) (point_of place)
+  PassesLimit-left bytes piece [] advances some full size = absurd (some refl)
+  PassesLimit-left bytes piece (b ∷ left) {place = place} advances some full size =
+      let taken = bytes ++ advances.front in
+      let lines : length (whole_lines taken) ≡ MOST_RECORDS = omega (arith, full, taken-count advances.taken) in
+      let passed = limit_passed taken b left (omega (arith, size, advances.taken.taken)) (omega (arith, lines)) (inr (omega (arith, lines))) in
+      let whole : bytes ++ piece ≡ taken ++ b ∷ left = ap (λ bs. bytes ++ bs) advances.split ∙ sym (append_assoc bytes advances.front (b ∷ left)) in
+      let P : List ℕ → Type 0 = λ bs. PassesLimit Wants opening bs (point_of place) in
+      subst P (sym whole) (record { beyond = passed.0; standing = stands-as (point_of place) (sym passed.1) advances.taken.standing })
+
+  -- more bytes leave a limit passed, with the same records
+  pub PassesLimit-more : (bytes more : List ℕ) {point : Point} → PassesLimit Wants opening bytes point → PassesLimit Wants opening (bytes ++ more) point
+  PassesLimit-more bytes more {point = point} passes = record {
+    beyond = IsBeyond-append bytes more passes.beyond;
+    standing = stands-as point (sym (limited_lines-full bytes more (full_from_IsBeyond bytes passes.beyond))) passes.standing;
+  }
+
+  -- a byte after the most bytes passes the limit
+  PassesLimit-bytes : (bytes : List ℕ) (b : ℕ) (more : List ℕ) {place : Place} → TakenAt Wants opening bytes place → length bytes ≡ MOST_BYTES → length (whole_lines bytes) ≤ MOST_RECORDS → PassesLimit Wants opening (bytes ++ b ∷ more) (point_of place)
+  PassesLimit-bytes bytes b more {place = place} taken size few =
+      let passed = limit_passed bytes b more (omega (arith, size)) few (inl (omega (arith, size))) in
+      record { beyond = passed.0; standing = stands-as (point_of place) (sym passed.1) taken.standing }
+
+  -- bytes are left after the most bytes, or after a front that passed a limit
+  PassesLimit-over : (front left : List ℕ) (result : Bool) (place : Place) → 0 < length left → (result ≡ true → place.session.taken ≡ MOST_BYTES) → TakesPiece Wants opening front place result → PassesLimit Wants opening (front ++ left) (point_of place)
+  PassesLimit-over front [] result place some full takes = absurd (omega arith)
+  PassesLimit-over front (b ∷ left) true place some full taken = PassesLimit-bytes front b left taken (sym taken.taken ∙ full refl) (HasRoom-few front taken.room)
+    where
+      HasRoom-few : (bytes : List ℕ) → HasRoom bytes → length (whole_lines bytes) ≤ MOST_RECORDS
+      HasRoom-few bytes (inl fewer) = omega arith
+      HasRoom-few bytes (inr whole) = whole.0
+  PassesLimit-over front (b ∷ left) false place some full passes = PassesLimit-more front (b ∷ left) passes
+
+  -- a piece that is longer than the limit of bytes allows passes it
+  pub PassesLimit-cut : (bytes piece : List ℕ) (room : ℕ) (result : Bool) (place : Place) → room < length piece → (result ≡ true → place.session.taken ≡ MOST_BYTES) → TakesPiece Wants opening (bytes ++ take room piece) place result → PassesLimit Wants opening (bytes ++ piece) (point_of place)
+  PassesLimit-cut bytes piece room result place longer full takes =
+      let whole = append_assoc bytes (take room piece) (drop room piece) ∙ ap (λ bs. bytes ++ bs) (take-append-drop room piece) in
+      subst (λ (bs : List ℕ). PassesLimit Wants opening bs (point_of place)) whole
+      (PassesLimit-over (bytes ++ take room piece) (drop room piece) result place (omega (arith, length-drop room piece)) full takes)
+
+  -- the records in flight went on, and no bytes were taken
+  pub TakenAt-stays : {bytes : List ℕ} {before after : Work} {now later : SinkView} {old new : Session} → ((lines : List (List ℕ)) → StandsAt Wants opening lines (at before now old.flight) → StandsAt Wants opening lines (at after later new.flight)) → new.cutter ≡ old.cutter → new.taken ≡ old.taken → TakenAt Wants opening bytes (on before now old) → TakenAt Wants opening bytes (on after later new)
+  TakenAt-stays {bytes = bytes} stays cutter same taken = record {
+    standing = stays (whole_lines bytes) taken.standing;
+    stands = subst (λ (held : Held). StandsAfter held bytes) (sym cutter) taken.stands;
+    taken = same ∙ taken.taken;
+    room = taken.room;
+  }
+
+  -- a piece is read and taken
+  pub Going-more : {source left rest : Option (List ℕ)} (piece : List ℕ) {place next : Place} → Consumes left rest piece → ((bytes : List ℕ) → TakenAt Wants opening bytes place → TakenAt Wants opening (bytes ++ piece) next) → Going Wants opening source left place → Going Wants opening source rest next
+  Going-more {source = source} {left = left} {rest = rest} piece consumed takes going = record {
+    bytes = going.bytes ++ piece;
+    consumed = Consumes-trans source left rest going.bytes piece going.consumed consumed;
+    taken = takes going.bytes going.taken;
+  }
+
+  -- a piece is read that passes a limit
+  pub Halts-limit : {source left rest : Option (List ℕ)} (piece : List ℕ) {place next : Place} → Consumes left rest piece → ((bytes : List ℕ) → TakenAt Wants opening bytes place → PassesLimit Wants opening (bytes ++ piece) (point_of next)) → Going Wants opening source left place → Halts Wants opening Limit source rest next
+  Halts-limit {source = source} {left = left} {rest = rest} piece consumed takes going = record {
+    bytes = going.bytes ++ piece;
+    consumed = Consumes-trans source left rest going.bytes piece going.consumed consumed;
+    at_end = λ is. cc;
+    stops = takes going.bytes going.taken;
+  }
+
+  -- the records in flight went on
+  pub Going-stays : {source left : Option (List ℕ)} {place next : Place} → ((bytes : List ℕ) → TakenAt Wants opening bytes place → TakenAt Wants opening bytes next) → Going Wants opening source left place → Going Wants opening source left next
+  Going-stays stays going = record { bytes = going.bytes; consumed = going.consumed; taken = stays going.bytes going.taken }
+
+  -- nothing more is read, since a write was lost or the source failed
+  pub Halts-fault : {source left : Option (List ℕ)} {place : Place} (rest : Option (List ℕ)) → Keeps left rest → Going Wants opening source left place → Halts Wants opening Fault source rest place
+  Halts-fault {source = source} {left = left} rest kept going = record {
+    bytes = going.bytes;
+    consumed = Consumes-kept source left rest going.bytes going.consumed kept;
+    at_end = λ is. cc;
+    stops = going.taken;
+  }
+
+  -- the source is at its end
+  pub Halts-ended : {source left : Option (List ℕ)} {place : Place} (rest : Option (List ℕ)) (count : ℕ) (piece : List ℕ) → count ≡ 0 → Consumes left rest (take count piece) → IsAtEnd rest → Going Wants opening source left place → Halts Wants opening Ended source rest place
+  Halts-ended {source = source} {left = left} rest count piece none consumed at_end going = record {
+    bytes = going.bytes;
+    consumed = subst (Consumes source rest) (append-nil going.bytes)
+        (Consumes-trans source left rest going.bytes [] going.consumed (subst (λ (n : ℕ). Consumes left rest (take n piece)) none consumed));
+    at_end = λ _. at_end;
+    stops = going.taken;
+  }
+
+  -- nothing is read yet
+  pub Going-nil : (source : Option (List ℕ)) {place : Place} → TakenAt Wants opening [] place → Going Wants opening source source place
+  Going-nil source taken = record { bytes = []; consumed = consumed source; taken = taken }
+    where
+      consumed : (known : Option (List ℕ)) → Consumes known known []
+      consumed None = tt
+      consumed (Some xs) = refl
+
+-- a list with an element isn't empty
+pub some_left : (xs : List ℕ) → 0 < length xs → xs ≡ [] → ⊥
+some_left [] some none = omega arith
+some_left (x ∷ xs) some none = cc

@@ -1,0 +1,215 @@
+-- How a run goes on, record by record.
+use Rattle.std.proofs.Common.{◌≡◌, ◌≢◌, ◌⊎◌, ℕ, ◌+◌, ◌-◌, ◌<◌, ◌≤◌, Bool, true, false, not, ◌||◌, List, [], ◌∷◌, ◌++◌, length, drop, Option, Some, None, slice_get, refl, sym, ap, ◌∙◌, subst, inl, inr, append_assoc, append-nil, length-append, arith}
+use Rattle.std.specs.Prelude.{is_some, option_and_then}
+use Rattle.exec_value.specs.declared.kinds.Kind.{Kind}
+use Rattle.exec_value.specs.declared.outcome.Outcome.{Outcome}
+use Rattle.exec_value.specs.Summary.{is_error}
+use Rattle.life_rules.specs.declared.scope.ScopeKind.TheVariants.{Counting}
+use Rattle.plan_rules.specs.declared.settings.Settings.{Settings}
+use Rattle.plan_shape.specs.Blueprint.{Blueprint}
+use Rattle.record_lines.specs.Lines.{text_of}
+use Rattle.run_rules.specs.Lawful.{Terms, MayEnd, datum_of}
+use Rattle.run_rules.specs.Moments.{Moment, license, is_asked, IsCaused, IsTimely, IsQuiet, Licensed}
+use Rattle.run_rules.specs.PlanTerms.{terms_of, MayRun, has_stop_rule}
+use Rattle.run_rules.specs.StopStates.{StopRules, rules_of}
+use Rattle.run_rules.proofs.LicenseLaws.{Licensed-nil, Licensed-more, Licensed-asks}
+use Rattle.run_rules.proofs.MomentLaws.{quiet-nil, quiet-read, timely-read, timely-more, quiet-write, timely-write, timely-written}
+use Rattle.record_loop.specs.Beginning.{BeginsSlot, BeginsText}
+use Rattle.record_loop.specs.Flights.{IsFresh, read_of}
+use Rattle.record_loop.specs.declared.in_flight.InFlight.{InFlight}
+use Rattle.record_loop.specs.declared.printer.Printer.{Printer}
+use Rattle.record_loop.specs.declared.slot.Slot.{Slot}
+use Rattle.record_loop.specs.declared.slot.Slot.TheVariants.{Running, Bad, NoMemory}
+use Rattle.record_loop.specs.Printing.{Printed}
+use Rattle.record_loop.specs.Settling.{HasOperation, Settles}
+use Rattle.io_views.specs.Sinks.{SinkView}
+use Rattle.record_loop.specs.Standing.{Opening, terms_at, IsBegun, StandsFor, StandForAll, Standing, Counted}
+use Rattle.record_loop.specs.Works.{Begun, Work, Keeps, Begins, Requests}
+use Rattle.record_loop.proofs.SlotLaws.{StandForAll-length, StandForAll-kept, StandsFor-kept, StandForAll-asks, StandForAll-push, StandsFor-operation, MayEnd-settles, Settles-plan, StandForAll-settles}
+
+-- a request that was made makes the two records of it agree
+asked-none : {b : Bool} {moment : Option Moment} → b ≡ is_some moment → b ≡ false → moment ≡ None
+asked-none {moment = None} is not = refl
+asked-none {moment = Some m} is not = absurd (let e : true ≡ false = sym is ∙ not in cc)
+
+module _ {Wants : Blueprint → Type 0} {opening : Opening} {read : ℕ} {lines : List (List ℕ)} {work : Work} {now : SinkView} {flight : InFlight} (standing : Standing Wants opening read lines work now flight) where
+  -- the slots are as many as the records without a line
+  pub waiting-length : length flight.slots.items ≡ length standing.back
+  waiting-length = StandForAll-length (terms_at Wants opening) work standing.moment (length standing.outcomes) flight.slots.items standing.back standing.waiting
+
+  -- as many records were read as there are lines
+  pub read-lines : length standing.outcomes + length flight.slots.items ≡ length lines
+  read-lines = omega (arith, waiting-length, standing.licensed.as_many, ap length standing.split, length-append standing.front standing.back)
+
+  pub read-count : read_of flight ≡ length lines
+  read-count = omega (arith, read-lines, standing.printed.counted.lines)
+
+  -- where a stop rule is set the scope counts
+  pub counting : has_stop_rule flight.settings ≡ true → work.plan.settings.scope ≡ Counting
+  counting set =
+      let P : Settings → Type 0 = λ s. has_stop_rule s ≡ true in
+      ap (λ (p : Blueprint). p.settings.scope) standing.plan_is ∙ standing.may_run.counting (subst P standing.settings_are set)
+
+-- the first rule, or the second, is set
+pub after-set : (settings : Settings) (k : ℕ) → settings.stop_after ≡ Some k → has_stop_rule settings ≡ true
+after-set settings k is = by settings.stop_after is
+  where
+    by : (after : Option ℕ) → after ≡ Some k → (is_some after || settings.on_error_stop) ≡ true
+    by None is = cc
+    by (Some n) is = refl
+
+pub error-set : (settings : Settings) → settings.on_error_stop ≡ true → has_stop_rule settings ≡ true
+error-set settings set = by (is_some settings.stop_after) settings.on_error_stop set
+  where
+    by : (a b : Bool) → b ≡ true → (a || b) ≡ true
+    by true b set = refl
+    by false b set = set
+
+-- no record was read
+pub Standing-fresh : (Wants : Blueprint → Type 0) (opening : Opening) (work : Work) (flight : InFlight) → IsFresh opening.window opening.plan.settings opening.form flight
+    → work.requested ≡ false → work.plan ≡ opening.plan → MayRun opening.plan.settings → Standing Wants opening 0 [] work opening.sink flight
+Standing-fresh Wants opening work flight fresh requested plan may_run = record {
+  outcomes = [];
+  front = [];
+  back = [];
+  moment = None;
+  split = refl;
+  licensed = Licensed-nil (terms_at Wants opening) None;
+  waiting = subst (λ (slots : List Slot). StandForAll (terms_at Wants opening) work None 0 slots []) (sym fresh.slots) tt;
+  caused = quiet-nil (rules_of opening.plan.settings) may_run.stop_after;
+  printed = fresh.printed opening.sink;
+  requested = requested;
+  known = fresh.requested;
+  plan_is = plan;
+  settings_are = fresh.settings_are;
+  window_is = fresh.capacity;
+  fits = omega (arith, ap length fresh.slots);
+  may_run = may_run;
+}
+
+-- what was printed is handed on
+pub Standing-hands : {Wants : Blueprint → Type 0} {opening : Opening} {read : ℕ} {lines : List (List ℕ)} {work : Work} {now later : SinkView} {old new : InFlight}
+    → ((outcomes : List Outcome) → Printed opening.form opening.sink now old.printer outcomes → Printed opening.form opening.sink later new.printer outcomes)
+    → new.slots ≡ old.slots → new.requested ≡ old.requested → new.settings ≡ old.settings
+    → Standing Wants opening read lines work now old → Standing Wants opening read lines work later new
+Standing-hands {Wants = Wants} {opening = opening} {work = work} {old = old} {new = new} hands slots requested settings standing = record {
+  outcomes = standing.outcomes;
+  front = standing.front;
+  back = standing.back;
+  moment = standing.moment;
+  split = standing.split;
+  licensed = standing.licensed;
+  waiting = subst (λ (s : _). StandForAll (terms_at Wants opening) work standing.moment (length standing.outcomes) s standing.back) (sym (ap (λ (s : _). s.items) slots)) standing.waiting;
+  caused = standing.caused;
+  printed = hands standing.outcomes standing.printed;
+  requested = standing.requested;
+  known = requested ∙ standing.known;
+  plan_is = standing.plan_is;
+  settings_are = settings ∙ standing.settings_are;
+  window_is = ap (λ (s : _). s.capacity) slots ∙ standing.window_is;
+  fits = omega (arith, ap (λ (s : _). length s.items) slots, standing.fits);
+  may_run = standing.may_run;
+}
+
+-- more is read, and no request is made for it
+caused-read : (rules : StopRules) (window read : ℕ) (outcomes : List Outcome) (moment : Option Moment) → (rules.after ≡ Some (read + 1) → ⊥)
+    → IsCaused rules window read outcomes moment → IsCaused rules window (read + 1) outcomes moment
+caused-read rules window read outcomes None other quiet = quiet-read rules window read outcomes other quiet
+caused-read rules window read outcomes (Some m) other timely = timely-more rules window read outcomes m timely
+
+-- a request that was made came before the next record
+early-moment : (rules : StopRules) (window read : ℕ) (outcomes : List Outcome) (moment : Option Moment) → IsCaused rules window read outcomes moment → (m : Moment) → moment ≡ Some m → m.first ≤ read + 1
+early-moment rules window read outcomes None quiet m is = absurd (let e : None ≡ Some m = is in cc)
+early-moment rules window read outcomes (Some n) timely m is = let same : n ≡ m = cc in omega (arith, timely.first, ap (λ (x : Moment). x.first) same)
+
+-- the next record is counted, and no stop is requested after it
+pub Standing-counts : {Wants : Blueprint → Type 0} {opening : Opening} {lines : List (List ℕ)} {work : Work} {now : SinkView} {flight : InFlight}
+    → (flight.settings.stop_after ≡ Some (read_of flight + 1) → ⊥) → Standing Wants opening (length lines) lines work now flight → Counted Wants opening lines work now flight
+Standing-counts {Wants = Wants} {opening = opening} {lines = lines} {flight = flight} other standing = record {
+  standing = record {
+    outcomes = standing.outcomes;
+    front = standing.front;
+    back = standing.back;
+    moment = standing.moment;
+    split = standing.split;
+    licensed = standing.licensed;
+    waiting = standing.waiting;
+    caused = caused-read (rules_of opening.plan.settings) opening.window (length lines) standing.outcomes standing.moment (λ after. other (ap (λ (s : Settings). s.stop_after) standing.settings_are ∙ after ∙ ap (λ n. Some (n + 1)) (sym (read-count standing)))) standing.caused;
+    printed = standing.printed;
+    requested = standing.requested;
+    known = standing.known;
+    plan_is = standing.plan_is;
+    settings_are = standing.settings_are;
+    window_is = standing.window_is;
+    fits = standing.fits;
+    may_run = standing.may_run;
+  };
+  early = early-moment (rules_of opening.plan.settings) opening.window (length lines) standing.outcomes standing.moment standing.caused;
+}
+
+module _ {Wants : Blueprint → Type 0} {opening : Opening} {lines : List (List ℕ)} {old new : Work} {now : SinkView} {flight next : InFlight}
+    (standing : Standing Wants opening (length lines) lines old now flight) (room : length flight.slots.items < flight.slots.capacity)
+    (again : flight.requested ≡ true → new ≡ old) (first : flight.requested ≡ false → Requests old new)
+    (asked : next.requested ≡ true) (slots : next.slots ≡ flight.slots) (printer : next.printer ≡ flight.printer) (settings : next.settings ≡ flight.settings) where
+  -- what stays as it was
+  counted-with : (moment : Option Moment) → Licensed (terms_at Wants opening) moment standing.front standing.outcomes
+      → StandForAll (terms_at Wants opening) new moment (length standing.outcomes) flight.slots.items standing.back
+      → IsCaused (terms_at Wants opening).rules opening.window (length lines + 1) standing.outcomes moment
+      → is_some moment ≡ true → new.requested ≡ true → new.plan ≡ old.plan → ((m : Moment) → moment ≡ Some m → m.first ≤ length lines + 1) → Counted Wants opening lines new now next
+  counted-with moment licensed waiting caused some requested plan early = record {
+    early = early;
+    standing = record {
+      outcomes = standing.outcomes;
+      front = standing.front;
+      back = standing.back;
+      moment = moment;
+      split = standing.split;
+      licensed = licensed;
+      waiting = subst (λ (s : List Slot). StandForAll (terms_at Wants opening) new moment (length standing.outcomes) s standing.back) (sym (ap (λ s. s.items) slots)) waiting;
+      caused = caused;
+      printed = subst (λ (p : Printer). Printed opening.form opening.sink now p standing.outcomes) (sym printer) standing.printed;
+      requested = requested ∙ sym some;
+      known = asked ∙ sym some;
+      plan_is = plan ∙ standing.plan_is;
+      settings_are = settings ∙ standing.settings_are;
+      window_is = ap (λ s. s.capacity) slots ∙ standing.window_is;
+      fits = omega (arith, ap (λ s. length s.items) slots, standing.fits);
+      may_run = standing.may_run;
+    };
+  }
+
+  -- the next record is counted, and a stop is requested after it
+  pub Standing-asks : flight.settings.stop_after ≡ Some (read_of flight + 1) → Counted Wants opening lines new now next
+  Standing-asks due = by standing.moment refl
+    where
+      rules : (rules_of opening.plan.settings).after ≡ Some (length lines + 1)
+      rules = sym (ap (λ (s : Settings). s.stop_after) standing.settings_are) ∙ due ∙ ap (λ n. Some (n + 1)) (read-count standing)
+
+      by : (moment : Option Moment) → standing.moment ≡ moment → Counted Wants opening lines new now next
+      by (Some m) is =
+          let same = again (standing.known ∙ ap is_some is) in
+          let timely = timely-more (rules_of opening.plan.settings) opening.window (length lines) standing.outcomes m (subst (IsCaused (rules_of opening.plan.settings) opening.window (length lines) standing.outcomes) is standing.caused) in
+          counted-with (Some m)
+          (subst (λ (x : Option Moment). Licensed (terms_at Wants opening) x standing.front standing.outcomes) is standing.licensed)
+          (StandForAll-kept (terms_at Wants opening) old new (Some m) (length standing.outcomes) flight.slots.items standing.back (λ b begun at. ap (λ (w : Work). w.block b) same ∙ at)
+          (subst (λ (x : Option Moment). StandForAll (terms_at Wants opening) old x (length standing.outcomes) flight.slots.items standing.back) is standing.waiting))
+          timely refl (ap (λ (w : Work). w.requested) same ∙ standing.requested ∙ ap is_some is) (ap (λ (w : Work). w.plan) same)
+          (λ n same_moment. early-moment (rules_of opening.plan.settings) opening.window (length lines) standing.outcomes standing.moment standing.caused n (is ∙ same_moment))
+      by None is =
+          let requests = first (standing.known ∙ ap is_some is) in
+          let moment : Moment = record { written = length standing.outcomes; first = length lines + 1 } in
+          let few = read-lines standing in
+          let quiet : IsQuiet (rules_of opening.plan.settings) (length lines) standing.outcomes = subst (IsCaused (rules_of opening.plan.settings) opening.window (length lines) standing.outcomes) is standing.caused in
+          counted-with (Some moment)
+          (Licensed-asks moment (omega arith) (subst (λ (x : Option Moment). Licensed (terms_at Wants opening) x standing.front standing.outcomes) is standing.licensed))
+          (StandForAll-kept (terms_at Wants opening) old new (Some moment) (length standing.outcomes) flight.slots.items standing.back requests.blocks
+          (StandForAll-asks (terms_at Wants opening) old moment (length standing.outcomes) flight.slots.items standing.back (omega (arith, few))
+          (subst (λ (x : Option Moment). StandForAll (terms_at Wants opening) old x (length standing.outcomes) flight.slots.items standing.back) is standing.waiting)))
+          (timely-read (rules_of opening.plan.settings) opening.window (length lines) standing.outcomes rules (omega (arith, few)) (omega (arith, few, room, standing.window_is)) quiet)
+          refl requests.requested requests.plan
+          (λ n same_moment. let e : moment ≡ n = cc in omega (arith, ap (λ (x : Moment). x.first) e))
+
+-- the records are of the plan's kind
+pub kind-counted : {Wants : Blueprint → Type 0} {opening : Opening} {lines : List (List ℕ)} {work : Work} {now : SinkView} {flight : InFlight} → Counted Wants opening lines work now flight → flight.settings.input ≡ work.plan.settings.input
+kind-counted counted =
+    ap (λ (s : Settings). s.input) counted.standing.settings_are ∙ sym (ap (λ (p : Blueprint). p.settings.input) counted.standing.plan_is)

@@ -1,0 +1,147 @@
+-- How the first record in flight is written.
+use Rattle.std.proofs.Common.{◌≡◌, ◌≢◌, ◌⊎◌, ℕ, ◌+◌, ◌-◌, ◌<◌, ◌≤◌, Bool, true, false, List, [], ◌∷◌, ◌++◌, length, drop, Option, Some, None, slice_get, refl, sym, ap, ◌∙◌, subst, inl, inr, append_assoc, length-append, arith}
+use Rattle.std.specs.Prelude.{is_some}
+use Rattle.exec_value.specs.declared.outcome.Outcome.{Outcome}
+use Rattle.exec_value.specs.Summary.{is_error}
+use Rattle.plan_rules.specs.declared.settings.Settings.{Settings}
+use Rattle.plan_shape.specs.Blueprint.{Blueprint}
+use Rattle.run_rules.specs.Lawful.{Terms, MayEnd}
+use Rattle.run_rules.specs.Moments.{Moment, license, IsCaused, IsTimely, IsQuiet, Licensed}
+use Rattle.run_rules.specs.StopStates.{rules_of}
+use Rattle.run_rules.proofs.LicenseLaws.{Licensed-more, Licensed-asks}
+use Rattle.run_rules.proofs.MomentLaws.{quiet-write, timely-write, timely-written}
+use Rattle.record_loop.specs.declared.in_flight.InFlight.{InFlight}
+use Rattle.record_loop.specs.declared.slot.Slot.{Slot}
+use Rattle.record_loop.specs.Printing.{Printed}
+use Rattle.record_loop.specs.Settling.{HasOperation, Settles}
+use Rattle.io_views.specs.Sinks.{SinkView}
+use Rattle.record_loop.specs.Standing.{Opening, terms_at, StandsFor, StandForAll, Standing}
+use Rattle.record_loop.specs.Works.{Work, Requests}
+use Rattle.record_loop.proofs.SlotLaws.{StandForAll-kept, StandForAll-asks, StandsFor-operation, MayEnd-settles, Settles-plan, StandForAll-settles}
+use Rattle.record_loop.proofs.StandingLaws.{read-lines}
+
+-- the first slot, the line of its record, and the rest
+record First (terms : Terms) (work : Work) (moment : Option Moment) (before : ℕ) (slot : Slot) (slots : List Slot) (lines : List (List ℕ)) : Type 0 where
+  line : List ℕ
+  rest : List (List ℕ)
+  split : lines ≡ line ∷ rest
+  stands : StandsFor terms work moment (before + 1) line slot
+  others : StandForAll terms work moment (before + 1) (drop 1 slots) rest
+  fewer : length (drop 1 slots) + 1 ≡ length slots
+
+first-of : (terms : Terms) (work : Work) (moment : Option Moment) (before : ℕ) (slot : Slot) (slots : List Slot) (lines : List (List ℕ)) → slice_get slots 0 ≡ Some slot → StandForAll terms work moment before slots lines → First terms work moment before slot slots lines
+first-of terms work moment before slot [] lines is stand = absurd (let none : None ≡ Some slot = is in cc)
+first-of terms work moment before slot (s ∷ slots) [] is stand = absurd stand
+first-of terms work moment before slot (s ∷ slots) (line ∷ rest) is stand = record {
+  line = line;
+  rest = rest;
+  split = refl;
+  stands = subst (λ (x : Slot). StandsFor terms work moment (before + 1) line x) (let same : s ≡ slot = cc in same) stand.0;
+  others = stand.1;
+  fewer = omega arith;
+}
+
+-- the first slot has its operation
+pub first-operation : {Wants : Blueprint → Type 0} {opening : Opening} {read : ℕ} {lines : List (List ℕ)} {work : Work} {now : SinkView} {flight : InFlight} (slot : Slot) → slice_get flight.slots.items 0 ≡ Some slot → Standing Wants opening read lines work now flight → HasOperation work slot
+first-operation {Wants = Wants} {opening = opening} {work = work} {flight = flight} slot is standing =
+    let first = first-of (terms_at Wants opening) work standing.moment (length standing.outcomes) slot flight.slots.items standing.back is standing.waiting in
+    StandsFor-operation (terms_at Wants opening) work standing.moment (length standing.outcomes + 1) first.line slot first.stands
+
+module _ {Wants : Blueprint → Type 0} {opening : Opening} {lines : List (List ℕ)} {old : Work} {now : SinkView} {flight : InFlight} (mid : Work) (later : SinkView) (next : InFlight) (slot : Slot) (outcome : Outcome)
+    (standing : Standing Wants opening (length lines) lines old now flight) (is : slice_get flight.slots.items 0 ≡ Some slot) (settles : Settles Wants old mid slot outcome)
+    (prints : (outcomes : List Outcome) → Printed opening.form opening.sink now flight.printer outcomes → Printed opening.form opening.sink later next.printer (outcomes ++ outcome ∷ []))
+    (items : next.slots.items ≡ drop 1 flight.slots.items) (capacity : next.slots.capacity ≡ flight.slots.capacity) (settings : next.settings ≡ flight.settings) where
+  first : First (terms_at Wants opening) old standing.moment (length standing.outcomes) slot flight.slots.items standing.back
+  first = first-of (terms_at Wants opening) old standing.moment (length standing.outcomes) slot flight.slots.items standing.back is standing.waiting
+
+  longer : length (standing.outcomes ++ outcome ∷ []) ≡ length standing.outcomes + 1
+  longer = length-append standing.outcomes (outcome ∷ [])
+
+  -- what stays as it was, with one more line
+  written-with : (work : Work) (moment : Option Moment) → Licensed (terms_at Wants opening) moment (standing.front ++ first.line ∷ []) (standing.outcomes ++ outcome ∷ [])
+      → StandForAll (terms_at Wants opening) work moment (length standing.outcomes + 1) (drop 1 flight.slots.items) first.rest
+      → IsCaused (terms_at Wants opening).rules opening.window (length lines) (standing.outcomes ++ outcome ∷ []) moment
+      → work.requested ≡ is_some moment → next.requested ≡ is_some moment → work.plan ≡ old.plan → Standing Wants opening (length lines) lines work later next
+  unfolding first
+  written-with work moment licensed waiting caused requested known plan = record {
+    outcomes = standing.outcomes ++ outcome ∷ [];
+    front = standing.front ++ first.line ∷ [];
+    back = first.rest;
+    moment = moment;
+    split = standing.split ∙ ap (λ (xs : List (List ℕ)). standing.front ++ xs) first.split ∙ sym (append_assoc standing.front (first.line ∷ []) first.rest);
+    licensed = licensed;
+    waiting =
+        let P : ℕ → Type 0 = λ n. StandForAll (terms_at Wants opening) work moment n (drop 1 flight.slots.items) first.rest in
+        let Q : List Slot → Type 0 = λ s. StandForAll (terms_at Wants opening) work moment (length (standing.outcomes ++ outcome ∷ [])) s first.rest in
+        subst Q (sym items) (subst P (sym longer) waiting);
+    caused = caused;
+    printed = prints standing.outcomes standing.printed;
+    requested = requested;
+    known = known;
+    plan_is = plan ∙ standing.plan_is;
+    settings_are = settings ∙ standing.settings_are;
+    window_is = capacity ∙ standing.window_is;
+    fits = omega (arith, ap length items, first.fewer, standing.fits);
+    may_run = standing.may_run;
+  }
+
+  -- the line is licensed as the moment stands
+  licensed-more : Licensed (terms_at Wants opening) standing.moment (standing.front ++ first.line ∷ []) (standing.outcomes ++ outcome ∷ [])
+  licensed-more =
+      Licensed-more first.line outcome standing.licensed
+      (MayEnd-settles Wants opening.plan opening.window old mid standing.plan_is standing.moment (length standing.outcomes + 1) first.line slot outcome standing.requested late first.stands settles)
+    where
+      written : (m : Moment) → IsTimely (rules_of opening.plan.settings) opening.window (length lines) standing.outcomes m → m.written < length standing.outcomes + 1
+      written m timely = omega (arith, timely.written)
+
+      late : (m : Moment) → standing.moment ≡ Some m → m.written < length standing.outcomes + 1
+      late m at = written m (subst (IsCaused (rules_of opening.plan.settings) opening.window (length lines) standing.outcomes) at standing.caused)
+
+  others : StandForAll (terms_at Wants opening) mid standing.moment (length standing.outcomes + 1) (drop 1 flight.slots.items) first.rest
+  others = StandForAll-settles Wants (terms_at Wants opening) old mid standing.moment (length standing.outcomes) slot first.line outcome (drop 1 flight.slots.items) first.rest settles first.stands first.others
+
+  after-settling : (mid.plan ≡ old.plan) × (mid.requested ≡ old.requested)
+  after-settling = Settles-plan Wants old mid slot outcome settles
+
+  -- the line is written, and no stop is requested after it
+  pub Standing-writes : (flight.settings.on_error_stop ≡ true → is_error outcome ≡ false) → next.requested ≡ flight.requested → Standing Wants opening (length lines) lines mid later next
+  Standing-writes fine same =
+      written-with mid standing.moment licensed-more others (caused standing.moment standing.caused)
+      (after-settling.1 ∙ standing.requested) (same ∙ standing.known) after-settling.0
+    where
+      none : (rules_of opening.plan.settings).on_error ≡ true → is_error outcome ≡ false
+      none set = fine (ap (λ (s : Settings). s.on_error_stop) standing.settings_are ∙ set)
+
+      caused : (moment : Option Moment) → IsCaused (rules_of opening.plan.settings) opening.window (length lines) standing.outcomes moment → IsCaused (rules_of opening.plan.settings) opening.window (length lines) (standing.outcomes ++ outcome ∷ []) moment
+      caused None quiet = quiet-write (rules_of opening.plan.settings) opening.window (length lines) standing.outcomes outcome none quiet
+      caused (Some m) timely = timely-written (rules_of opening.plan.settings) opening.window (length lines) standing.outcomes outcome m timely
+
+  -- the line is the first error, and a stop is requested after it
+  pub Standing-fails : {new : Work} → flight.settings.on_error_stop ≡ true → is_error outcome ≡ true → (flight.requested ≡ true → new ≡ mid) → (flight.requested ≡ false → Requests mid new) → next.requested ≡ true → Standing Wants opening (length lines) lines new later next
+  Standing-fails {new = new} set failed again requests asked = by standing.moment refl
+    where
+      rule : (rules_of opening.plan.settings).on_error ≡ true
+      rule = sym (ap (λ (s : Settings). s.on_error_stop) standing.settings_are) ∙ set
+
+      by : (moment : Option Moment) → standing.moment ≡ moment → Standing Wants opening (length lines) lines new later next
+      by (Some m) at =
+          let same = again (standing.known ∙ ap is_some at) in
+          let timely = timely-written (rules_of opening.plan.settings) opening.window (length lines) standing.outcomes outcome m (subst (IsCaused (rules_of opening.plan.settings) opening.window (length lines) standing.outcomes) at standing.caused) in
+          written-with new (Some m)
+          (subst (λ (x : Option Moment). Licensed (terms_at Wants opening) x (standing.front ++ first.line ∷ []) (standing.outcomes ++ outcome ∷ [])) at licensed-more)
+          (StandForAll-kept (terms_at Wants opening) mid new (Some m) (length standing.outcomes + 1) (drop 1 flight.slots.items) first.rest (λ b begun found. ap (λ (w : Work). w.block b) same ∙ found)
+          (subst (λ (x : Option Moment). StandForAll (terms_at Wants opening) mid x (length standing.outcomes + 1) (drop 1 flight.slots.items) first.rest) at others))
+          timely (ap (λ (w : Work). w.requested) same ∙ after-settling.1 ∙ standing.requested ∙ ap is_some at) asked (ap (λ (w : Work). w.plan) same ∙ after-settling.0)
+      by None at =
+          let made = requests (standing.known ∙ ap is_some at) in
+          let moment : Moment = record { written = length standing.outcomes + 1; first = length lines + 1 } in
+          let few = read-lines standing in
+          let fewer = first.fewer in
+          let quiet : IsQuiet (rules_of opening.plan.settings) (length lines) standing.outcomes = subst (IsCaused (rules_of opening.plan.settings) opening.window (length lines) standing.outcomes) at standing.caused in
+          written-with new (Some moment)
+          (Licensed-asks moment (omega (arith, longer)) (subst (λ (x : Option Moment). Licensed (terms_at Wants opening) x (standing.front ++ first.line ∷ []) (standing.outcomes ++ outcome ∷ [])) at licensed-more))
+          (StandForAll-kept (terms_at Wants opening) mid new (Some moment) (length standing.outcomes + 1) (drop 1 flight.slots.items) first.rest made.blocks
+          (StandForAll-asks (terms_at Wants opening) mid moment (length standing.outcomes + 1) (drop 1 flight.slots.items) first.rest (omega (arith, few, fewer))
+          (subst (λ (x : Option Moment). StandForAll (terms_at Wants opening) mid x (length standing.outcomes + 1) (drop 1 flight.slots.items) first.rest) at others)))
+          (timely-write (rules_of opening.plan.settings) opening.window (length lines) standing.outcomes outcome rule failed (omega (arith, few, fewer)) (omega (arith, few, standing.fits)) quiet)
+          made.requested asked (made.plan ∙ after-settling.0)

@@ -1,0 +1,11 @@
+use Rattle.std.proofs.Common.{◌≡◌}
+use Rattle.record_loop.specs.Works.{Keeps}
+use Rattle.record_loop.proofs.begin.start.Given as goal
+
+abbrev pub invariant-loop : goal.invariant-loop
+invariant-loop g l = record {
+  next : (goal.iterator-loop g).can_next l.iterator';
+  finite : (goal.iterator-loop g).is_finite l.iterator';
+  same : l.waiting ≡ l.fn.datum;
+  keeps : Keeps (g.O.Operations.state l.fn.operations) (g.O.Operations.state l.operations);
+}

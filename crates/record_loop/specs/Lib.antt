@@ -1,0 +1,11 @@
+pub mod Beginning
+pub mod Beginnings
+pub mod Cutting
+pub mod Flights
+pub mod Generated
+pub mod Printing
+pub mod Ran
+pub mod Reading
+pub mod Settling
+pub mod Standing
+pub mod Works

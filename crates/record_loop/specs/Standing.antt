@@ -1,0 +1,127 @@
+-- How the records, the operations and the lines stand to each other while a run goes on.
+use Rattle.std.specs.Prelude.{◌≡◌, ◌≤◌, ℕ, ◌+◌, Bool, List, [], ◌∷◌, ◌++◌, length, Option, Some, None, is_some}
+use Rattle.exec_value.specs.declared.data.Datum.{Datum}
+use Rattle.exec_value.specs.declared.outcome.Outcome.{Outcome}
+use Rattle.plan_shape.specs.Blueprint.{Blueprint}
+use Rattle.record_loop.specs.declared.in_flight.InFlight.{InFlight}
+use Rattle.record_loop.specs.declared.printer.Form.{Form}
+use Rattle.record_loop.specs.declared.slot.Slot.{Slot}
+use Rattle.record_loop.specs.declared.slot.Slot.TheVariants.{Running, Bad, NoMemory}
+use Rattle.record_loop.specs.Printing.{Printed}
+use Rattle.io_views.specs.Sinks.{SinkView}
+use Rattle.record_loop.specs.Works.{Begun, Work}
+use Rattle.run_rules.specs.Lawful.{Terms, datum_of}
+use Rattle.run_rules.specs.Moments.{Moment, is_asked, IsCaused, Licensed}
+use Rattle.run_rules.specs.PlanTerms.{terms_of, MayRun}
+
+-- How a run begins: its plan, its window, its form, and what its sink tells.
+pub record Opening : Type 0 where
+  pub plan : Blueprint
+  pub window : ℕ
+  pub form : Form
+  pub sink : SinkView
+
+-- A run of these operations' plan begins so.
+abbrev pub opening_of : Work → ℕ → Form → SinkView → Opening
+opening_of work window form sink =
+    record { plan = work.plan; window = window; form = form; sink = sink }
+
+-- The terms of such a run.
+abbrev pub terms_at : (Blueprint → Type 0) → Opening → Terms
+terms_at WantsMemory opening = terms_of WantsMemory opening.plan opening.window
+
+-- A block has the operation of the record of this number, which the line shows.
+pub record IsBegun (terms : Terms) (work : Work) (moment : Option Moment) (number : ℕ)
+    (line : List ℕ) (block : ℕ) : Type 0 where
+  pub datum : Datum
+  pub shows : datum_of terms.input line ≡ Some datum
+  pub begun : work.block block
+      ≡ Some (record { number = number; datum = datum; asked = is_asked moment number })
+
+-- A slot stands for the record of this number: its operation is in a block, or the line is no
+-- record, or there was no memory for its datum.
+abbrev pub StandsFor : Terms → Work → Option Moment → ℕ → List ℕ → Slot → Type 0
+StandsFor terms work moment number line (Running block) =
+    IsBegun terms work moment number line block
+StandsFor terms work moment number line Bad = datum_of terms.input line ≡ None
+StandsFor terms work moment number line NoMemory = terms.wants
+
+-- Slots stand for these records, which come after so many.
+abbrev pub StandForAll : Terms → Work → Option Moment → ℕ → List Slot → List (List ℕ) → Type 0
+StandForAll terms work moment before [] [] = Unit {0}
+StandForAll terms work moment before [] (line ∷ lines) = ⊥
+StandForAll terms work moment before (slot ∷ slots) [] = ⊥
+StandForAll terms work moment before (slot ∷ slots) (line ∷ lines) =
+    StandsFor terms work moment (before + 1) line slot
+    × StandForAll terms work moment (before + 1) slots lines
+
+-- Of the records of these lines the first have outcomes, which are licensed and printed, and slots
+-- stand for the rest. The request was made at the moment at which it was due, by so many records
+-- that were read.
+pub record Standing (WantsMemory : Blueprint → Type 0) (opening : Opening) (read : ℕ)
+    (lines : List (List ℕ)) (work : Work) (now : SinkView) (flight : InFlight) : Type 0 where
+  pub outcomes : List Outcome
+  pub front : List (List ℕ)
+  pub back : List (List ℕ)
+  pub moment : Option Moment
+  pub split : lines ≡ front ++ back
+  pub licensed : Licensed (terms_at WantsMemory opening) moment front outcomes
+  pub waiting : StandForAll (terms_at WantsMemory opening) work moment (length outcomes)
+      flight.slots.items back
+  pub caused : IsCaused (terms_at WantsMemory opening).rules opening.window read outcomes moment
+  pub printed : Printed opening.form opening.sink now flight.printer outcomes
+  pub requested : work.requested ≡ is_some moment
+  pub known : flight.requested ≡ is_some moment
+  pub plan_is : work.plan ≡ opening.plan
+  pub settings_are : flight.settings ≡ opening.plan.settings
+  pub window_is : flight.slots.capacity ≡ opening.window
+  pub fits : length flight.slots.items ≤ opening.window
+  pub may_run : MayRun opening.plan.settings
+
+-- The next record is counted, and in no slot yet. A request that was made came before it is begun.
+pub record Counted (WantsMemory : Blueprint → Type 0) (opening : Opening) (lines : List (List ℕ))
+    (work : Work) (now : SinkView) (flight : InFlight) : Type 0 where
+  pub standing : Standing WantsMemory opening (length lines + 1) lines work now flight
+  pub early : (moment : Moment) → standing.moment ≡ Some moment → moment.first ≤ length lines + 1
+
+-- What a call sees of a run: the operations, the sink, and the records in flight.
+pub record Point : Type 0 where
+  pub work : Work
+  pub sink : SinkView
+  pub flight : InFlight
+
+abbrev pub at : Work → SinkView → InFlight → Point
+at work sink flight = record { work = work; sink = sink; flight = flight }
+
+-- The run stands so, with all records of these lines in it.
+abbrev pub StandsAt : (Blueprint → Type 0) → Opening → List (List ℕ) → Point → Type 0
+StandsAt WantsMemory opening lines point =
+    Standing WantsMemory opening (length lines) lines point.work point.sink point.flight
+
+-- The run stands so, and the next record is counted.
+abbrev pub CountsAt : (Blueprint → Type 0) → Opening → List (List ℕ) → Point → Type 0
+CountsAt WantsMemory opening lines point =
+    Counted WantsMemory opening lines point.work point.sink point.flight
+
+-- A run goes on.
+pub record IsGoing (WantsMemory : Blueprint → Type 0) (point : Point) : Type 0 where
+  pub opening : Opening
+  pub lines : List (List ℕ)
+  pub standing : StandsAt WantsMemory opening lines point
+
+-- A run has read no record.
+pub record StandsEmpty (WantsMemory : Blueprint → Type 0) (point : Point) : Type 0 where
+  pub opening : Opening
+  pub standing : StandsAt WantsMemory opening [] point
+
+-- A run that stands so before a call stands so afterwards, with the same records.
+abbrev pub Stays : (Blueprint → Type 0) → Point → Point → Type 0
+Stays WantsMemory old new =
+    (opening : Opening) (lines : List (List ℕ)) → StandsAt WantsMemory opening lines old
+    → StandsAt WantsMemory opening lines new
+
+-- It stands so with the record of a line more, whose text this is.
+abbrev pub Takes : (Blueprint → Type 0) → (List ℕ → Type 0) → Point → Point → Type 0
+Takes WantsMemory IsText old new =
+    (opening : Opening) (lines : List (List ℕ)) (line : List ℕ) → IsText line
+    → StandsAt WantsMemory opening lines old → StandsAt WantsMemory opening (lines ++ line ∷ []) new

@@ -1,0 +1,69 @@
+-- What the layer below shows of the operations that it runs.
+use Rattle.std.specs.Prelude.{◌≡◌, ◌≢◌, ◌⊎◌, ℕ, Bool, true, false, Option, Some}
+use Rattle.exec_value.specs.declared.data.Datum.{Datum}
+use Rattle.exec_value.specs.declared.outcome.Completion.{Completion}
+use Rattle.exec_value.specs.declared.outcome.Completion.TheVariants.{NoMemory}
+use Rattle.plan_rules.specs.declared.stop.StopState.{StopState}
+use Rattle.plan_rules.specs.declared.stop.StopState.TheVariants.{Never, May, Stands}
+use Rattle.plan_shape.specs.Blueprint.{Blueprint}
+use Rattle.run_rules.specs.PlanTerms.{AllowsRecord, MayWant}
+
+-- What an operation was begun with: the number and the datum of its record, and whether a stop had
+-- been requested.
+pub record Begun : Type 0 where
+  pub number : ℕ
+  pub datum : Datum
+  pub asked : Bool
+
+-- The plan, the operation that each block has, and whether a stop was requested.
+pub record Work : Type 0 where
+  pub plan : Blueprint
+  pub block : ℕ → Option Begun
+  pub requested : Bool
+
+-- No operation was begun, and no stop requested.
+pub record IsIdle (work : Work) : Type 0 where
+  pub requested : work.requested ≡ false
+
+-- All operations are kept.
+pub record Keeps (old new : Work) : Type 0 where
+  pub plan : new.plan ≡ old.plan
+  pub requested : new.requested ≡ old.requested
+  pub blocks : (b : ℕ) (begun : Begun) → old.block b ≡ Some begun → new.block b ≡ Some begun
+
+-- The operation of this record is begun in a block.
+pub record Begins (old new : Work) (number : ℕ) (datum : Datum) (block : ℕ) : Type 0 where
+  pub keeps : Keeps old new
+  pub begun : new.block block
+      ≡ Some (record { number = number; datum = datum; asked = old.requested })
+
+-- A stop is requested.
+pub record Requests (old new : Work) : Type 0 where
+  pub plan : new.plan ≡ old.plan
+  pub requested : new.requested ≡ true
+  pub blocks : (b : ℕ) (begun : Begun) → old.block b ≡ Some begun → new.block b ≡ Some begun
+
+-- What an operation may have seen of the request, by whether it was begun after it, and whether it
+-- was made.
+abbrev pub seen_state : Bool → Bool → StopState
+seen_state true requested = Stands
+seen_state false true = May
+seen_state false false = Never
+
+-- How an operation may complete: with want of memory, where the plan may want it, or as the plan
+-- allows it, under what it may have seen of the request.
+abbrev pub MayComplete : (Blueprint → Type 0) → Work → Begun → Completion → Type 0
+MayComplete WantsMemory work begun completion =
+    ((completion ≡ NoMemory) × MayWant WantsMemory work.plan)
+    ⊎ AllowsRecord work.plan begun.number begun.datum (seen_state begun.asked work.requested)
+    completion
+
+-- The operation of a block is collected, with this completion. The others are kept.
+pub record Collects (WantsMemory : Blueprint → Type 0) (old new : Work) (block : ℕ)
+    (completion : Completion) : Type 0 where
+  pub plan : new.plan ≡ old.plan
+  pub requested : new.requested ≡ old.requested
+  pub others : (b : ℕ) (begun : Begun) → b ≢ block → old.block b ≡ Some begun
+      → new.block b ≡ Some begun
+  pub ends : (begun : Begun) → old.block block ≡ Some begun
+      → MayComplete WantsMemory old begun completion

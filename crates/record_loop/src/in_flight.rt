@@ -1,0 +1,319 @@
+//! The records that were read and aren't written yet, and the lines of those that are.
+ghost use Rattle.std.specs.Prelude.{◌≡◌, ◌<◌, ◌≤◌, ◌+◌, ◌-◌, true, false, [], ◌∷◌, ◌++◌, length, ℕ, List, IfOk, Some};
+ghost use Rattle.std.specs.Option.{option_copied};
+ghost use Rattle.std.specs.Thread.{IsSync};
+ghost use Rattle.life_rules.specs.declared.scope.ScopeKind.{ScopeKind};
+ghost use Rattle.record_lines.specs.Lines.{text_of};
+ghost use Rattle.record_lines.specs.declared.limits.TheConstants.{MOST_RECORDS};
+ghost use Rattle.io_views.specs.Sinks.{SinkView, view_of};
+ghost use Rattle.exec_value.specs.Summary.{is_error};
+ghost use Rattle.record_loop.specs.Works.{Requests};
+
+use crate::begin::begin;
+use crate::closing::Closing;
+use crate::collect::outcome_of;
+use crate::operations::Operations;
+use crate::printer::{Form, Printer};
+use crate::slot::Slot;
+use circular_buffer::HeapCircularBuffer;
+use exec_io::Sink;
+use exec_value::Outcome;
+use line_summary::is_error as is_error_line;
+use plan_rules::Settings;
+use record_lines::{End, MOST_RECORDS};
+use std::alloc::{AllocError, Global};
+use std::sync::Wait;
+
+/// Whether record `number` is the one after which a stop is requested.
+fn is_due(after: Option<u32>, number: u32) -> bool
+    ensures yes { result ≡ true → after ≡ Some number }
+    ensures no { result ≡ false → after ≡ Some number → ⊥ }
+{
+    match after {
+        Some(k) => k == number,
+        None => false,
+    }
+}
+
+/// Whether a stop is requested after this line: the rule is set, and it is an error.
+fn is_failure(on_error: bool, outcome: &Outcome) -> bool
+    ensures yes { result ≡ true → (on_error ≡ true) × (is_error outcome.now ≡ true) }
+    ensures no { result ≡ false → on_error ≡ true → is_error outcome.now ≡ false }
+{
+    on_error && is_error_line(outcome)
+}
+
+/// The records that are worked on, in order, and the printer of those that are done.
+#[derive(Drop)]
+pub struct InFlight {
+    slots: HeapCircularBuffer<Slot>,
+    printer: Printer,
+    settings: Settings,
+    /// Whether a stop was requested.
+    requested: bool,
+    ghost few: { printer.summary.lines + length slots.items ≤ MOST_RECORDS },
+    ghost some: { 0 < slots.capacity },
+}
+
+impl InFlight {
+    ghost use Rattle.exec_value.specs.declared.outcome.Outcome.{Outcome};
+    ghost use Rattle.record_loop.specs.declared.printer.Form.{Form};
+    ghost use Rattle.record_loop.specs.declared.in_flight.InFlight.{InFlight};
+    ghost use Rattle.record_loop.specs.Standing.{at, IsGoing, Stays, Takes, CountsAt, StandsAt, Opening};
+    ghost use Rattle.record_loop.specs.Flights.{IsFresh, read_of, Requested, MayAsk};
+    ghost use Rattle.record_loop.specs.Printing.{Wrote, Printed, Finished};
+
+    /// No records, and room for so many at once: all the memory that is taken for them.
+    pub fn open(
+        alloc: Global,
+        window: usize,
+        settings: Settings,
+        form: Form,
+    ) -> Result<InFlight, AllocError>
+        requires some { 0 < window }
+        ensures { IfOk result (IsFresh window settings form) }
+    {
+        Ok(InFlight {
+            slots: HeapCircularBuffer::with_capacity(alloc, window)?,
+            printer: Printer::new(form),
+            settings,
+            requested: false,
+        })
+    }
+
+    /// How many records were read.
+    pub fn read(&self) -> usize
+        ensures value { result ≡ read_of self.now }
+        ensures few { result ≤ MOST_RECORDS }
+    {
+        self.printer.lines() as usize + self.slots.len()
+    }
+
+    /// Requests a stop, unless it was requested before.
+    fn request<R: Wait + Sync, O: Operations>(&mut self, rt: &R, operations: &mut O)
+        requires sync { IsSync R.row }
+        requires counting { (O.state operations.old).plan.settings.scope ≡ ScopeKind.Counting }
+        ensures again { self.old.requested ≡ true
+            → O.state operations.new ≡ O.state operations.old }
+        ensures first { self.old.requested ≡ false
+            → Requests (O.state operations.old) (O.state operations.new) }
+        ensures requested { Requested self.old self.new }
+    {
+        if self.requested {
+            return;
+        }
+        operations.request(rt);
+        self.requested = true;
+    }
+
+    /// Counts the next record. Where it is the one after which a stop is requested, the request is
+    /// made here: before the record is begun.
+    fn count<R: Wait + Sync, O: Operations>(&mut self, rt: &R, operations: &mut O)
+        requires sync { IsSync R.row }
+        requires counting { MayAsk (O.state operations.old) self.old }
+        requires room { length self.old.slots.items < self.old.slots.capacity }
+        requires few { read_of self.old < MOST_RECORDS }
+        ensures slots { self.new.slots ≡ self.old.slots }
+        ensures printer { self.new.printer ≡ self.old.printer }
+        ensures settings { self.new.settings ≡ self.old.settings }
+        ensures counts { (opening : Opening) (lines : List (List ℕ)) (sink : SinkView) →
+            StandsAt O.WantsMemory opening lines (at (O.state operations.old) sink self.old) →
+            CountsAt O.WantsMemory opening lines (at (O.state operations.new) sink self.new) }
+    {
+        let number = self.read() as u32 + 1;
+        if !is_due(self.settings.stop_after, number) {
+            return;
+        }
+        self.request(rt, operations);
+    }
+
+    /// Writes the first record in flight, once its operation is complete. Where its line is the
+    /// first error, and a stop is requested then, the request is made here.
+    fn write_next<R: Wait + Sync, O: Operations, K: Sink>(
+        &mut self,
+        rt: &R,
+        alloc: Global,
+        operations: &mut O,
+        out: &mut K,
+    )
+        requires sync { IsSync R.row }
+        requires going { IsGoing O.WantsMemory
+            (at (O.state operations.old) (view_of K.written K.outstanding K.faults out.old)
+            self.old) }
+        ensures slots { length self.new.slots.items ≡ length self.old.slots.items - 1 }
+        ensures stays_lost { self.old.printer.lost ≡ true → self.new.printer.lost ≡ true }
+        ensures capacity { self.new.slots.capacity ≡ self.old.slots.capacity }
+        ensures read { read_of self.new ≡ read_of self.old }
+        ensures stays { Stays O.WantsMemory
+            (at (O.state operations.old) (view_of K.written K.outstanding K.faults out.old)
+            self.old)
+            (at (O.state operations.new) (view_of K.written K.outstanding K.faults out.new)
+            self.new) }
+    {
+        let Some(slot) = self.slots.pop_front() else {
+            return;
+        };
+        let outcome = outcome_of(rt, alloc, slot, operations);
+        self.printer.print(&outcome, out);
+        if !is_failure(self.settings.on_error_stop, &outcome) {
+            return;
+        }
+        self.request(rt, operations);
+    }
+
+    /// Writes the first record in flight, where the window is full.
+    fn make_room<R: Wait + Sync, O: Operations, K: Sink>(
+        &mut self,
+        rt: &R,
+        alloc: Global,
+        operations: &mut O,
+        out: &mut K,
+    )
+        requires sync { IsSync R.row }
+        requires going { IsGoing O.WantsMemory
+            (at (O.state operations.old) (view_of K.written K.outstanding K.faults out.old)
+            self.old) }
+        ensures room { length self.new.slots.items < self.new.slots.capacity }
+        ensures stays_lost { self.old.printer.lost ≡ true → self.new.printer.lost ≡ true }
+        ensures capacity { self.new.slots.capacity ≡ self.old.slots.capacity }
+        ensures read { read_of self.new ≡ read_of self.old }
+        ensures stays { Stays O.WantsMemory
+            (at (O.state operations.old) (view_of K.written K.outstanding K.faults out.old)
+            self.old)
+            (at (O.state operations.new) (view_of K.written K.outstanding K.faults out.new)
+            self.new) }
+    {
+        if self.slots.len() < self.slots.capacity() {
+            return;
+        }
+        self.write_next(rt, alloc, operations, out);
+    }
+
+    /// Begins the next record, which was counted and whose line has this text, and puts it in
+    /// flight.
+    fn begin_next<R: Wait + Sync, O: Operations>(
+        &mut self,
+        rt: &R,
+        alloc: Global,
+        text: Option<&[u8]>,
+        operations: &mut O,
+    )
+        requires sync { IsSync R.row }
+        requires kind { self.old.settings.input ≡ (O.state operations.old).plan.settings.input }
+        requires room { length self.old.slots.items < self.old.slots.capacity }
+        requires few { read_of self.old < MOST_RECORDS }
+        ensures capacity { self.new.slots.capacity ≡ self.old.slots.capacity }
+        ensures printer { self.new.printer ≡ self.old.printer }
+        ensures read { read_of self.new ≡ read_of self.old + 1 }
+        ensures begun { (opening : Opening) (lines : List (List ℕ)) (line : List ℕ)
+            (sink : SinkView) → option_copied text.entry ≡ text_of line →
+            CountsAt O.WantsMemory opening lines (at (O.state operations.old) sink self.old) →
+            StandsAt O.WantsMemory opening (lines ++ line ∷ [])
+            (at (O.state operations.new) sink self.new) }
+    {
+        let number = self.read() as u32 + 1;
+        let slot = begin(rt, alloc, self.settings.input, number, text, operations);
+        let _ = self.slots.try_push_back(slot);
+    }
+
+    /// Takes the next record, whose line has this text: where the window is full, the first record
+    /// in flight is written before.
+    pub fn take<R: Wait + Sync, O: Operations, K: Sink>(
+        &mut self,
+        rt: &R,
+        alloc: Global,
+        text: Option<&[u8]>,
+        operations: &mut O,
+        out: &mut K,
+    )
+        requires sync { IsSync R.row }
+        requires going { IsGoing O.WantsMemory
+            (at (O.state operations.old) (view_of K.written K.outstanding K.faults out.old)
+            self.old) }
+        requires few { read_of self.old < MOST_RECORDS }
+        ensures capacity { self.new.slots.capacity ≡ self.old.slots.capacity }
+        ensures read { read_of self.new ≡ read_of self.old + 1 }
+        ensures stays_lost { self.old.printer.lost ≡ true → self.new.printer.lost ≡ true }
+        ensures takes { Takes O.WantsMemory (λ line. option_copied text.entry ≡ text_of line)
+            (at (O.state operations.old) (view_of K.written K.outstanding K.faults out.old)
+            self.old)
+            (at (O.state operations.new) (view_of K.written K.outstanding K.faults out.new)
+            self.new) }
+    {
+        self.make_room(rt, alloc, operations, out);
+        self.count(rt, operations);
+        self.begin_next(rt, alloc, text, operations);
+    }
+
+    /// Writes all records in flight, in order.
+    pub fn write_all<R: Wait + Sync, O: Operations, K: Sink>(
+        &mut self,
+        rt: &R,
+        alloc: Global,
+        operations: &mut O,
+        out: &mut K,
+    )
+        requires sync { IsSync R.row }
+        requires going { IsGoing O.WantsMemory
+            (at (O.state operations.old) (view_of K.written K.outstanding K.faults out.old)
+            self.old) }
+        ensures none { self.new.slots.items ≡ [] }
+        ensures stays_lost { self.old.printer.lost ≡ true → self.new.printer.lost ≡ true }
+        ensures capacity { self.new.slots.capacity ≡ self.old.slots.capacity }
+        ensures read { read_of self.new ≡ read_of self.old }
+        ensures stays { Stays O.WantsMemory
+            (at (O.state operations.old) (view_of K.written K.outstanding K.faults out.old)
+            self.old)
+            (at (O.state operations.new) (view_of K.written K.outstanding K.faults out.new)
+            self.new) }
+    {
+        'flight: while !self.slots.is_empty() {
+            self.write_next(rt, alloc, operations, out);
+        }
+    }
+
+    /// Whether a write was lost.
+    pub fn is_lost(&self) -> bool
+        ensures { result ≡ self.now.printer.lost }
+    {
+        self.printer.is_lost()
+    }
+
+    /// Hands on what was written.
+    pub fn hand_on<K: Sink>(&mut self, out: &mut K)
+        ensures slots { self.new.slots ≡ self.old.slots }
+        ensures requested { self.new.requested ≡ self.old.requested }
+        ensures settings { self.new.settings ≡ self.old.settings }
+        ensures form { self.new.printer.form ≡ self.old.printer.form }
+        ensures summary { self.new.printer.summary ≡ self.old.printer.summary }
+        ensures wrote { (text : List ℕ) (start : SinkView) →
+            Wrote text start (view_of K.written K.outstanding K.faults out.old)
+            self.old.printer.due self.old.printer.lost →
+            Wrote text start (view_of K.written K.outstanding K.faults out.new)
+            self.new.printer.due self.new.printer.lost }
+        ensures settled { self.new.printer.lost ≡ false → self.new.printer.due ≡ false }
+    {
+        self.printer.hand_on(out);
+    }
+
+    /// Writes what is left to write once no record is in flight, and says how the run ended, whose
+    /// reading ended so.
+    pub fn close<K: Sink>(self, end: End, out: &mut K) -> Closing
+        ensures end { result.end ≡ end }
+        ensures stays_lost { self.printer.lost ≡ true → result.lost ≡ true }
+        ensures closed { (form : Form) (start : SinkView) (outcomes : List Outcome) →
+            Printed form start (view_of K.written K.outstanding K.faults out.old) self.printer
+            outcomes →
+            Finished form start (view_of K.written K.outstanding K.faults out.new)
+            result.summary result.lost outcomes }
+    {
+        let InFlight {
+            slots: _,
+            mut printer,
+            settings: _,
+            requested: _,
+        } = self;
+        printer.close(out);
+        Closing::new(end, printer.is_lost(), printer.summary())
+    }
+}

@@ -1,0 +1,37 @@
+//! The loop over records: what is read, worked on at once, and written in order.
+//!
+//!     source --read--> piece --Cutter--> line --InFlight::take--> slot, operation in a block
+//!     front slot --collect--> Outcome --Printer--> out: its line, or its part of the summary
+//!
+//! # The life of a record
+//!
+//!     read --count--> counted --begin--> in flight --write_next--> written
+//!              |                              (or bad, or no memory for its datum)
+//!              `stop_after` requests a stop here, before the record is begun
+//!                                                        `on_error` requests one here, before
+//!                                                        anything more is read
+//!
+//! At most a window of records is in flight. Before a read that may block, all of them are written,
+//! and what was written is handed on. It keeps that the lines are lawful for the records that were
+//! read (run_rules): one a record, in order, under the stop state of each.
+//!
+//! The operations are run by a layer below, behind the trait `Operations`; the loop is proved once
+//! for all of them. It stands on run_rules, record_lines and line_summary.
+#![tactic(auto)]
+
+mod begin;
+mod closing;
+mod collect;
+mod generated;
+mod in_flight;
+mod operations;
+mod printer;
+mod run;
+mod session;
+mod slot;
+
+pub use closing::Closing;
+pub use generated::run_generated;
+pub use operations::Operations;
+pub use printer::Form;
+pub use run::run_records;

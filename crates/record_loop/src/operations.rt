@@ -1,0 +1,58 @@
+//! The seam: what the loop over records asks of the layer that runs operations.
+ghost use Rattle.std.specs.Prelude.{◌≡◌, IfOk, IfErr, MatchOption, IsSome};
+ghost use Rattle.std.specs.Thread.{IsSync};
+ghost use Rattle.exec_value.specs.Kinds.{HasKind};
+ghost use Rattle.life_rules.specs.declared.scope.ScopeKind.{ScopeKind};
+ghost use Rattle.plan_shape.specs.Blueprint.{Blueprint};
+ghost use Rattle.record_loop.specs.Works.{Work, Keeps, Begins, Requests, Collects};
+
+use exec_value::{Completion, Datum};
+use std::alloc::Global;
+use std::sync::Wait;
+
+/// The operations of a plan's records, each in a block of its own.
+///
+///     record --start--> in a block --turn, turn ..--> complete --collect--> its completion
+///
+/// A record is started as one of which a stop was asked where `request` was called before.
+pub trait Operations {
+    /// The plan, the operation that each block has, and whether a stop was requested.
+    ghost state: { Self → Work };
+
+    /// Whether an operation of a plan of int records may want memory.
+    ghost WantsMemory: { Blueprint → Type 0 };
+
+    /// Starts the operation of the record of this number and datum, and gives its block. `Err`
+    /// hands the datum back: there was no room, and a turn may make some.
+    fn start<R: Wait + Sync>(
+        &mut self,
+        rt: &R,
+        alloc: Global,
+        number: u32,
+        datum: Datum,
+    ) -> Result<u32, Datum>
+        requires sync { IsSync R.row }
+        requires kind { HasKind datum (state self.old).plan.settings.input }
+        ensures started { IfOk result (λ block.
+            Begins (state self.old) (state self.new) number datum block) }
+        ensures refused { IfErr result (λ back.
+            (back ≡ datum) × Keeps (state self.old) (state self.new)) };
+
+    /// Lets the operations go on by one turn.
+    fn turn<R: Wait + Sync>(&mut self, rt: &R, alloc: Global)
+        requires sync { IsSync R.row }
+        ensures { Keeps (state self.old) (state self.new) };
+
+    /// The completion of the operation in a block, where it is complete. The block is free then.
+    fn collect<R: Wait + Sync>(&mut self, rt: &R, block: u32) -> Option<Completion>
+        requires sync { IsSync R.row }
+        requires begun { IsSome ((state self.old).block block) }
+        ensures { MatchOption result (Keeps (state self.old) (state self.new))
+            (Collects WantsMemory (state self.old) (state self.new) block) };
+
+    /// Requests a stop of all operations, those to come included ([stopsource]).
+    fn request<R: Wait + Sync>(&mut self, rt: &R)
+        requires sync { IsSync R.row }
+        requires counting { (state self.old).plan.settings.scope ≡ ScopeKind.Counting }
+        ensures { Requests (state self.old) (state self.new) };
+}

@@ -1,0 +1,165 @@
+//! Outcomes to out: a line for each, or one line for all.
+ghost use Rattle.std.specs.Prelude.{◌≡◌, ◌<◌, ◌+◌, ◌-◌, ◌^◌, [], ◌∷◌, ◌++◌, ℕ, List, false, true};
+ghost use Rattle.exec_value.specs.declared.outcome.Outcome.{Outcome};
+ghost use Rattle.io_views.specs.Sinks.{SinkView, view_of};
+
+use exec_io::Sink;
+use exec_value::{Outcome, put_line};
+use line_summary::{Summary, put_summary};
+
+/// What is written of the outcomes.
+#[derive(Clone, Copy, Debug, PartialEq, Eq)]
+pub enum Form {
+    /// A line for each.
+    Lines,
+    /// One line in place of all others.
+    Summary,
+}
+
+impl Form {
+    ghost use Rattle.record_loop.specs.declared.printer.Form.{Form};
+
+    /// Whether there is a line for each outcome.
+    fn has_lines(self) -> bool
+        ensures yes { result ≡ true → self ≡ Form.Lines }
+        ensures no { result ≡ false → self ≡ Form.Summary }
+    {
+        match self {
+            Form::Lines => true,
+            Form::Summary => false,
+        }
+    }
+}
+
+/// Prints outcomes, and counts them. After a lost write it goes on counting.
+#[derive(Clone, Copy, Debug)]
+pub struct Printer {
+    form: Form,
+    summary: Summary,
+    /// Whether something was written and not handed on since.
+    due: bool,
+    /// Whether a call of the sink failed.
+    lost: bool,
+}
+
+impl Printer {
+    ghost use Rattle.record_loop.specs.Printing.{Wrote, text_of, Printed, Finished};
+    ghost use Rattle.record_loop.specs.declared.printer.Form.{Form};
+
+    /// A printer that has printed nothing.
+    pub fn new(form: Form) -> Printer
+        ensures no_lines { result.summary.lines ≡ 0 }
+        ensures nothing { (start : SinkView) → Printed form start start result [] }
+    {
+        Printer {
+            form,
+            summary: Summary::new(),
+            due: false,
+            lost: false,
+        }
+    }
+
+    /// How many outcomes were printed, or counted after a lost write.
+    pub fn lines(&self) -> u32
+        ensures { result ≡ self.now.summary.lines }
+    {
+        self.summary.lines()
+    }
+
+    /// Whether a write was lost.
+    pub fn is_lost(&self) -> bool
+        ensures { result ≡ self.now.lost }
+    {
+        self.lost
+    }
+
+    /// The numbers of the outcomes.
+    pub fn summary(&self) -> Summary
+        ensures { result ≡ self.now.summary }
+    {
+        self.summary
+    }
+
+    /// Prints the next outcome, unless a write was lost, and counts it.
+    pub fn print<K: Sink>(&mut self, outcome: &Outcome, out: &mut K)
+        requires few { self.old.summary.lines < 2 ^ 32 - 1 }
+        ensures lines { self.new.summary.lines ≡ self.old.summary.lines + 1 }
+        ensures stays_lost { self.old.lost ≡ true → self.new.lost ≡ true }
+        ensures prints { (form : Form) (start : SinkView) (outcomes : List Outcome) →
+            Printed form start (view_of K.written K.outstanding K.faults out.old) self.old
+            outcomes →
+            Printed form start (view_of K.written K.outstanding K.faults out.new) self.new
+            (outcomes ++ outcome.now ∷ []) }
+    {
+        self.summary.count(outcome);
+        if self.lost {
+            return;
+        }
+        if !self.form.has_lines() {
+            return;
+        }
+        self.due = true;
+        if put_line(u64::from(self.summary.lines()), outcome, out).is_err() {
+            self.lost = true;
+        }
+    }
+
+    /// Hands on what was written and isn't handed on yet, unless a write was lost.
+    pub fn hand_on<K: Sink>(&mut self, out: &mut K)
+        ensures form { self.new.form ≡ self.old.form }
+        ensures summary { self.new.summary ≡ self.old.summary }
+        ensures wrote { (text : List ℕ) (start : SinkView) →
+            Wrote text start (view_of K.written K.outstanding K.faults out.old)
+            self.old.due self.old.lost →
+            Wrote text start (view_of K.written K.outstanding K.faults out.new)
+            self.new.due self.new.lost }
+        ensures settled { self.new.lost ≡ false → self.new.due ≡ false }
+        ensures stays_lost { self.old.lost ≡ true → self.new.lost ≡ true }
+    {
+        if self.lost {
+            return;
+        }
+        if !self.due {
+            return;
+        }
+        self.due = false;
+        if out.finish().is_err() {
+            self.lost = true;
+        }
+    }
+
+    /// Writes the one line in place of all others, where that is the form.
+    fn put_rest<K: Sink>(&mut self, out: &mut K)
+        ensures summary { self.new.summary ≡ self.old.summary }
+        ensures wrote { (form : Form) (start : SinkView) (outcomes : List Outcome) →
+            Printed form start (view_of K.written K.outstanding K.faults out.old) self.old
+            outcomes →
+            Wrote (text_of form outcomes) start
+            (view_of K.written K.outstanding K.faults out.new) self.new.due self.new.lost }
+        ensures stays_lost { self.old.lost ≡ true → self.new.lost ≡ true }
+    {
+        if self.lost {
+            return;
+        }
+        if self.form.has_lines() {
+            return;
+        }
+        self.due = true;
+        if put_summary(&self.summary, out).is_err() {
+            self.lost = true;
+        }
+    }
+
+    /// Writes what is left to write once all outcomes are printed, and hands it on.
+    pub fn close<K: Sink>(&mut self, out: &mut K)
+        ensures closed { (form : Form) (start : SinkView) (outcomes : List Outcome) →
+            Printed form start (view_of K.written K.outstanding K.faults out.old) self.old
+            outcomes →
+            Finished form start (view_of K.written K.outstanding K.faults out.new)
+            self.new.summary self.new.lost outcomes }
+        ensures stays_lost { self.old.lost ≡ true → self.new.lost ≡ true }
+    {
+        self.put_rest(out);
+        self.hand_on(out);
+    }
+}

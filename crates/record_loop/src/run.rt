@@ -1,0 +1,77 @@
+//! A run over the records of a source.
+ghost use Rattle.std.specs.Prelude.{◌≡◌, ◌≢◌, ◌≤◌, ◌<◌, false, IfOk, OnErr, OnOk, ℕ, List, length};
+ghost use Rattle.std.specs.Thread.{IsSync};
+ghost use Rattle.record_loop.specs.Ran.{Ran};
+ghost use Rattle.io_views.specs.Sinks.{view_of};
+ghost use Rattle.io_views.specs.Sources.{source_view};
+ghost use Rattle.record_loop.specs.Standing.{opening_of};
+ghost use Rattle.io_views.specs.Untouched.{IsUntouched};
+ghost use Rattle.record_loop.specs.Beginnings.{IsReady};
+ghost use Rattle.record_lines.specs.declared.ending.End.{End};
+ghost use Rattle.run_rules.specs.PlanTerms.{MayRun};
+
+use crate::closing::Closing;
+use crate::in_flight::InFlight;
+use crate::operations::Operations;
+use crate::printer::Form;
+use crate::session::Session;
+use exec_io::{Sink, Source};
+use plan_rules::Settings;
+use std::alloc::{AllocError, Global};
+use std::sync::Wait;
+
+/// The most bytes that are read at once.
+const PIECE: usize = 65_536;
+
+/// A session that has taken no bytes, and room for a piece: all the memory that the loop takes.
+fn open(
+    alloc: Global,
+    window: usize,
+    settings: Settings,
+    form: Form,
+) -> Result<(Session, Vec<u8>), AllocError>
+    requires some { 0 < window }
+    ensures session { IfOk result (λ made. IsReady window settings form made.0) }
+    ensures buffer { IfOk result (λ made. 0 < length made.1.items) }
+{
+    let flight = InFlight::open(alloc, window, settings, form)?;
+    let buffer = vec![in alloc; 0u8; PIECE]?;
+    Ok((Session::open(alloc, flight)?, buffer))
+}
+
+/// Runs the records of a source, at most a window of them at once, and writes their outcomes.
+///
+/// The records are read to their end, a fault or a limit. Before each read all records that were
+/// read are written, and handed on. Where there is no memory to begin with, nothing is read and
+/// nothing is written.
+pub fn run_records<R: Wait + Sync, O: Operations, S: Source, K: Sink>(
+    rt: &R,
+    alloc: Global,
+    settings: Settings,
+    window: usize,
+    form: Form,
+    operations: &mut O,
+    records: &mut S,
+    out: &mut K,
+) -> Result<Closing, AllocError>
+    requires sync { IsSync R.row }
+    requires some { 0 < window }
+    requires settings_are { settings ≡ (O.state operations.old).plan.settings }
+    requires idle { (O.state operations.old).requested ≡ false }
+    requires may_run { MayRun settings }
+    ensures later { S.faults records.old ≤ S.faults records.new }
+    ensures untouched { OnErr result (IsUntouched
+        (source_view S.left S.faults records.old) (source_view S.left S.faults records.new)
+        (view_of K.written K.outstanding K.faults out.old)
+        (view_of K.written K.outstanding K.faults out.new)) }
+    ensures still { IfOk result (λ closing. closing.end ≢ End.Fault →
+        S.faults records.new ≡ S.faults records.old) }
+    ensures ran { IfOk result (Ran O.WantsMemory
+        (opening_of (O.state operations.old) window form
+        (view_of K.written K.outstanding K.faults out.old))
+        (source_view S.left S.faults records.old) (source_view S.left S.faults records.new)
+        (view_of K.written K.outstanding K.faults out.new)) }
+{
+    let (session, mut buffer) = open(alloc, window, settings, form)?;
+    Ok(session.run(rt, alloc, &mut buffer, operations, records, out))
+}

@@ -1,0 +1,5 @@
+pub mod Agreement
+pub mod FirstError
+pub mod LicenseLaws
+pub mod MomentLaws
+pub mod PlanLaws

@@ -1,0 +1,4 @@
+pub mod Lawful
+pub mod Moments
+pub mod PlanTerms
+pub mod StopStates

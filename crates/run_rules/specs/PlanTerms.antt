@@ -1,0 +1,54 @@
+-- What a plan asks of the lines.
+use Rattle.std.specs.Prelude.{◌≡◌, ◌≢◌, ◌⊎◌, ℕ, ◌-◌, ◌<◌, min, Bool, true, ◌||◌, List, [], ◌∷◌, length, Option, IfSome, is_some, if◌then◌else◌}
+use Rattle.std.specs.List.{list_any}
+use Rattle.exec_value.specs.declared.data.Datum.{Datum}
+use Rattle.exec_value.specs.declared.kinds.Kind.{Kind}
+use Rattle.exec_value.specs.declared.kinds.Kind.TheVariants.{Int}
+use Rattle.exec_value.specs.declared.outcome.Completion.{Completion}
+use Rattle.life_rules.specs.declared.scope.ScopeKind.{ScopeKind}
+use Rattle.life_rules.specs.declared.scope.ScopeKind.TheVariants.{Counting}
+use Rattle.plan_rules.specs.declared.node.Node.{Node}
+use Rattle.plan_rules.specs.declared.settings.Settings.{Settings}
+use Rattle.plan_rules.specs.declared.stop.StopState.{StopState}
+use Rattle.plan_rules.specs.Allowed.{Allowed}
+use Rattle.plan_shape.specs.Blueprint.{Blueprint}
+use Rattle.plan_shape.specs.Finish.{is_ahead}
+use Rattle.run_rules.specs.declared.window.TheConstants.{MOST_WITH_AHEAD}
+use Rattle.run_rules.specs.Lawful.{Terms}
+use Rattle.run_rules.specs.StopStates.{rules_of}
+
+-- The plan allows the record of this number and datum the completion in this stop state: its root
+-- does, under the datum alone.
+unfoldable pub AllowsRecord : Blueprint → ℕ → Datum → StopState → Completion → Type 0
+AllowsRecord plan number datum stop completion =
+    Allowed plan.nodes (length plan.nodes - 1) (datum ∷ []) number stop completion
+
+-- Want of memory may be answered where the plan's records aren't ints, and where its evaluation may
+-- want memory.
+abbrev pub MayWant : (Blueprint → Type 0) → Blueprint → Type 0
+MayWant WantsMemory plan = (plan.settings.input ≢ Int) ⊎ WantsMemory plan
+
+-- The terms of a plan that is run with this window.
+abbrev pub terms_of : (Blueprint → Type 0) → Blueprint → ℕ → Terms
+terms_of WantsMemory plan window = record {
+  input = plan.settings.input;
+  allows = AllowsRecord plan;
+  wants = MayWant WantsMemory plan;
+  window = window;
+  rules = rules_of plan.settings;
+}
+
+-- How many records of a plan are worked on at once, where the command gives this window: fewer for
+-- a plan with an `ahead`, whose first children take blocks of their own.
+abbrev pub window_of : Blueprint → ℕ → ℕ
+window_of plan window = if list_any is_ahead plan.nodes then min window MOST_WITH_AHEAD else window
+
+-- Does a rule of these settings request a stop?
+abbrev pub has_stop_rule : Settings → Bool
+has_stop_rule settings = is_some settings.stop_after || settings.on_error_stop
+
+-- Settings with which a plan may be run: records are counted from 1, and a stop is requested of a
+-- counting scope alone.
+pub record MayRun (settings : Settings) : Type 0 where
+  pub stop_after : IfSome settings.stop_after (λ k. 0 < k)
+  pub counting : has_stop_rule settings ≡ true → settings.scope ≡ Counting
