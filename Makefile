@@ -7,7 +7,7 @@ run: $(PROGRAM)
 	$(PROGRAM) run samples/add_one.json < samples/numbers.txt
 
 $(PROGRAM): $(wildcard crates/*/src/*.rt crates/*/specs/*.antt)
-	cd crates/exec_run && rt run -- run data/plan.json < stdin
+	cd crates/exec_run && rt run -- gen data/plan.json 1
 
 test:
 	rt ci

@@ -1,6 +1,8 @@
-pub mod AnswersLemmas
-pub mod ChainLemmas
-pub mod CompleteLemmas
-pub mod LawfulLemmas
-pub mod PrintedLemmas
-pub mod SofarLemmas
+pub mod OpeningLaws
+pub mod RefusedLaws
+pub mod ClosesLaws
+pub mod SaysLaws
+pub mod LimitLaws
+pub mod ValuesLaws
+pub mod EndsLaws
+pub mod WordsLaws

@@ -1,43 +1,75 @@
--- How a run over records ends.
-use Rattle.std.specs.Prelude.{◌≡◌, ◌⊎◌, ◌==◌, Bool, true, false, nat_lt, if◌then◌else◌}
+-- How a run ends.
+use Rattle.std.specs.Prelude.{◌≡◌, ◌≢◌, ◌⊎◌, ℕ, ◌≤◌, List, Option}
 use Rattle.exec_io.specs.Causes.{Rose}
+use Rattle.exec_io.specs.Shelves.{Texts}
+use Rattle.exec_value.specs.declared.outcome.Outcome.{Outcome}
+use Rattle.io_views.specs.Untouched.{IsHandedOn}
+use Rattle.plan_reader.specs.declared.fault.PlanFault.{PlanFault}
+use Rattle.plan_reader.specs.PlanFile.{IsPlanOf}
+use Rattle.plan_settle.specs.Small.{IsSmall}
+use Rattle.plan_shape.specs.Blueprint.{Blueprint}
 use Rattle.record_lines.specs.declared.ending.End.{End}
-use Rattle.record_lines.specs.declared.ending.End.TheVariants.{Ended, Fault, Limit as LimitEnd}
-use Rattle.exec_engine.specs.declared.printer.Printer.{Printer}
-use Rattle.exec_engine.specs.declared.status.Status.{Status}
-use Rattle.exec_engine.specs.declared.status.Status.TheVariants.{AllValues, NotAllValues, NoMemory, ReadFault, WriteFault, Limit}
-use Rattle.exec_engine.specs.Sinks.{SinkView}
-use Rattle.exec_engine.specs.Sources.{SourceView}
-use Rattle.exec_engine.specs.Lawful.{Terms}
-use Rattle.exec_engine.specs.Ran.{Ran}
-use Rattle.exec_engine.specs.Untouched.{IsUntouched}
+use Rattle.exec_status.specs.declared.status.Status.{Status}
+use Rattle.exec_status.specs.declared.status.Status.TheVariants.{AllValues, NotAllValues, PlanRefused, NoMemory, ReadFault, WriteFault, Limit}
+use Rattle.exec_status.specs.Noted.{Noted}
+use Rattle.exec_engine.specs.declared.task.Task.{Task}
+use Rattle.exec_engine.specs.Complete.{IsFinished, SettleToValues}
+use Rattle.exec_engine.specs.Opening.{Stands, IsRefused}
+use Rattle.exec_engine.specs.Outside.{Outside}
+use Rattle.exec_engine.specs.Refusals.{IsRefusedWith, RunsShort}
+use Rattle.exec_engine.specs.Says.{HasNoMemory, Lines, Says, Untouched}
+use Rattle.exec_engine.specs.Taken.{LeavesSource, PassesLimit, KeepsLimit, IsWithin, OfRecords}
 
--- The status of lines that were all printed, by their counts.
-abbrev pub status_of_lines : Printer → Status
-status_of_lines printer =
-    if nat_lt 0 printer.no_memory then NoMemory
-    else (if printer.values == printer.lines then AllValues else NotAllValues)
-
--- The status of a run whose reading ended so. A lost write comes first.
-abbrev pub status_of : Bool → End → Printer → Status
-status_of true end printer = WriteFault
-status_of false Fault printer = ReadFault
-status_of false LimitEnd printer = Limit
-status_of false Ended printer = status_of_lines printer
-
--- A run over records, which ended with this status. Where no write was lost, a fault is the
--- source's.
-pub record Ends (terms : Terms) (before after : SourceView) (old new : SinkView) (status : Status)
+-- A run of this task ended with this status.
+pub record RunEnds (texts : Option Texts) (task : Task) (old new : Outside) (status : Status)
     : Type 0 where
-  pub end : End
-  pub printer : Printer
-  pub ran : Ran terms end before.left after.left old new printer
-  pub settled : printer.lost ≡ false → printer.due ≡ false
-  pub cause : end ≡ Fault → printer.lost ≡ false → Rose before.faults after.faults
-  pub is : status ≡ status_of printer.lost end printer
-
--- A run over records, which found no memory to begin with, or ended so.
-abbrev pub Runs : Terms → SourceView → SourceView → SinkView → SinkView → Status → Type 0
-Runs terms before after old new status =
-    ((status ≡ NoMemory) × IsUntouched before after old new)
-    ⊎ Ends terms before after old new status
+  -- What the status says of the plan, the records and the lines, and what notes hold.
+  pub says : Says texts task old new status
+  pub noted : Noted (Says texts task old new) (IsRefusedWith texts task.plan.now) old.notes new.notes
+      status
+  -- A fault is answered only where a count of faults rose in this call, and where none is answered no
+  -- call of the shelf, the records or out failed.
+  pub read_fault : status ≡ ReadFault
+      → Rose old.shelf new.shelf ⊎ Rose old.records.faults new.records.faults
+  pub write_fault : status ≡ WriteFault
+      → Rose old.out.faults new.out.faults ⊎ Rose old.notes.faults new.notes.faults
+  pub shelf_still : status ≢ ReadFault → status ≢ WriteFault → new.shelf ≡ old.shelf
+  pub records_still : status ≢ ReadFault → status ≢ WriteFault
+      → new.records.faults ≡ old.records.faults
+  pub out_still : status ≢ WriteFault → new.out.faults ≡ old.out.faults
+  -- Generated records read nothing. Of a source that tells its bytes the limit is answered only where
+  -- they pass one, and the end where not.
+  pub leaves : LeavesSource task.origin old.records new.records
+  pub beyond : status ≡ Limit → PassesLimit task.origin old.records
+  pub within : (status ≡ AllValues) ⊎ (status ≡ NotAllValues) → KeepsLimit task.origin old.records
+  -- A sink that was written to, and didn't fail, has nothing left to hand on.
+  pub out_handed_on : ¬ Rose old.out.faults new.out.faults → IsHandedOn old.out new.out
+  pub notes_handed_on : ¬ Rose old.notes.faults new.notes.faults → IsHandedOn old.notes new.notes
+  -- A plan that the shelf gives, without a fault, and that is refused, is answered so, also where notes
+  -- fail, unless memory runs out.
+  pub refused : (fault : PlanFault) → Stands texts task.plan.now (λ bytes. IsRefused bytes fault)
+      → ¬ Rose old.shelf new.shelf
+      → (status ≡ PlanRefused) ⊎ RunsShort old.notes new.notes status
+  -- A run that nothing hinders, of a plan that the shelf gives, over records within the limits, comes
+  -- to the end of them, unless memory runs out; and where each record settles to a value, all lines
+  -- are values.
+  pub complete : (plan : Blueprint) → Stands texts task.plan.now (λ bytes. IsPlanOf bytes plan)
+      → IsWithin task.origin old.records
+      → ¬ Rose old.shelf new.shelf → ¬ Rose old.records.faults new.records.faults
+      → ¬ Rose old.out.faults new.out.faults → ¬ Rose old.notes.faults new.notes.faults
+      → IsFinished status
+  pub complete_values : (plan : Blueprint)
+      → Stands texts task.plan.now (λ bytes. IsPlanOf bytes plan) → IsFinished status
+      → OfRecords task.origin plan.settings.input old.records (SettleToValues task plan)
+      → (status ≡ AllValues) ⊎ (status ≡ NoMemory)
+  -- No line of a small plan is out-of-memory, and for one memory runs out only before a record is read
+  -- or generated.
+  pub small_lines : (end : End) (outcomes : List Outcome) (lines : Lines texts task old new end outcomes)
+      → IsSmall lines.plan → ¬ HasNoMemory outcomes
+  pub small : (plan : Blueprint) → Stands texts task.plan.now (λ bytes. IsPlanOf bytes plan)
+      → IsSmall plan → status ≡ NoMemory → Untouched texts task old new
+  -- No count of faults falls.
+  pub shelf_later : old.shelf ≤ new.shelf
+  pub records_later : old.records.faults ≤ new.records.faults
+  pub out_later : old.out.faults ≤ new.out.faults
+  pub notes_later : old.notes.faults ≤ new.notes.faults

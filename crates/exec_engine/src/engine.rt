@@ -1,76 +1,55 @@
-//! The top call: from words, a plan and records to lines and a status.
-ghost use Rattle.std.specs.Prelude.{◌≢◌, ◌≡◌, ◌≤◌, ◌↔◌, ◌⊎◌, ℤ, None, IfSome, IsSomeAnd, List, ℕ};
-ghost use Rattle.exec_io.specs.Causes.{Rose};
-ghost use Rattle.record_lines.specs.Records.{IsBeyond};
-ghost use Rattle.exec_engine.specs.Accepts.{Accepts, SettlesToValues, IsFinished};
-ghost use Rattle.exec_engine.specs.Answers.{Says};
-ghost use Rattle.exec_engine.specs.Command.{command_of, plan_of};
-ghost use Rattle.exec_engine.specs.Noted.{Noted, Tells};
-ghost use Rattle.exec_engine.specs.Notes.{note_of};
-ghost use Rattle.exec_engine.specs.Sinks.{view_of};
-ghost use Rattle.exec_engine.specs.Sources.{source_view};
-ghost use Rattle.exec_engine.specs.Untouched.{IsUntouched, IsHandedOn};
+//! The top call: from words to what they ask for, and a status.
+ghost use Rattle.std.specs.Prelude.{◌≡◌, ◌↔◌, None, IfSome};
+ghost use Rattle.std.specs.Thread.{IsSync};
+ghost use Rattle.exec_words.specs.Command.{command_of};
+ghost use Rattle.io_views.specs.Sinks.{view_of};
+ghost use Rattle.io_views.specs.Sources.{source_view};
+ghost use Rattle.exec_engine.specs.Commands.{CommandEnds, UsageEnds};
+ghost use Rattle.exec_engine.specs.Ends.{RunEnds};
+ghost use Rattle.exec_engine.specs.Outside.{outside};
+ghost use Rattle.exec_engine.specs.Tasks.{IsBounded};
 
-use crate::notes::{conclude, note_of, refusal_of, refuse};
-use crate::opening::{OpenFault, open_chain};
-use crate::records::run_records;
-use crate::status::Status;
-use crate::words::read_words;
+use crate::opening::open_plan;
+use crate::plan_run::run_plan;
+use crate::refusal::give_up;
+use crate::task::Task;
 use exec_io::{Shelf, Sink, Source};
+use exec_status::{Status, conclude, refuse};
+use exec_words::{Command, read_words, usage_lines};
 use std::alloc::Global;
+use std::sync::Wait;
+use std::thread::Threads;
+use trace_commands::{check_file, replay_file};
 
-/// Runs the plan of this name over the records.
-fn run_plan<F: Shelf, S: Source, K: Sink, N: Sink>(
+/// Runs a task, and gives the status that it ends with.
+fn run_task<R: Wait + Sync, F: Shelf, S: Source, K: Sink, N: Sink>(
+    rt: &R,
     alloc: Global,
-    name: &str,
+    task: Task<'_>,
     shelf: &mut F,
     records: &mut S,
     out: &mut K,
     notes: &mut N,
 ) -> Status
-    ensures says { Says (F.texts shelf.old) name.now
-        (source_view S.left S.faults records.old) (source_view S.left S.faults records.new)
+    requires sync { IsSync R.row }
+    requires bounds { IsBounded task }
+    ensures { RunEnds (F.texts shelf.old) task.entry
+        (outside (F.faults shelf.old) (source_view S.left S.faults records.old)
         (view_of K.written K.outstanding K.faults out.old)
-        (view_of K.written K.outstanding K.faults out.new) result }
-    ensures noted { Noted
-        (Says (F.texts shelf.old) name.now
-        (source_view S.left S.faults records.old) (source_view S.left S.faults records.new)
-        (view_of K.written K.outstanding K.faults out.old)
-        (view_of K.written K.outstanding K.faults out.new))
-        (F.texts shelf.old) name.now
-        (view_of N.written N.outstanding N.faults notes.old)
-        (view_of N.written N.outstanding N.faults notes.new) result }
-    ensures read_fault { result ≡ Status.ReadFault →
-        Rose (F.faults shelf.old) (F.faults shelf.new)
-        ⊎ Rose (S.faults records.old) (S.faults records.new) }
-    ensures write_fault { result ≡ Status.WriteFault →
-        Rose (K.faults out.old) (K.faults out.new)
-        ⊎ Rose (N.faults notes.old) (N.faults notes.new) }
-    ensures shelf_still { result ≢ Status.ReadFault → result ≢ Status.WriteFault →
-        F.faults shelf.new ≡ F.faults shelf.old }
-    ensures records_still { result ≢ Status.ReadFault → result ≢ Status.WriteFault →
-        S.faults records.new ≡ S.faults records.old }
-    ensures handed_on { ¬ Rose (K.faults out.old) (K.faults out.new) →
-        IsHandedOn (view_of K.written K.outstanding K.faults out.old)
-        (view_of K.written K.outstanding K.faults out.new) }
-    ensures shelf_later { F.faults shelf.old ≤ F.faults shelf.new }
-    ensures records_later { S.faults records.old ≤ S.faults records.new }
-    ensures out_later { K.faults out.old ≤ K.faults out.new }
-    ensures notes_later { N.faults notes.old ≤ N.faults notes.new }
+        (view_of N.written N.outstanding N.faults notes.old))
+        (outside (F.faults shelf.new) (source_view S.left S.faults records.new)
+        (view_of K.written K.outstanding K.faults out.new)
+        (view_of N.written N.outstanding N.faults notes.new)) result }
 {
-    match open_chain(alloc, name, shelf) {
-        Ok(chain) => conclude(run_records(alloc, chain.as_slice(), records, out), notes),
-        Err(OpenFault::Refused(fault)) => {
-            refuse(refusal_of(fault), notes);
-            Status::PlanRefused
-        }
-        Err(OpenFault::ReadFault) => conclude(Status::ReadFault, notes),
-        Err(OpenFault::NoMemory) => conclude(Status::NoMemory, notes),
+    match open_plan(alloc, task.plan, shelf) {
+        Ok(plan) => conclude(run_plan(rt, alloc, &plan, task, records, out), notes),
+        Err(fault) => give_up(fault, notes),
     }
 }
 
-/// Runs what the words ask for, and gives the status that it ends with.
-pub fn run<F: Shelf, S: Source, K: Sink, N: Sink>(
+/// Does what the words ask for, and gives the status that this ends with.
+pub fn run<R: Threads + Wait + Sync, F: Shelf, S: Source, K: Sink, N: Sink>(
+    rt: &R,
     alloc: Global,
     words: &[&str],
     shelf: &mut F,
@@ -78,86 +57,48 @@ pub fn run<F: Shelf, S: Source, K: Sink, N: Sink>(
     out: &mut K,
     notes: &mut N,
 ) -> Status
-    // Words that ask for nothing are a fault of usage, which is told: nothing is read then.
+    // Words that ask for nothing are a fault of usage, and no others are: it is told how the program
+    // is called, nothing is read, and nothing is done to out.
     ensures usage { (result ≡ Status.Usage) ↔ (command_of words.now ≡ None) }
-    ensures usage_told { result ≡ Status.Usage →
-        Tells (view_of N.written N.outstanding N.faults notes.old)
-        (view_of N.written N.outstanding N.faults notes.new) (note_of Status.Usage) }
-    ensures usage_leaves { result ≡ Status.Usage →
-        IsUntouched
-        (source_view S.left S.faults records.old) (source_view S.left S.faults records.new)
+    ensures told { command_of words.now ≡ None → UsageEnds
+        (outside (F.faults shelf.old) (source_view S.left S.faults records.old)
         (view_of K.written K.outstanding K.faults out.old)
-        (view_of K.written K.outstanding K.faults out.new) }
+        (view_of N.written N.outstanding N.faults notes.old))
+        (outside (F.faults shelf.new) (source_view S.left S.faults records.new)
+        (view_of K.written K.outstanding K.faults out.new)
+        (view_of N.written N.outstanding N.faults notes.new)) result }
 
-    // What the status says of the plan, the records and the lines, and what notes hold.
-    ensures says { IfSome (command_of words.now) (λ command.
-        Says (F.texts shelf.old) (plan_of command)
-        (source_view S.left S.faults records.old) (source_view S.left S.faults records.new)
+    // A command ends as its definition says.
+    ensures ends { IfSome (command_of words.now) (CommandEnds (F.texts shelf.old)
+        (outside (F.faults shelf.old) (source_view S.left S.faults records.old)
         (view_of K.written K.outstanding K.faults out.old)
-        (view_of K.written K.outstanding K.faults out.new) result) }
-    ensures noted { IfSome (command_of words.now) (λ command.
-        Noted
-        (Says (F.texts shelf.old) (plan_of command)
-        (source_view S.left S.faults records.old) (source_view S.left S.faults records.new)
-        (view_of K.written K.outstanding K.faults out.old)
-        (view_of K.written K.outstanding K.faults out.new))
-        (F.texts shelf.old) (plan_of command)
-        (view_of N.written N.outstanding N.faults notes.old)
-        (view_of N.written N.outstanding N.faults notes.new) result) }
-
-    // A fault is answered only where a count of faults rose in this call, and where none is
-    // answered no call of the shelf, the records or out failed (of out `says` tells it).
-    ensures read_fault { result ≡ Status.ReadFault →
-        Rose (F.faults shelf.old) (F.faults shelf.new)
-        ⊎ Rose (S.faults records.old) (S.faults records.new) }
-    ensures write_fault { result ≡ Status.WriteFault →
-        Rose (K.faults out.old) (K.faults out.new)
-        ⊎ Rose (N.faults notes.old) (N.faults notes.new) }
-    ensures shelf_still { result ≢ Status.ReadFault → result ≢ Status.WriteFault →
-        F.faults shelf.new ≡ F.faults shelf.old }
-    ensures records_still { result ≢ Status.ReadFault → result ≢ Status.WriteFault →
-        S.faults records.new ≡ S.faults records.old }
-
-    // Of a source that tells its bytes the limit is answered only where they pass one, and the end
-    // where not.
-    ensures beyond { result ≡ Status.Limit → IfSome (S.left records.old) IsBeyond }
-    ensures within { (result ≡ Status.AllValues) ⊎ (result ≡ Status.NotAllValues) →
-        IfSome (S.left records.old) (λ bytes. ¬ IsBeyond bytes) }
-
-    // A sink that was written to, and didn't fail, has nothing left to hand on.
-    ensures out_handed_on { ¬ Rose (K.faults out.old) (K.faults out.new) →
-        IsHandedOn (view_of K.written K.outstanding K.faults out.old)
-        (view_of K.written K.outstanding K.faults out.new) }
-    ensures notes_handed_on { ¬ Rose (N.faults notes.old) (N.faults notes.new) →
-        IsHandedOn (view_of N.written N.outstanding N.faults notes.old)
-        (view_of N.written N.outstanding N.faults notes.new) }
-
-    // A run that nothing hinders, of a plan that the shelf gives over records within the limits,
-    // comes to the end of its input, unless memory runs out; and where each record settles to a
-    // value, all lines are values.
-    ensures complete { (constants : List ℤ) →
-        Accepts (F.texts shelf.old) words.now constants →
-        IsSomeAnd (S.left records.old) (λ bytes. ¬ IsBeyond bytes) →
-        ¬ Rose (F.faults shelf.old) (F.faults shelf.new) →
-        ¬ Rose (S.faults records.old) (S.faults records.new) →
-        ¬ Rose (K.faults out.old) (K.faults out.new) →
-        ¬ Rose (N.faults notes.old) (N.faults notes.new) → IsFinished result }
-    ensures complete_values { (constants : List ℤ) →
-        Accepts (F.texts shelf.old) words.now constants → IsFinished result →
-        IsSomeAnd (S.left records.old) (SettlesToValues constants) →
-        (result ≡ Status.AllValues) ⊎ (result ≡ Status.NoMemory) }
-
-    // No count of faults falls.
-    ensures shelf_later { F.faults shelf.old ≤ F.faults shelf.new }
-    ensures records_later { S.faults records.old ≤ S.faults records.new }
-    ensures out_later { K.faults out.old ≤ K.faults out.new }
-    ensures notes_later { N.faults notes.old ≤ N.faults notes.new }
+        (view_of N.written N.outstanding N.faults notes.old))
+        (outside (F.faults shelf.new) (source_view S.left S.faults records.new)
+        (view_of K.written K.outstanding K.faults out.new)
+        (view_of N.written N.outstanding N.faults notes.new)) result) }
 {
-    match read_words(words) {
-        Some(command) => run_plan(alloc, command.plan(), shelf, records, out, notes),
-        None => {
-            refuse(note_of(Status::Usage), notes);
-            Status::Usage
+    let Some(command) = read_words(words) else {
+        refuse(usage_lines(), notes);
+        return Status::Usage;
+    };
+    match command {
+        Command::Run {
+            plan,
+            options,
+            summary,
+        } => {
+            let task = Task::of_run(plan, options, summary);
+            run_task(rt, alloc, task, shelf, records, out, notes)
         }
+        Command::Gen {
+            plan,
+            records: count,
+            options,
+        } => {
+            let task = Task::of_gen(plan, count, options);
+            run_task(rt, alloc, task, shelf, records, out, notes)
+        }
+        Command::Replay { file } => replay_file(alloc, file, shelf, out, notes),
+        Command::Check { file } => check_file(alloc, file, shelf, out, notes),
     }
 }

@@ -1,32 +1,25 @@
-//! The engine: from words, a plan and records to lines and a status.
+//! The engine: from words to what they ask for, and a status.
 //!
-//!     words --read_words--> Command --open_chain--> Chain
-//!     source --read--> piece --Cutter--> line --outcome_of--> Outcome --Printer--> out
-//!     Status --conclude--> notes
+//!     words --read_words--> Command --> Task, or a command on a file (trace_commands)
+//!     Task  --open_plan--> Plan --run_plan--> Closing --status_of--> Status --conclude--> notes
+//!     a name without a plan --give_up--> notes; the status that stands then
 //!
 //! `run` is the top call of the program, which does all that the program does over the shelf, the
-//! source and the sinks that are handed in. What its promise rests on is defined in specs/: which
-//! command a list of words is (`Command`), which lines are lawful for the records of an input
-//! (`Lawful`, over `StopState` and the completions that the plan allows), and what each status says
-//! of them (`Answers`, `Noted`). It stands on exec_io, exec_value, exec_job, record_lines and
-//! chain_plan.
+//! source and the sinks that are handed in. What its promise rests on is defined in specs/: what a
+//! command is (`CommandEnds`), which lines are lawful for the records that were taken (`Lines`, over
+//! run_rules), and what each status says of them (`Says`) and of notes (`Noted`). A run's records are
+//! worked on by record_loop, over the operations of plain_runs. It stands on these, plan_reader,
+//! exec_words, exec_status and trace_commands.
 #![tactic(auto)]
 
-mod answer;
-mod chain;
+mod ending;
 mod engine;
-mod notes;
 mod opening;
-mod printer;
-mod records;
-mod session;
-mod status;
-mod stop;
+mod plan_run;
+mod refusal;
+mod task;
 #[cfg(test)]
 mod tests;
-mod words;
 
 pub use engine::run;
-pub use status::Status;
-pub use stop::StopState;
-pub use words::{Command, read_words};
+pub use exec_status::Status;

@@ -1,4 +1,5 @@
-//! Reads records from standard input, runs each by the plan in a file, and writes a line for each.
+//! Runs a plan over records, read or generated, and writes a line for each or one for all; judges a
+//! trace, or replays a schedule.
 //!
 //! The program is `exec_engine::run` over the files of the system and its standard streams. The
 //! adapters tell nothing of what these hold: that the system does as it says is taken on trust.
@@ -20,17 +21,23 @@ use std::env;
 use std::io::{BufWriter, ErrorKind};
 use std::process::ExitCode;
 use std::rt::Env;
+use std::sync::Wait;
+use std::thread::Threads;
 
 /// How many bytes of output are kept back at most.
 const OUT_BYTES: usize = 65_536;
 
 fn main(rt: HostRuntime) -> ExitCode {
-    let status = run_on_system(&rt).unwrap_or(Status::NoMemory);
+    let status = run_on_system(&rt, &rt).unwrap_or(Status::NoMemory);
     ExitCode::from(status.code())
 }
 
-/// Runs the command that the program's words give. Its one error comes before the run.
-fn run_on_system(rt: &HostRuntime) -> Result<Status, AllocError> {
+/// Runs the command that the program's words give. `threads` is the handle by which threads are
+/// started and waited for. The one error comes before the run.
+fn run_on_system<T: Threads + Wait + Sync>(
+    rt: &HostRuntime,
+    threads: &T,
+) -> Result<Status, AllocError> {
     let alloc = rt.alloc();
     let owned = words_of_command(rt)?;
     let words: Vec<&str> = owned.iter().map(|word| word.as_str()).collect(alloc)?;
@@ -40,6 +47,7 @@ fn run_on_system(rt: &HostRuntime) -> Result<Status, AllocError> {
     let mut records = Reading::new(rt.stdin());
     let mut shelf = FileShelf::new(rt);
     let status = run(
+        threads,
         alloc,
         &words,
         &mut shelf,

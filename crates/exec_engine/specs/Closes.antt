@@ -1,0 +1,40 @@
+-- How a run whose plan was opened ends.
+use Rattle.std.specs.Prelude.{◌≡◌, ◌≢◌, ◌⊎◌, ◌≤◌, false, ℕ, List}
+use Rattle.exec_io.specs.Causes.{Rose}
+use Rattle.exec_value.specs.declared.outcome.Outcome.{Outcome}
+use Rattle.io_views.specs.Sinks.{SinkView}
+use Rattle.io_views.specs.Sources.{SourceView}
+use Rattle.io_views.specs.Untouched.{IsUntouched}
+use Rattle.plan_shape.specs.Blueprint.{Blueprint}
+use Rattle.record_lines.specs.declared.ending.End.TheVariants.{Fault}
+use Rattle.record_loop.specs.declared.closing.Closing.{Closing}
+use Rattle.record_loop.specs.Printing.{Finished}
+use Rattle.run_rules.specs.Lawful.{Lawful}
+use Rattle.exec_status.specs.declared.status.Status.{Status}
+use Rattle.exec_status.specs.declared.status.Status.TheVariants.{NoMemory}
+use Rattle.exec_engine.specs.declared.task.Task.{Task}
+use Rattle.exec_engine.specs.Says.{terms_for}
+use Rattle.exec_engine.specs.Statuses.{status_of}
+use Rattle.exec_engine.specs.Taken.{Takes, LeavesSource}
+use Rattle.exec_engine.specs.Tasks.{form_for}
+
+-- Records were taken until the end that the closing names, and their outcomes are lawful and written.
+-- Where no write was lost, a fault is the source's.
+pub record Closes (plan : Blueprint) (task : Task) (before after : SourceView) (old new : SinkView)
+    (closing : Closing) : Type 0 where
+  pub outcomes : List Outcome
+  pub records : List (List ℕ)
+  pub takes : Takes task.origin plan.settings.input before after closing.end records
+  pub lawful : Lawful (terms_for task plan) records outcomes
+  pub finished : Finished (form_for task.origin) old new closing.summary closing.lost outcomes
+  pub cause : closing.end ≡ Fault → closing.lost ≡ false → Rose before.faults after.faults
+  pub still : closing.end ≢ Fault → after.faults ≡ before.faults
+  pub later : before.faults ≤ after.faults
+  pub leaves : LeavesSource task.origin before after
+
+-- A run found no memory to begin with, or ended so.
+abbrev pub Runs : Blueprint → Task → SourceView → SourceView → SinkView → SinkView → Status → Type 0
+Runs plan task before after old new status =
+    ((status ≡ NoMemory) × IsUntouched before after old new)
+    ⊎ ((closing : Closing) × Closes plan task before after old new closing
+    × (status ≡ status_of closing))

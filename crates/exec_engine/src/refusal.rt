@@ -1,0 +1,42 @@
+//! What is told where there is no plan.
+ghost use Rattle.std.specs.Prelude.{◌≡◌, ◌≤◌};
+ghost use Rattle.io_views.specs.Sinks.{view_of};
+ghost use Rattle.exec_engine.specs.Refusals.{refusal_of, GivesUp};
+
+use crate::opening::OpenFault;
+use exec_io::Sink;
+use exec_status::{Status, conclude, refuse};
+use plan_reader::PlanFault;
+
+/// What is told of a plan that is refused.
+pub fn refusal_of(fault: PlanFault) -> &'static [u8]
+    ensures { result.now ≡ refusal_of fault }
+{
+    match fault {
+        PlanFault::TooLong => b"plan refused: P1 too long\n",
+        PlanFault::NotJson => b"plan refused: P2 not JSON\n",
+        PlanFault::Form => b"plan refused: P3 form\n",
+        PlanFault::UnknownName => b"plan refused: P4 unknown name\n",
+        PlanFault::Limit => b"plan refused: P5 limit\n",
+        PlanFault::Kinds => b"plan refused: P6 kinds\n",
+        PlanFault::Excluded => b"plan refused: P7 settings exclude each other\n",
+        PlanFault::NoMemory => b"out of memory\n",
+    }
+}
+
+/// Tells why there is no plan, and gives the status that stands then. A refusal stands also where
+/// notes fail.
+pub fn give_up<N: Sink>(fault: OpenFault, notes: &mut N) -> Status
+    ensures later { N.faults notes.old ≤ N.faults notes.new }
+    ensures gives_up { GivesUp fault (view_of N.written N.outstanding N.faults notes.old)
+        (view_of N.written N.outstanding N.faults notes.new) result }
+{
+    match fault {
+        OpenFault::Refused(cause) => {
+            refuse(refusal_of(cause), notes);
+            Status::PlanRefused
+        }
+        OpenFault::ReadFault => conclude(Status::ReadFault, notes),
+        OpenFault::NoMemory => conclude(Status::NoMemory, notes),
+    }
+}

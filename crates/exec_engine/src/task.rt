@@ -1,0 +1,57 @@
+//! What a command asks of a run.
+ghost use Rattle.std.specs.Prelude.{◌≡◌};
+ghost use Rattle.exec_engine.specs.Tasks.{form_of, run_task, gen_task};
+
+use exec_words::Options;
+use record_loop::Form;
+
+/// Where the records of a run come from.
+#[derive(Clone, Copy, Debug)]
+pub enum Origin {
+    /// They are read from a source, and this is written of their outcomes.
+    Source(Form),
+    /// So many are generated, and the summary of their outcomes is written.
+    Generated(u32),
+}
+
+/// What a command asks of a run.
+#[derive(Clone, Copy, Debug)]
+pub struct Task<'a> {
+    /// The name of the plan.
+    pub plan: &'a str,
+    /// How many records are worked on at once, from 1 to 256.
+    pub window: u32,
+    /// Where they come from.
+    pub origin: Origin,
+}
+
+/// What is written of a run: one line for all, where the words ask for the summary.
+fn form_of(summary: bool) -> Form
+    ensures { result ≡ form_of summary }
+{
+    if summary { Form::Summary } else { Form::Lines }
+}
+
+impl<'a> Task<'a> {
+    /// What `run` asks for.
+    pub fn of_run(plan: &'a str, options: Options, summary: bool) -> Task<'a>
+        ensures { result ≡ run_task plan.entry options summary }
+    {
+        Task {
+            plan,
+            window: options.window,
+            origin: Origin::Source(form_of(summary)),
+        }
+    }
+
+    /// What `gen` asks for.
+    pub fn of_gen(plan: &'a str, count: u32, options: Options) -> Task<'a>
+        ensures { result ≡ gen_task plan.entry count options }
+    {
+        Task {
+            plan,
+            window: options.window,
+            origin: Origin::Generated(count),
+        }
+    }
+}
