@@ -1,0 +1,508 @@
+#!/usr/bin/env python3
+"""Writes docs/PLANS.md: each node and job of a plan with a small plan, records, and what the program printed.
+
+    docs/make_plans.py crates/exec_run/out/exec_run
+
+Each plan is tried against docs/plan.schema.json where Python has the package jsonschema.
+"""
+import json
+import os
+import subprocess
+import sys
+import tempfile
+import textwrap
+
+HERE = os.path.dirname(os.path.abspath(__file__))
+
+INPUT = {"do": "input"}
+STOPPED = {"do": "just_stopped"}
+
+
+def plan_of(root, input="int", version=1, **settings):
+    return {"version": version, "input": input, **settings, "root": root}
+
+
+def job_of(job, **operands):
+    return {"job": job, **operands}
+
+
+def then(child, job, **operands):
+    return {"do": "then", "child": child, "job": job_of(job, **operands)}
+
+
+def just(*values):
+    return {"do": "just", "values": list(values)}
+
+
+def error(name):
+    return {"do": "just_error", "error": name}
+
+
+# a node, what it means, a plan and records
+NODES = [
+    (
+        "input",
+        "[exec.just] A value of the arguments. At the root of a plan these are the record's "
+        "datum; in a body of a `let` they are what its child ended with.",
+        plan_of(INPUT),
+        ["5", "-1", "x"],
+    ),
+    (
+        "just",
+        "[exec.just] A value of these constants: numbers, texts, and rows of numbers; also none "
+        "at all.",
+        plan_of(just(1, 'a"b', [2, 3])),
+        ["0"],
+    ),
+    (
+        "just_error",
+        "[exec.just] Ends by the error of this name.",
+        plan_of(error("not.today")),
+        ["0"],
+    ),
+    (
+        "just_stopped",
+        "[exec.just] Ends stopped.",
+        plan_of(STOPPED),
+        ["0"],
+    ),
+    (
+        "schedule",
+        "[exec.schedule] A value with no data, once the context `on` took it up: `loop`, the "
+        "calling thread's run loop, or `pool`, the workers. Where a stop was requested it ends "
+        "stopped.",
+        plan_of({"do": "schedule", "on": "pool"}),
+        ["0"],
+    ),
+    (
+        "delay",
+        "A value with no data after at least so many turns of the run loop. A stop request ends "
+        "it early: stopped. Here a `when_all` stops it, since its other child failed.",
+        plan_of({"do": "when_all", "children": [{"do": "delay", "turns": 1000}, error("first")]}),
+        ["0"],
+    ),
+    (
+        "read_env",
+        "[exec.read.env] `record` gives the record's number, `stop` gives 1 where a stop was "
+        "requested and else 0.",
+        plan_of(
+            {
+                "do": "when_all",
+                "children": [{"do": "read_env", "query": "record"}, {"do": "read_env", "query": "stop"}],
+            },
+        ),
+        ["7", "8"],
+    ),
+    (
+        "then",
+        "[exec.then] What the job gives for the child's value. Errors and stopped pass.",
+        plan_of(then(INPUT, "mul", n=3)),
+        ["5", "9223372036854775807"],
+    ),
+    (
+        "upon_error",
+        "[exec.then] What the job gives for the name of the child's error, a text. It must be of "
+        "the kinds of the child's value.",
+        plan_of({"do": "upon_error", "child": then(INPUT, "div", n=0), "job": job_of("length")}),
+        ["5"],
+    ),
+    (
+        "upon_stopped",
+        "[exec.then] What the job gives for no data, where the child stopped.",
+        plan_of({"do": "upon_stopped", "child": STOPPED, "job": job_of("give", values=[0])}),
+        ["5"],
+    ),
+    (
+        "let_value",
+        "[exec.let] One of the bodies, run under the child's value as its arguments. The pick's "
+        "number says which; a number below 0 means the first, one beyond the last means the last.",
+        plan_of(
+            {
+                "do": "let_value",
+                "child": INPUT,
+                "pick": job_of("pass"),
+                "bodies": [just(10), just(20), then(INPUT, "mul", n=100)],
+            },
+        ),
+        ["7", "-1", "1"],
+    ),
+    (
+        "let_error",
+        "[exec.let] The same where the child ended by an error, under the error's name as a text.",
+        plan_of(
+            {
+                "do": "let_error",
+                "child": then(INPUT, "parse"),
+                "pick": job_of("length"),
+                "bodies": [just(-1)],
+            },
+            "text",
+        ),
+        ["42", "x"],
+    ),
+    (
+        "let_stopped",
+        "[exec.let] The same where the child stopped, under no data.",
+        plan_of(
+            {
+                "do": "let_stopped",
+                "child": STOPPED,
+                "pick": job_of("give", values=[1]),
+                "bodies": [just(1), just(2)],
+            },
+        ),
+        ["0"],
+    ),
+    (
+        "starts_on",
+        "[exec.starts.on] The child, started in this context.",
+        plan_of({"do": "starts_on", "on": "pool", "child": then(INPUT, "neg")}),
+        ["5"],
+    ),
+    (
+        "continues_on",
+        "[exec.continues.on] The child, whose completion goes on in this context.",
+        plan_of({"do": "continues_on", "child": then(INPUT, "neg"), "on": "pool"}),
+        ["5"],
+    ),
+    (
+        "stopped_as_optional",
+        "[exec.stopped.opt] `some` and the child's one datum, of the kind `of` (`int` or `text`),"
+        " or `none` where it stopped.",
+        plan_of(
+            {
+                "do": "when_all",
+                "children": [
+                    {"do": "stopped_as_optional", "of": "int", "child": INPUT},
+                    {"do": "stopped_as_optional", "of": "text", "child": STOPPED},
+                ],
+            },
+        ),
+        ["5"],
+    ),
+    (
+        "stopped_as_error",
+        "[exec.stopped.err] This error where the child stopped.",
+        plan_of({"do": "stopped_as_error", "child": STOPPED, "error": "stopped-early"}),
+        ["0"],
+    ),
+    (
+        "bulk",
+        "[exec.bulk] The child's row with the job applied to each number. Where some fail, the "
+        "failure of the least index, with `@` and the index behind its name. The row is cut into "
+        "eight parts.",
+        plan_of({"do": "bulk", "child": INPUT, "job": job_of("within", lo=0, hi=9)}, "row"),
+        ["[1,2,3]", "[]", "[4,70,80]"],
+    ),
+    (
+        "when_all",
+        "[exec.when.all] Runs 2 to 64 children beside each other; then their data one after the "
+        "other. The first that fails stops the others.",
+        plan_of({"do": "when_all", "children": [INPUT, just("and"), {"do": "read_env", "query": "record"}]}),
+        ["5", "6"],
+    ),
+    (
+        "unstoppable",
+        "[exec.unstoppable] The child, which no stop request reaches. Version 2.",
+        plan_of(
+            {"do": "unstoppable", "child": {"do": "starts_on", "on": "pool", "child": INPUT}},
+            version=2,
+            stop_after=1,
+        ),
+        ["5"],
+    ),
+    (
+        "ahead",
+        "After `spawn_future` of P3149: the first is spawned as an operation of its own in the "
+        "scope, the second runs beside it; then the data of both, the first's before. Where the "
+        "second fails the first is abandoned: it runs to its end, and its completion is dropped. "
+        "Version 2; not below a `when_all`, an `unstoppable` or another `ahead`.",
+        plan_of({"do": "ahead", "first": then(INPUT, "mul", n=2), "second": then(INPUT, "add", n=1)}, version=2),
+        ["5"],
+    ),
+]
+# a job, a plan, records and what it means
+JOBS = [
+    (
+        "add",
+        plan_of(then(INPUT, "add", n=1)),
+        ["5", "9223372036854775807"],
+        "`x + n`. A result beyond 64 bits is the error `overflow`, as with the next four.",
+    ),
+    (
+        "sub",
+        plan_of(then(INPUT, "sub", n=1)),
+        ["5"],
+        "`x - n`.",
+    ),
+    (
+        "mul",
+        plan_of(then(INPUT, "mul", n=-2)),
+        ["5"],
+        "`x * n`.",
+    ),
+    (
+        "div",
+        plan_of(then(INPUT, "div", n=2)),
+        ["5", "-5"],
+        "`x / n`, cut towards zero. `zero-divisor` where n is 0.",
+    ),
+    (
+        "neg",
+        plan_of(then(INPUT, "neg")),
+        ["5", "-9223372036854775808"],
+        "`-x`.",
+    ),
+    (
+        "within",
+        plan_of(then(INPUT, "within", lo=1, hi=9)),
+        ["5", "10"],
+        "x where `lo <= x <= hi`, else `out-of-range`.",
+    ),
+    (
+        "index",
+        plan_of({"do": "bulk", "child": INPUT, "job": job_of("index")}, "row"),
+        ["[10,10,10]"],
+        "x and its index in the row. Only under `bulk`; the six jobs above stand there too.",
+    ),
+    (
+        "fail",
+        plan_of(then(INPUT, "fail", error="no-such-day")),
+        ["5"],
+        "This error, whatever the data.",
+    ),
+    (
+        "iota",
+        plan_of(then(INPUT, "iota")),
+        ["3", "-1"],
+        "The row 0 to x - 1. `out-of-range` below 0 and above 4,096.",
+    ),
+    (
+        "sum",
+        plan_of(then({"do": "when_all", "children": [INPUT, just([1, 2], 3)]}, "sum")),
+        ["5"],
+        "The exact sum of all numbers in ints and rows, 0 for none. `overflow` beyond 64 bits.",
+    ),
+    (
+        "append",
+        plan_of(then(INPUT, "append", text="!"), "text"),
+        ["hi"],
+        "The text and then this one. `too-long` above 4,096 bytes.",
+    ),
+    (
+        "join",
+        plan_of(then({"do": "when_all", "children": [INPUT, just("-"), INPUT]}, "join"), "text"),
+        ["ab"],
+        "The texts one after the other. `too-long` above 4,096 bytes.",
+    ),
+    (
+        "length",
+        plan_of(then(INPUT, "length"), "text"),
+        ["four"],
+        "How many bytes a text has, or numbers a row.",
+    ),
+    (
+        "parse",
+        plan_of(then(INPUT, "parse"), "text"),
+        ["007", "seven"],
+        "The number that a text says, else `not-a-number`.",
+    ),
+    (
+        "show",
+        plan_of(then(INPUT, "show")),
+        ["-7"],
+        "The decimal of a number, as a text.",
+    ),
+    (
+        "give",
+        plan_of(then(INPUT, "give", values=[1, "two", [3]])),
+        ["0"],
+        "These constants, whatever the data.",
+    ),
+    (
+        "at",
+        plan_of(then(just("a", "b", "c"), "at", i=1)),
+        ["0"],
+        "The datum at this place, from 0 to 63.",
+    ),
+    (
+        "value_or",
+        plan_of(then({"do": "stopped_as_optional", "of": "int", "child": STOPPED}, "value_or", **{"else": -1})),
+        ["0"],
+        "What a maybe holds, or this number, or text, where it holds nothing.",
+    ),
+    (
+        "pass",
+        plan_of(
+            {
+                "do": "let_value",
+                "child": INPUT,
+                "pick": job_of("pass"),
+                "bodies": [just("zero"), just("more")],
+            },
+        ),
+        ["0", "3"],
+        "The data as they are. Serves as the pick of a let whose child gives the number.",
+    ),
+]
+# a setting, what it means, a plan, records and options
+SETTINGS = [
+    (
+        "stop_after",
+        "A stop is requested once so many records were read, before the last of them is started.",
+        plan_of({"do": "starts_on", "on": "loop", "child": INPUT}, stop_after=2),
+        ["1", "2", "3"],
+        "--window 1",
+    ),
+    (
+        "on_error",
+        "With `stop` a stop is requested once a line with an error was written.",
+        plan_of({"do": "starts_on", "on": "loop", "child": then(INPUT, "div", n=0)}, on_error="stop"),
+        ["1", "2", "3"],
+        "--window 1",
+    ),
+]
+
+# what notes say, and a plan that is refused so
+REFUSED = [
+    ("P2 not JSON", "{"),
+    ("P3 form", plan_of(then(INPUT, "add"))),
+    ("P4 unknown name", plan_of({"do": "retry", "child": INPUT})),
+    ("P5 limit", plan_of({"do": "when_all", "children": [INPUT]})),
+    ("P6 kinds", plan_of(then(INPUT, "append", text="x"))),
+    ("P7 settings exclude each other", plan_of(INPUT, scope="simple", stop_after=1)),
+]
+
+FRONT = """# Plans
+
+A plan is a sender expression in JSON. `exec_run run plan.json` runs it for each line of standard input.
+Every example below is a whole plan, and every output is what the program printed: docs/make_plans.py
+wrote this page. docs/plan.schema.json is a JSON Schema of plans, for editors.
+
+## A plan
+
+| key | value |
+|---|---|
+| `version` | 1, or 2 for `unstoppable`, `ahead` and 1,024 nodes |
+| `input` | the kind of the records: `"int"`, `"text"` or `"row"` |
+| `root` | a node |
+| `scope` | `"counting"`, where none is said, or `"simple"`, which takes no stop request |
+| `stop_after` | no such rule where none is said; else 1 to 1,000,000 |
+| `on_error` | `"go"`, where none is said, or `"stop"` |
+
+A record of kind `int` is a decimal number of 64 bits, one of kind `text` is UTF-8 of at most 4,096 bytes,
+one of kind `row` is `[1,2,3]`, at most 4,096 numbers without blanks. A value is a list of at most 64
+numbers, texts and rows. The name of an error is 1 to 64 letters, digits, `-`, `_`, `.` or `@`. Plans have
+at most 256 nodes (1,024 in version 2), a `bulk` counting nine, and are at most 56 nodes deep.
+
+## Exit statuses
+
+| status | meaning | notes, on standard error |
+|---|---|---|
+| 0 | all lines are values; or a trace is taken, or a schedule was replayed | |
+| 1 | some line is a bad record, an error or stopped; or a trace is refused at an entry | |
+| 2 | the words ask for nothing | how the program is called |
+| 3 | the plan, trace or schedule is refused | `plan refused: ..`, `trace refused: ..` |
+| 4 | there was no memory | `out of memory` |
+| 5 | a read failed | `read fault` |
+| 6 | a write failed | `write fault` |
+| 7 | more than 1,000,000 records or 268,435,456 bytes | `limit` |
+
+A plan is refused for the first of these that holds. A file of more than 1,048,576 bytes is refused by
+`plan refused: P1 too long`.
+
+| a plan | what notes say |
+|---|---|"""
+
+SUMMARIES = """## Summaries and generated records
+
+With `--summary` one line tells how many records ended in which way, and the exact sum of all numbers in
+values. `exec_run gen PLAN N` makes N records of the plan's kind by a fixed formula, reads
+nothing, and prints that line.
+"""
+
+
+def validator():
+    """Says what the schema finds wrong with a plan, or nothing where the package isn't there."""
+    try:
+        import jsonschema
+    except ImportError:
+        return lambda plan: []
+    with open(os.path.join(HERE, "plan.schema.json"), encoding="utf-8") as file:
+        schema = jsonschema.Draft7Validator(json.load(file))
+    return lambda plan: [error.message for error in schema.iter_errors(plan)]
+
+
+def compact(plan):
+    return plan if isinstance(plan, str) else json.dumps(plan, separators=(",", ":"))
+
+
+def call(exe, plan, records, words=(), command="run", count=()):
+    """The exit status, the output and the notes of one run of the program."""
+    with tempfile.TemporaryDirectory() as folder:
+        path = os.path.join(folder, "plan.json")
+        with open(path, "w", encoding="utf-8") as file:
+            file.write(compact(plan))
+        text = "".join(record + "\n" for record in records)
+        ran = subprocess.run([exe, command, path, *count, *words], input=text, capture_output=True, text=True)
+    return ran.returncode, ran.stdout, ran.stderr
+
+
+def wrapped(text):
+    return "\n".join(textwrap.wrap(text, 100, break_long_words=False, break_on_hyphens=False))
+
+
+def example(exe, faults, name, text, plan, records, words=()):
+    status, out, notes = call(exe, plan, records, words)
+    wrong = faults(plan)
+    if wrong or notes or status > 1:
+        sys.exit(f"{name}: {wrong} {status} {notes}")
+    shown = ", ".join(f"`{record}`" for record in records)
+    options = f", with `{' '.join(words)}`," if words else ""
+    return (
+        f"### `{name}`\n\n{wrapped(text)}\n\n```json\n{compact(plan)}\n```\n\n"
+        f"Records {shown}{options} give, with exit status {status}:\n\n```text\n{out}```\n"
+    )
+
+
+def refusal(exe, name, plan):
+    status, _, notes = call(exe, plan, ["0"])
+    if status != 3 or notes != f"plan refused: {name}\n":
+        sys.exit(f"{name}: {status} {notes}")
+    return f"| `{compact(plan)}` | `{notes.strip()}` |"
+
+
+def summaries(exe):
+    plan = plan_of(then(INPUT, "add", n=1))
+    records = ["5", "abc", "9223372036854775807", "-1"]
+    shown = ", ".join(f"`{record}`" for record in records)
+    _, summary, _ = call(exe, plan, records, ["--summary"])
+    _, made, _ = call(exe, plan, [], command="gen", count=["3"])
+    return (
+        f"{SUMMARIES}\n```json\n{compact(plan)}\n```\n\n"
+        f"Records {shown}, with `--summary`, give:\n\n```text\n{summary}```\n\n"
+        f"`gen` with the number 3 gives:\n\n```text\n{made}```\n"
+    )
+
+
+def main():
+    exe = os.path.abspath(sys.argv[1])
+    faults = validator()
+    page = [FRONT]
+    page += [refusal(exe, name, plan) for name, plan in REFUSED]
+    page.append("\n## Nodes\n")
+    page += [example(exe, faults, name, text, plan, records) for name, text, plan, records in NODES]
+    page.append("## Jobs\n\nA job is an operation on the data of a value.\n")
+    page += [example(exe, faults, name, text, plan, records) for name, plan, records, text in JOBS]
+    page.append(
+        "## Stop rules\n\nA stop request ends what waits: `schedule`, `delay`, and each hop to a context. Whether a record that\n"
+        "was started before the request sees it depends on the moment, save with a window of one.\n"
+    )
+    page += [example(exe, faults, name, text, plan, records, words.split()) for name, text, plan, records, words in SETTINGS]
+    page.append(summaries(exe))
+    with open(os.path.join(HERE, "PLANS.md"), "w", encoding="utf-8") as file:
+        file.write("\n".join(page))
+
+
+if __name__ == "__main__":
+    main()
