@@ -1,0 +1,11 @@
+pub mod Named
+pub mod ShownWords
+pub mod ShownViews
+pub mod Scenes
+pub mod Homes
+pub mod Starts
+pub mod Items
+pub mod Lots
+pub mod Notes
+pub mod Counts
+pub mod Running

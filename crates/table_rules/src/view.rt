@@ -1,0 +1,96 @@
+//! What one hand knows. No value of these types is made; contracts read the lists.
+use life_rules::{CallbackPhase, Name, SourceRef};
+use std::collections::LinkedList;
+
+/// A node that the hand holds.
+pub struct Held<E> {
+    pub name: Name,
+    /// The start with which it began.
+    pub start: LinkedList<E>,
+    /// So many children its last await named.
+    pub named: u32,
+    /// Whether a stop was requested on the node's nearest source when the hand came to hold it.
+    pub told: bool,
+    /// The same of the source that its children hear.
+    pub told_children: bool,
+    /// What its last await fixed for its children, where their last report gave the node to the
+    /// hand.
+    pub lot: Option<LinkedList<i64>>,
+    /// What became of its callback, as far as the hand has read it.
+    pub phase: Option<CallbackPhase>,
+    /// The children that the hand read as not begun.
+    pub idle: LinkedList<u32>,
+}
+
+/// A node whose start the hand owes.
+pub struct Owed<E> {
+    pub name: Name,
+    /// The start of its parent; nothing for the root.
+    pub above: LinkedList<E>,
+    /// What the parent's await fixed; nothing for the root.
+    pub lot: LinkedList<i64>,
+}
+
+/// A node whose report to its parent the hand owes.
+pub struct Reported<P, E> {
+    pub name: Name,
+    pub start: LinkedList<E>,
+    /// The item with which it finished.
+    pub item: P,
+}
+
+/// The start of the root of a block that the hand claimed.
+pub struct Rooted<E> {
+    pub name: Name,
+    pub start: LinkedList<E>,
+}
+
+/// A scan that the hand makes.
+pub struct Scanning {
+    pub source: SourceRef,
+    /// The number of the place from which it goes on.
+    pub next: u64,
+}
+
+/// A step or a load of the hand: the index of the word, and what was read there, or written by a
+/// store.
+pub struct Seen {
+    pub index: u64,
+    pub word: u64,
+}
+
+/// What one hand knows of its own doings, and what the rule told it at its steps.
+pub struct View<P, E> {
+    /// The hand's number.
+    pub number: u64,
+    /// So many hands were split from this one.
+    pub splits: u64,
+    pub held: LinkedList<Held<E>>,
+    pub owed: LinkedList<Owed<E>>,
+    pub reported: LinkedList<Reported<P, E>>,
+    pub finished: LinkedList<Name>,
+    pub noted: LinkedList<Rooted<E>>,
+    /// The places whose callback it runs, the innermost first.
+    pub runs: LinkedList<Name>,
+    pub scans: LinkedList<Scanning>,
+    /// The places that it armed and hasn't looked after yet.
+    pub unlooked: LinkedList<Name>,
+    /// The places after whose arming it has seen the request.
+    pub seen_after: LinkedList<Name>,
+    /// The sources on which it has seen the request.
+    pub seen: LinkedList<SourceRef>,
+    /// Its associations with the scope: made, in the making, and being refused.
+    pub made: u64,
+    pub making: u64,
+    pub refused: u64,
+    /// Whether it made the scope's request.
+    pub requested: bool,
+    /// So many blocks it claimed, and so many it gave back.
+    pub claimed: u64,
+    pub released: u64,
+    /// It stands for so many hands: for itself, for those joined to it too, or for none once it was
+    /// joined.
+    pub hands: u64,
+    /// Its steps and loads, the newest first.
+    pub steps: LinkedList<Seen>,
+}

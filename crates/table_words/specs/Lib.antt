@@ -1,0 +1,5 @@
+pub mod Stamps
+pub mod Controls
+pub mod Blocks
+pub mod ScopeNumbers
+pub mod Layouts
