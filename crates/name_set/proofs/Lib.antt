@@ -1,0 +1,4 @@
+mod Bits
+pub mod Places
+mod Changes
+mod Empties
