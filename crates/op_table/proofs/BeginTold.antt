@@ -1,0 +1,82 @@
+-- What the two stores of a begin owe and tell, in the contract's words.
+use Rattle.std.proofs.Common.{◌≡◌, ℕ, false, List, Some, sym, ap, subst}
+use Rattle.std.specs.Prelude.{slice_get}
+use Rattle.std.specs.Option.{option_map_or}
+use Rattle.life_rules.specs.declared.words.ControlWord.TheVariants.{Busy}
+use Rattle.life_rules.specs.declared.tree.TreeNode.{TreeNode}
+use Rattle.life_rules.specs.declared.event.Name.{Name}
+use Rattle.life_rules.specs.Tree.{has_source}
+use Rattle.life_rules.specs.Words.{clear}
+use Rattle.life_rules.proofs.Tests.{either}
+use Rattle.table_words.specs.Stamps.{stamp_of}
+use Rattle.table_words.specs.Controls.{control_read, source_read}
+use Rattle.table_words.specs.Layouts.{OfControl, OfSource, index}
+use Rattle.atomic_table.specs.Table.{Allows}
+use Rattle.table_rules.specs.declared.cargo.Cargo.{Ghosts}
+use Rattle.table_rules.specs.declared.frame.Frame.{Frame}
+use Rattle.table_rules.specs.Running.{Running}
+use Rattle.op_table.specs.Claims.{logged, Seated}
+use Rattle.op_table.specs.Slots.{Aim}
+use Rattle.op_table.specs.Begins.{CanBegin, BeginsAt, Renews, IsRenewed}
+use Rattle.op_table.proofs.Begins.{begins_allowed}
+use Rattle.op_table.proofs.Renewing.{renews_allowed}
+
+-- the node that is aimed at, in a table with this frame
+abbrev pub aimed : {O : Type 0} → Frame O → Name → Aim
+aimed f x = record { tree = f.tree; layout = f.layout; name = x }
+
+module _ {P E O : Type 0} (cargo : Ghosts P E O) where
+  -- the hand can begin the node after a step that was listed
+  can-logged : (f : Frame O) (x : Name) (i n : ℕ) (m : Seated P E) → CanBegin cargo f m x →
+      CanBegin cargo f (logged i n m.0, m.1) x
+  can-logged f x i n m can =
+      record {
+        owed = can.owed;
+        owes = can.owes;
+        item = can.item;
+        home = can.home;
+        entry = can.entry;
+        start = can.start;
+        key = can.key;
+        drawn = can.drawn;
+      }
+
+  pub can-renewed : (f : Frame O) (x : Name) (m m' : Seated P E) → IsRenewed (aimed f x) m m' → CanBegin cargo f m x →
+      CanBegin cargo f m' x
+  can-renewed f x m m' renewed can =
+      either (has_source f.tree x.node)
+      (λ t.
+      let did = renewed.0 t in
+      subst (λ z. CanBegin cargo f z x) (sym did.1)
+      (can-logged f x (index f.layout (OfSource x.block x.node)) did.0 m can))
+      (λ none. subst (λ z. CanBegin cargo f z x) (sym (renewed.1 none)) can)
+
+  -- the renewal, by the frame that the table shows
+  pub renews-at : (board f : Frame O) (slots id i value : ℕ) (x : Name) (m : Seated P E) → board ≡ f →
+      i ≡ index board.layout (OfSource x.block x.node) → CanBegin cargo board m x → stamp_of value ≡ x.generation →
+      source_read value ≡ clear → Allows (Running cargo f) slots id m i (λ _. value) (λ _. Renews i m)
+  renews-at board f slots id i value x m same i_is can stamped reads =
+      subst (λ z. Allows (Running cargo z) slots id m i (λ _. value) (λ _. Renews i m)) same
+      (subst (λ j. Allows (Running cargo board) slots id m j (λ _. value) (λ _. Renews j m)) (sym i_is)
+      (renews_allowed cargo board slots id value x can.owed m can.owes stamped reads))
+
+  -- the store, by the frame that the table shows
+  pub begins-at : (board f : Frame O) (slots id i value : ℕ) (x : Name) (aim : Aim) (m : Seated P E) → board ≡ f →
+      i ≡ index board.layout (OfControl x.block x.node) → aim ≡ aimed board x → CanBegin cargo board m x →
+      stamp_of value ≡ x.generation → control_read value ≡ Busy 0 →
+      Allows (Running cargo f) slots id m i (λ _. value) (λ _. BeginsAt cargo aim i m)
+  begins-at board f slots id i value x aim m same i_is aim_is can stamped reads =
+      subst (λ z. Allows (Running cargo z) slots id m i (λ _. value) (λ _. BeginsAt cargo aim i m)) same
+      (subst (λ (z : ℕ × Aim). Allows (Running cargo board) slots id m z.0 (λ _. value) (λ _. BeginsAt cargo z.1 z.0 m))
+      (λ k. (sym i_is k, sym aim_is k))
+      (begins_allowed cargo board slots id value x m can stamped reads))
+
+  pub begins-told : (board : Frame O) (i : ℕ) (x : Name) (aim : Aim) (m m' : Seated P E) →
+      i ≡ index board.layout (OfControl x.block x.node) → aim ≡ aimed board x → BeginsAt cargo aim i m m' →
+      BeginsAt cargo (aimed board x) (index board.layout (OfControl x.block x.node)) m m'
+  begins-told board i x aim m m' i_is aim_is told =
+      subst (λ (z : ℕ × Aim). BeginsAt cargo z.1 z.0 m m') (λ k. (i_is k, aim_is k)) told
+
+-- what the node of this number says of its source
+pub source-is : (tree : List TreeNode) (n : ℕ) (node : TreeNode) → slice_get tree n ≡ Some node → has_source tree n ≡ node.source
+source-is tree n node e = ap (λ o. option_map_or (λ node. node.source) o false) e

@@ -1,0 +1,177 @@
+-- What a hand remembers after it came to owe starts, or a start went.
+use Rattle.std.proofs.Common.{◌≡◌, ℕ, ◌+◌, ◌*◌, ◌/◌, ◌<◌, ◌≤◌, Bool, true, not, ◌&&◌, ◌||◌, List, [], ◌∷◌, refl, sym, ap, ◌∙◌, subst, arith}
+use Rattle.std.specs.Prelude.{Option, Some, None, MatchOption}
+use Rattle.std.proofs.lemmas.Bool.{false_from_ne_true, cond-true, cond-false}
+use Rattle.std.proofs.Math.Nat.{mul-div_cancel_left}
+use Rattle.life_rules.specs.declared.event.Name.{Name}
+use Rattle.life_rules.specs.Views.{one, same, lose}
+use Rattle.life_rules.proofs.Tests.{either, one-is, same-true, same-refl}
+use Rattle.table_words.specs.declared.layout.Layout.{Layout}
+use Rattle.table_words.specs.Layouts.{words_in, places_in}
+use Rattle.atomic_table.specs.declared.shared.Seat.{Seat}
+use Rattle.name_set.specs.Sets.{Marks, has, IsPlaceOf, IsOfItsBlock, IsEmpty, IsLowest}
+use Rattle.name_set.proofs.Places.{had}
+use Rattle.table_rules.specs.declared.view.View.{View}
+use Rattle.table_rules.specs.declared.view.Owed.{Owed}
+use Rattle.table_rules.specs.Named.{count_by, find_by, Each}
+use Rattle.op_table.specs.Owing.{owing, Owes, OwesNoneThere, AreOfItsBlock}
+use Rattle.op_table.specs.Views.{Board, IsPlaceIn}
+use Rattle.op_table.specs.Remembers.{Remembers, ArePlacesOf}
+use Rattle.op_table.proofs.Entries.{found}
+use Rattle.op_table.proofs.Awaiting.{one-apart}
+
+-- the places of a table tell its layout
+pub record AreAlike (l m : Layout) : Type 0 where
+  pub blocks : l.blocks ≡ m.blocks
+  pub nodes : l.nodes ≡ m.nodes
+
+pub alike : (l m : Layout) → 1 ≤ l.blocks → words_in l ≡ words_in m → places_in l ≡ places_in m → AreAlike l m
+alike l m some words places =
+    let blocks : l.blocks ≡ m.blocks = omega (arith, words, places) in
+    let both : l.blocks * l.nodes ≡ l.blocks * m.nodes = places ∙ ap (λ b. b * m.nodes) (sym blocks) in
+    record {
+      blocks = blocks;
+      nodes = sym (mul-div_cancel_left l.nodes {n = l.blocks} (omega (arith, some)))
+          ∙ ap (λ p. p / l.blocks) both ∙ mul-div_cancel_left m.nodes {n = l.blocks} (omega (arith, some));
+    }
+
+-- the table has a word and a home for each place
+pub record IsLaid {O : Type 0} (board : Board O) : Type 0 where
+  pub words : board.table_id.words ≡ words_in board.frame.layout
+  pub slots : board.table_id.slots ≡ places_in board.frame.layout
+
+-- what holds of each entry holds of each name that counts
+counted : {E : Type 0} (Q : Name → Type 0) (owed : List (Owed E)) (x : Name) → Each (λ e. Q e.name) owed →
+    1 ≤ count_by (λ e. e.name) owed x → Q x
+counted Q [] x all some = absurd (omega (arith, some))
+counted Q (e ∷ es) x all some =
+    either (same e.name x)
+    (λ t. subst Q (same-true e.name x t) all.0)
+    (λ f. let none : one (same e.name x) ≡ 0 = ap one f in counted Q es x all.1 (omega (arith, some, none)))
+
+-- a name that counts has an entry
+found-one : {E : Type 0} (owed : List (Owed E)) (x : Name) → 1 ≤ count_by (λ e. e.name) owed x →
+    (e : Owed E) × (find_by (λ e. e.name) owed x ≡ Some e)
+found-one [] x some = absurd (omega (arith, some))
+found-one (e ∷ es) x some =
+    either (same e.name x)
+    (λ t. (e, cond-true (same e.name x) (Some e) (find_by (λ e. e.name) es x) t))
+    (λ f.
+    let none : one (same e.name x) ≡ 0 = ap one f in
+    let more = found-one es x (omega (arith, some, none)) in
+    (more.0, cond-false (same e.name x) (Some e) (find_by (λ e. e.name) es x) f ∙ more.1))
+
+-- a list that counts no name is empty
+empty-list : {E : Type 0} (owed : List (Owed E)) → ((x : Name) → count_by (λ e. e.name) owed x ≡ 0) → owed ≡ []
+empty-list [] none = refl
+empty-list (e ∷ es) none =
+    let here = none e.name in
+    let o : one (same e.name e.name) ≡ 1 = ap one (same-refl e.name) in
+    absurd (omega (arith, here, o))
+
+module _ {P E : Type 0} (seat : Seat (Option P) (View P E)) (set : Marks) (old : Remembers seat set) where
+  abbrev v : View P E
+  v = seat.me.0
+
+  owed-some : (y : Name) → has set y ≡ true → 1 ≤ owing v y
+  owed-some y h = let n = old.names y in let o : one (has set y) ≡ 1 = ap one h in omega (arith, n, o)
+
+  -- the names of a block in the set are of the generation of which the view's are
+  pub of-its_block : (x : Name) → AreOfItsBlock v x → IsOfItsBlock set x
+  of-its_block x all y h = counted (λ z. z.block ≡ x.block → z.generation ≡ x.generation) v.owed y all (owed-some y h)
+
+  pub none-of_block : (x : Name) → OwesNoneThere v x → IsOfItsBlock set x
+  none-of_block x none y h at = absurd (counted (λ z. z.block ≡ x.block → ⊥) v.owed y none (owed-some y h) at)
+
+  -- what is owed is in the set
+  pub has-owed : (x : Name) → Owes v x → has set x ≡ true
+  has-owed x o =
+      let c = (found (λ e. e.name) v.owed x o.owed o.owes).counts in
+      let n = old.names x in
+      one-is (omega (arith, c, n))
+
+  -- and what is in the set is owed
+  pub tells-owed : (o : Option Name) → MatchOption o (IsEmpty set) (IsLowest set) → MatchOption o (v.owed ≡ []) (Owes v)
+  tells-owed None empty = empty-list v.owed (λ x. old.names x ∙ ap one (empty x))
+  tells-owed (Some x) lowest =
+      let f = found-one v.owed x (owed-some x lowest.found) in record { owed = f.0; owes = f.1 }
+
+  module _ {O : Type 0} (board : Board O) (laid : IsLaid board) (table : seat.table_id ≡ board.table_id) where
+    abbrev l : Layout
+    l = board.frame.layout
+
+    words : words_in l ≡ words_in set.layout
+    words = sym laid.words ∙ ap (λ t. t.words) (sym table) ∙ old.words
+
+    slots : places_in l ≡ places_in set.layout
+    slots = sym laid.slots ∙ ap (λ t. t.slots) (sym table) ∙ old.slots
+
+    -- a place of the table is one of the set's
+    pub place-here : (x : Name) → IsPlaceIn board x → IsPlaceOf set.layout x
+    place-here x place =
+        let block = place.block in
+        let a = alike l set.layout (omega (arith, block)) words slots in
+        record { block = subst (λ n. x.block < n) a.blocks block; node = subst (λ n. x.node < n) a.nodes place.node }
+
+    -- and of these nodes of a block
+    pub places-here : (block : ℕ) (nodes : List ℕ) → ArePlacesOf l block nodes → ArePlacesOf set.layout block nodes
+    places-here block nodes places =
+        let within = places.within in
+        let a = alike l set.layout (omega (arith, within)) words slots in
+        record {
+          within = subst (λ n. block < n) a.blocks within;
+          each = λ n named. subst (λ m. n < m) a.nodes (places.each n named);
+        }
+
+    -- what the set has is a place of the table
+    pub place-there : (x : Name) → has set x ≡ true → IsPlaceIn board x
+    place-there x h =
+        let place = (had set x h).place in
+        let block = place.block in
+        let a = alike set.layout l (omega (arith, block)) (sym words) (sym slots) in
+        record { block = subst (λ n. x.block < n) a.blocks block; node = subst (λ n. x.node < n) a.nodes place.node }
+
+    pub tells-place : (o : Option Name) → MatchOption o (IsEmpty set) (IsLowest set) → MatchOption o (Unit {0}) (IsPlaceIn board)
+    tells-place None empty = tt
+    tells-place (Some x) lowest = place-there x lowest.found
+
+  module _ (new : Seat (Option P) (View P E)) (after : Marks) (table : new.table_id ≡ seat.table_id) (layout : after.layout ≡ set.layout) where
+    remembered : ((y : Name) → owing new.me.0 y ≡ one (has after y)) → Remembers new after
+    remembered names =
+        record {
+          words = ap (λ t. t.words) table ∙ old.words ∙ ap words_in (sym layout);
+          slots = ap (λ t. t.slots) table ∙ old.slots ∙ ap places_in (sym layout);
+          names = names;
+        }
+
+    -- names came that weren't owed
+    pub remembers-more : (more : Name → Bool) → ((y : Name) → owing new.me.0 y ≡ owing v y + one (more y)) →
+        ((y : Name) → more y ≡ true → owing v y ≡ 0) → ((y : Name) → has after y ≡ (more y || has set y)) → Remembers new after
+    remembers-more more counts apart is =
+        remembered (λ y.
+        let c = counts y in
+        let n = old.names y in
+        let sum = one-apart (more y) (has set y)
+        (λ t.
+        false_from_ne_true (has set y) (λ h. let none = apart y t in let some = owed-some y h in absurd (omega (arith, none, some)))) in
+        let a : one (has after y) ≡ one (more y || has set y) = ap one (is y) in
+        omega (arith, c, n, sum, a))
+
+    -- a name went
+    pub remembers-less : (x : Name) → has set x ≡ true → ((y : Name) → owing new.me.0 y ≡ lose x (owing v) y) →
+        ((y : Name) → has after y ≡ (not (same x y) && has set y)) → Remembers new after
+    remembers-less x had_it counts is =
+        remembered (λ y.
+        let c = counts y in
+        let n = old.names y in
+        let a : one (has after y) ≡ one (not (same x y) && has set y) = ap one (is y) in
+        either (same x y)
+        (λ t.
+        let o : one (same x y) ≡ 1 = ap one t in
+        let here : one (has set y) ≡ 1 = ap (λ z. one (has set z)) (sym (same-true x y t)) ∙ ap one had_it in
+        let gone : one (not (same x y) && has set y) ≡ 0 = ap (λ b. one (not b && has set y)) t in
+        omega (arith, c, n, a, o, here, gone))
+        (λ f.
+        let o : one (same x y) ≡ 0 = ap one f in
+        let stays : one (not (same x y) && has set y) ≡ one (has set y) = ap (λ b. one (not b && has set y)) f in
+        omega (arith, c, n, a, o, stays)))

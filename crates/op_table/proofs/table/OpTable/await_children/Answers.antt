@@ -1,0 +1,26 @@
+use Rattle.std.proofs.Common.{◌≡◌, length, sym, ap, ◌∙◌, subst}
+use Rattle.op_table.specs.Awaits.{CanAwait}
+use Rattle.op_table.proofs.Remembering.{IsLaid, places-here, of-its_block}
+use Rattle.op_table.proofs.RememberTold.{remembers-awaited, named-places}
+use Rattle.op_table.proofs.table.OpTable.await_children.Goals as goal
+
+pub add_children-requires-clause-places : goal.add_children-requires-clause-places
+add_children-requires-clause-places g c =
+    let b = c.args.self.now in
+    places-here c.hand.inside.seat c.hand.inside.owed c.hand.invariant b
+    (subst IsLaid c.self.view_is (record { words = c.self.invariant.2; slots = c.self.invariant.3 }))
+    (ap (λ s. s.table_id) c.hand.view_is ∙ c.requires.table.table_is) c.args.name.block c.args.children.now
+    (named-places g.P.Cargo b.frame c.args.hand.now.me c.args.name c.args.children.now
+    (subst (λ z. z.frame.layout.nodes ≡ length z.frame.tree) c.self.view_is c.self.invariant.1.nodes)
+    c.requires.place.block c.requires.needs)
+
+pub add_children-requires-clause-generation : goal.add_children-requires-clause-generation
+add_children-requires-clause-generation g c =
+    of-its_block c.hand.inside.seat c.hand.inside.owed c.hand.invariant c.args.name c.await_at.ensures.awaits.beside_it
+
+pub invariant_of-hand : goal.invariant_of-hand
+invariant_of-hand g c =
+    remembers-awaited c.args.self.now c.hand.inside.seat c.await_at.new.seat c.hand.inside.owed c.add_children.new.owed
+    c.hand.invariant c.await_at.ensures.table.0 c.add_children.ensures.layout g.P.Cargo _ c.args.name c.args.children.now
+    (subst (λ s. CanAwait g.P.Cargo c.args.self.now.frame s.me c.args.name c.args.children.now) (sym c.hand.view_is) c.requires.needs)
+    c.await_at.ensures.awaits c.add_children.ensures.added

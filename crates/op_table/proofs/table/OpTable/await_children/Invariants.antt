@@ -1,0 +1,8 @@
+use Rattle.op_table.specs.Views.{aim_at}
+use Rattle.op_table.proofs.table.OpTable.await_children.Given as goal
+
+abbrev pub ghosts-await_at-K-Subject : goal.ghosts-await_at-K-Subject
+ghosts-await_at-K-Subject g a = record { aim = aim_at a.self.now a.name }
+
+abbrev pub ghosts-await_at-J-Naming : goal.ghosts-await_at-J-Naming
+ghosts-await_at-J-Naming g a = record { names = a.children.now }

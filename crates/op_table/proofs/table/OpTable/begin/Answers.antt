@@ -1,0 +1,37 @@
+use Rattle.std.proofs.Common.{sym, ◌∙◌, subst}
+use Rattle.op_table.specs.Views.{aim_at}
+use Rattle.op_table.specs.Begins.{CanBegin, Begins}
+use Rattle.op_table.proofs.BeginTold.{can-renewed}
+use Rattle.op_table.proofs.Remembering.{has-owed}
+use Rattle.op_table.proofs.RememberTold.{remembers-begun}
+use Rattle.op_table.proofs.table.OpTable.begin.Goals as goal
+
+pub begin_at-requires-clause-needs : goal.begin_at-requires-clause-needs
+begin_at-requires-clause-needs g c =
+    λ κs _. can-renewed g.P.Cargo c.args.self.now.frame c.args.name c.hand.inside.seat.me c.renew.new.seat.me
+    c.renew.ensures.renewed
+    (subst (λ s. CanBegin g.P.Cargo c.args.self.now.frame s.me c.args.name) (sym c.hand.view_is) c.requires.needs)
+
+pub remove-requires : goal.remove-requires
+remove-requires g c =
+    let can = subst (λ s. CanBegin g.P.Cargo c.args.self.now.frame s.me c.args.name) (sym c.hand.view_is) c.requires.needs in
+    record {
+      has = has-owed c.hand.inside.seat c.hand.inside.owed c.hand.invariant c.args.name (record { owed = can.owed; owes = can.owes });
+    }
+
+pub invariant_of-hand : goal.invariant_of-hand
+invariant_of-hand g c =
+    let can = subst (λ s. CanBegin g.P.Cargo c.args.self.now.frame s.me c.args.name) (sym c.hand.view_is) c.requires.needs in
+    remembers-begun c.args.self.now c.hand.inside.seat c.begin_at.new.seat c.hand.inside.owed c.remove.new.self c.hand.invariant
+    (c.begin_at.ensures.table.0 ∙ c.renew.ensures.table.0) c.remove.ensures.layout g.P.Cargo _ c.args.name c.renew.new.seat.me
+    (has-owed c.hand.inside.seat c.hand.inside.owed c.hand.invariant c.args.name (record { owed = can.owed; owes = can.owes }))
+    c.renew.ensures.renewed c.begin_at.ensures.begun c.remove.ensures.has
+
+pub returns-clause-begun : goal.returns-clause-begun
+returns-clause-begun g c =
+    subst (λ s. Begins g.P.Cargo (aim_at c.args.self.now c.args.name) s.me c.begin_at.new.seat.me) c.hand.view_is
+    (record {
+      middle = c.renew.new.seat.me;
+      renewed = c.renew.ensures.renewed;
+      began = c.begin_at.ensures.begun;
+    })

@@ -1,0 +1,32 @@
+use Rattle.std.proofs.Common.{arith, sym, ap, ◌∙◌}
+use Rattle.table_words.specs.Layouts.{OfControl, index}
+use Rattle.op_table.proofs.Hands.{hand-aimed}
+use Rattle.op_table.proofs.FinishAllowed.{finishes-at, finishes-told, finished-seated}
+use Rattle.op_table.proofs.table.OpTable.finish_at.Goals as goal
+
+pub store-requires : goal.store-requires
+store-requires g c =
+    let counts = c.self.invariant.2 in
+    let within = c.control-index.ensures.within in (
+      c.requires.table.table_is ∙ sym (ap (λ b. b.table_id) c.self.view_is),
+      omega (arith, counts, within),
+      finishes-at g.P.Cargo c.args.self.now.frame c.self.inside.table.shared.key _ c.args.seat.now.id
+          c.control-index.result c.control_number-done.result c.args.name g.K.Subject.aim c.args.seat.now.me
+          (sym (ap (λ b. b.frame) c.self.view_is) ∙ sym c.self.invariant.0)
+          (c.control-index.ensures.value ∙ ap (λ b. index b.frame.layout (OfControl c.args.name.block c.args.name.node)) c.self.view_is)
+          c.requires.subject c.requires.table.seated c.requires.needs c.control_number-done.ensures.stamp
+          c.control_number-done.ensures.control,
+    )
+
+pub returns-clause-finished : goal.returns-clause-finished
+returns-clause-finished g c =
+    finishes-told g.P.Cargo c.args.self.now.frame c.control-index.result c.args.name g.K.Subject.aim c.args.seat.now.me
+    c.store.new.seat.me
+    (c.control-index.ensures.value ∙ ap (λ b. index b.frame.layout (OfControl c.args.name.block c.args.name.node)) c.self.view_is)
+    c.requires.subject c.store.ensures.2
+
+pub returns-clause-hand : goal.returns-clause-hand
+returns-clause-hand g c =
+    hand-aimed c.args.self.now c.args.seat.now c.store.new.seat c.requires.table c.store.ensures.0 c.args.name
+    g.K.Subject.aim c.requires.subject
+    (λ _. finished-seated g.P.Cargo g.K.Subject.aim c.control-index.result c.args.seat.now.me c.store.new.seat.me c.store.ensures.2)

@@ -1,0 +1,38 @@
+use Rattle.std.proofs.Common.{arith, sym, ap, ◌∙◌, subst}
+use Rattle.table_words.specs.Layouts.{index}
+use Rattle.op_table.specs.Slots.{IsSeated}
+use Rattle.op_table.specs.Sights.{spot_of, looks_at}
+use Rattle.op_table.proofs.Hands.{hand-seated}
+use Rattle.op_table.proofs.LookRuns.{look-at, look-seated}
+use Rattle.op_table.proofs.table.OpTable.look_after.Goals as goal
+
+pub load-word-requires : goal.load-word-requires
+load-word-requires g c =
+    let counts = c.self.invariant.2 in
+    let within = c.source_index-index.ensures.within in (
+      c.requires.table.table_is ∙ sym (ap (λ b. b.table_id) c.self.view_is),
+      omega (arith, counts, within),
+      look-at g.P.Cargo c.args.self.now.frame c.self.inside.table.shared.key _ c.args.seat.now.id
+          c.source_index-index.result c.args.source g.K.Regard.source c.args.after g.K.Regard.after c.args.seat.now.me
+          (sym (ap (λ b. b.frame) c.self.view_is) ∙ sym c.self.invariant.0)
+          (c.source_index-index.ensures.value ∙ ap (λ b. index b.frame.layout (spot_of c.args.source)) c.self.view_is)
+          c.requires.source_is c.requires.after_is c.requires.source.spot c.requires.after,
+    )
+
+pub returns-clause-looked : goal.returns-clause-looked
+returns-clause-looked g c = (
+  c.load-word.result,
+  c.says_requested.ensures,
+  c.load-word.ensures.2
+      ∙ (λ k. looks_at (c.requires.source_is k) (c.requires.after_is k) c.source_index-index.result c.load-word.result c.args.seat.now.me)
+      ∙ ap (λ i. looks_at c.args.source c.args.after i c.load-word.result c.args.seat.now.me)
+      (c.source_index-index.ensures.value ∙ ap (λ b. index b.frame.layout (spot_of c.args.source)) c.self.view_is),
+)
+
+pub returns-clause-hand : goal.returns-clause-hand
+returns-clause-hand g c =
+    let b = c.args.self.now in
+    hand-seated b c.args.seat.now c.load-word.new.seat c.requires.table c.load-word.ensures.0
+    (subst (IsSeated b.frame.tree b.frame.layout) (sym c.load-word.ensures.2)
+    (look-seated b.frame.tree b.frame.layout g.K.Regard.source g.K.Regard.after c.source_index-index.result c.load-word.result
+    c.args.seat.now.me c.requires.table.seated))

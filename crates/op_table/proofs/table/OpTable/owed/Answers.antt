@@ -1,0 +1,16 @@
+use Rattle.std.proofs.Common.{◌≡◌, [], ap, ◌∙◌, subst}
+use Rattle.std.specs.Prelude.{MatchOption}
+use Rattle.op_table.specs.Owing.{Owes}
+use Rattle.op_table.proofs.Remembering.{IsLaid, tells-owed, tells-place}
+use Rattle.op_table.proofs.table.OpTable.owed.Goals as goal
+
+pub returns-clause-owes : goal.returns-clause-owes
+returns-clause-owes g c =
+    subst (λ s. MatchOption c.first.result (s.me.0.owed ≡ []) (Owes s.me.0)) c.hand.view_is
+    (tells-owed c.hand.inside.seat c.hand.inside.owed c.hand.invariant c.first.result c.first.ensures)
+
+pub returns-clause-place : goal.returns-clause-place
+returns-clause-place g c =
+    tells-place c.hand.inside.seat c.hand.inside.owed c.hand.invariant c.args.self.now
+    (subst IsLaid c.self.view_is (record { words = c.self.invariant.2; slots = c.self.invariant.3 }))
+    (ap (λ s. s.table_id) c.hand.view_is ∙ c.requires.table.table_is) c.first.result c.first.ensures

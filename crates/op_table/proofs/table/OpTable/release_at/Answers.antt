@@ -1,0 +1,40 @@
+use Rattle.std.proofs.Common.{arith, sym, ap, ◌∙◌}
+use Rattle.op_table.specs.Claims.{root_name}
+use Rattle.op_table.proofs.Hands.{hand-aimed}
+use Rattle.op_table.proofs.Loads.{left-under}
+use Rattle.op_table.proofs.ReleaseAllowed.{releases-at, releases-told}
+use Rattle.op_table.proofs.table.OpTable.release_at.Goals as goal
+
+pub store-requires : goal.store-requires
+store-requires g c =
+    let counts = c.self.invariant.2 in
+    let within = c.block-index.ensures.within in (
+      c.requires.table.table_is ∙ sym (ap (λ b. b.table_id) c.self.view_is),
+      omega (arith, counts, within),
+      releases-at g.P.Cargo c.args.self.now.frame c.self.inside.table.shared.key _ c.args.seat.now.id
+          c.block-index.result c.block_number-free.result c.args.block.index c.args.block.generation g.K.Subject.aim
+          c.args.seat.now.me (sym (ap (λ b. b.frame) c.self.view_is) ∙ sym c.self.invariant.0) c.block-index.ensures.value
+          c.requires.subject c.requires.table.seated c.requires.needs
+          (c.block_number-free.ensures.reads ∙ c.word_after.ensures),
+    )
+
+pub returns-clause-released : goal.returns-clause-released
+returns-clause-released g c =
+    releases-told g.P.Cargo c.args.self.now.frame c.block-index.result c.args.block.index
+    (root_name c.args.self.now c.args.block.index c.args.block.generation) g.K.Subject.aim c.args.seat.now.me
+    c.store.new.seat.me c.block-index.ensures.value c.requires.subject c.store.ensures.2.0
+
+pub returns-clause-hand : goal.returns-clause-hand
+returns-clause-hand g c =
+    hand-aimed c.args.self.now c.args.seat.now c.store.new.seat c.requires.table c.store.ensures.0
+    (root_name c.args.self.now c.args.block.index c.args.block.generation) g.K.Subject.aim c.requires.subject
+    (λ _. c.store.ensures.2.0.seated)
+
+pub returns-clause-wrote : goal.returns-clause-wrote
+returns-clause-wrote g c =
+    record {
+      word = c.block_number-free.result;
+      reads = c.block_number-free.ensures.reads ∙ c.word_after.ensures;
+      left = left-under c.block-index.result _ c.block_number-free.result c.args.seat.now.me c.store.new.seat.me
+          c.block-index.ensures.value c.store.ensures.2.1;
+    }

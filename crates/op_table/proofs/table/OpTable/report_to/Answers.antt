@@ -1,0 +1,37 @@
+use Rattle.std.proofs.Common.{arith, sym, ap, ◌∙◌}
+use Rattle.table_words.specs.Layouts.{OfControl, index}
+use Rattle.op_table.specs.Readings.{above_it}
+use Rattle.op_table.proofs.Hands.{hand-aimed}
+use Rattle.op_table.proofs.ReportTold.{reports-above, reports-told, reports-seated}
+use Rattle.op_table.proofs.table.OpTable.report_to.Goals as goal
+
+pub fetch_sub-word-requires : goal.fetch_sub-word-requires
+fetch_sub-word-requires g c =
+    let counts = c.self.invariant.2 in
+    let within = c.control-index.ensures.within in
+    let p = c.above-parent.result in (
+      c.requires.table.table_is ∙ sym (ap (λ b. b.table_id) c.self.view_is),
+      omega (arith, counts, within),
+      reports-above g.P.Cargo c.args.self.now.frame c.self.inside.table.shared.key _ c.args.seat.now.id c.control-index.result
+          c.args.child g.J.Subject.aim.name p g.K.Subject.aim g.L.Keyed.overs c.args.seat.now.me c.requires.needs
+          (sym (ap (λ b. b.frame) c.self.view_is) ∙ sym c.self.invariant.0) c.above-parent.ensures.name
+          (c.control-index.ensures.value ∙ ap (λ b. index b.frame.layout (OfControl p.block p.node)) c.self.view_is)
+          c.requires.parent (ap (λ a. a.name) c.requires.child) c.requires.key c.words_are_exact.ensures.control,
+    )
+
+pub returns-clause-reported : goal.returns-clause-reported
+returns-clause-reported g c =
+    let p = c.above-parent.result in
+    reports-told g.P.Cargo c.args.self.now.frame c.self.inside.table.shared.table_id.slots c.control-index.result c.args.child
+    g.J.Subject.aim.name p g.K.Subject.aim g.L.Keyed.overs c.args.seat.now.me c.fetch_sub-word.new.seat.me c.fetch_sub-word.result
+    c.report_of.result c.above-parent.ensures.name
+    (c.control-index.ensures.value ∙ ap (λ b. index b.frame.layout (OfControl p.block p.node)) c.self.view_is)
+    c.requires.parent (ap (λ a. a.name) c.requires.child) c.requires.key c.report_of.ensures.last c.report_of.ensures.others
+    c.fetch_sub-word.ensures.2
+
+pub returns-clause-hand : goal.returns-clause-hand
+returns-clause-hand g c =
+    hand-aimed c.args.self.now c.args.seat.now c.fetch_sub-word.new.seat c.requires.table c.fetch_sub-word.ensures.0
+    (above_it c.args.self.now.frame.tree c.args.child) g.K.Subject.aim c.requires.parent
+    (reports-seated g.P.Cargo g.K.Subject.aim g.J.Subject.aim.name g.L.Keyed.overs c.self.inside.table.shared.table_id.slots
+    c.control-index.result c.args.seat.now.me c.fetch_sub-word.new.seat.me c.fetch_sub-word.result c.fetch_sub-word.ensures.2)

@@ -1,0 +1,47 @@
+-- What a hand remembers of the starts that it owes.
+use Rattle.std.specs.Prelude.{◌≡◌, ℕ, ◌<◌, true, ◌||◌, ◌++◌, List, [], Option}
+use Rattle.std.specs.List.{list_any}
+use Rattle.life_rules.specs.declared.event.Name.{Name}
+use Rattle.life_rules.specs.Views.{one, same, beside}
+use Rattle.table_words.specs.declared.layout.Layout.{Layout}
+use Rattle.table_words.specs.Layouts.{words_in, places_in}
+use Rattle.atomic_table.specs.declared.shared.Seat.{Seat}
+use Rattle.name_set.specs.Sets.{Marks, has, IsOfItsBlock}
+use Rattle.table_rules.specs.declared.view.View.{View}
+use Rattle.table_rules.specs.Named.{Each}
+use Rattle.op_table.specs.Owing.{owing}
+use Rattle.op_table.specs.Awaits.{is_named}
+use Rattle.op_table.specs.Views.{Board, knows}
+
+-- the set is for the places of the seat's table, and has exactly the names whose start the view owes
+pub record Remembers {P E : Type 0} (seat : Seat (Option P) (View P E)) (set : Marks) : Type 0 where
+  pub words : seat.table_id.words ≡ words_in set.layout
+  pub slots : seat.table_id.slots ≡ places_in set.layout
+  pub names : (x : Name) → owing seat.me.0 x ≡ one (has set x)
+
+-- the seat is one of this table's, and owes no start
+pub record OwesNothing {P E O : Type 0} (board : Board O) (seat : Seat (Option P) (View P E)) : Type 0 where
+  pub table_is : seat.table_id ≡ board.table_id
+  pub owed : (knows seat).owed ≡ []
+
+-- these children of x came to the set
+abbrev pub AreAdded : Name → List ℕ → Marks → Marks → Type 0
+AreAdded x children old new =
+    (y : Name) → has new y ≡ (list_any (λ n. same (beside x n) y) children || has old y)
+
+-- these nodes of the block have places
+pub record ArePlacesOf (l : Layout) (block : ℕ) (nodes : List ℕ) : Type 0 where
+  pub within : block < l.blocks
+  pub each : (n : ℕ) → is_named nodes n ≡ true → n < l.nodes
+
+-- of these children of x some are in the set, beside what was there, and these are left
+pub record IsAdding (x : Name) (children left : List ℕ) (old now : Marks) : Type 0 where
+  pub layout : now.layout ≡ old.layout
+  pub of_block : IsOfItsBlock now x
+  pub has_all : (y : Name) → (list_any (λ n. same (beside x n) y) left || has now y)
+      ≡ (list_any (λ n. same (beside x n) y) children || has old y)
+
+-- of these seats the first became hands, and these are left, which owe nothing
+pub record IsHanding {P E O : Type 0} (board : Board O) (seats hands left : List (Seat (Option P) (View P E))) : Type 0 where
+  pub in_order : hands ++ left ≡ seats
+  pub each : Each (OwesNothing board) left

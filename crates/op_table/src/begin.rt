@@ -1,0 +1,75 @@
+//! How a node is begun.
+ghost use Rattle.std.specs.Prelude.{◌≡◌};
+ghost use Rattle.op_table.specs.Views.{IsHandOf, IsSameHand, IsPlaceIn, aim_at};
+ghost use Rattle.op_table.specs.Begins.{CanBegin};
+ghost use Rattle.op_table.specs.Steps.{Renewed, Held, Begun};
+
+use crate::plays::{Beginnings, Renewals, Subject};
+use crate::table::{Hand, OpTable, SeatOf};
+use life_rules::{Bits, ControlWord, Name};
+use std::marker::Brand;
+use table_rules::Cargo;
+use table_words::{control_number, source_number};
+
+impl<P: Cargo> OpTable<P> {
+    /// Begins the node ([exec.opstate], `start`), with the start that the item in its home shows.
+    ///
+    /// Step: one store of the node's control word, idle to held. Before it, where the node has a
+    /// stop source, one store of the source's word, which is clear, at the name's generation.
+    /// Needs: the hand owes the start, and its home has an item. The start that the item shows goes
+    /// on with the parent's, has the table's key, and draws the lot with which the node is owed.
+    /// Afterwards: the hand holds the node, and has its home and the empty homes of its children.
+    /// It has noted the start of a root: where it comes to hold the root again, it knows that this
+    /// is its start.
+    pub fn begin(&self, hand: &mut Hand<P>, name: Name)
+        requires table { IsHandOf self.now hand.old }
+        requires place { IsPlaceIn self.now name }
+        requires needs { CanBegin P.Cargo self.now.frame hand.old.me name }
+        ensures table { IsSameHand hand.old hand.new }
+        ensures hand { IsHandOf self.now hand.new }
+        ensures begun { Begun self.now name hand.old hand.new P.Cargo }
+    {
+        self.renew(&mut hand.seat, name);
+        self.begin_at::<Brand>(&mut hand.seat, name);
+        hand.owed.remove(name);
+    }
+
+    // Writes the source of a node that has one as clear, at the name's generation: no word of the
+    // source was written at it yet, and a request only adds its bit.
+    fn renew(&self, seat: &mut SeatOf<P>, name: Name)
+        requires table { IsHandOf self.now seat.old }
+        requires place { IsPlaceIn self.now name }
+        requires needs { CanBegin P.Cargo self.now.frame seat.old.me name }
+        ensures table { IsSameHand seat.old seat.new }
+        ensures hand { IsHandOf self.now seat.new }
+        ensures renewed { Renewed self.now name seat.old seat.new }
+    {
+        if self.frame.tree.node(name.node).source {
+            let clear = source_number(
+                name.generation,
+                Bits {
+                    requested: false,
+                    failed: false,
+                    scanned: false,
+                },
+            );
+            let index = self.frame.layout.source(name.block, name.node);
+            self.table.shared.store::<Renewals>(seat, index, clear);
+        }
+    }
+
+    // Makes the node held.
+    fn begin_at<K: Subject>(&self, seat: &mut SeatOf<P>, name: Name)
+        requires table { IsHandOf self.now seat.old }
+        requires place { IsPlaceIn self.now name }
+        requires needs { CanBegin P.Cargo self.now.frame seat.old.me name }
+        requires subject { K.aim ≡ aim_at self.now name }
+        ensures table { IsSameHand seat.old seat.new }
+        ensures hand { IsHandOf self.now seat.new }
+        ensures begun { Held self.now name seat.old seat.new P.Cargo }
+    {
+        let held = control_number(name.generation, ControlWord::Busy(0));
+        let index = self.frame.layout.control(name.block, name.node);
+        self.table.shared.store::<Beginnings<K>>(seat, index, held);
+    }
+}

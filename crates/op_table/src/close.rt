@@ -1,0 +1,160 @@
+//! How a table is closed, and what it leaves.
+ghost use Rattle.std.specs.Prelude.{◌≡◌, ◌<◌, ◌≤◌, ◌+◌, []};
+ghost use Rattle.std.specs.Mem.Slots.{slots_items, slots_len, IsFull};
+ghost use Rattle.life_rules.specs.Words.{is_free};
+ghost use Rattle.life_rules.specs.Views.{one};
+ghost use Rattle.life_rules.specs.Scopes.{scope_state};
+ghost use Rattle.table_words.specs.Layouts.{words_in};
+ghost use Rattle.table_rules.specs.ShownWords.{is_retired};
+ghost use Rattle.op_table.specs.Views.{knows};
+ghost use Rattle.op_table.specs.Closings.{TellsOf, AreAllBack, IsClosing, IsCountedBy, IsGathering, gathered};
+
+use crate::plays::{Gathers, Knower};
+use crate::table::{Hand, OpTable, SeatOf};
+use atomic_table::Closed;
+use life_rules::{BlockState, ScopeState, ScopeWord};
+use std::alloc::Global;
+use std::marker::Brand;
+use table_rules::{Cargo, View};
+use table_words::{Layout, SCOPE, read_block, read_scope};
+
+/// What a table leaves.
+#[derive(Clone, Copy, Debug, PartialEq, Eq)]
+pub struct Closing {
+    pub scope: ScopeState,
+    /// So many blocks were free.
+    pub free: u32,
+    /// So many blocks were retired.
+    pub retired: u32,
+}
+
+// What the scope's word says ([exec.scope.simple.counting]).
+fn scope_state(word: ScopeWord) -> ScopeState
+    ensures { result ≡ scope_state word }
+{
+    if word.joined {
+        ScopeState::Joined
+    } else if word.joining {
+        if word.closed {
+            ScopeState::ClosedAndJoining
+        } else {
+            ScopeState::OpenAndJoining
+        }
+    } else if !word.used && word.count == 0 {
+        if word.closed {
+            ScopeState::UnusedAndClosed
+        } else {
+            ScopeState::Unused
+        }
+    } else if word.closed {
+        ScopeState::Closed
+    } else {
+        ScopeState::Open
+    }
+}
+
+// The same with one block more.
+fn with_block(closing: Closing, state: BlockState) -> Closing
+    requires { (closing.free < 256) × (closing.retired < 256) }
+    ensures scope { result.scope ≡ closing.scope }
+    ensures free { result.free ≡ closing.free + one (is_free state) }
+    ensures retired { result.retired ≡ closing.retired + one (is_retired state) }
+{
+    match state {
+        BlockState::Free => Closing {
+            free: closing.free + 1,
+            ..closing
+        },
+        BlockState::Open => closing,
+        BlockState::Retired => Closing {
+            retired: closing.retired + 1,
+            ..closing
+        },
+    }
+}
+
+// What the words of a table that no hand steps on any more tell.
+fn closing_of<S>(closed: &Closed<S, Global>, layout: Layout) -> Closing
+    requires words { IsFull closed.now.words × (slots_len closed.now.words ≡ words_in layout) }
+    requires layout { (layout.blocks ≤ 256) × (layout.nodes ≤ 1025) }
+    ensures { TellsOf layout (slots_items closed.now.words) layout.blocks result }
+{
+    let scope = closed.word(SCOPE);
+    let mut closing = Closing {
+        scope: scope_state(read_scope(scope)),
+        free: 0,
+        retired: 0,
+    };
+    for block in 0..layout.blocks {
+        let index = layout.block(block);
+        let word = closed.word(index);
+        closing = with_block(closing, read_block(word).state);
+    }
+    closing
+}
+
+// Drops the items that lie in the homes, and gives the memory back.
+fn discard<P: Drop>(mut closed: Closed<Option<P>, Global>)
+    requires { IsFull closed.slots }
+{
+    let mut slot = 0;
+    while slot < closed.slot_count() {
+        drop(closed.take(slot));
+        slot += 1;
+    }
+    closed.free();
+}
+
+impl<P: Cargo> OpTable<P> {
+    /// Closes the table, and tells what it leaves: the scope's state, and exactly how many blocks
+    /// are free and how many were retired. A block of neither is open still, as where its operation
+    /// was left at rest. Items that lie in homes are dropped.
+    ///
+    /// Step: for each hand but one a load of the first word, by which it is joined to that one.
+    /// Needs: all hands came back. None holds a node or a finished root, owes a start or a report,
+    /// runs a callback, makes a scan or has an association.
+    /// Afterwards: as many blocks are open still as the hands claimed and didn't give back. So
+    /// where they gave back as many as they claimed, all blocks are free or retired.
+    pub fn close_table(self, hands: Vec<Hand<P>>) -> Closing
+        requires hands { AreAllBack self hands.items }
+        ensures closed { IsClosing P.Cargo self.frame result }
+        ensures within { result.free + result.retired ≤ self.frame.layout.blocks }
+        ensures counted { IsCountedBy self hands.items result }
+    {
+        let all = self.gather(hands);
+        let OpTable { table, frame } = self;
+        let closed = table.close_with(all);
+        let closing = closing_of(&closed, frame.layout);
+        discard(closed);
+        closing
+    }
+
+    // Joins all hands to one.
+    fn gather(&self, mut hands: Vec<Hand<P>>) -> SeatOf<P>
+        requires hands { AreAllBack self.now hands.items }
+        ensures { IsGathering self.now hands.items [] result }
+    {
+        let _some = self.frame.hands;
+        let Some(first) = hands.pop() else {
+            unreachable!()
+        };
+        let mut all = first.into_seat();
+        while let Some(next) = hands.pop() {
+            let seat = next.into_seat();
+            self.join::<Brand>(&mut all, seat);
+        }
+        all
+    }
+
+    // The first hand counts for the other too.
+    fn join<K: Knower<View<P, <P as Cargo>::Entry>>>(&self, all: &mut SeatOf<P>, next: SeatOf<P>)
+        requires table { (all.old.table_id ≡ self.now.table_id) × (next.table_id ≡ self.now.table_id) }
+        requires itself { 1 ≤ (knows all.old).hands }
+        requires slots { next.me.1 ≡ [] }
+        requires knower { K.view ≡ knows next }
+        ensures table { all.new.table_id ≡ all.old.table_id }
+        ensures counts { knows all.new ≡ gathered (knows all.old) (knows next) }
+    {
+        self.table.shared.join_seat::<Gathers<K>>(all, next);
+    }
+}

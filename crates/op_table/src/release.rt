@@ -1,0 +1,68 @@
+//! How a block is given back.
+ghost use Rattle.std.specs.Prelude.{◌≡◌, ◌<◌};
+ghost use Rattle.op_table.specs.Views.{IsHandOf, IsSameHand, aim_at};
+ghost use Rattle.op_table.specs.Claims.{root_name};
+ghost use Rattle.op_table.specs.Releases.{CanReleaseBlock, word_after};
+ghost use Rattle.op_table.specs.Steps.{Released, LeftGivenBack};
+
+use crate::claim::Block;
+use crate::plays::{Releases, Subject};
+use crate::table::{Hand, OpTable, SeatOf};
+use life_rules::{BlockState, BlockWord};
+use std::marker::Brand;
+use table_rules::Cargo;
+use table_words::block_number;
+
+// The word of a block of this generation that is given back: free at the next, or retired after the
+// last.
+fn word_after(generation: u32) -> BlockWord
+    ensures { result ≡ word_after generation }
+{
+    if generation == u32::MAX {
+        BlockWord {
+            generation,
+            state: BlockState::Retired,
+        }
+    } else {
+        BlockWord {
+            generation: generation + 1,
+            state: BlockState::Free,
+        }
+    }
+}
+
+impl<P: Cargo> OpTable<P> {
+    /// Gives the block back: nothing touches it any more, and all its homes are empty.
+    ///
+    /// Step: one store of the block's word, open to free at the next generation, or to retired
+    /// after the last.
+    /// Needs: the hand has the finished root, and its home, which is empty.
+    /// Afterwards: the hand has the root no more, and has given its home back. The word that it
+    /// wrote says that the block is free at the next generation, or retired after the last.
+    pub fn release_step(&self, hand: &mut Hand<P>, block: Block)
+        requires table { IsHandOf self.now hand.old }
+        requires block { block.index < self.now.frame.layout.blocks }
+        requires needs { CanReleaseBlock self.now.frame block.index block.generation hand.old.me }
+        ensures table { IsSameHand hand.old hand.new }
+        ensures hand { IsHandOf self.now hand.new }
+        ensures released { Released self.now block.index block.generation hand.old hand.new }
+        ensures wrote { LeftGivenBack self.now block.index block.generation hand.old hand.new }
+    {
+        self.release_at::<Brand>(&mut hand.seat, block);
+    }
+
+    fn release_at<K: Subject>(&self, seat: &mut SeatOf<P>, block: Block)
+        requires table { IsHandOf self.now seat.old }
+        requires block { block.index < self.now.frame.layout.blocks }
+        requires needs { CanReleaseBlock self.now.frame block.index block.generation seat.old.me }
+        requires subject { K.aim ≡ aim_at self.now (root_name self.now block.index block.generation) }
+        ensures table { IsSameHand seat.old seat.new }
+        ensures hand { IsHandOf self.now seat.new }
+        ensures released { Released self.now block.index block.generation seat.old seat.new }
+        ensures wrote { LeftGivenBack self.now block.index block.generation seat.old seat.new }
+    {
+        let free = block_number(word_after(block.generation));
+        let index = self.frame.layout.block(block.index);
+        self.table.shared.store::<Releases<K>>(seat, index, free);
+    }
+}

@@ -1,0 +1,114 @@
+//! How a child is reported to its parent.
+ghost use Rattle.std.specs.Prelude.{◌≡◌, ◌≢◌, ◌∷◌, []};
+ghost use Rattle.life_rules.specs.Words.{pending};
+ghost use Rattle.table_words.specs.Controls.{control_read};
+ghost use Rattle.op_table.specs.Views.{IsHandOf, IsSameHand, IsPlaceIn, aim_at};
+ghost use Rattle.op_table.specs.Readings.{above_it};
+ghost use Rattle.op_table.specs.declared.report.Report.TheVariants.{Last, Others};
+ghost use Rattle.op_table.specs.Reports.{CanReport, IsReportedAs};
+
+use crate::plays::{Keyed, Reports, Subject};
+use crate::table::{Hand, OpTable, SeatOf};
+use life_rules::{ControlWord, Name};
+use std::marker::Brand;
+use table_rules::Cargo;
+use table_words::{read_control, words_are_exact};
+
+/// What a report found.
+#[derive(Clone, Copy, Debug, PartialEq, Eq)]
+pub enum Report {
+    /// The parent waited for this child alone: the hand holds it now.
+    Last,
+    /// The parent waits for others.
+    Others,
+}
+
+fn pending(control: ControlWord) -> u32
+    ensures { result ≡ pending control }
+{
+    match control {
+        ControlWord::Busy(pending) => pending,
+        ControlWord::Idle
+        | ControlWord::ReadyLoop
+        | ControlWord::ReadyPool
+        | ControlWord::Parked
+        | ControlWord::Done => 0,
+    }
+}
+
+// What the word says that a report read.
+fn report_of(word: u64) -> Report
+    ensures last { result ≡ Last → pending (control_read word) ≡ 1 }
+    ensures others { result ≡ Others → pending (control_read word) ≢ 1 }
+{
+    if pending(read_control(word)) == 1 {
+        Report::Last
+    } else {
+        Report::Others
+    }
+}
+
+impl<P: Cargo> OpTable<P> {
+    // The node's parent; of the root the root.
+    fn above(&self, child: Name) -> Name
+        requires place { IsPlaceIn self.now child }
+        ensures name { result ≡ above_it self.now.frame.tree child }
+        ensures place { IsPlaceIn self.now result }
+    {
+        let _nodes = self.frame.tree.size();
+        match self.frame.tree.node(child.node).parent {
+            Some(parent) => Name {
+                block: child.block,
+                generation: child.generation,
+                node: parent,
+            },
+            None => child,
+        }
+    }
+
+    /// Reports the child, which is done, to its parent. Last exactly where the word that was read
+    /// had one pending.
+    ///
+    /// Step: one subtraction from the parent's control word, one pending less. A store would lose
+    /// the report of another hand between load and store.
+    /// Needs: the hand owes the report, and makes no scan of the parent's source.
+    /// Afterwards: the hand owes the report no more. After the last it holds the parent with the
+    /// start with which it began, and has the item of its home, and the homes of its children, of
+    /// which as many are full as the last await named. That of the child keeps the item with which
+    /// it finished.
+    pub fn report(&self, hand: &mut Hand<P>, child: Name) -> Report
+        requires table { IsHandOf self.now hand.old }
+        requires place { IsPlaceIn self.now child }
+        requires needs { CanReport self.now.frame.tree hand.old.me.0 child }
+        ensures table { IsSameHand hand.old hand.new }
+        ensures hand { IsHandOf self.now hand.new }
+        ensures reported { IsReportedAs P.Cargo self.now.frame child result hand.old.me hand.new.me }
+    {
+        self.report_to::<Brand, Brand, Brand>(&mut hand.seat, child)
+    }
+
+    fn report_to<K: Subject, J: Subject, L: Keyed<P::Over>>(
+        &self,
+        seat: &mut SeatOf<P>,
+        child: Name,
+    ) -> Report
+        requires table { IsHandOf self.now seat.old }
+        requires place { IsPlaceIn self.now child }
+        requires needs { CanReport self.now.frame.tree seat.old.me.0 child }
+        requires parent { K.aim ≡ aim_at self.now (above_it self.now.frame.tree child) }
+        requires child { J.aim ≡ aim_at self.now child }
+        requires key { L.overs ≡ self.now.frame.over.value ∷ [] }
+        ensures table { IsSameHand seat.old seat.new }
+        ensures hand { IsHandOf self.now seat.new }
+        ensures reported { IsReportedAs P.Cargo self.now.frame child result seat.old.me seat.new.me }
+    {
+        words_are_exact();
+        let parent = self.above(child);
+        let index = self.frame.layout.control(parent.block, parent.node);
+        let word = self
+            .table
+            .shared
+            .fetch_sub::<Reports<K, J, L>>(seat, index, 1);
+        report_of(word)
+    }
+}

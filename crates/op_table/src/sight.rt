@@ -1,0 +1,79 @@
+//! Looks at stop sources.
+ghost use Rattle.std.specs.Prelude.{◌≡◌, ◌≤◌, ◌<◌, None};
+ghost use Rattle.life_rules.specs.declared.event.SourceRef.TheVariants.{Scope};
+ghost use Rattle.table_words.specs.Layouts.{IsSpot, index, words_in};
+ghost use Rattle.op_table.specs.Views.{IsHandOf, IsSameHand};
+ghost use Rattle.op_table.specs.Sights.{spot_of, says_requested, IsSourceIn, MayLookAfter, IsLookedAt};
+
+use crate::plays::{Regard, Sights};
+use crate::table::{Hand, OpTable, SeatOf};
+use life_rules::{Name, SourceRef};
+use std::marker::Brand;
+use table_rules::Cargo;
+use table_words::{Layout, SCOPE_SOURCE, read_source, stamp};
+
+// The index of the source's word.
+fn source_index(layout: &Layout, source: SourceRef) -> usize
+    requires blocks { layout.now.blocks ≤ 256 }
+    requires nodes { layout.now.nodes ≤ 1025 }
+    requires spot { IsSpot layout.now (spot_of source) }
+    ensures value { result ≡ index layout.now (spot_of source) }
+    ensures within { result < words_in layout.now }
+{
+    match source {
+        SourceRef::Scope => SCOPE_SOURCE,
+        SourceRef::Node(name) => layout.source(name.block, name.node),
+    }
+}
+
+// The word says that a stop is requested on the source: the scope's always, a node's at its
+// generation.
+fn says_requested(source: SourceRef, word: u64) -> bool
+    ensures { result ≡ says_requested source word }
+{
+    match source {
+        SourceRef::Scope => read_source(word).requested,
+        SourceRef::Node(name) => stamp(word) == name.generation && read_source(word).requested,
+    }
+}
+
+impl<P: Cargo> OpTable<P> {
+    /// Whether a stop is requested on the source ([stopsource], `stop_requested`): the bit of the
+    /// word that was read. Of a source whose operation has ended the answer says nothing.
+    ///
+    /// Step: one load of the source's word.
+    /// Needs: a source of the table. After an arming: this hand armed the place and hasn't looked
+    /// after it yet, and the place's callback is registered on this source.
+    /// Afterwards: the place is looked after. A request that was read is seen, and was read after
+    /// the place was armed.
+    pub fn look_step(&self, hand: &mut Hand<P>, source: SourceRef, after: Option<Name>) -> bool
+        requires table { IsHandOf self.now hand.old }
+        requires source { IsSourceIn self.now source }
+        requires after { MayLookAfter self.now.frame.tree hand.old.me.0 source after }
+        ensures table { IsSameHand hand.old hand.new }
+        ensures hand { IsHandOf self.now hand.new }
+        ensures looked { IsLookedAt self.now source after result hand.old hand.new }
+    {
+        self.look_after::<Brand>(&mut hand.seat, source, after)
+    }
+
+    fn look_after<K: Regard>(
+        &self,
+        seat: &mut SeatOf<P>,
+        source: SourceRef,
+        after: Option<Name>,
+    ) -> bool
+        requires table { IsHandOf self.now seat.old }
+        requires source { IsSourceIn self.now source }
+        requires after { MayLookAfter self.now.frame.tree seat.old.me.0 source after }
+        requires source_is { K.source ≡ source }
+        requires after_is { K.after ≡ after }
+        ensures table { IsSameHand seat.old seat.new }
+        ensures hand { IsHandOf self.now seat.new }
+        ensures looked { IsLookedAt self.now source after result seat.old seat.new }
+    {
+        let index = source_index(&self.frame.layout, source);
+        let word = self.table.shared.load::<Sights<K>>(seat, index);
+        says_requested(source, word)
+    }
+}

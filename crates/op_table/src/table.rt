@@ -1,0 +1,71 @@
+//! The table and its hands.
+use crate::shape::Shape;
+use atomic_table::{Seat, Table, TableRule};
+use name_set::NameSet;
+use std::alloc::Global;
+use std::marker::{Model, PhantomData};
+use table_rules::{Cargo, Frame, View};
+
+/// The rule of a running table.
+pub struct Ruled<P> {
+    cargo: PhantomData<P>,
+}
+
+impl<P: Cargo> TableRule<Option<P>, View<P, P::Entry>, Frame<P::Over>> for Ruled<P> {
+    ghost use Rattle.table_rules.specs.Running.{Running};
+    ghost use Rattle.op_table.specs.Views.{fresh};
+
+    ghost holds = { λ frame. Running P.Cargo frame };
+
+    ghost first = { λ _. fresh 0 };
+}
+
+/// What one thread knows and holds of a table. It has no bytes.
+pub(crate) type SeatOf<P> = Seat<Option<P>, View<P, <P as Cargo>::Entry>>;
+
+/// One of the hands that work on a table. Contracts see its seat: what it knows and holds.
+#[derive(Drop)]
+pub struct Hand<P: Cargo> {
+    pub(crate) seat: SeatOf<P>,
+    // The nodes whose start it owes.
+    pub(crate) owed: NameSet,
+}
+
+impl<P: Cargo> Model for Hand<P> {
+    ghost use Rattle.std.specs.Prelude.{Option};
+    ghost use Rattle.atomic_table.specs.declared.shared.Seat.{Seat};
+    ghost use Rattle.table_rules.specs.declared.view.View.{View};
+    ghost use Rattle.op_table.specs.Remembers.{Remembers};
+
+    ghost Value = { Seat (Option P) (View P P.Entry) };
+
+    ghost view = { λ h. h.seat };
+
+    ghost invariant = { λ h. Remembers h.seat h.owed };
+}
+
+/// A table of operations. Threads share it, and step on it each by its own hand.
+#[derive(Drop)]
+pub struct OpTable<P: Cargo> {
+    pub(crate) table: Table<
+        Option<P>,
+        View<P, <P as Cargo>::Entry>,
+        Frame<<P as Cargo>::Over>,
+        Ruled<P>,
+        Global,
+    >,
+    pub(crate) frame: Shape,
+}
+
+impl<P: Cargo> Model for OpTable<P> {
+    ghost use Rattle.std.specs.Prelude.{◌≡◌};
+    ghost use Rattle.op_table.specs.Views.{Board};
+    ghost use Rattle.op_table.specs.Shapes.{IsShape, frame_of};
+    ghost use Rattle.table_words.specs.Layouts.{words_in, places_in};
+
+    ghost Value = { Board P.Over };
+
+    ghost view = { λ t. record { table_id = t.table.shared.table_id; frame = frame_of t.frame t.table.shared.key } };
+
+    ghost invariant = { λ t. (t.table.shared.key ≡ frame_of t.frame t.table.shared.key) × IsShape t.frame × (t.table.shared.table_id.words ≡ words_in t.frame.layout) × (t.table.shared.table_id.slots ≡ places_in t.frame.layout) };
+}

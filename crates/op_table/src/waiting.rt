@@ -1,0 +1,55 @@
+//! How a node waits for children.
+ghost use Rattle.std.specs.Prelude.{◌≡◌};
+ghost use Rattle.op_table.specs.Views.{IsHandOf, IsSameHand, IsPlaceIn, aim_at};
+ghost use Rattle.op_table.specs.Awaits.{CanAwait};
+ghost use Rattle.op_table.specs.Steps.{Awaited};
+
+use crate::owing::add_children;
+use crate::plays::{Awaits, Naming, Subject};
+use crate::table::{Hand, OpTable, SeatOf};
+use life_rules::{ControlWord, Name};
+use std::marker::Brand;
+use table_rules::Cargo;
+use table_words::control_number;
+
+impl<P: Cargo> OpTable<P> {
+    /// Leaves the node, with the item in its home, until all of these children have reported.
+    ///
+    /// Step: one store of the node's control word, held to busy with so many pending.
+    /// Needs: the hand holds the node, makes no scan of its source, and has read that the children,
+    /// different ones and at least one, haven't begun. The item in the node's home shows the node's
+    /// start, fits, is no completion, and asks for no more children than are named. The homes of
+    /// its children are empty.
+    /// Afterwards: the hand owes the children's starts, with the node's start above them and what
+    /// the item fixes for them, and has their homes. It has given back the node's and the other
+    /// children's.
+    pub fn await_children(&self, hand: &mut Hand<P>, name: Name, children: &[u32])
+        requires table { IsHandOf self.now hand.old }
+        requires place { IsPlaceIn self.now name }
+        requires needs { CanAwait P.Cargo self.now.frame hand.old.me name children.now }
+        ensures table { IsSameHand hand.old hand.new }
+        ensures hand { IsHandOf self.now hand.new }
+        ensures awaits { Awaited self.now name hand.old hand.new P.Cargo children.now }
+    {
+        let _layout = self.frame.layout;
+        self.await_at::<Brand, Brand>(&mut hand.seat, name, children);
+        add_children(&mut hand.owed, name, children);
+    }
+
+    // Makes the node busy.
+    fn await_at<K: Subject, J: Naming>(&self, seat: &mut SeatOf<P>, name: Name, children: &[u32])
+        requires table { IsHandOf self.now seat.old }
+        requires place { IsPlaceIn self.now name }
+        requires needs { CanAwait P.Cargo self.now.frame seat.old.me name children.now }
+        requires subject { K.aim ≡ aim_at self.now name }
+        requires names { J.names ≡ children.now }
+        ensures table { IsSameHand seat.old seat.new }
+        ensures hand { IsHandOf self.now seat.new }
+        ensures awaits { Awaited self.now name seat.old seat.new P.Cargo children.now }
+    {
+        let index = self.frame.layout.control(name.block, name.node);
+        let pending = children.len() as u32;
+        let busy = control_number(name.generation, ControlWord::Busy(pending));
+        self.table.shared.store::<Awaits<K, J>>(seat, index, busy);
+    }
+}
