@@ -1,0 +1,51 @@
+-- What a hand has after it searched for a free block.
+use Rattle.std.proofs.Common.{◌≡◌, inl, inr, ℕ, zero, suc, [], sym, ap, ◌∙◌, subst}
+use Rattle.std.specs.Prelude.{Option, Some, None}
+use Rattle.std.proofs.lemmas.Bool.{cond-true}
+use Rattle.life_rules.specs.declared.event.Name.{Name}
+use Rattle.life_rules.specs.Views.{same}
+use Rattle.life_rules.proofs.Tests.{same-refl}
+use Rattle.atomic_table.specs.declared.shared.Seat.{Seat}
+use Rattle.table_rules.specs.declared.view.View.{View}
+use Rattle.table_rules.specs.declared.view.Owed.{Owed}
+use Rattle.table_rules.specs.Named.{find_by}
+use Rattle.op_table.specs.declared.claim.Block.{Block}
+use Rattle.op_table.specs.Views.{Board}
+use Rattle.op_table.specs.Claims.{Seated, root_name, Missed}
+use Rattle.op_table.specs.Slots.{slot_of, kept}
+use Rattle.op_slot.specs.Searches.{IsMissedBelow, IsFound}
+use Rattle.op_slot.specs.Tends.{IsCalm, Owes}
+use Rattle.op_slot.proofs.Kept.{kept-first}
+
+-- a search leaves a hand that makes no scan so
+module _ {P E O : Type 0} (board : Board O) where
+  missed-calm : (b : ℕ) (old new : Seat (Option P) (View P E)) → Missed board b old new → IsCalm old.me → IsCalm new.me
+  missed-calm b old new missed calm =
+      elim missed [
+        | inl was ↦ ap (λ (z : Seated P E). z.0.scans) was.me_is ∙ calm
+        | inr was ↦ ap (λ (z : Seated P E). z.0.scans) was.me_is ∙ calm
+      ]
+
+  pub searched-calm : (count : ℕ) (old new : Seat (Option P) (View P E)) → IsMissedBelow board count old new → IsCalm old.me → IsCalm new.me
+  searched-calm zero old new missed calm = ap (λ (z : Seated P E). z.0.scans) missed ∙ calm
+  searched-calm (suc b) old new missed calm =
+      missed-calm b missed.0 new missed.2 (searched-calm b old missed.0 missed.1 calm)
+
+  module _ (b : Block) (old new : Seat (Option P) (View P E)) (found : IsFound board b old new) where
+    pub found-calm : IsCalm old.me → IsCalm new.me
+    found-calm calm =
+        ap (λ (z : Seated P E). z.0.scans) found.claimed.me_is ∙ searched-calm b.index old found.middle found.missed calm
+
+    -- the hand owes the root of the block that it found, and the root's home is empty
+    pub found-owes : (x : Name) → x ≡ root_name board b.index b.generation →
+        Owes board.frame x (record { name = x; above = []; lot = [] }) None new.me
+    found-owes x name =
+        let root = root_name board b.index b.generation in
+        let owed : Owed E = record { name = root; above = []; lot = [] } in
+        subst (λ y. Owes board.frame y (record { name = y; above = []; lot = [] }) None new.me) (sym name)
+        (record {
+          owes = ap (λ (z : Seated P E). find_by (λ (e : Owed E). e.name) z.0.owed root) found.claimed.me_is
+              ∙ cond-true (same root root) (Some owed) (find_by (λ (e : Owed E). e.name) found.middle.me.0.owed root) (same-refl root);
+          home = ap (λ (z : Seated P E). kept (slot_of board.frame.layout root) z.1) found.claimed.me_is
+              ∙ kept-first (slot_of board.frame.layout root) None found.middle.me.1;
+        })

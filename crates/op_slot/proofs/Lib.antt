@@ -1,0 +1,12 @@
+pub mod Kept
+pub mod Places
+pub mod Moved
+pub mod Searching
+pub mod Tending
+pub mod Leaving
+pub mod Found
+mod Fan
+mod FanSteps
+mod FanLeaves
+mod FanEnds
+mod Entries

@@ -1,0 +1,36 @@
+-- What a hand carries after it moved what is in one of its homes.
+use Rattle.std.proofs.Common.{◌≡◌, sym, subst}
+use Rattle.std.specs.Prelude.{Option, Some, None}
+use Rattle.life_rules.specs.declared.event.Name.{Name}
+use Rattle.table_rules.specs.declared.cargo.Cargo.{Ghosts}
+use Rattle.table_rules.specs.declared.frame.Frame.{Frame}
+use Rattle.op_table.specs.Claims.{Seated}
+use Rattle.op_table.specs.Begins.{CanBegin}
+use Rattle.op_table.specs.Slots.{slot_of, kept}
+use Rattle.op_table.specs.Sheds.{shed}
+use Rattle.op_table.specs.Releases.{is_own_slot}
+use Rattle.op_table.specs.Swaps.{IsSwapped}
+use Rattle.op_slot.specs.Puts.{IsPut, BeginsThen}
+use Rattle.op_slot.proofs.Kept.{kept-first}
+
+module _ {P E O : Type 0} (f : Frame O) (x : Name) where
+  -- the hand can begin the node with the item
+  pub begins-then : (cargo : Ghosts P E O) (item : P) (m m' : Seated P E) → IsPut f x item m m' → BeginsThen cargo f x item m m'
+  begins-then cargo item m m' put fits =
+      let home = kept-first (slot_of f.layout x) (Some item) (shed (is_own_slot f.layout x) m.1) in
+      subst (λ z. CanBegin cargo f z x) (sym put.me_is)
+      (record {
+        owed = fits.owed;
+        owes = fits.owes;
+        item = item;
+        home = home;
+        entry = fits.entry;
+        start = fits.start;
+        key = fits.key;
+        drawn = fits.drawn;
+      })
+
+-- the home was empty
+pub put-is : {P E O : Type 0} (f : Frame O) (x : Name) (item : P) (old : Option P) (m m' : Seated P E) → IsSwapped f x (Some item) old m m' →
+    kept (slot_of f.layout x) m.1 ≡ Some None → IsPut f x item m m'
+put-is f x item old m m' did home = record { word = did.word; home = home; me_is = did.me_is }

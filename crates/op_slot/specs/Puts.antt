@@ -1,0 +1,51 @@
+-- What a hand needs to put an item into a home, and what moves do to the hand.
+use Rattle.std.specs.Prelude.{◌≡◌, ◌⊎◌, ◌||◌, ◌∷◌, Option, Some, None}
+use Rattle.life_rules.specs.declared.event.Name.{Name}
+use Rattle.table_rules.specs.declared.cargo.Cargo.{Ghosts}
+use Rattle.table_rules.specs.declared.frame.Frame.{Frame}
+use Rattle.table_rules.specs.declared.view.Held.{Held}
+use Rattle.table_rules.specs.declared.view.Owed.{Owed}
+use Rattle.table_rules.specs.Named.{find_by}
+use Rattle.op_table.specs.Claims.{Seated}
+use Rattle.op_table.specs.Begins.{CanBegin}
+use Rattle.op_table.specs.Slots.{slot_of, kept, has_seen}
+use Rattle.op_table.specs.Swaps.{IsSwapped}
+
+module _ {P E O : Type 0} (cargo : Ghosts P E O) (f : Frame O) (m : Seated P E) (x : Name) (item : P) where
+  -- the hand holds the node, and the item shows the node's start and fits, by what the hand has seen of
+  -- requests and was told when it came to hold the node
+  pub record FitsHeld : Type 0 where
+    pub held : Held E
+    pub holds : find_by (λ e. e.name) m.0.held x ≡ Some held
+    pub start : cargo.start item ≡ held.start
+    pub fit : cargo.fits item x.node (has_seen f.tree m.0 x || held.told)
+
+  -- the hand owes the node's start. The start that the item shows goes on with that of the parent, has the
+  -- table's key, and draws the lot with which the node is owed; the root's goes on with nothing, and draws
+  -- nothing. The item fits by what the hand has seen of requests
+  pub record FitsOwed : Type 0 where
+    pub owed : Owed E
+    pub owes : find_by (λ e. e.name) m.0.owed x ≡ Some owed
+    pub entry : E
+    pub start : cargo.start item ≡ entry ∷ owed.above
+    pub key : cargo.key (cargo.start item) ≡ f.over.value
+    pub drawn : cargo.drawn (cargo.start item) ≡ owed.lot
+    pub fit : cargo.fits item x.node (has_seen f.tree m.0 x)
+
+  -- and the node's home is empty
+  pub record CanPut : Type 0 where
+    pub home : kept (slot_of f.layout x) m.1 ≡ Some None
+    pub fits : FitsHeld ⊎ FitsOwed
+
+module _ {P E O : Type 0} (f : Frame O) (x : Name) where
+  -- the item lies in the home, which was empty
+  abbrev pub IsPut : P → Seated P E → Seated P E → Type 0
+  IsPut item m m' = IsSwapped f x (Some item) None m m'
+
+  -- this is what lay in the home, which is empty now
+  abbrev pub IsTakenOut : Option P → Seated P E → Seated P E → Type 0
+  IsTakenOut answer m m' = IsSwapped f x None answer m m'
+
+-- where the hand owes the node's start, it can begin it with the item that it put
+abbrev pub BeginsThen : {P E O : Type 0} → Ghosts P E O → Frame O → Name → P → Seated P E → Seated P E → Type 0
+BeginsThen cargo f x item m m' = FitsOwed cargo f m x item → CanBegin cargo f m' x

@@ -1,0 +1,45 @@
+//! How a block is found, and given back.
+ghost use Rattle.std.specs.Prelude.{◌<◌};
+ghost use Rattle.op_table.specs.Views.{IsHandOf, IsSameHand};
+ghost use Rattle.op_table.specs.Releases.{CanReleaseBlock};
+ghost use Rattle.op_table.specs.Steps.{Released};
+ghost use Rattle.op_slot.specs.Searches.{IsSearched};
+
+use op_table::{Block, Cargo, Hand, OpTable};
+
+/// Claims a free block, the first that it finds from block 0 on: the hand then owes the start of
+/// its root, and has the root's empty home. None only where each block, at its own step of this
+/// call, wasn't free, or was moved by another hand between this hand's load and its exchange.
+///
+/// Step: for each block one load of its word, and where it is free one exchange, free to open.
+pub fn claim_any<P: Cargo>(table: &OpTable<P>, hand: &mut Hand<P>) -> Option<Block>
+    requires table { IsHandOf table.now hand.old }
+    ensures table { IsSameHand hand.old hand.new }
+    ensures hand { IsHandOf table.now hand.new }
+    ensures claimed { IsSearched table.now result hand.old hand.new }
+{
+    for block in 0..table.blocks() {
+        if let Some(claimed) = table.claim(hand, block) {
+            return Some(claimed);
+        }
+    }
+    None
+}
+
+/// Gives the block back. All its homes are empty then, since the homes of a block that isn't open
+/// are. The block is free at the next generation, or retired where the generation was
+/// 4,294,967,295.
+///
+/// Step: one store of the block's word, open to free or to retired.
+/// Needs: the hand has the finished root, and its home, which is empty.
+/// Afterwards: the hand has the root no more, and has given its home back.
+pub fn release<P: Cargo>(table: &OpTable<P>, hand: &mut Hand<P>, block: Block)
+    requires table { IsHandOf table.now hand.old }
+    requires block { block.index < table.now.frame.layout.blocks }
+    requires needs { CanReleaseBlock table.now.frame block.index block.generation hand.old.me }
+    ensures table { IsSameHand hand.old hand.new }
+    ensures hand { IsHandOf table.now hand.new }
+    ensures released { Released table.now block.index block.generation hand.old hand.new }
+{
+    table.release_step(hand, block);
+}

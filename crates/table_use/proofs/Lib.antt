@@ -1,0 +1,5 @@
+mod Nodes
+mod Noted
+mod Opening
+mod Waiting
+mod Ending

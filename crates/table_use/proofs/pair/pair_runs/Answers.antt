@@ -1,0 +1,79 @@
+use Rattle.std.proofs.Common.{◌<◌, arith, refl, sym, subst}
+use Rattle.life_rules.specs.declared.event.Name.{Name}
+use Rattle.std.specs.Prelude.{None}
+use Rattle.table_use.specs.Uses.{OwesNode, OwesDone}
+use Rattle.table_use.proofs.Nodes.{kid-node, pair-kid}
+use Rattle.op_slot.proofs.Tending.{apart-sym}
+use Rattle.table_use.proofs.Opening.{kept-owed, pair-apart}
+use Rattle.table_use.proofs.pair.pair_runs.Goals as goal
+
+pub puts_start-requires-clause-node : goal.puts_start-requires-clause-node
+puts_start-requires-clause-node c =
+    kid-node c.args.table.now c.args.pair c.requires.node 1 (pair-kid c.args.table.now c.args.pair c.requires.node c.requires.pair 1 refl) c.beside-right.result c.beside-right.ensures
+
+pub puts_start-requires-clause-owes : goal.puts_start-requires-clause-owes
+puts_start-requires-clause-owes c =
+    subst (λ (x : Name). OwesNode c.args.table.now.frame x (record (c.in_ok-env.env) { node = 1 }) None c.waits_for_two.new.hand.me) (sym c.beside-right.ensures)
+    c.in_ok-waits_for_two.ensures.right
+
+pub puts_start-requires-2-clause-node : goal.puts_start-requires-2-clause-node
+puts_start-requires-2-clause-node c =
+    kid-node c.args.table.now c.args.pair c.requires.node 0 (pair-kid c.args.table.now c.args.pair c.requires.node c.requires.pair 0 refl) c.beside-left.result c.beside-left.ensures
+
+pub puts_start-requires-2-clause-owes : goal.puts_start-requires-2-clause-owes
+puts_start-requires-2-clause-owes c =
+    kept-owed c.args.table.now c.beside-right.result c.beside-left.result _ None c.waits_for_two.new.hand.me c.puts_start.new.hand.me
+    c.puts_start.ensures.beside
+    (apart-sym c.args.table.now.frame c.beside-left.result c.beside-right.result
+    (pair-apart c.args.table.now c.args.pair c.requires.node c.requires.pair c.beside-left.result c.beside-right.result c.beside-left.ensures c.beside-right.ensures))
+    c.puts_start.ensures.owes.calm
+    (subst (λ (x : Name). OwesNode c.args.table.now.frame x (record (c.in_ok-env.env) { node = 0 }) None c.waits_for_two.new.hand.me) (sym c.beside-left.ensures)
+    c.in_ok-waits_for_two.ensures.left)
+
+pub leaf_runs-requires-clause-node : goal.leaf_runs-requires-clause-node
+leaf_runs-requires-clause-node c =
+    kid-node c.args.table.now c.args.pair c.requires.node 0 (pair-kid c.args.table.now c.args.pair c.requires.node c.requires.pair 0 refl) c.beside-left.result c.beside-left.ensures
+
+pub leaf_runs-requires-clause-leaf : goal.leaf_runs-requires-clause-leaf
+leaf_runs-requires-clause-leaf c =
+    subst (λ (x : Name). x.node < 2) (sym c.beside-left.ensures) (omega arith)
+
+pub leaf_runs-requires-clause-owes : goal.leaf_runs-requires-clause-owes
+leaf_runs-requires-clause-owes c =
+    (_, c.puts_start-2.ensures.owes)
+
+pub reports_first-requires-clause-node : goal.reports_first-requires-clause-node
+reports_first-requires-clause-node c =
+    kid-node c.args.table.now c.args.pair c.requires.node 0 (pair-kid c.args.table.now c.args.pair c.requires.node c.requires.pair 0 refl) c.beside-left.result c.beside-left.ensures
+
+pub reports_first-requires-clause-inner : goal.reports_first-requires-clause-inner
+reports_first-requires-clause-inner c =
+    subst (λ (x : Name). x.node < 3) (sym c.beside-left.ensures) (omega arith)
+
+pub leaf_runs-requires-2-clause-node : goal.leaf_runs-requires-2-clause-node
+leaf_runs-requires-2-clause-node c =
+    kid-node c.args.table.now c.args.pair c.requires.node 1 (pair-kid c.args.table.now c.args.pair c.requires.node c.requires.pair 1 refl) c.beside-right.result c.beside-right.ensures
+
+pub leaf_runs-requires-2-clause-leaf : goal.leaf_runs-requires-2-clause-leaf
+leaf_runs-requires-2-clause-leaf c =
+    subst (λ (x : Name). x.node < 2) (sym c.beside-right.ensures) (omega arith)
+
+pub leaf_runs-requires-2-clause-owes : goal.leaf_runs-requires-2-clause-owes
+leaf_runs-requires-2-clause-owes c =
+    let apart = pair-apart c.args.table.now c.args.pair c.requires.node c.requires.pair c.beside-left.result c.beside-right.result c.beside-left.ensures c.beside-right.ensures in (
+      _,
+      kept-owed c.args.table.now c.beside-left.result c.beside-right.result _ _ c.leaf_runs.new.hand.me c.reports_first.new.hand.me
+          c.in_ok-reports_first.ensures.beside apart c.in_ok-reports_first.ensures.calm
+          (kept-owed c.args.table.now c.beside-left.result c.beside-right.result _ _ c.puts_start-2.new.hand.me c.leaf_runs.new.hand.me
+          c.in_ok-leaf_runs.ensures.beside apart c.in_ok-leaf_runs.ensures.done.calm
+          (kept-owed c.args.table.now c.beside-left.result c.beside-right.result _ _ c.puts_start.new.hand.me c.puts_start-2.new.hand.me
+          c.puts_start-2.ensures.beside apart c.puts_start-2.ensures.owes.calm c.puts_start.ensures.owes)),
+    )
+
+pub reports_last-requires-clause-child : goal.reports_last-requires-clause-child
+reports_last-requires-clause-child c =
+    pair-kid c.args.table.now c.args.pair c.requires.node c.requires.pair 1 refl
+
+pub reports_last-requires-clause-done : goal.reports_last-requires-clause-done
+reports_last-requires-clause-done c =
+    subst (λ (x : Name). OwesDone c.args.table.now.frame x c.leaf_runs-2.new.hand.me) c.beside-right.ensures c.in_ok-leaf_runs-2.ensures.done

@@ -1,0 +1,59 @@
+//! The items of this use, with their starts.
+ghost use Rattle.std.specs.Prelude.{[]};
+ghost use Rattle.table_use.specs.Starts.{start_of, Ends, Fits, least_of, key_of};
+
+use op_slot::Cargo;
+
+/// The plain data of one node of a start.
+pub struct Entry {
+    pub node: u32,
+    /// The number of the record that the operation is for.
+    pub number: u32,
+    /// What the table was opened over.
+    pub step: u32,
+}
+
+/// What a node was started with.
+#[derive(Clone, Copy, Debug, PartialEq, Eq)]
+pub struct Env {
+    pub node: u32,
+    pub number: u32,
+    pub step: u32,
+}
+
+/// What lies in a home.
+#[derive(Drop)]
+pub enum Item {
+    /// The node hasn't gone on yet.
+    Start(Env),
+    /// It waits for its children.
+    Rest(Env),
+    /// It keeps the value of its child.
+    Kept(Env, u64),
+    /// It completed with this value.
+    Done(Env, u64),
+}
+
+impl Cargo for Item {
+    type Entry = Entry;
+
+    type Over = u32;
+
+    ghost start = { start_of };
+
+    ghost ends = { Ends };
+
+    ghost fits = { Fits };
+
+    ghost least = { least_of };
+
+    ghost key = { key_of };
+
+    ghost lot = { λ _. [] };
+
+    ghost drawn = { λ _. [] };
+
+    ghost widens = { λ _ _ fits. fits };
+
+    ghost blames = { λ _ _ _ _ fits. fits };
+}
