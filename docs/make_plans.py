@@ -275,7 +275,7 @@ JOBS = [
         "iota",
         plan_of(then(INPUT, "iota")),
         ["3", "-1"],
-        "The row 0 to x - 1. `out-of-range` below 0 and above 4,096.",
+        "The numbers from 0 to x - 1, as a row. `out-of-range` below 0 and above 4,096.",
     ),
     (
         "sum",
