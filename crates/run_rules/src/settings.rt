@@ -1,5 +1,5 @@
 //! Whether a plan of these settings may be run.
-ghost use Rattle.std.specs.Prelude.{◌≡◌, ◌<◌, true, false, IfSome};
+ghost use Rattle.std.specs.Prelude.{◌≡◌, ◌<◌, true, IfSome};
 ghost use Rattle.life_rules.specs.declared.scope.ScopeKind.{ScopeKind};
 ghost use Rattle.run_rules.specs.PlanTerms.{MayRun, has_stop_rule};
 
@@ -15,7 +15,8 @@ fn has_stop_rule(settings: &Settings) -> bool
 
 /// Whether the records after which a stop is requested are counted from 1.
 fn counts_from_one(after: Option<u32>) -> bool
-    ensures { result ≡ true → IfSome after (λ k. 0 < k) }
+    ensures counts { result ≡ true → IfSome after (λ k. 0 < k) }
+    ensures all { IfSome after (λ k. 0 < k) → result ≡ true }
 {
     match after {
         Some(number) => number > 0,
@@ -25,7 +26,8 @@ fn counts_from_one(after: Option<u32>) -> bool
 
 /// Whether a scope of this kind counts.
 fn counts(scope: ScopeKind) -> bool
-    ensures { result ≡ true → scope ≡ ScopeKind.Counting }
+    ensures counts { result ≡ true → scope ≡ ScopeKind.Counting }
+    ensures all { scope ≡ ScopeKind.Counting → result ≡ true }
 {
     matches!(scope, ScopeKind::Counting)
 }
@@ -33,7 +35,8 @@ fn counts(scope: ScopeKind) -> bool
 /// Whether a plan of these settings may be run: records are counted from 1, and a stop is requested
 /// of a counting scope alone.
 pub fn may_run(settings: &Settings) -> bool
-    ensures { result ≡ true → MayRun settings.now }
+    ensures may { result ≡ true → MayRun settings.now }
+    ensures all { MayRun settings.now → result ≡ true }
 {
     if !counts_from_one(settings.stop_after) {
         return false;
