@@ -22,6 +22,14 @@ pub(crate) fn unmark(bits: &mut [u64], place: usize)
     bits[place / 64] &= !(1u64 << (place % 64));
 }
 
+// Whether the place is marked.
+pub(crate) fn is_marked(bits: &[u64], place: usize) -> bool
+    requires { place < 64 * length bits.now }
+    ensures { result ≡ is_marked bits.now place }
+{
+    (bits[place / 64] >> (place % 64)) & 1 == 1
+}
+
 // The first place that is marked.
 pub(crate) fn first_marked(bits: &[u64]) -> Option<usize>
     requires { length bits.now ≤ 65536 }

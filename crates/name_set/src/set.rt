@@ -4,7 +4,7 @@ ghost use Rattle.life_rules.specs.declared.event.Name.{Name};
 ghost use Rattle.life_rules.specs.Views.{same};
 ghost use Rattle.name_set.specs.Sets.{has, IsEmpty, IsLowest, IsPlaceOf, IsOfItsBlock};
 
-use crate::marks::{first_marked, mark, unmark};
+use crate::marks::{first_marked, is_marked, mark, unmark};
 use life_rules::Name;
 use std::alloc::{AllocError, Global};
 use std::marker::Model;
@@ -68,6 +68,16 @@ impl NameSet {
     {
         let place = self.layout.place(name.block, name.node);
         unmark(self.bits.as_mut_slice(), place);
+    }
+
+    /// Whether the set has the name.
+    pub fn contains(&self, name: Name) -> bool
+        requires place { IsPlaceOf self.now.layout name }
+        ensures { result ≡ has self.now name }
+    {
+        let place = self.layout.place(name.block, name.node);
+        is_marked(self.bits.as_slice(), place)
+            && self.generations[name.block as usize] == name.generation
     }
 
     /// The name of the lowest place that the set has. None exactly where it is empty.

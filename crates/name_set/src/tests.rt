@@ -74,3 +74,24 @@ fn a_block_has_names_of_another_generation_after_the_last_went(
     assert_eq!(rt; take(&mut set), Some(later));
     Ok(())
 }
+
+#[test]
+fn a_set_contains_what_was_added_until_it_went(rt: HostRuntime) -> Result<(), Fail> {
+    let mut set = for_three_blocks(rt.alloc())?;
+    let name = Name {
+        block: 2,
+        generation: 7,
+        node: 64,
+    };
+    let beside = Name { node: 63, ..name };
+    let earlier = Name {
+        generation: 6,
+        ..name
+    };
+    assert!(rt; !set.contains(name));
+    set.insert(name);
+    assert!(rt; set.contains(name) && !set.contains(beside) && !set.contains(earlier));
+    assert_eq!(rt; take(&mut set), Some(name));
+    assert!(rt; !set.contains(name));
+    Ok(())
+}

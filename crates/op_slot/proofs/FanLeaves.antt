@@ -35,13 +35,14 @@ module _ {P O : Type 0} (cargo : Ghosts P (Unit {0}) O) (board : Board O) (root 
     leaf-begins key drawn =
         record {
           owed = _;
-          owes = full.2.owes;
+          owes = full.3.owes;
           item = full.0;
-          home = full.2.home;
+          home = full.3.home;
           entry = tt;
           start = full.1;
           key = key;
           drawn = drawn;
+          goes_on = full.2;
         }
 
     module _ (began : Begins cargo (aimed board.frame x) m m1) where
@@ -49,7 +50,7 @@ module _ {P O : Type 0} (cargo : Ghosts P (Unit {0}) O) (board : Board O) (root 
       leaf_held = held_as x (cargo.start full.0) 0 began.began.told began.began.told_children None
 
       leaf-begun : Tends board.frame x leaf_held (Some full.0) (λ _. None) m1
-      leaf-begun = begun-tends cargo board.frame x m m1 began _ full.0 (leaf-places board root x leaf) full.2
+      leaf-begun = begun-tends cargo board.frame x m m1 began _ full.0 (leaf-places board root x leaf) full.3
 
       pub leaf-held : Holds m1.0 x
       leaf-held = record { held = leaf_held; holds = leaf-begun.holds }

@@ -23,17 +23,18 @@ module _ {P O : Type 0} (cargo : Ghosts P (Unit {0}) O) (board : Board O) (root 
   -- the hand has begun the root with this item
   pub begun-root : (item : P) (owed : Owed (Unit {0})) (m m' : Seated P (Unit {0})) → Begins cargo (aimed board.frame root) m m' →
       IsCalm m → Owes board.frame root owed (Some item) m → cargo.start item ≡ tt ∷ [] → cargo.lot item ≡ [] →
-      ¬ cargo.ends item → HasRoot cargo board.frame root m'
-  begun-root item owed m m' did calm has single lot goes_on =
+      HasRoot cargo board.frame root m'
+  begun-root item owed m m' did calm has single lot =
+      let tends = begun-tends cargo board.frame root m m' did owed item (fan-places board root is) has in
       record {
         calm = begun-calm cargo board.frame root m m' did calm;
         held = _;
         item = item;
-        tends = begun-tends cargo board.frame root m m' did owed item (fan-places board root is) has;
+        tends = tends;
         start = refl;
         single = single;
         lot = lot;
-        goes_on = goes_on;
+        goes_on = did.goes_on item tends.own;
       }
 
   -- after it read both leaves as not begun it can await them

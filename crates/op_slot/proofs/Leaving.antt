@@ -38,12 +38,22 @@ module _ {P E O : Type 0} (f : Frame O) (x : Name) (m : Seated P E) where
   pub owes-home : (owed : Owed E) (inside : Option P) → Owes f x owed inside m → HasHome f.layout m x
   owes-home owed inside has = record { inside = inside; home = has.home }
 
-  -- an item fits that goes on with the parent's start, has the table's key and draws the lot
+  -- an item fits that is no completion, goes on with the parent's start, has the table's key and draws the lot
   pub owes-fits : (cargo : Ghosts P E O) (item : P) (inside : Option P) (owed : Owed E) → Owes f x owed inside m → (entry : E) →
       cargo.start item ≡ entry ∷ owed.above → cargo.key (cargo.start item) ≡ f.over.value →
-      cargo.drawn (cargo.start item) ≡ owed.lot → cargo.fits item x.node (has_seen f.tree m.0 x) → FitsOwed cargo f m x item
-  owes-fits cargo item inside owed has entry start key drawn fit =
-      record { owed = owed; owes = has.owes; entry = entry; start = start; key = key; drawn = drawn; fit = fit }
+      cargo.drawn (cargo.start item) ≡ owed.lot → cargo.fits item x.node (has_seen f.tree m.0 x) → ¬ cargo.ends item →
+      FitsOwed cargo f m x item
+  owes-fits cargo item inside owed has entry start key drawn fit goes_on =
+      record {
+        owed = owed;
+        owes = has.owes;
+        entry = entry;
+        start = start;
+        key = key;
+        drawn = drawn;
+        fit = fit;
+        goes_on = goes_on;
+      }
 
   -- and can put an item that fits into it, where it is empty
   pub owes-puts : (cargo : Ghosts P E O) (item : P) (owed : Owed E) → Owes f x owed None m → FitsOwed cargo f m x item → CanPut cargo f m x item

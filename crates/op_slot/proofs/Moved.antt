@@ -28,6 +28,7 @@ module _ {P E O : Type 0} (f : Frame O) (x : Name) where
         start = fits.start;
         key = fits.key;
         drawn = fits.drawn;
+        goes_on = fits.goes_on;
       })
 
 -- the home was empty

@@ -70,9 +70,10 @@ module _ {P O : Type 0} (cargo : Ghosts P (Unit {0}) O) (f : Frame O) where
     pub lot : cargo.lot item ≡ []
     pub goes_on : ¬ cargo.ends item
 
-  -- the hand owes the leaf with an item that shows a leaf's start
+  -- the hand owes the leaf with an item that shows a leaf's start, and is no completion
   abbrev pub OwesFull : Name → Seated P (Unit {0}) → Type 0
-  OwesFull x m = (item : P) × (cargo.start item ≡ tt ∷ tt ∷ []) × Owes f x (leaf_owed x) (Some item) m
+  OwesFull x m =
+      (item : P) × (cargo.start item ≡ tt ∷ tt ∷ []) × (¬ cargo.ends item) × Owes f x (leaf_owed x) (Some item) m
 
 module _ {P O : Type 0} (board : Board O) (m : Seated P (Unit {0})) where
   -- the same by the number of the root's block

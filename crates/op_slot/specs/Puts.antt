@@ -22,7 +22,7 @@ module _ {P E O : Type 0} (cargo : Ghosts P E O) (f : Frame O) (m : Seated P E) 
 
   -- the hand owes the node's start. The start that the item shows goes on with that of the parent, has the
   -- table's key, and draws the lot with which the node is owed; the root's goes on with nothing, and draws
-  -- nothing. The item fits by what the hand has seen of requests
+  -- nothing. The item fits by what the hand has seen of requests, and is no completion
   pub record FitsOwed : Type 0 where
     pub owed : Owed E
     pub owes : find_by (λ e. e.name) m.0.owed x ≡ Some owed
@@ -31,6 +31,7 @@ module _ {P E O : Type 0} (cargo : Ghosts P E O) (f : Frame O) (m : Seated P E) 
     pub key : cargo.key (cargo.start item) ≡ f.over.value
     pub drawn : cargo.drawn (cargo.start item) ≡ owed.lot
     pub fit : cargo.fits item x.node (has_seen f.tree m.0 x)
+    pub goes_on : ¬ cargo.ends item
 
   -- and the node's home is empty
   pub record CanPut : Type 0 where

@@ -1,8 +1,8 @@
 //! How a block is found, and given back.
 ghost use Rattle.std.specs.Prelude.{◌<◌};
 ghost use Rattle.op_table.specs.Views.{IsHandOf, IsSameHand};
-ghost use Rattle.op_table.specs.Releases.{CanReleaseBlock};
-ghost use Rattle.op_table.specs.Steps.{Released};
+ghost use Rattle.op_table.specs.Releases.{CanReleaseBlock, StayEmpty};
+ghost use Rattle.op_table.specs.Steps.{Released, LeftGivenBack, LeftAllEmpty};
 ghost use Rattle.op_slot.specs.Searches.{IsSearched};
 
 use op_table::{Block, Cargo, Hand, OpTable};
@@ -26,13 +26,14 @@ pub fn claim_any<P: Cargo>(table: &OpTable<P>, hand: &mut Hand<P>) -> Option<Blo
     None
 }
 
-/// Gives the block back. All its homes are empty then, since the homes of a block that isn't open
-/// are. The block is free at the next generation, or retired where the generation was
-/// 4,294,967,295.
+/// Gives the block back. It is free at the next generation then, or retired where the generation
+/// was 4,294,967,295.
 ///
 /// Step: one store of the block's word, open to free or to retired.
 /// Needs: the hand has the finished root, and its home, which is empty.
-/// Afterwards: the hand has the root no more, and has given its home back.
+/// Afterwards: the hand has the root no more, and has given its home back. The word that it wrote
+/// says that the block is free, or retired. In the table that the step left all homes of the block
+/// are empty, and they stay so as long as it isn't open.
 pub fn release<P: Cargo>(table: &OpTable<P>, hand: &mut Hand<P>, block: Block)
     requires table { IsHandOf table.now hand.old }
     requires block { block.index < table.now.frame.layout.blocks }
@@ -40,6 +41,9 @@ pub fn release<P: Cargo>(table: &OpTable<P>, hand: &mut Hand<P>, block: Block)
     ensures table { IsSameHand hand.old hand.new }
     ensures hand { IsHandOf table.now hand.new }
     ensures released { Released table.now block.index block.generation hand.old hand.new }
+    ensures wrote { LeftGivenBack table.now block.index block.generation hand.old hand.new }
+    ensures empty { LeftAllEmpty table.now block.index block.generation hand.new P.Cargo }
+    ensures stay { StayEmpty P.Cargo table.now.frame block.index }
 {
     table.release_step(hand, block);
 }

@@ -11,8 +11,9 @@ use op_table::{Cargo, Hand, OpTable};
 /// Step: one load of the node's control word, by which the hand turns to the home. The move itself
 /// is no step: no other hand sees a home that this hand has.
 /// Needs: the hand has the home, which is empty. It holds the node, and the item shows the node's
-/// start; or it owes the node's start, and the start that the item shows goes on with the parent's,
-/// has the table's key and draws the lot with which the node is owed. The item fits the node.
+/// start; or it owes the node's start, and the item is no completion, and the start that it shows
+/// goes on with the parent's, has the table's key and draws the lot with which the node is owed.
+/// The item fits the node.
 /// Afterwards: the item lies in the home. Where the hand owes the node's start, it can begin it
 /// now.
 pub fn put_home<P: Cargo>(table: &OpTable<P>, hand: &mut Hand<P>, name: Name, item: P)

@@ -1,5 +1,5 @@
 -- What the store by which a node awaits children owes, and what it tells.
-use Rattle.std.proofs.Common.{◌≡◌, ℕ, ◌≤◌, Bool, true, false, not, ◌||◌, List, [], length, set, refl, sym, ap, ◌∙◌, subst, inr}
+use Rattle.std.proofs.Common.{◌≡◌, ℕ, ◌≤◌, Bool, true, false, not, ◌||◌, List, [], length, set, refl, sym, ap, ◌∙◌, subst, inr, arith}
 use Rattle.std.specs.Prelude.{Option, MatchOption}
 use Rattle.std.proofs.lemmas.Bool.{both_ways}
 use mathlib.Core.Option.{some}
@@ -36,7 +36,7 @@ use Rattle.op_table.proofs.Among.{among}
 use Rattle.op_table.proofs.Loads.{known-logged}
 use Rattle.op_table.proofs.Counts.{counts-moved}
 use Rattle.op_table.proofs.ViewMoves.{views-moved}
-use Rattle.op_table.proofs.ControlRuns.{control-runs}
+use Rattle.op_table.proofs.ControlRuns.{begun-renewed, control-runs}
 use Rattle.op_table.proofs.BeginTold.{aimed}
 use Rattle.op_table.proofs.HeldNow.{start-so, fit-now, others-none}
 use Rattle.op_table.proofs.Shedding.{sheds, carries-shed, deep-shed}
@@ -178,14 +178,16 @@ module _ {P E O : Type 0} (cargo : Ghosts P E O) (f : Frame O) (s : table.State 
           counts = counts-moved here.state after.state s.views id v mine at refl refl r.stands.counts;
         }
 
-    pub await-runs : Running cargo f record {
+    pub await-runs : stamp_of n ≤ stamp_of value → Running cargo f record {
       words = set s.words i value;
       homes = shed_homes cargo f s id v c r at seated (gone cargo f s id x nodes v c r at seated can);
       views = set s.views id mine;
     }
-    await-runs =
-        control-runs cargo f s id value x (Busy (length nodes)) v r at (is-held cargo f s id x v c r at seated can.leave).live stamped reads mine view_now shows-mine
+    await-runs low =
+        let own = is-held cargo f s id x v c r at seated can.leave in
+        control-runs cargo f s id value x (Busy (length nodes)) v r at own.live stamped reads mine view_now shows-mine
         (shed_homes cargo f s id v c r at seated (gone cargo f s id x nodes v c r at seated can)) homes_after_it past_now (λ j m. refl)
+        (begun-renewed cargo f s x r own.live (ap is_idle own.word)) (record { word = n; steps = refl; low = low })
         (deep-shed (gone cargo f s id x nodes v c r at seated can) s.homes c) stands-awaiting
 
 -- what the store owes
@@ -203,7 +205,7 @@ awaits_allowed {P} {E} cargo f slots id value x nodes m seated can stamped reads
       mine,
       sheds away c,
       valid-shed cargo f s id m.0 c r at seated away,
-      await-runs cargo f s id value x nodes m.0 c r at seated can stamped reads n,
+      await-runs cargo f s id value x nodes m.0 c r at seated can stamped reads n (omega arith),
       record {
         word = n;
         item = can.item;

@@ -8,7 +8,7 @@ use lib.ListN.{get_elem?}
 use Rattle.life_rules.specs.declared.words.ControlWord.TheVariants.{Busy}
 use Rattle.life_rules.specs.declared.tree.TreeNode.{TreeNode}
 use Rattle.life_rules.specs.declared.event.Name.{Name}
-use Rattle.life_rules.specs.Tree.{is_root, is_child, parent_of}
+use Rattle.life_rules.specs.Tree.{is_root, is_child, parent_of, has_source}
 use Rattle.life_rules.specs.Views.{View as PureView, beside}
 use Rattle.life_rules.specs.States.{State}
 use Rattle.life_rules.specs.Callbacks.{nearest_is_requested}
@@ -20,7 +20,7 @@ use Rattle.life_kept.proofs.Puts.{put}
 use Rattle.life_kept.proofs.Begin.{sound-begin}
 use Rattle.table_words.specs.Stamps.{stamp_of}
 use Rattle.table_words.specs.Controls.{control_read}
-use Rattle.table_words.specs.Layouts.{OfControl, index, place_number}
+use Rattle.table_words.specs.Layouts.{OfControl, OfSource, index, place_number}
 use Rattle.table_words.proofs.Spots.{place-within}
 use Rattle.atomic_table.specs.Table.{Allows, homes_after}
 use Rattle.atomic_table.specs.Table as table
@@ -29,18 +29,19 @@ use Rattle.table_rules.specs.declared.frame.Frame.{Frame}
 use Rattle.table_rules.specs.declared.view.View.{View}
 use Rattle.table_rules.specs.declared.view.Owed.{Owed}
 use Rattle.table_rules.specs.Named.{count_by, Each}
-use Rattle.table_rules.specs.ShownWords.{block_of, is_there}
+use Rattle.table_rules.specs.ShownWords.{block_of, word_of, is_there}
 use Rattle.table_rules.specs.ShownViews.{shown_view}
 use Rattle.table_rules.specs.Scenes.{Out, Empty, home_in, Scene, shown, scene}
 use Rattle.table_rules.specs.Notes.{IsOwedSo, children_are_requested}
 use Rattle.table_rules.specs.Running.{Stands, Running}
 use Rattle.op_table.specs.Claims.{logged, Seated}
 use Rattle.op_table.specs.Slots.{slot_of, kids_of, kept, IsSeated}
-use Rattle.op_table.specs.Begins.{begins, CanBegin, BeginsAt, start_shown}
+use Rattle.op_table.specs.Begins.{begins, CanBegin, HasRenewed, BeginsAt, start_shown}
 use Rattle.op_table.proofs.Entries.{each-map, each-both, found, each-found}
 use Rattle.op_table.proofs.Seats.{at_within}
 use Rattle.op_table.proofs.Among.{among}
 use Rattle.op_table.proofs.Loads.{known-logged}
+use Rattle.op_table.proofs.Stamping.{newest-risen}
 use Rattle.op_table.proofs.Counts.{counts-moved}
 use Rattle.op_table.proofs.ViewMoves.{view-here, views-moved}
 use Rattle.op_table.proofs.ControlRuns.{place_of, place-live, name-live, control-runs}
@@ -75,7 +76,7 @@ kids-tested tree p m =
     (λ t. ap (λ b. b && is_child tree p m) (lt-ltb m (length tree) (child-within tree p m t)))
     (λ n. ap (λ b. nat_lt m (length tree) && b) n ∙ none-and (nat_lt m (length tree)) ∙ sym n)
 
-module _ {P E O : Type 0} (cargo : Ghosts P E O) (f : Frame O) (s : table.State (Option P) (View P E)) (id value : ℕ) (x : Name) (v : View P E) (c : List (ℕ × Option P)) (r : Running cargo f s) (at : get_elem? s.views id ≡ some v) (can : CanBegin cargo f (v, c) x) (stamped : stamp_of value ≡ x.generation) (reads : control_read value ≡ Busy 0) where
+module _ {P E O : Type 0} (cargo : Ghosts P E O) (f : Frame O) (s : table.State (Option P) (View P E)) (id value : ℕ) (x : Name) (v : View P E) (c : List (ℕ × Option P)) (r : Running cargo f s) (at : get_elem? s.views id ≡ some v) (can : CanBegin cargo f (v, c) x) (renewed : HasRenewed (record { tree = f.tree; layout = f.layout; name = x }) (v, c)) (stamped : stamp_of value ≡ x.generation) (reads : control_read value ≡ Busy 0) where
   abbrev now : State
   now = shown f s
 
@@ -168,18 +169,34 @@ module _ {P E O : Type 0} (cargo : Ghosts P E O) (f : Frame O) (s : table.State 
           counts = counts-moved here.state after.state s.views id v mine at refl refl r.stands.counts;
         }
 
-    pub begin-runs : Running cargo f record {
+    -- the renewal of the node's source still stands
+    renewed-now : has_source f.tree x.node ≡ true → stamp_of (word_of f.layout s.words (OfSource x.block x.node)) ≡ (block_of f.layout s.words x.block).generation
+    renewed-now has =
+        let did = renewed has in
+        let i = index f.layout (OfSource x.block x.node) in
+        let l = lives now x (x-live now id x may) in
+        let n = l.node in
+        let e = r.frame.nodes in
+        let least = newest-risen f.layout s.words s.views id v (record { index = i; word = did.0 }) did.1 at did.3 r.stamped.rises
+        (OfSource x.block x.node) (l.block, omega (arith, n, e)) refl in
+        let most = r.stamped.source x.block x.node l.block (omega (arith, n, e)) in
+        let stamp = did.2 in
+        let own = l.generation in
+        omega (arith, least, most, stamp, own)
+
+    pub begin-runs : stamp_of n ≤ stamp_of value → Running cargo f record {
       words = set s.words i value;
       homes = homes_after s.homes c (take_each f.layout x.block kids);
       views = set s.views id mine;
     }
-    begin-runs =
+    begin-runs low =
         let old = block_of f.layout s.words in
         control-runs cargo f s id value x (Busy 0) v r at (x-live now id x may) stamped reads mine
         (beginning x (now.view id)) (begins-shown old root x start told told_kids v ∙ ap (beginning x) (sym shows))
         (homes_after s.homes c (take_each f.layout x.block kids)) after.home after.past
         (λ j m. each-out f.layout s.homes c r.sized.homes x.block place-b kids kids-within j m
         ∙ ap (λ b. cond (j == x.block && b) Out (home_of_place f.layout s.homes j m)) (kid-test m))
+        renewed-now (record { word = n; steps = refl; low = low })
         (deep-after f.layout s.homes c r.sized.homes x.block place-b kids ∙ sym r.sized.homes) stands-begun
 
   kids-home : Each (λ n. get_elem? s.homes (place_number f.layout x.block n) ≡ some (some None)) kids
@@ -209,7 +226,7 @@ module _ {P E O : Type 0} (cargo : Ghosts P E O) (f : Frame O) (s : table.State 
         take_each f.layout x.block kids,
         each-valid f.layout s.homes c r.sized.homes x.block place-b kids kids-within
             (kids-descend f.tree x.node (length f.tree)) kids-empty,
-        begin-runs told told_kids (λ t. t) (λ t. t) n,
+        begin-runs told told_kids (λ t. t) (λ t. t) n (omega arith),
         record {
           word = n;
           told = told;
@@ -223,8 +240,9 @@ module _ {P E O : Type 0} (cargo : Ghosts P E O) (f : Frame O) (s : table.State 
 
 -- what the store owes
 pub begins_allowed : {P E O : Type 0} (cargo : Ghosts P E O) (f : Frame O) (slots id value : ℕ) (x : Name) (m : Seated P E) →
-    CanBegin cargo f m x → stamp_of value ≡ x.generation → control_read value ≡ Busy 0 →
+    CanBegin cargo f m x → HasRenewed (record { tree = f.tree; layout = f.layout; name = x }) m → stamp_of value ≡ x.generation →
+    control_read value ≡ Busy 0 →
     Allows (Running cargo f) slots id m (index f.layout (OfControl x.block x.node)) (λ _. value)
     (λ _. BeginsAt cargo (record { tree = f.tree; layout = f.layout; name = x }) (index f.layout (OfControl x.block x.node)) m)
-begins_allowed cargo f slots id value x m can stamped reads s r deep at small =
-    begins-now cargo f s id value x m.0 m.1 r at can stamped reads
+begins_allowed cargo f slots id value x m can renewed stamped reads s r deep at small =
+    begins-now cargo f s id value x m.0 m.1 r at can renewed stamped reads

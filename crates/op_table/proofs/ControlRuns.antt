@@ -1,20 +1,22 @@
 -- A step that writes a node's control word at the node's generation keeps the rule where the scene that
 -- the words, views and homes then show does.
-use Rattle.std.proofs.Common.{◌≡◌, ℕ, ◌<◌, ◌≤◌, true, false, not, ◌&&◌, ◌==◌, cond, List, length, set, refl, sym, ap, ◌∙◌, subst, arith, length-set}
+use Rattle.std.proofs.Common.{◌≡◌, ℕ, ◌^◌, ◌<◌, ◌≤◌, true, false, not, ◌&&◌, ◌==◌, cond, List, length, set, refl, sym, ap, ◌∙◌, subst, arith, length-set}
 use Rattle.std.specs.Prelude.{Option}
-use Rattle.std.proofs.lemmas.Bool.{and_parts, and_from, both_ways, eqb-true, eq-eqb, lt-ltb}
+use Rattle.std.proofs.lemmas.Bool.{and_parts, and_from, both_ways, cond-true, cond-false, eqb-true, eq-eqb, lt-ltb}
 use mathlib.Core.Option.{some}
 use mathlib.Core.Option as maybe
 use lib.ListN.{get_elem?}
 use Rattle.life_rules.specs.declared.words.BlockState.{BlockState}
 use Rattle.life_rules.specs.declared.words.BlockState.TheVariants.{Free, Open, Retired}
 use Rattle.life_rules.specs.declared.words.ControlWord.{ControlWord}
+use Rattle.life_rules.specs.declared.words.ControlWord.TheVariants.{Idle}
 use Rattle.life_rules.specs.declared.words.CallbackPhase.TheVariants.{Never}
 use Rattle.life_rules.specs.declared.event.Name.{Name}
 use Rattle.life_rules.specs.declared.event.Place.{Place}
-use Rattle.life_rules.specs.Words.{is_open, is_under_way, clear}
+use Rattle.life_rules.specs.Tree.{has_source}
+use Rattle.life_rules.specs.Words.{is_open, is_idle, is_under_way, clear}
 use Rattle.life_rules.specs.Views.{View as PureView}
-use Rattle.life_rules.specs.States.{State, is_live, is_place, name_at}
+use Rattle.life_rules.specs.States.{State, is_live, is_place, control_at, name_at}
 use Rattle.life_rules.proofs.Tests.{either}
 use Rattle.life_rules.proofs.Readings.{lives, name_of-live}
 use Rattle.life_kept.proofs.Puts.{put}
@@ -26,10 +28,11 @@ use Rattle.atomic_table.specs.Table as table
 use Rattle.table_rules.specs.declared.cargo.Cargo.{Ghosts}
 use Rattle.table_rules.specs.declared.frame.Frame.{Frame}
 use Rattle.table_rules.specs.declared.view.View.{View}
-use Rattle.table_rules.specs.ShownWords.{block_of, word_of, is_retired, is_said}
+use Rattle.table_rules.specs.ShownWords.{block_of, word_of, control_of, is_retired, is_said}
 use Rattle.table_rules.specs.ShownViews.{view_at, shown_view}
 use Rattle.table_rules.specs.Scenes.{Home, Past, Scene, shown, scene}
 use Rattle.table_rules.specs.Running.{Stands, Running}
+use Rattle.op_table.proofs.Stamping.{is_on, Lists, written-risen, unsaid-kept, renewed-kept}
 use Rattle.op_table.proofs.ViewMoves.{view-set, views-same}
 use Rattle.op_table.proofs.WordMoves.{word-here}
 use Rattle.op_table.proofs.ControlMoves.{spot-same, blocks-same, others-same, control-after}
@@ -51,6 +54,18 @@ module _ (s : State) (x : Name) (live : is_live s x ≡ true) where
 
   pub name-live : name_at s (place_of x) ≡ x
   name-live = name_of-live s x live
+
+-- the source of a live node that has begun was renewed where it has one
+pub begun-renewed : {P E O : Type 0} (cargo : Ghosts P E O) (f : Frame O) (s : table.State (Option P) (View P E)) (x : Name) →
+    Running cargo f s → is_live (shown f s) x ≡ true → is_idle (control_at (shown f s) x) ≡ false → has_source f.tree x.node ≡ true →
+    stamp_of (word_of f.layout s.words (OfSource x.block x.node)) ≡ (block_of f.layout s.words x.block).generation
+begun-renewed cargo f s x r live begun has =
+    let now : State = shown f s in
+    let l = lives now x live in
+    let n = l.node in
+    let e = r.frame.nodes in
+    r.stamped.renewed x.block x.node l.block (omega (arith, n, e)) has
+    (ap is_idle (sym (cond-true (is_live now x) (now.control x.block x.node) Idle live)) ∙ begun)
 
 module _ {P E O : Type 0} (cargo : Ghosts P E O) (f : Frame O) (s : table.State (Option P) (View P E)) (id value : ℕ) (x : Name) (w : ControlWord) (v : View P E) (r : Running cargo f s) (at : get_elem? s.views id ≡ some v) (live : is_live (shown f s) x ≡ true) (stamped : stamp_of value ≡ x.generation) (reads : control_read value ≡ w) where
   abbrev now : State
@@ -139,6 +154,37 @@ module _ {P E O : Type 0} (cargo : Ghosts P E O) (f : Frame O) (s : table.State 
       ap (λ w. is_under_way (control_read w)) word
       ∙ r.stamped.settled j m hj hm ((λ k. is_said (sym (block-kept j) k) (sym word k)) ∙ old))
 
+  quiet-still : (j m : ℕ) → j < f.layout.blocks → m < f.layout.nodes →
+      is_said (block_of f.layout words j) (word_of f.layout words (OfCallback j m)) ≡ false →
+      is_on (word_of f.layout words (OfCallback j m)) ≡ false
+  quiet-still j m hj hm =
+      unsaid-kept (block_of f.layout s.words j) (block_of f.layout words j) (word_of f.layout s.words (OfCallback j m)) (word_of f.layout words (OfCallback j m))
+      is_on (block-kept j) (spot-kept (OfCallback j m) (hj, hm) (λ e. cc)) (r.stamped.quiet j m hj hm)
+
+  -- the node's source was renewed where it has one
+  abbrev pub IsRenewedNow : Type 0
+  IsRenewedNow =
+      has_source f.tree x.node ≡ true → stamp_of (word_of f.layout s.words (OfSource x.block x.node)) ≡ (block_of f.layout s.words x.block).generation
+
+  renewed-control : IsRenewedNow → (j m : ℕ) → j < f.layout.blocks → m < f.layout.nodes → has_source f.tree m ≡ true →
+      is_idle (control_of f.layout words j m) ≡ false →
+      stamp_of (word_of f.layout words (OfSource j m)) ≡ (block_of f.layout words j).generation
+  renewed-control own j m hj hm has =
+      let word = spot-kept (OfSource j m) (hj, hm) (λ e. cc) in
+      let generation = ap (λ b. b.generation) (block-kept j) in
+      either (j == x.block && m == x.node)
+      (λ t begun.
+      let parts = and_parts (j == x.block) (m == x.node) t in
+      ap stamp_of word
+      ∙ subst (λ (p : ℕ × ℕ). has_source f.tree p.1 ≡ true → stamp_of (word_of f.layout s.words (OfSource p.0 p.1)) ≡ (block_of f.layout s.words p.0).generation)
+      (λ k. (sym (eqb-true j x.block parts.0) k, sym (eqb-true m x.node parts.1) k)) own has
+      ∙ sym generation)
+      (λ apart.
+      renewed-kept f.layout s.words words j m
+      (control-after f.layout s.words r.sized.words x.block x.node value w place-b place-n kept present reads j m
+      ∙ cond-false (j == x.block && m == x.node) w (now.control j m) apart)
+      word generation (r.stamped.renewed j m hj hm has))
+
   module _ (mine : View P E) (u : PureView) (shows : shown_view (block_of f.layout s.words) mine ≡ u) where
     abbrev pub put_state : State
     put_state = put now id x w u
@@ -180,9 +226,10 @@ module _ {P E O : Type 0} (cargo : Ghosts P E O) (f : Frame O) (s : table.State 
           }
 
       -- the rule is kept, where what is said of the scene is
-      pub control-runs : length homes ≡ length s.homes → Stands cargo f.over.value put_scene (set s.views id mine) →
+      pub control-runs : IsRenewedNow → Lists f.layout (OfControl x.block x.node) value v mine → length homes ≡ length s.homes →
+          Stands cargo f.over.value put_scene (set s.views id mine) →
           Running cargo f record { words = words; homes = homes; views = set s.views id mine }
-      control-runs deep stands =
+      control-runs renewed lists deep stands =
           record {
             frame = r.frame;
             sized = record {
@@ -195,6 +242,11 @@ module _ {P E O : Type 0} (cargo : Ghosts P E O) (f : Frame O) (s : table.State 
               callback = λ j m hj hm. stamp-other (OfCallback j m) j (hj, hm) (λ e. cc) (r.stamped.callback j m hj hm);
               source = λ j m hj hm. stamp-other (OfSource j m) j (hj, hm) (λ e. cc) (r.stamped.source j m hj hm);
               settled = settled-control;
+              quiet = quiet-still;
+              renewed = renewed-control renewed;
+              rises = written-risen f.layout s.views id v mine at s.words value (OfControl x.block x.node) r.sized.words (place-b, place-n)
+                  (let old = r.stamped.control x.block x.node place-b place-n in let e = present in omega (arith, old, e)) lists r.stamped.rises;
+              scope = subst (λ k. k < 2 ^ 36) (sym (spot-kept TheScope tt (λ e. cc))) r.stamped.scope;
             };
             past = past;
             stands = subst (λ z. Stands cargo f.over.value z (set s.views id mine)) (sym scene-put) stands;

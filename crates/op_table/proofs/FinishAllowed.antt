@@ -1,5 +1,5 @@
 -- What the store by which a node is finished owes, and what it tells.
-use Rattle.std.proofs.Common.{◌≡◌, inl, inr, ℕ, true, false, ◌||◌, ◌==◌, List, Option, sym, ap, ◌∙◌, subst}
+use Rattle.std.proofs.Common.{◌≡◌, inl, inr, ℕ, true, false, ◌||◌, ◌==◌, List, Option, sym, ap, ◌∙◌, subst, arith}
 use Rattle.std.specs.List.{list_any}
 use Rattle.std.proofs.lemmas.Bool.{both_ways}
 use Rattle.life_rules.specs.declared.tree.TreeNode.{TreeNode}
@@ -86,7 +86,7 @@ finishes_allowed {P} {E} cargo f slots id value x m seated can stamped reads s r
       mine,
       sheds gone c,
       valid-shed cargo f s id m.0 c r at seated gone,
-      root-runs cargo f s id value x m.0 c r at seated can.end root stamped reads n,
+      root-runs cargo f s id value x m.0 c r at seated can.end root stamped reads n (omega arith),
       (
         (λ other. absurd (both_ways (is_root f.tree x.node) other root)),
         (λ _. record {
@@ -104,7 +104,7 @@ finishes_allowed {P} {E} cargo f slots id value x m seated can stamped reads s r
       mine,
       sheds gone c,
       valid-shed cargo f s id m.0 c r at seated gone,
-      finish-runs cargo f s id value x m.0 c r at seated can.end below done stamped reads n,
+      finish-runs cargo f s id value x m.0 c r at seated can.end below done stamped reads n (omega arith),
       (
         (λ _. record {
           word = n;

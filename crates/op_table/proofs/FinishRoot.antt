@@ -1,5 +1,5 @@
 -- The store by which a root is finished keeps the rule. The hand keeps the root's home.
-use Rattle.std.proofs.Common.{◌≡◌, ℕ, ◌<◌, Bool, true, false, not, ◌||◌, ◌==◌, List, length, set, refl, sym, ap, ◌∙◌, subst, inl, arith}
+use Rattle.std.proofs.Common.{◌≡◌, ℕ, ◌<◌, Bool, true, false, not, ◌||◌, ◌==◌, List, length, set, refl, sym, ap, ◌∙◌, subst, inl, arith, ◌≤◌}
 use Rattle.std.specs.Prelude.{Option}
 use Rattle.std.proofs.lemmas.Bool.{and_parts, both_ways, cond-true, eqb-true, false_from_ne_true}
 use Rattle.std.proofs.lemmas.Nat.{same_from_place}
@@ -9,7 +9,7 @@ use Rattle.life_rules.specs.declared.tree.TreeNode.{TreeNode}
 use Rattle.life_rules.specs.declared.words.ControlWord.TheVariants.{Done}
 use Rattle.life_rules.specs.declared.event.Name.{Name}
 use Rattle.life_rules.specs.Tree.{is_child, is_root}
-use Rattle.life_rules.specs.Words.{is_held, is_under_way}
+use Rattle.life_rules.specs.Words.{is_held, is_under_way, is_idle}
 use Rattle.life_rules.specs.Views.{View as PureView, one, gain, lose}
 use Rattle.life_rules.specs.States.{State, name_at, stand}
 use Rattle.life_rules.specs.Sound.{Sound}
@@ -37,7 +37,7 @@ use Rattle.op_table.proofs.Among.{among}
 use Rattle.op_table.proofs.Loads.{known-logged}
 use Rattle.op_table.proofs.Counts.{counts-moved}
 use Rattle.op_table.proofs.ViewMoves.{views-moved}
-use Rattle.op_table.proofs.ControlRuns.{place_of, name-live, control-runs}
+use Rattle.op_table.proofs.ControlRuns.{place_of, name-live, begun-renewed, control-runs}
 use Rattle.op_table.proofs.HeldNow.{others-none}
 use Rattle.op_table.proofs.KidSlots.{has-kid}
 use Rattle.op_table.proofs.BeginSeats.{kid-any}
@@ -203,11 +203,14 @@ module _ {P E O : Type 0} (cargo : Ghosts P E O) (f : Frame O) (s : table.State 
           counts = counts-moved here.state after.state s.views id v mine at refl refl r.stands.counts;
         }
 
-    pub root-runs : Running cargo f record {
+    pub root-runs : stamp_of n ≤ stamp_of value → Running cargo f record {
       words = set s.words i value;
       homes = shed_homes cargo f s id v c r at seated gone;
       views = set s.views id mine;
     }
-    root-runs =
-        control-runs cargo f s id value x Done v r at (is-held cargo f s id x v c r at seated end.leave).live stamped reads mine u shows-mine
-        (shed_homes cargo f s id v c r at seated gone) homes_now r.past (λ j m. refl) (deep-shed gone s.homes c) stands-done
+    root-runs low =
+        let own = is-held cargo f s id x v c r at seated end.leave in
+        control-runs cargo f s id value x Done v r at own.live stamped reads mine u shows-mine
+        (shed_homes cargo f s id v c r at seated gone) homes_now r.past (λ j m. refl)
+        (begun-renewed cargo f s x r own.live (ap is_idle own.word)) (record { word = n; steps = refl; low = low })
+        (deep-shed gone s.homes c) stands-done

@@ -9,7 +9,7 @@ use Rattle.life_rules.specs.declared.words.CallbackPhase.TheVariants.{Never, Arm
 use Rattle.life_rules.specs.declared.words.ControlWord.TheVariants.{Done}
 use Rattle.life_rules.specs.declared.event.Name.{Name}
 use Rattle.life_rules.specs.Tree.{is_child, is_root}
-use Rattle.life_rules.specs.Words.{is_armed, is_running, is_under_way}
+use Rattle.life_rules.specs.Words.{is_armed, is_running, is_under_way, is_idle}
 use Rattle.life_rules.specs.Views.{View as PureView, same, beside, gain, lose}
 use Rattle.life_rules.specs.States.{State, phase_at, name_at}
 use Rattle.life_rules.specs.LifeSteps.{may_leave_node, after_finish}
@@ -40,7 +40,7 @@ use Rattle.op_table.proofs.Among.{among}
 use Rattle.op_table.proofs.Loads.{known-logged}
 use Rattle.op_table.proofs.Counts.{counts-moved}
 use Rattle.op_table.proofs.ViewMoves.{views-moved}
-use Rattle.op_table.proofs.ControlRuns.{place_of, place-live, name-live, control-runs}
+use Rattle.op_table.proofs.ControlRuns.{place_of, place-live, name-live, begun-renewed, control-runs}
 use Rattle.op_table.proofs.HeldNow.{start-so, named-so, fit-now, phase-so, others-none}
 use Rattle.op_table.proofs.BeginSeats.{or-left, kid-of-family}
 use Rattle.op_table.proofs.Shedding.{deep-shed}
@@ -231,11 +231,14 @@ module _ {P E O : Type 0} (cargo : Ghosts P E O) (f : Frame O) (s : table.State 
           counts = counts-moved here.state after.state s.views id v mine at refl refl r.stands.counts;
         }
 
-    pub finish-runs : Running cargo f record {
+    pub finish-runs : stamp_of n ≤ stamp_of value → Running cargo f record {
       words = set s.words i value;
       homes = shed_homes cargo f s id v c r at seated gone;
       views = set s.views id mine;
     }
-    finish-runs =
-        control-runs cargo f s id value x Done v r at (is-held cargo f s id x v c r at seated end.leave).live stamped reads mine u shows-mine
-        (shed_homes cargo f s id v c r at seated gone) homes_now past (λ j m. refl) (deep-shed gone s.homes c) stands-done
+    finish-runs low =
+        let own = is-held cargo f s id x v c r at seated end.leave in
+        control-runs cargo f s id value x Done v r at own.live stamped reads mine u shows-mine
+        (shed_homes cargo f s id v c r at seated gone) homes_now past (λ j m. refl)
+        (begun-renewed cargo f s x r own.live (ap is_idle own.word)) (record { word = n; steps = refl; low = low })
+        (deep-shed gone s.homes c) stands-done

@@ -3,6 +3,7 @@ use Rattle.std.proofs.Common.{◌≡◌, ℕ, ◌+◌, ◌≤◌, List, length, 
 use mathlib.Core.Option.{some}
 use lib.ListN.{get_elem?}
 use Rattle.life_rules.specs.States.{State}
+use Rattle.table_words.specs.declared.layout.Layout.{Layout}
 use Rattle.atomic_table.specs.Table as table
 use Rattle.table_rules.specs.declared.cargo.Cargo.{Ghosts}
 use Rattle.table_rules.specs.declared.frame.Frame.{Frame}
@@ -11,8 +12,10 @@ use Rattle.table_rules.specs.ShownWords.{block_of}
 use Rattle.table_rules.specs.Scenes.{Scene, scene}
 use Rattle.table_rules.specs.Notes.{IsKnown, ViewsStand}
 use Rattle.table_rules.specs.Counts.{over_all, CountsItself, AreCounted}
+use Rattle.table_rules.specs.Grown.{HaveRisen}
 use Rattle.table_rules.specs.Running.{Running}
 use Rattle.op_table.specs.Closings.{gathered, spent}
+use Rattle.op_table.proofs.Stamping.{same-risen}
 use Rattle.op_table.proofs.Counts.{over-set, each-set}
 use Rattle.op_table.proofs.Loads.{relisted}
 use Rattle.op_table.proofs.ViewMoves.{view-kept, views-moved}
@@ -49,6 +52,11 @@ module _ {P E : Type 0} (vs : List (View P E)) (id other : ℕ) (v w : View P E)
             (each-set CountsItself vs id (gathered v w) (λ none. absurd (omega (arith, none, itself))) old.spent);
       }
 
+  -- the lists of their steps stay
+  pub risen-joined : (l : Layout) (words : List ℕ) → HaveRisen l words vs → HaveRisen l words joined
+  risen-joined l words all =
+      same-risen l once other w (spent w) there words refl (same-risen l vs id v (gathered v w) at words refl all)
+
   known-same : (t : Scene P E) (a b : View P E) → b ≡ record a { claimed = b.claimed; released = b.released; hands = b.hands } →
       IsKnown t a → IsKnown t b
   known-same t a b same k =
@@ -84,3 +92,4 @@ joins cargo f id other v w itself s r at apart there =
     (λ h. view-kept blocks once other w (spent w) there refl h ∙ view-kept blocks s.views id v (gathered v w) at refl h)
     (omega (arith, long, seats)) (views-joined s.views id other v w at there now r.stands.views)
     (counts-joined s.views id other v w at there now.state itself r.stands.counts)
+    (risen-joined s.views id other v w at there f.layout s.words r.stamped.rises)

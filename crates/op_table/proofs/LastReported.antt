@@ -1,5 +1,5 @@
 -- The child that is reported last: in its home lies the item with which it finished.
-use Rattle.std.proofs.Common.{◌≡◌, ℕ, true, List, ◌∷◌, Option, Some, refl, sym, ap, ◌∙◌}
+use Rattle.std.proofs.Common.{◌≡◌, ℕ, true, ◌∷◌, Option, Some, refl, sym, ap, ◌∙◌}
 use Rattle.life_rules.specs.declared.event.Name.{Name}
 use Rattle.life_rules.specs.Words.{pending}
 use Rattle.life_rules.specs.Views.{beside}

@@ -1,13 +1,15 @@
 mod Cases
-mod Seats
+pub mod Seats
 mod Shapes
 mod Opening
 mod Splitting
+mod Stamping
+pub mod Codes
 mod FreshHands
 mod PoppedHands
-mod Entries
+pub mod Entries
 mod Counts
-mod ViewMoves
+pub mod ViewMoves
 mod Among
 mod Loads
 mod Claiming
@@ -24,6 +26,7 @@ mod SlotsOut
 mod OwedLive
 mod Remembering
 mod RememberTold
+mod RememberRuns
 mod Adding
 mod Shedding
 mod ShedHomes
@@ -35,11 +38,12 @@ mod SeenStands
 mod BeginSeats
 mod Hands
 mod Claims
+mod ClaimAllowed
 mod Begins
 mod Renewing
 mod BeginTold
 mod WordsLive
-mod HeldNow
+pub mod HeldNow
 mod Moving
 mod MovingSeats
 mod MovingHomes
@@ -80,7 +84,41 @@ mod Releasing
 mod ReleasingViews
 mod ReleaseMoves
 mod Forgetting
+mod ReleaseStamps
 mod ReleaseRuns
 mod ReleaseAllowed
 mod FinishRoot
 mod FinishAllowed
+mod RouseRuns
+mod Asides
+mod HeldNotes
+mod CallbackMoves
+mod CallbackRuns
+mod ArmRuns
+mod AsideSteps
+mod Learning
+mod WithdrawRuns
+mod WithdrawAllowed
+mod Scans
+mod RunEndRuns
+mod RunEndAllowed
+mod Masks
+mod ScopeRuns
+mod ScopeKinds
+mod ScanOrders
+mod SkipRuns
+mod SourceRuns
+mod ScanSealRuns
+mod EnterRuns
+mod AskedItems
+mod RequestRuns
+mod Blaming
+mod RunRuns
+mod ArmedWords
+mod RunsLive
+mod RunAllowed
+mod RunTold
+mod RequestAllowed
+mod OneNode
+mod OneRun
+mod ScopeLeft

@@ -14,8 +14,10 @@ use Rattle.table_rules.specs.ShownViews.{view_at}
 use Rattle.table_rules.specs.Scenes.{Scene, shown, scene}
 use Rattle.table_rules.specs.Notes.{IsKnown, ViewsStand}
 use Rattle.table_rules.specs.Counts.{AreCounted}
+use Rattle.table_rules.specs.Grown.{HaveRisen}
 use Rattle.table_rules.specs.Running.{Stands, Running}
 use Rattle.op_table.specs.Claims.{logged, LeftAt, Seated}
+use Rattle.op_table.proofs.Stamping.{looked-risen}
 use Rattle.op_table.proofs.Counts.{counts-moved}
 use Rattle.op_table.proofs.ViewMoves.{view-kept, views-moved}
 
@@ -36,9 +38,9 @@ known-logged t i n v k =
 pub relisted : {P E O : Type 0} (cargo : Ghosts P E O) (f : Frame O) (s : table.State (Option P) (View P E)) (vs : List (View P E)) →
     (r : Running cargo f s) →
     ((h : ℕ) → view_at (block_of f.layout s.words) vs h ≡ view_at (block_of f.layout s.words) s.views h) →
-    length vs ≤ f.hands → ViewsStand (scene f s r.past) vs → AreCounted (shown f s) vs →
+    length vs ≤ f.hands → ViewsStand (scene f s r.past) vs → AreCounted (shown f s) vs → HaveRisen f.layout s.words vs →
     Running cargo f record { words = s.words; homes = s.homes; views = vs }
-relisted cargo f s vs r same seats views counts =
+relisted cargo f s vs r same seats views counts risen =
     let now = scene f s r.past in
     let there : scene f record { words = s.words; homes = s.homes; views = vs } r.past ≡ now =
     λ k. record {
@@ -49,7 +51,16 @@ relisted cargo f s vs r same seats views counts =
     record {
       frame = r.frame;
       sized = record { words = r.sized.words; homes = r.sized.homes; seats = seats };
-      stamped = record { control = r.stamped.control; callback = r.stamped.callback; source = r.stamped.source; settled = r.stamped.settled };
+      stamped = record {
+        control = r.stamped.control;
+        callback = r.stamped.callback;
+        source = r.stamped.source;
+        settled = r.stamped.settled;
+        quiet = r.stamped.quiet;
+        renewed = r.stamped.renewed;
+        rises = risen;
+        scope = r.stamped.scope;
+      };
       past = r.past;
       stands = subst (λ z. Stands cargo f.over.value z vs) (sym there) (record {
         sound = r.stands.sound;
@@ -80,7 +91,8 @@ looks_keep cargo f s id i v r at =
     (subst (λ n. n ≤ f.hands) (sym (length-set s.views id w)) r.sized.seats)
     (views-moved now now s.views id v w at (λ j u _ _ k. k)
     (known-logged now i (slice_index s.words i) v (r.stands.views.each id v at)) refl refl r.stands.views)
-    (counts-moved now.state now.state s.views id v w at refl refl r.stands.counts))
+    (counts-moved now.state now.state s.views id v w at refl refl r.stands.counts)
+    (looked-risen f.layout s.views id v w at s.words i refl r.stamped.rises))
 
 pub looks_allowed : {P E O : Type 0} (cargo : Ghosts P E O) (f : Frame O) (slots id i : ℕ) (v : View P E) (c : List (ℕ × Option P)) →
     Allows (Running cargo f) slots id (v, c) i (λ n. n) (λ n m. m ≡ (logged i n v, c))

@@ -9,7 +9,7 @@ use Rattle.life_rules.specs.declared.tree.TreeNode.{TreeNode}
 use Rattle.life_rules.specs.declared.event.Name.{Name}
 use Rattle.life_rules.specs.declared.event.SourceRef.{SourceRef}
 use Rattle.life_rules.specs.declared.event.SourceRef.TheVariants.{Scope, Node}
-use Rattle.life_rules.specs.Views.{View as PureView}
+use Rattle.life_rules.specs.Views.{View as PureView, beside}
 use Rattle.life_rules.proofs.Tests.{either}
 use Rattle.stop_kept.proofs.Notes.{plain}
 use Rattle.table_words.specs.declared.layout.Layout.{Layout}
@@ -29,11 +29,14 @@ use Rattle.table_rules.specs.Notes.{IsPast, IsPastSource, IsHeldSo, IsKnown}
 use Rattle.table_rules.specs.Running.{Stands, Running}
 use Rattle.op_table.specs.Claims.{Seated}
 use Rattle.op_table.specs.Slots.{IsSeated}
-use Rattle.op_table.specs.Sights.{spot_of, says_requested, seen_after_now, unlooked_now, looks_at, MayLookAfter}
+use Rattle.op_table.specs.Sights.{spot_of, says_requested, seen_after_now, unlooked_now, looks_at, LooksAt, MayLookAfter, StillAsked}
 use Rattle.op_table.proofs.Entries.{each-map, each-has}
+use Rattle.op_table.proofs.Stamping.{looked-risen}
 use Rattle.op_table.proofs.Counts.{counts-moved}
 use Rattle.op_table.proofs.ViewMoves.{views-moved}
 use Rattle.op_table.proofs.Sights.{each-but}
+use Rattle.op_table.proofs.HeldNow.{held}
+use Rattle.op_table.proofs.SeenStands.{seen-anywhere, seen-at, beside-present}
 use Rattle.op_table.proofs.Looking as looking
 
 module _ {P E O : Type 0} (cargo : Ghosts P E O) (f : Frame O) (s : table.State (Option P) (View P E)) (source : SourceRef) (r : Running cargo f s) (spot : IsSpot f.layout (spot_of source)) (id : ℕ) (after : Option Name) (v : View P E) (at : get_elem? s.views id ≡ some v) (may : MayLookAfter f.tree v source after) where
@@ -182,32 +185,52 @@ module _ {P E O : Type 0} (cargo : Ghosts P E O) (f : Frame O) (s : table.State 
           homes = r.sized.homes;
           seats = subst (λ n. n ≤ f.hands) (sym (length-set s.views id mine)) r.sized.seats;
         };
-        stamped = record { control = r.stamped.control; callback = r.stamped.callback; source = r.stamped.source; settled = r.stamped.settled };
+        stamped = record {
+          control = r.stamped.control;
+          callback = r.stamped.callback;
+          source = r.stamped.source;
+          settled = r.stamped.settled;
+          quiet = r.stamped.quiet;
+          renewed = r.stamped.renewed;
+          rises = looked-risen f.layout s.views id v mine at s.words i refl r.stamped.rises;
+          scope = r.stamped.scope;
+        };
         past = r.past;
         stands = subst (λ z. Stands cargo f.over.value z (set s.views id mine)) (sym there) stands-still;
       })
+
+-- a request that the hand has seen still stands
+still-asked : {P E O : Type 0} (cargo : Ghosts P E O) (f : Frame O) (s : table.State (Option P) (View P E)) (source : SourceRef) → Running cargo f s →
+    IsSpot f.layout (spot_of source) → (id : ℕ) (v : View P E) → get_elem? s.views id ≡ some v →
+    StillAsked v source (says_requested source (slice_index s.words (index f.layout (spot_of source))))
+still-asked cargo f s Scope r spot id v at seen alive =
+    looking.stands-read cargo f s Scope r spot (seen-anywhere cargo f s id v r at seen)
+still-asked cargo f s (Node x) r spot id v at seen alive =
+    let live = (held cargo f s id (beside x alive.0) v r at alive.1 alive.2).live in
+    looking.stands-read cargo f s (Node x) r spot
+    (seen-at cargo f s id v r at (beside x alive.0) live (Node x) (beside-present cargo f s id v r at (beside x alive.0) live x.node) seen)
 
 -- what the load owes
 pub look_allowed : {P E O : Type 0} (cargo : Ghosts P E O) (f : Frame O) (slots id : ℕ) (source : SourceRef) (after : Option Name) (m : Seated P E) →
     IsSpot f.layout (spot_of source) → MayLookAfter f.tree m.0 source after →
     Allows (Running cargo f) slots id m (index f.layout (spot_of source)) (λ n. n)
-    (λ n m'. m' ≡ looks_at source after (index f.layout (spot_of source)) n m)
+    (λ n m'. LooksAt source after (index f.layout (spot_of source)) n m m')
 look_allowed cargo f slots id source after m spot may s r deep at small = (
   looking.mine cargo f s source r spot id after m.0 at may,
   keeps,
   tt,
   look-keeps cargo f s source r spot id after m.0 at may,
-  refl,
+  (refl, still-asked cargo f s source r spot id m.0 at),
 )
 
 -- the same by the frame that the table shows
 pub look-at : {P E O : Type 0} (cargo : Ghosts P E O) (board f : Frame O) (slots id i : ℕ) (source t : SourceRef) (after a : Option Name) (m : Seated P E) →
     board ≡ f → i ≡ index board.layout (spot_of source) → t ≡ source → a ≡ after → IsSpot board.layout (spot_of source) →
     MayLookAfter board.tree m.0 source after →
-    Allows (Running cargo f) slots id m i (λ n. n) (λ n m'. m' ≡ looks_at t a i n m)
+    Allows (Running cargo f) slots id m i (λ n. n) (λ n m'. LooksAt t a i n m m')
 look-at cargo board f slots id i source t after a m same i_is t_is a_is spot may =
-    subst (λ z. Allows (Running cargo z) slots id m i (λ n. n) (λ n m'. m' ≡ looks_at t a i n m)) same
-    (subst (λ (z : ℕ × (SourceRef × Option Name)). Allows (Running cargo board) slots id m z.0 (λ n. n) (λ n m'. m' ≡ looks_at z.1.0 z.1.1 z.0 n m))
+    subst (λ z. Allows (Running cargo z) slots id m i (λ n. n) (λ n m'. LooksAt t a i n m m')) same
+    (subst (λ (z : ℕ × (SourceRef × Option Name)). Allows (Running cargo board) slots id m z.0 (λ n. n) (λ n m'. LooksAt z.1.0 z.1.1 z.0 n m m'))
     (λ k. (sym i_is k, (sym t_is k, sym a_is k)))
     (look_allowed cargo board slots id source after m spot may))
 

@@ -27,6 +27,7 @@ use Rattle.op_table.specs.Slots.{slot_of, is_of_family, has_slot, IsSeated}
 use Rattle.op_table.specs.Readings.{at_entry}
 use Rattle.op_table.proofs.Entries.{each-map}
 use Rattle.op_table.proofs.Loads.{known-logged}
+use Rattle.op_table.proofs.Stamping.{looked-risen}
 use Rattle.op_table.proofs.Counts.{counts-moved}
 use Rattle.op_table.proofs.ViewMoves.{view-kept, views-moved}
 
@@ -97,7 +98,16 @@ module _ {P E O : Type 0} (cargo : Ghosts P E O) (f : Frame O) (s : table.State 
           homes = r.sized.homes;
           seats = subst (λ n. n ≤ f.hands) (sym (length-set s.views id mine)) r.sized.seats;
         };
-        stamped = record { control = r.stamped.control; callback = r.stamped.callback; source = r.stamped.source; settled = r.stamped.settled };
+        stamped = record {
+          control = r.stamped.control;
+          callback = r.stamped.callback;
+          source = r.stamped.source;
+          settled = r.stamped.settled;
+          quiet = r.stamped.quiet;
+          renewed = r.stamped.renewed;
+          rises = looked-risen f.layout s.views id v mine at s.words i refl r.stamped.rises;
+          scope = r.stamped.scope;
+        };
         past = r.past;
         stands = subst (λ z. Stands cargo f.over.value z (set s.views id mine)) (sym there) (record {
           sound = r.stands.sound;

@@ -27,7 +27,7 @@ one-opened s h b may =
     omega (arith, moved, here, before)
 
 -- a block that is given back isn't open
-next-closed : (w : BlockWord) → is_open (next_word w).state ≡ false
+pub next-closed : (w : BlockWord) → is_open (next_word w).state ≡ false
 next-closed w =
     let last : BlockWord = record { generation = w.generation; state = Retired } in
     let next : BlockWord = record { generation = w.generation + 1; state = Free } in

@@ -32,14 +32,17 @@ use Rattle.atomic_table.specs.Table as table
 use Rattle.table_rules.specs.declared.cargo.Cargo.{Ghosts}
 use Rattle.table_rules.specs.declared.frame.Frame.{Frame}
 use Rattle.table_rules.specs.declared.view.View.{View}
-use Rattle.table_rules.specs.ShownWords.{is_retired, is_there, block_of, said}
+use Rattle.table_rules.specs.ShownWords.{is_retired, is_there, block_of, control_of, said}
 use Rattle.table_rules.specs.ShownViews.{view_at}
 use Rattle.table_rules.specs.Scenes.{Empty, home_in, Past, Scene, scene}
 use Rattle.table_rules.specs.Homes.{is_waiting, is_resting}
 use Rattle.table_rules.specs.Notes.{IsKnown}
+use Rattle.table_rules.specs.Named.{Each}
+use Rattle.table_rules.specs.Grown.{HasRisen}
 use Rattle.table_rules.specs.Running.{IsFrame, Stands, Running}
 use Rattle.op_table.specs.Views.{fresh}
 use Rattle.op_table.proofs.Cases.{both-same}
+use Rattle.op_table.proofs.Stamping.{is_on}
 use Rattle.op_table.proofs.Seats.{single}
 
 no-way : (a b : Bool) → (a && (b && false)) ≡ false
@@ -210,6 +213,12 @@ opens {P} {E} cargo f w n frame tree some_hand as_wide as_deep =
         callback = λ b m hb hm. let z = dull (index f.layout (OfCallback b m)) in omega arith;
         source = λ b m hb hm. let z = dull (index f.layout (OfSource b m)) in omega arith;
         settled = λ b m hb hm _. ap (λ w. is_under_way (control_read w)) (dull (index f.layout (OfControl b m)));
+        quiet = λ b m hb hm _. ap is_on (dull (index f.layout (OfCallback b m)));
+        renewed = λ b m hb hm has begun.
+            absurd (both_ways (is_idle (control_of f.layout words b m)) begun
+            (ap is_idle (said-first f.layout words dull Idle control_read OfControl refl b m)));
+        rises = λ h v e. subst (λ (w : View P E). Each (HasRisen f.layout words) w.steps) (single (fresh 0) v h e).1 tt;
+        scope = let z = dull 0 in omega (arith, z);
       };
       past = nothing_past;
       stands = subst (λ z. Stands cargo f.over.value z (fresh 0 ∷ [])) (sym at)

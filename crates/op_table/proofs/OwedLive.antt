@@ -28,7 +28,7 @@ free-closed Free f o = cc
 free-closed Open f o = cc
 free-closed Retired f o = cc
 
-each-trivial : {A : Type 0} (l : List A) → Each (λ _. Unit {0}) l
+pub each-trivial : {A : Type 0} (l : List A) → Each (λ _. Unit {0}) l
 each-trivial [] = tt
 each-trivial (a ∷ rest) = (tt, each-trivial rest)
 

@@ -40,7 +40,7 @@ use Rattle.op_table.proofs.BeginSeats.{seated-logged}
 use Rattle.op_table.proofs.HeldNow.{held}
 use Rattle.op_table.proofs.Noting.{noting-keeps, seated-noted}
 
-still-refl : (p : CallbackPhase) → is_still p p
+pub still-refl : (p : CallbackPhase) → is_still p p
 still-refl Never = refl
 still-refl Armed = refl
 still-refl Runs = refl

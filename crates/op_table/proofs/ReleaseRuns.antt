@@ -1,5 +1,5 @@
 -- The store by which a block is given back keeps the rule.
-use Rattle.std.proofs.Common.{◌≡◌, ℕ, ◌-◌, ◌<◌, ◌≤◌, Bool, true, false, ◌&&◌, ◌==◌, cond, List, length, set, Option, None, refl, sym, ap, ◌∙◌, subst, arith, length-set}
+use Rattle.std.proofs.Common.{◌≡◌, ℕ, ◌-◌, ◌<◌, ◌≤◌, Bool, true, ◌&&◌, ◌==◌, cond, List, length, set, Option, None, refl, sym, ap, ◌∙◌, subst, arith, length-set, ◌^◌}
 use Rattle.std.proofs.lemmas.Bool.{and_parts, and_from, both_ways, cond-true, cond-false, eqb-true, eq-eqb, false_from_ne_true, le-leb, lt-ltb}
 use Rattle.std.proofs.lemmas.Nat.{same_from_place}
 use mathlib.Core.Option.{some}
@@ -11,15 +11,15 @@ use Rattle.life_rules.specs.declared.words.CallbackPhase.TheVariants.{Never}
 use Rattle.life_rules.specs.declared.event.Name.{Name}
 use Rattle.life_rules.specs.declared.words.BlockState.TheVariants.{Open}
 use Rattle.life_rules.specs.Tree.{is_root}
-use Rattle.life_rules.specs.Words.{is_idle, is_done, is_under_way, clear}
+use Rattle.life_rules.specs.Words.{is_idle, is_done, clear, is_open}
 use Rattle.life_rules.specs.Views.{View as PureView, lose, forget}
-use Rattle.life_rules.specs.States.{State, size, is_live, control_at, name_of}
+use Rattle.life_rules.specs.States.{State, size, is_live, control_at}
 use Rattle.life_rules.specs.LifeSteps.{root_of, may_release, after_release, next_word}
 use Rattle.life_rules.specs.Sound.{Sound}
 use Rattle.life_rules.proofs.Tests.{either, one-is}
-use Rattle.life_rules.proofs.Readings.{stand-at, lives, is_live-from, begun-live, name_of-live}
+use Rattle.life_rules.proofs.Readings.{stand-at, lives, begun-live, name_of-live}
 use Rattle.life_kept.proofs.Fitting.{done-word}
-use Rattle.life_kept.proofs.Quiet.{MayRelease, release-needs, quiet-all}
+use Rattle.life_kept.proofs.Quiet.{MayRelease, release-needs}
 use Rattle.life_kept.proofs.Release.{sound-release}
 use Rattle.table_words.specs.Stamps.{stamp_of}
 use Rattle.table_words.specs.Blocks.{block_read}
@@ -30,7 +30,7 @@ use Rattle.atomic_table.specs.Table as table
 use Rattle.table_rules.specs.declared.cargo.Cargo.{Ghosts}
 use Rattle.table_rules.specs.declared.frame.Frame.{Frame}
 use Rattle.table_rules.specs.declared.view.View.{View}
-use Rattle.table_rules.specs.ShownWords.{block_of, word_of, is_there, is_said, said_at}
+use Rattle.table_rules.specs.ShownWords.{block_of, word_of, is_there}
 use Rattle.table_rules.specs.ShownViews.{view_at, shown_view}
 use Rattle.table_rules.specs.Scenes.{Empty, Scene, shown, scene}
 use Rattle.table_rules.specs.Notes.{IsRootedSo, IsKnown}
@@ -43,18 +43,19 @@ use Rattle.op_table.proofs.Entries.{count-without, each-without, has-counts}
 use Rattle.op_table.proofs.Seats.{at_within}
 use Rattle.op_table.proofs.Among.{among}
 use Rattle.op_table.proofs.Loads.{known-logged}
+use Rattle.op_table.proofs.Stamping.{written-risen}
 use Rattle.op_table.proofs.Counts.{counts-stepped}
 use Rattle.op_table.proofs.OpenBlocks.{one-closed}
 use Rattle.op_table.proofs.ViewMoves.{view-here, view-set, views-moved}
 use Rattle.op_table.proofs.WordMoves.{there-place}
-use Rattle.op_table.proofs.WordsLive.{quiet-way}
 use Rattle.op_table.proofs.HomeMoves.{home_of_place}
 use Rattle.op_table.proofs.Shedding.{deep-shed}
 use Rattle.op_table.proofs.ShedHomes.{shed_homes, shed-far, shed-here}
 use Rattle.op_table.proofs.Releasing.{released_scene, homes-released, starts-released, items-released, lots-released}
 use Rattle.op_table.proofs.ReleasingViews.{known-released}
-use Rattle.op_table.proofs.ReleaseMoves.{released_words, place-kept, block-there, block-released, stamp-later, said-released}
+use Rattle.op_table.proofs.ReleaseMoves.{released_words, place-kept, block-released, stamp-later, said-released}
 use Rattle.op_table.proofs.Forgetting.{views-forget}
+use Rattle.op_table.proofs.ReleaseStamps.{settled-after, quiet-after, renewed-after, number-more}
 
 module _ {P E O : Type 0} (cargo : Ghosts P E O) (f : Frame O) (s : table.State (Option P) (View P E)) (id value b g : ℕ) (v : View P E) (c : List (ℕ × Option P)) (r : Running cargo f s) (at : get_elem? s.views id ≡ some v) (seated : IsSeated f.tree f.layout (v, c)) (can : CanRelease f.layout (v, c) (record { block = b; generation = g; node = length f.tree - 1 })) (reads : block_read value ≡ next_word (record { generation = g; state = Open })) where
   abbrev now : State
@@ -153,40 +154,8 @@ module _ {P E O : Type 0} (cargo : Ghosts P E O) (f : Frame O) (s : table.State 
   blocks-are : (i : ℕ) → new_blocks i ≡ (after_release now id b).block i
   blocks-are = block-released f.layout s.words r.sized.words b value hb word-next
 
-  -- a control word of the block is of a node that was done, or hadn't begun
-  settled-here : (m : ℕ) → m < f.layout.nodes → is_under_way (control_read (word_of f.layout s.words (OfControl b m))) ≡ false
-  settled-here m hm =
-      let w = word_of f.layout s.words (OfControl b m) in
-      either (is_said (old_blocks b) w)
-      (λ said.
-      let y = name_of now b m in
-      let l = lives now x live in
-      let e = r.frame.nodes in
-      let y_live : is_live now y ≡ true = is_live-from now y (record {
-        block = l.block;
-        node = omega (arith, hm, e);
-        is_opened = l.is_opened;
-        generation = refl;
-      }) in
-      let word : control_at now y ≡ control_read w =
-      cond-true (is_live now y) (now.control b m) Idle y_live
-      ∙ cond-true (is_there f.layout b m) (said_at (old_blocks b) Idle control_read w) Idle
-      (and_from _ _ (lt-ltb b f.layout.blocks hb) (lt-ltb m f.layout.nodes hm))
-      ∙ cond-true (is_said (old_blocks b) w) (control_read w) Idle said in
-      ap is_under_way (sym word) ∙ quiet-way (control_at now y) (quiet-all now id b needs y refl).control)
-      (r.stamped.settled b m hb hm)
-
-  settled-after : (j m : ℕ) → j < f.layout.blocks → m < f.layout.nodes →
-      is_said (new_blocks j) (word_of f.layout words (OfControl j m)) ≡ false →
-      is_under_way (control_read (word_of f.layout words (OfControl j m))) ≡ false
-  settled-after j m hj hm unsaid =
-      let word = place-kept f.layout s.words r.sized.words b value hb word-next (OfControl j m) (hj, hm) (λ e. cc) in
-      ap (λ w. is_under_way (control_read w)) word
-      ∙ either (j == b)
-      (λ t. subst (λ i. is_under_way (control_read (word_of f.layout s.words (OfControl i m))) ≡ false) (sym (eqb-true j b t)) (settled-here m hm))
-      (λ apart.
-      r.stamped.settled j m hj hm
-      ((λ k. is_said (sym (block-there f.layout s.words r.sized.words b value hb word-next j apart) k) (sym word k)) ∙ unsaid))
+  opened : is_open (old_blocks b).state ≡ true
+  opened = (lives now x live).is_opened
 
   module _ (n : ℕ) where
     abbrev i : ℕ
@@ -262,8 +231,8 @@ module _ {P E O : Type 0} (cargo : Ghosts P E O) (f : Frame O) (s : table.State 
         counts-stepped now (after_release now id b) s.views id v mine at refl
         (λ none. absurd (omega (arith, none, itself))) (omega (arith, less)) r.stands.counts
 
-    pub release-runs : Running cargo f record { words = words; homes = homes_now; views = set s.views id mine }
-    release-runs =
+    pub release-runs : n ≤ value → Running cargo f record { words = words; homes = homes_now; views = set s.views id mine }
+    release-runs low =
         record {
           frame = r.frame;
           sized = record {
@@ -275,7 +244,12 @@ module _ {P E O : Type 0} (cargo : Ghosts P E O) (f : Frame O) (s : table.State 
             control = λ j m hj hm. stamp-place (OfControl j m) j m (hj, hm) (λ e. cc) (r.stamped.control j m hj hm);
             callback = λ j m hj hm. stamp-place (OfCallback j m) j m (hj, hm) (λ e. cc) (r.stamped.callback j m hj hm);
             source = λ j m hj hm. stamp-place (OfSource j m) j m (hj, hm) (λ e. cc) (r.stamped.source j m hj hm);
-            settled = settled-after;
+            settled = settled-after cargo f s id value b r hb opened needs word-next;
+            quiet = quiet-after cargo f s id value b r hb opened needs word-next;
+            renewed = renewed-after cargo f s id value b r hb opened needs word-next;
+            rises = written-risen f.layout s.views id v mine at s.words value (OfBlock b) r.sized.words hb (number-more cargo f s id value b r hb opened needs word-next)
+                (record { word = n; steps = refl; low = low }) r.stamped.rises;
+            scope = subst (λ w. w < 2 ^ 36) (sym (place-kept f.layout s.words r.sized.words b value hb word-next TheScope tt (λ e. cc))) r.stamped.scope;
           };
           past = r.past;
           stands = subst (λ z. Stands cargo f.over.value z (set s.views id mine)) (sym scene-after) (record {

@@ -21,11 +21,11 @@ use Rattle.op_table.specs.Views.{Board, aim_at}
 use Rattle.op_table.specs.Claims.{Seated, root_name, Claimed}
 use Rattle.op_table.specs.Begins.{BeginsAt, IsRenewed}
 use Rattle.op_table.specs.Awaits.{is_named, CanAwait, AwaitsAt}
-use Rattle.op_table.specs.Remembers.{Remembers, ArePlacesOf}
+use Rattle.op_table.specs.Remembers.{running, HasExactly, Remembers, ArePlacesOf}
 use Rattle.op_table.proofs.Entries.{count-without}
 use Rattle.op_table.proofs.Awaiting.{count-owes, named-child}
 use Rattle.op_table.proofs.BeginSeats.{or-left, or-right, or-cases}
-use Rattle.op_table.proofs.Remembering.{remembers-more, remembers-less}
+use Rattle.op_table.proofs.Remembering.{exactly-still, exactly-more, exactly-less}
 
 -- no entry in the block of x counts for x
 none-there : {E : Type 0} (owed : List (Owed E)) (x : Name) → Each (λ e. e.name.block ≢ x.block) owed →
@@ -45,43 +45,57 @@ of-named Q x y (n ∷ ns) all h =
     (λ here. subst Q (same-true (beside x n) y here) (all n (or-left (n == n) (is_named ns n) (eq-eqb n n refl))))
     (λ later. of-named Q x y ns (λ m named. all m (or-right (n == m) (is_named ns m) named)) later)
 
-module _ {P E O : Type 0} (board : Board O) (seat new : Seat (Option P) (View P E)) (set after : Marks) (old : Remembers seat set) (table : new.table_id ≡ seat.table_id) (layout : after.layout ≡ set.layout) where
+module _ {P E O : Type 0} {runs : Marks} (board : Board O) (seat new : Seat (Option P) (View P E)) (set after : Marks) (old : Remembers seat set runs) (table : new.table_id ≡ seat.table_id) (layout : after.layout ≡ set.layout) where
+  -- what is owed changed, and what is run didn't
+  remembers-owed : HasExactly new.table_id (owing new.me.0) after → new.me.0.runs ≡ seat.me.0.runs → Remembers new after runs
+  remembers-owed owed same_runs =
+      record {
+        owed = owed;
+        runs = exactly-still old.runs new.table_id (running new.me.0) table (λ y. ap (λ l. count_by (λ z. z) l y) same_runs);
+      }
+
   -- a claim: the root came
   pub remembers-claimed : (block : ℕ) (b : Block) (root : Name) → root ≡ root_name board b.index b.generation →
       Claimed board block b seat new → OwesNoneThere seat.me.0 root → ((y : Name) → has after y ≡ (same root y || has set y)) →
-      Remembers new after
+      Remembers new after runs
   remembers-claimed block b root is claimed none has_it =
       let name : root_name board block b.generation ≡ root =
       ap (λ k. root_name board k b.generation) (sym claimed.block_is) ∙ sym is in
-      remembers-more seat set old new after table layout (same root)
+      remembers-owed
+      (exactly-more old.owed new.table_id (owing new.me.0) table after layout (same root)
       (λ y. ap (λ m. owing m.0 y) claimed.me_is ∙ ap (λ z. owing seat.me.0 y + one (same z y)) name)
       (λ y t. subst (λ z. owing seat.me.0 z ≡ 0) (same-true root y t) (none-there seat.me.0.owed root none))
-      has_it
+      has_it)
+      (ap (λ m. m.0.runs) claimed.me_is)
 
   -- an await: the children that it names came
   pub remembers-awaited : (cargo : Ghosts P E O) (i : ℕ) (x : Name) (nodes : List ℕ) → CanAwait cargo board.frame seat.me x nodes →
       AwaitsAt cargo (aim_at board x) nodes i seat.me new.me →
-      ((y : Name) → has after y ≡ (list_any (λ n. same (beside x n) y) nodes || has set y)) → Remembers new after
+      ((y : Name) → has after y ≡ (list_any (λ n. same (beside x n) y) nodes || has set y)) → Remembers new after runs
   remembers-awaited cargo i x nodes can awaited has_it =
-      remembers-more seat set old new after table layout (λ y. list_any (λ n. same (beside x n) y) nodes)
+      remembers-owed
+      (exactly-more old.owed new.table_id (owing new.me.0) table after layout (λ y. list_any (λ n. same (beside x n) y) nodes)
       (λ y. ap (λ m. owing m.0 y) awaited.me_is
       ∙ count-owes x (cargo.start awaited.item) (cargo.lot awaited.item) nodes seat.me.0.owed y can.different)
       (λ y t. of-named (λ z. owing seat.me.0 z ≡ 0) x y nodes awaited.unowed t)
-      has_it
+      has_it)
+      (ap (λ m. m.0.runs) awaited.me_is)
 
   -- a begin: the node went
   pub remembers-begun : (cargo : Ghosts P E O) (i : ℕ) (x : Name) (middle : Seated P E) → has set x ≡ true →
       IsRenewed (aim_at board x) seat.me middle → BeginsAt cargo (aim_at board x) i middle new.me →
-      ((y : Name) → has after y ≡ (not (same x y) && has set y)) → Remembers new after
+      ((y : Name) → has after y ≡ (not (same x y) && has set y)) → Remembers new after runs
   remembers-begun cargo i x middle had_it renewed began has_it =
-      let owed : middle.0.owed ≡ seat.me.0.owed =
+      let kept : (middle.0.owed ≡ seat.me.0.owed) × (middle.0.runs ≡ seat.me.0.runs) =
       either (has_source board.frame.tree x.node)
-      (λ t. ap (λ m. m.0.owed) (renewed.0 t).1)
-      (λ f. ap (λ m. m.0.owed) (renewed.1 f)) in
-      remembers-less seat set old new after table layout x had_it
+      (λ t. let stored = (renewed.0 t).1 in (ap (λ m. m.0.owed) stored, ap (λ m. m.0.runs) stored))
+      (λ f. let is = renewed.1 f in (ap (λ m. m.0.owed) is, ap (λ m. m.0.runs) is)) in
+      remembers-owed
+      (exactly-less old.owed new.table_id (owing new.me.0) table after layout x had_it
       (λ y. ap (λ m. owing m.0 y) began.me_is ∙ count-without (λ e. e.name) middle.0.owed x y
-      ∙ ap (λ (l : List (Owed E)). lose x (count_by (λ e. e.name) l) y) owed)
-      has_it
+      ∙ ap (λ (l : List (Owed E)). lose x (count_by (λ e. e.name) l) y) kept.0)
+      has_it)
+      (ap (λ m. m.0.runs) began.me_is ∙ kept.1)
 
 -- the children that an await names have places
 pub named-places : {P E O : Type 0} (cargo : Ghosts P E O) (f : Frame O) (m : Seated P E) (x : Name) (nodes : List ℕ) →

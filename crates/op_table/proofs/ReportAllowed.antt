@@ -1,5 +1,5 @@
 -- What the subtraction by which a child is reported owes, and what it tells.
-use Rattle.std.proofs.Common.{◌≡◌, ◌≢◌, ℕ, ◌-◌, ◌<◌, Bool, true, false, ◌||◌, ◌==◌, cond, List, [], ◌∷◌, length, Option, Some, refl, sym, ap, ◌∙◌, subst, arith}
+use Rattle.std.proofs.Common.{◌≡◌, ◌≢◌, ℕ, ◌-◌, ◌<◌, Bool, true, false, ◌||◌, ◌==◌, cond, List, [], ◌∷◌, length, Option, Some, refl, sym, ap, ◌∙◌, subst, arith, ◌≤◌}
 use Rattle.std.specs.Prelude.{slice_index}
 use Rattle.std.specs.List.{list_any}
 use Rattle.std.proofs.lemmas.Bool.{and_from, and_parts, eqb-true, cond-true, eq-eqb, lt-ltb}
@@ -97,11 +97,14 @@ module _ {P E O : Type 0} (cargo : Ghosts P E O) (f : Frame O) (s : table.State 
     stamp-less : stamp_of (less_one n) ≡ c.generation
     stamp-less = less-stamp exact n k small reads-now (waits cargo f s id c v r at can) ∙ stamp-now
 
+    low-now : stamp_of n ≤ stamp_of (less_one n)
+    low-now = let a = stamp-now in let b = stamp-less in omega (arith, a, b)
+
     read-less : control_read (less_one n) ≡ Busy (k - 1)
     read-less = less-read exact n k small reads-now (waits cargo f s id c v r at can)
 
     pub on-now : k ≢ 1 → Running cargo f (stepped s i (less_one n) id carried (logged i n (reports_off c v)) keeps)
-    on-now more = report-runs cargo f s id (less_one n) c v r at can more stamp-less read-less n
+    on-now more = report-runs cargo f s id (less_one n) c v r at can more stamp-less read-less n low-now
 
     module _ (last : k ≡ 1) where
       read-last : control_read (less_one n) ≡ Busy 0
@@ -201,7 +204,7 @@ module _ {P E O : Type 0} (cargo : Ghosts P E O) (f : Frame O) (s : table.State 
             mine,
             chain (take_with f.layout x.block content kids) (takes slot (Some lying.0)),
             last-valid cargo f s id (less_one n) c v carried r at can last stamp-less read-last,
-            last-runs cargo f s id (less_one n) c v carried r at can last stamp-less read-last n,
+            last-runs cargo f s id (less_one n) c v carried r at can last stamp-less read-last n low-now,
             record {
               start = r.past.start x;
               named = r.past.named x;

@@ -1,5 +1,5 @@
 -- The subtraction by which the last child is reported keeps the rule: the hand holds the parent.
-use Rattle.std.proofs.Common.{◌≡◌, ℕ, ◌+◌, ◌<◌, true, ◌&&◌, ◌||◌, ◌==◌, cond, List, length, set, Option, Some, refl, sym, ap, ◌∙◌, subst, ⊎_elim, inl, inr, arith, length-set}
+use Rattle.std.proofs.Common.{◌≡◌, ℕ, ◌+◌, ◌<◌, true, ◌&&◌, ◌||◌, ◌==◌, cond, List, length, set, Option, Some, refl, sym, ap, ◌∙◌, subst, ⊎_elim, inl, inr, arith, length-set, ◌≤◌}
 use Rattle.std.proofs.lemmas.Bool.{and_from, and_parts, cond-true, cond-false, cases_eq, eq-eqb, false_from_ne_true}
 use mathlib.Core.Option.{some}
 use mathlib.Core.Option as maybe
@@ -8,7 +8,7 @@ use Rattle.life_rules.specs.declared.words.ControlWord.{ControlWord}
 use Rattle.life_rules.specs.declared.words.ControlWord.TheVariants.{Busy}
 use Rattle.life_rules.specs.declared.event.Name.{Name}
 use Rattle.life_rules.specs.Tree.{is_child}
-use Rattle.life_rules.specs.Words.{is_held, is_under_way, one_less, pending}
+use Rattle.life_rules.specs.Words.{is_held, is_under_way, one_less, pending, is_idle}
 use Rattle.life_rules.specs.Views.{View as PureView, one, beside, gain, lose}
 use Rattle.life_rules.specs.States.{State, is_live, control_at, stand}
 use Rattle.life_rules.specs.Callbacks.{nearest_is_requested}
@@ -44,7 +44,7 @@ use Rattle.op_table.proofs.Counts.{counts-moved}
 use Rattle.op_table.proofs.ViewMoves.{views-moved}
 use Rattle.op_table.proofs.WordMoves.{place-there}
 use Rattle.op_table.proofs.HomeMoves.{home_of_place, taken}
-use Rattle.op_table.proofs.ControlRuns.{control-runs}
+use Rattle.op_table.proofs.ControlRuns.{begun-renewed, control-runs}
 use Rattle.op_table.proofs.KidSlots.{kids-below, kids-descend}
 use Rattle.op_table.proofs.BeginSeats.{kids-are}
 use Rattle.op_table.proofs.Begins.{kids-tested}
@@ -291,8 +291,9 @@ module _ {P E O : Type 0} (cargo : Ghosts P E O) (f : Frame O) (s : table.State 
           counts = counts-moved here.state after.state s.views id v mine at refl refl r.stands.counts;
         }
 
-    pub last-runs : Running cargo f record { words = set s.words i value; homes = taken_homes; views = set s.views id mine }
-    last-runs =
+    pub last-runs : stamp_of n ≤ stamp_of value → Running cargo f record { words = set s.words i value; homes = taken_homes; views = set s.views id mine }
+    last-runs low =
         control-runs cargo f s id value x (Busy 0) v r at live-now stamped reads mine u shows-mine taken_homes home r.past (λ j m. refl)
+        (begun-renewed cargo f s x r live-now (ap is_idle word-now)) (record { word = n; steps = refl; low = low })
         (length-set after_kids slot maybe.none ∙ deep-laid f.layout s.homes carried r.sized.homes x.block place-b inside kids ∙ sym r.sized.homes)
         stands-last

@@ -1,5 +1,5 @@
 -- The subtraction by which a child that isn't the last is reported keeps the rule.
-use Rattle.std.proofs.Common.{◌≡◌, ◌≢◌, ℕ, ◌+◌, ◌-◌, Bool, true, false, ◌&&◌, ◌||◌, ◌==◌, set, refl, sym, ap, ◌∙◌, subst, inl, arith}
+use Rattle.std.proofs.Common.{◌≡◌, ◌≢◌, ℕ, ◌+◌, ◌-◌, Bool, true, false, ◌&&◌, ◌||◌, ◌==◌, set, refl, sym, ap, ◌∙◌, subst, inl, arith, ◌≤◌}
 use Rattle.std.specs.Prelude.{Option, nat_le}
 use Rattle.std.specs.Option.{option_map_or}
 use Rattle.std.proofs.lemmas.Bool.{both_ways, cond-false, ne_eqb, false_from_ne_true}
@@ -9,7 +9,7 @@ use Rattle.life_rules.specs.declared.words.ControlWord.{ControlWord}
 use Rattle.life_rules.specs.declared.words.ControlWord.TheVariants.{Busy}
 use Rattle.life_rules.specs.declared.event.Name.{Name}
 use Rattle.life_rules.specs.Tree.{is_child, is_root, parent_of}
-use Rattle.life_rules.specs.Words.{is_done, is_held, is_under_way, one_less, pending}
+use Rattle.life_rules.specs.Words.{is_done, is_held, is_under_way, one_less, pending, is_idle}
 use Rattle.life_rules.specs.Views.{View as PureView, one, beside, lose}
 use Rattle.life_rules.specs.States.{State, size, is_live, control_at, stand}
 use Rattle.life_rules.specs.Sound.{Sound}
@@ -38,7 +38,7 @@ use Rattle.op_table.proofs.Among.{among}
 use Rattle.op_table.proofs.Loads.{known-logged}
 use Rattle.op_table.proofs.Counts.{counts-moved}
 use Rattle.op_table.proofs.ViewMoves.{views-moved}
-use Rattle.op_table.proofs.ControlRuns.{control-runs}
+use Rattle.op_table.proofs.ControlRuns.{begun-renewed, control-runs}
 use Rattle.op_table.proofs.Reporting.{above, shows, below, waits, word-is, above-live, reporting, reporting_last, sound-after}
 use Rattle.op_table.proofs.Moving.{Moves, KidMoves, moved, parent-differs, some-seat}
 use Rattle.op_table.proofs.MovingHomes.{homes-moved}
@@ -219,7 +219,8 @@ module _ {P E O : Type 0} (cargo : Ghosts P E O) (f : Frame O) (s : table.State 
           counts = counts-moved here.state after.state s.views id v mine at refl refl r.stands.counts;
         }
 
-    pub report-runs : Running cargo f record { words = set s.words i value; homes = s.homes; views = set s.views id mine }
-    report-runs =
+    pub report-runs : stamp_of n ≤ stamp_of value → Running cargo f record { words = set s.words i value; homes = s.homes; views = set s.views id mine }
+    report-runs low =
         control-runs cargo f s id value x w v r at live-now stamped reads mine u shows-mine
-        s.homes here.home r.past (λ j m. refl) refl stands-on
+        s.homes here.home r.past (λ j m. refl)
+        (begun-renewed cargo f s x r live-now (ap is_idle word-now)) (record { word = n; steps = refl; low = low }) refl stands-on

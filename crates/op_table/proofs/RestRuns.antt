@@ -40,7 +40,7 @@ use Rattle.op_table.proofs.Among.{among}
 use Rattle.op_table.proofs.Loads.{known-logged}
 use Rattle.op_table.proofs.Counts.{counts-moved}
 use Rattle.op_table.proofs.ViewMoves.{views-moved}
-use Rattle.op_table.proofs.ControlRuns.{place_of, place-live, name-live, control-runs}
+use Rattle.op_table.proofs.ControlRuns.{place_of, place-live, name-live, control-runs, begun-renewed}
 use Rattle.op_table.proofs.HeldNow.{start-so, named-so, fit-now, others-none}
 use Rattle.op_table.proofs.BeginSeats.{or-left, kid-of-family}
 use Rattle.op_table.proofs.Shedding.{sheds, carries-shed, deep-shed}
@@ -200,14 +200,16 @@ module _ {P E O : Type 0} (cargo : Ghosts P E O) (f : Frame O) (s : table.State 
           counts = counts-moved here.state after.state s.views id v mine at refl refl r.stands.counts;
         }
 
-    pub rest-runs : Running cargo f record {
+    pub rest-runs : stamp_of n ≤ stamp_of value → Running cargo f record {
       words = set s.words i value;
       homes = shed_homes cargo f s id v c r at seated gone;
       views = set s.views id mine;
     }
-    rest-runs =
+    rest-runs low =
         control-runs cargo f s id value x w v r at held-now.live stamped reads mine u shows-mine
-        (shed_homes cargo f s id v c r at seated gone) homes_now r.past (λ j m. refl) (deep-shed gone s.homes c) stands-rest
+        (shed_homes cargo f s id v c r at seated gone) homes_now r.past (λ j m. refl)
+        (begun-renewed cargo f s x r held-now.live (ap is_idle held-now.word)) (record { word = n; steps = refl; low = low })
+        (deep-shed gone s.homes c) stands-rest
 
   pub rests-now : (mine : View P E) × (a : table.Act (Option P)) × table.Valid s.homes c a
       × Running cargo f (table.stepped s (index f.layout (OfControl x.block x.node)) value id c mine a)
@@ -221,7 +223,7 @@ module _ {P E O : Type 0} (cargo : Ghosts P E O) (f : Frame O) (s : table.State 
         mine,
         sheds gone c,
         valid-shed cargo f s id v c r at seated gone,
-        rest-runs n,
+        rest-runs n (omega arith),
         (
           record {
             word = n;

@@ -31,11 +31,21 @@ use Rattle.op_table.proofs.Seats.{at_within}
 use Rattle.op_table.proofs.ViewMoves.{view-here}
 use Rattle.op_table.proofs.ControlRuns.{open-kept}
 
+-- a request that was seen on the scope's source stands
+pub seen-anywhere : {P E O : Type 0} (cargo : Ghosts P E O) (f : Frame O) (s : table.State (Option P) (View P E)) (id : ℕ) (v : View P E) → Running cargo f s →
+    get_elem? s.views id ≡ some v → has_source_ref v.seen Scope ≡ true → (bits_at (shown f s) Scope).requested ≡ true
+seen-anywhere cargo f s id v r at seen =
+    let l = at_within s.views id v at in
+    let m = r.sized.seats in
+    r.stands.sound.requests.seen id Scope (omega (arith, l, m))
+    (subst (λ (u : PureView). u.seen Scope ≡ true) (sym (view-here (block_of f.layout s.words) s.views id v at))
+    (and_from _ _ seen refl))
+
 module _ {P E O : Type 0} (cargo : Ghosts P E O) (f : Frame O) (s : table.State (Option P) (View P E)) (id : ℕ) (v : View P E) (r : Running cargo f s) (at : get_elem? s.views id ≡ some v) (x : Name) (live : is_live (shown f s) x ≡ true) where
   abbrev now : State
   now = shown f s
 
-  seen-at : (source : SourceRef) → is_present_source now.block source ≡ true → has_source_ref v.seen source ≡ true →
+  pub seen-at : (source : SourceRef) → is_present_source now.block source ≡ true → has_source_ref v.seen source ≡ true →
       (bits_at now source).requested ≡ true
   seen-at source present seen =
       let l = at_within s.views id v at in
@@ -44,7 +54,7 @@ module _ {P E O : Type 0} (cargo : Ghosts P E O) (f : Frame O) (s : table.State 
       (subst (λ (u : PureView). u.seen source ≡ true) (sym (view-here (block_of f.layout s.words) s.views id v at))
       (and_from _ _ seen present))
 
-  beside-present : (p : ℕ) → is_present now.block (beside x p) ≡ true
+  pub beside-present : (p : ℕ) → is_present now.block (beside x p) ≡ true
   beside-present p =
       let l = lives now x live in
       and_from _ _ (ap not (open-kept (now.block x.block).state l.is_opened)) (eq-eqb _ _ l.generation)

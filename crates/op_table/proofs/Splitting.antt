@@ -3,6 +3,7 @@ use Rattle.std.proofs.Common.{◌≡◌, ℕ, zero, suc, ◌+◌, ◌<◌, List,
 use mathlib.Core.Option.{some, some-injective, some-ne-none}
 use lib.ListN.{get_elem?}
 use Rattle.life_rules.specs.declared.words.BlockWord.{BlockWord}
+use Rattle.table_words.specs.declared.layout.Layout.{Layout}
 use Rattle.atomic_table.specs.Table as table
 use Rattle.atomic_table.proofs.Lists.{at_set}
 use Rattle.table_rules.specs.declared.cargo.Cargo.{Ghosts}
@@ -12,6 +13,8 @@ use Rattle.table_rules.specs.ShownWords.{block_of}
 use Rattle.table_rules.specs.ShownViews.{view_at, shown_view}
 use Rattle.table_rules.specs.Scenes.{Scene, scene}
 use Rattle.table_rules.specs.Notes.{IsKnown, ViewsStand}
+use Rattle.table_rules.specs.Named.{Each}
+use Rattle.table_rules.specs.Grown.{HasRisen, HaveRisen}
 use Rattle.table_rules.specs.Running.{Running}
 use Rattle.op_table.specs.Views.{split_once, fresh, fresh_after}
 use Rattle.op_table.proofs.Seats.{at_end}
@@ -67,6 +70,10 @@ module _ {P E : Type 0} (s : Scene P E) (vs : List (View P E)) (id : ℕ) (v : V
       (λ i. (sym (r.0 ∙ length-set vs id (split_once v)) i, r.1 i)) new)
       (at_end (set vs id (split_once v)) (fresh_after v) w h e)
 
+  -- what the hands list stays, and the new one has listed nothing
+  pub risen-split : (l : Layout) (words : List ℕ) → HaveRisen l words vs → HaveRisen l words more
+  risen-split l words all = each-of (λ h w. Each (HasRisen l words) w.steps) (all id v at) tt (λ h w _ e. all h w e)
+
   pub views-split : ViewsStand s more
   views-split =
       let known = old.each id v at in
@@ -106,3 +113,4 @@ splits cargo f id v first room s r at =
     (omega (arith, long)) (views-split now vs id v at first r.stands.views)
     (counts-more now.state (set vs id (split_once v)) (v.splits + 1)
     (counts-moved now.state now.state vs id v (split_once v) at refl refl r.stands.counts))
+    (risen-split now vs id v at first r.stands.views f.layout s.words r.stamped.rises)

@@ -1,5 +1,5 @@
 -- What the exchange by which a node is taken owes, and what it tells.
-use Rattle.std.proofs.Common.{◌≡◌, ℕ, ◌<◌, true, ◌==◌, List, [], ◌∷◌, Option, Some, refl, sym, ap, ◌∙◌, subst, eq-eqb, ne_eqb}
+use Rattle.std.proofs.Common.{◌≡◌, ℕ, ◌<◌, true, ◌==◌, List, [], ◌∷◌, Option, Some, refl, sym, ap, ◌∙◌, subst, eq-eqb, ne_eqb, ◌≤◌, arith}
 use Rattle.std.specs.Prelude.{slice_index}
 use mathlib.Core.Option.{some}
 use mathlib.Core.Option as maybe
@@ -52,10 +52,10 @@ module _ {P E O : Type 0} (cargo : Ghosts P E O) (f : Frame O) (s : table.State 
   abbrev i : ℕ
   i = index f.layout (OfControl x.block x.node)
 
-  pub taken-now : (n : ℕ) → (w : View P E) × (a : table.Act (Option P)) × table.Valid s.homes c a
+  pub taken-now : (n : ℕ) → stamp_of n ≤ stamp_of value → (w : View P E) × (a : table.Act (Option P)) × table.Valid s.homes c a
       × Running cargo f (stepped s i value id c w a)
       × TakenAt cargo (record { tree = f.tree; layout = f.layout; name = x }) (f.over.value ∷ []) i n (v, c) (w, table.carried_after c a)
-  taken-now n =
+  taken-now n low =
       let told = nearest_is_requested now x in
       let told_kids = children_are_requested now x in
       let slot = place_number f.layout x.block x.node in
@@ -65,7 +65,7 @@ module _ {P E O : Type 0} (cargo : Ghosts P E O) (f : Frame O) (s : table.State 
         mine,
         chain (take_each f.layout x.block kids) (takes slot (Some lying.0)),
         take-valid cargo f s id value x v c r at says.live may-now stamped reads lying.0 lying.1,
-        take-runs cargo f s id value x v c r at says.live may-now stamped reads n,
+        take-runs cargo f s id value x v c r at says.live may-now stamped reads n low,
         record {
           start = r.past.start x;
           named = r.past.named x;
@@ -105,7 +105,8 @@ takes_allowed {P} {E} cargo f slots id old new x from m hb hn may stamp_old read
     (λ hit.
     let says = says-live cargo f s x (resting_at from) r hb hn (ap stamp_of hit ∙ stamp_old) (ap control_read hit ∙ reads_old) (resting-busy from) in
     let mine : may_be_taken (resting_at from) id ≡ true = subst (λ h. may_be_taken (resting_at from) h ≡ true) (r.stands.views.number id m.0 at) may in
-    let won = taken-now cargo f s id new x m.0 m.1 r at (resting_at from) says mine stamp_new reads_new n in (
+    let same = ap stamp_of hit in
+    let won = taken-now cargo f s id new x m.0 m.1 r at (resting_at from) says mine stamp_new reads_new n (omega (arith, same, stamp_old, stamp_new)) in (
       won.0,
       won.1,
       won.2,

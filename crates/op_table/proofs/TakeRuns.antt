@@ -1,5 +1,5 @@
 -- The exchange by which a node that rests is taken keeps the rule.
-use Rattle.std.proofs.Common.{◌≡◌, ℕ, ◌+◌, ◌<◌, Bool, true, false, ◌&&◌, ◌||◌, ◌==◌, cond, List, length, set, refl, sym, ap, ◌∙◌, subst, inl, inr, arith, length-set}
+use Rattle.std.proofs.Common.{◌≡◌, ℕ, ◌+◌, ◌<◌, Bool, true, false, ◌&&◌, ◌||◌, ◌==◌, cond, List, length, set, refl, sym, ap, ◌∙◌, subst, inl, inr, arith, length-set, ◌≤◌}
 use Rattle.std.specs.Prelude.{Option}
 use Rattle.std.specs.Option.{option_map_or}
 use Rattle.std.proofs.lemmas.Bool.{and_from, both_ways, cond-true, cond-false, eq-eqb, false_from_ne_true}
@@ -43,7 +43,7 @@ use Rattle.op_table.proofs.Loads.{known-logged}
 use Rattle.op_table.proofs.Counts.{counts-moved}
 use Rattle.op_table.proofs.ViewMoves.{view-here, views-moved}
 use Rattle.op_table.proofs.HomeMoves.{home_of_place, taken}
-use Rattle.op_table.proofs.ControlRuns.{place_of, place-live, name-live, control-runs}
+use Rattle.op_table.proofs.ControlRuns.{place_of, place-live, name-live, begun-renewed, control-runs}
 use Rattle.op_table.proofs.KidSlots.{take_each, each-out, deep-after, kids-below}
 use Rattle.op_table.proofs.BeginState.{empty-from}
 use Rattle.op_table.proofs.Begins.{kids-tested}
@@ -284,14 +284,15 @@ module _ {P E O : Type 0} (cargo : Ghosts P E O) (f : Frame O) (s : table.State 
           counts = counts-moved here.state after.state s.views id v mine at refl refl r.stands.counts;
         }
 
-    pub take-runs : Running cargo f record {
+    pub take-runs : stamp_of n ≤ stamp_of value → Running cargo f record {
       words = set s.words i value;
       homes = taken_homes;
       views = set s.views id mine;
     }
-    take-runs =
+    take-runs low =
         control-runs cargo f s id value x (Busy 0) v r at live stamped reads mine u
         (ap (λ (z : PureView). record z { holds = gain x z.holds }) (sym shows))
         taken_homes home r.past (λ j m. refl)
+        (begun-renewed cargo f s x r live word.begun) (record { word = n; steps = refl; low = low })
         (length-set (table.homes_after s.homes c (take_each f.layout x.block kids)) slot maybe.none
         ∙ deep-after f.layout s.homes c r.sized.homes x.block place-b kids ∙ sym r.sized.homes) stands-taken

@@ -119,6 +119,10 @@ module _ {P E O : Type 0} (cargo : Ghosts P E O) (f : Frame O) (s : table.State 
           callback = looked.stamped.callback;
           source = looked.stamped.source;
           settled = looked.stamped.settled;
+          quiet = looked.stamped.quiet;
+          renewed = looked.stamped.renewed;
+          rises = looked.stamped.rises;
+          scope = looked.stamped.scope;
         };
         past = looked.past;
         stands = subst (λ z. Stands cargo f.over.value z (set s.views id (logged i n v))) (sym same) looked.stands;

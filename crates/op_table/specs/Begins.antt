@@ -3,11 +3,13 @@ use Rattle.std.specs.Prelude.{◌≡◌, ℕ, Bool, true, false, List, [], ◌�
 use Rattle.life_rules.specs.declared.event.Name.{Name}
 use Rattle.life_rules.specs.Tree.{is_root, has_source}
 use Rattle.table_words.specs.Layouts.{OfControl, OfSource, index}
+use Rattle.table_words.specs.Stamps.{stamp_of}
 use Rattle.table_rules.specs.declared.cargo.Cargo.{Ghosts}
 use Rattle.table_rules.specs.declared.frame.Frame.{Frame}
 use Rattle.table_rules.specs.declared.view.View.{View}
 use Rattle.table_rules.specs.declared.view.Owed.{Owed}
 use Rattle.table_rules.specs.declared.view.Rooted.{Rooted}
+use Rattle.table_rules.specs.declared.view.Seen.{Seen}
 use Rattle.table_rules.specs.Named.{find_by, without}
 use Rattle.op_table.specs.Claims.{logged, Seated}
 use Rattle.op_table.specs.Kids.{empty_slots}
@@ -38,8 +40,9 @@ begins root x start told told_children v =
       noted = notes_start root x start v.noted;
     }
 
--- the hand owes the node's start, and has an item in its home. The start that the item shows goes on with
--- that of the parent, has the table's key, and draws the lot with which the node is owed
+-- the hand owes the node's start, and has an item in its home, which is no completion. The start that the
+-- item shows goes on with that of the parent, has the table's key, and draws the lot with which the node is
+-- owed
 pub record CanBegin {P E O : Type 0} (cargo : Ghosts P E O) (f : Frame O) (m : Seated P E) (x : Name) : Type 0 where
   pub owed : Owed E
   pub owes : find_by (λ e. e.name) m.0.owed x ≡ Some owed
@@ -49,6 +52,7 @@ pub record CanBegin {P E O : Type 0} (cargo : Ghosts P E O) (f : Frame O) (m : S
   pub start : cargo.start item ≡ entry ∷ owed.above
   pub key : cargo.key (cargo.start item) ≡ f.over.value
   pub drawn : cargo.drawn (cargo.start item) ≡ owed.lot
+  pub goes_on : ¬ cargo.ends item
 
 module _ {P E O : Type 0} (cargo : Ghosts P E O) where
   abbrev pub start_shown : Option (Option P) → List E
@@ -73,18 +77,29 @@ module _ {P E O : Type 0} (cargo : Ghosts P E O) where
     pub seated : IsSeated aim.tree aim.layout m → IsSeated aim.tree aim.layout m'
 
 -- the renewal: a store that writes the node's source as clear, as it read before
-abbrev pub Renews : {P E : Type 0} → ℕ → Seated P E → Seated P E → Type 0
-Renews i m m' = (word : ℕ) × (m' ≡ (logged i word m.0, m.1))
+abbrev pub Renews : {P E : Type 0} → ℕ → ℕ → Seated P E → Seated P E → Type 0
+Renews i word m m' = m' ≡ (logged i word m.0, m.1)
 
--- the source of a node that has one is renewed before the node begins
+-- the source of a node that has one is renewed, at the node's generation, before the node begins
 abbrev pub IsRenewed : {P E : Type 0} → Aim → Seated P E → Seated P E → Type 0
 IsRenewed aim m m' =
     (has_source aim.tree aim.name.node ≡ true →
-    Renews (index aim.layout (OfSource aim.name.block aim.name.node)) m m')
+    (word : ℕ) × Renews (index aim.layout (OfSource aim.name.block aim.name.node)) word m m'
+    × (stamp_of word ≡ aim.name.generation))
     × (has_source aim.tree aim.name.node ≡ false → m' ≡ m)
+
+-- where the node has a source, the hand's newest step was its renewal
+abbrev pub HasRenewed : {P E : Type 0} → Aim → Seated P E → Type 0
+HasRenewed aim m =
+    has_source aim.tree aim.name.node ≡ true →
+    (word : ℕ) × (rest : List Seen) × (stamp_of word ≡ aim.name.generation)
+    × (m.0.steps
+    ≡ record { index = index aim.layout (OfSource aim.name.block aim.name.node); word = word } ∷ rest)
 
 -- a begin: the renewal, where the node has a source, and the store of its control word
 pub record Begins {P E O : Type 0} (cargo : Ghosts P E O) (aim : Aim) (m m' : Seated P E) : Type 0 where
   pub middle : Seated P E
   pub renewed : IsRenewed aim m middle
   pub began : BeginsAt cargo aim (index aim.layout (OfControl aim.name.block aim.name.node)) middle m'
+  -- what lies in the node's home then is no completion
+  pub goes_on : (item : P) → kept (slot_of aim.layout aim.name) m'.1 ≡ Some (Some item) → ¬ cargo.ends item

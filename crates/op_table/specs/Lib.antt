@@ -19,3 +19,14 @@ pub mod Releases
 pub mod Swaps
 pub mod Closings
 pub mod Steps
+pub mod Rouses
+pub mod Callbacks
+pub mod RunEnds
+pub mod ScopeMoves
+pub mod ScanOrders
+pub mod Skips
+pub mod ScanSeals
+pub mod ScopeEntries
+pub mod Requests
+pub mod Runs
+pub mod ScopeSets

@@ -1,16 +1,23 @@
 -- What a hand needs to give a block back, and what that does to the hand.
-use Rattle.std.specs.Prelude.{◌≡◌, ℕ, ◌+◌, ◌-◌, Bool, true, ◌==◌, length, Some, None}
+use Rattle.std.specs.Prelude.{◌≡◌, ℕ, ◌+◌, ◌-◌, ◌<◌, Bool, true, false, ◌==◌, List, length, Option, Some, None}
+use mathlib.Core.Option.{some}
+use lib.ListN.{get_elem?}
 use Rattle.life_rules.specs.declared.words.BlockWord.{BlockWord}
 use Rattle.life_rules.specs.declared.words.BlockState.TheVariants.{Open}
 use Rattle.life_rules.specs.declared.event.Name.{Name}
 use Rattle.life_rules.specs.LifeSteps.{next_word}
+use Rattle.life_rules.specs.Words.{is_open}
 use Rattle.table_words.specs.declared.layout.Layout.{Layout}
 use Rattle.table_words.specs.Blocks.{block_read}
-use Rattle.table_words.specs.Layouts.{OfBlock, index}
+use Rattle.table_words.specs.Layouts.{OfBlock, index, place_number}
+use Rattle.atomic_table.specs.Table as table
+use Rattle.table_rules.specs.declared.cargo.Cargo.{Ghosts}
 use Rattle.table_rules.specs.declared.frame.Frame.{Frame}
 use Rattle.table_rules.specs.declared.view.View.{View}
-use Rattle.table_rules.specs.Named.{without}
+use Rattle.table_rules.specs.Named.{without, Each}
+use Rattle.table_rules.specs.Running.{Running}
 use Rattle.table_rules.specs.ShownViews.{has_name}
+use Rattle.table_rules.specs.ShownWords.{block_of}
 use Rattle.op_table.specs.Claims.{logged, LeftAt, Seated}
 use Rattle.op_table.specs.Slots.{Aim, slot_of, kept, IsSeated}
 use Rattle.op_table.specs.Sheds.{shed}
@@ -53,3 +60,29 @@ pub record LeftBlock {P E : Type 0} (l : Layout) (block : ℕ) (now : BlockWord)
 abbrev pub CanReleaseBlock : {P E O : Type 0} → Frame O → ℕ → ℕ → Seated P E → Type 0
 CanReleaseBlock f block generation m =
     CanRelease f.layout m (record { block = block; generation = generation; node = length f.tree - 1 })
+
+-- each home of the block is at home, and nothing lies in it
+abbrev pub AreHomesEmpty : {P E : Type 0} → Layout → ℕ → table.State (Option P) (View P E) → Type 0
+AreHomesEmpty l block s = (n : ℕ) → n < l.nodes → get_elem? s.homes (place_number l block n) ≡ some (some None)
+
+module _ {P E O : Type 0} (cargo : Ghosts P E O) where
+  -- the table as the newest step of the hand with this number left it: the rule holds, the block's word
+  -- reads so, and all its homes are empty
+  pub record LeftEmpty (f : Frame O) (hand block : ℕ) (now : BlockWord) (m' : Seated P E) : Type 0 where
+    pub left : table.State (Option P) (View P E)
+    pub runs : Running cargo f left
+    pub view : get_elem? left.views hand ≡ some m'.0
+    pub reads : block_of f.layout left.words block ≡ now
+    pub empty : AreHomesEmpty f.layout block left
+
+  -- what the store tells its hand, in each of these tables
+  abbrev pub TellsRelease : List (Frame O) → ℕ → Aim → ℕ → ℕ → Seated P E → Seated P E → Type 0
+  TellsRelease frames hand aim i word m m' =
+      ReleasesAt aim i m m' × LeftAt i word m m'
+      × Each (λ f. LeftEmpty f hand aim.name.block (word_after aim.name.generation) m') frames
+
+  -- they stay so: whenever the rule holds and the block isn't open, all its homes are empty
+  abbrev pub StayEmpty : Frame O → ℕ → Type 0
+  StayEmpty f block =
+      (s : table.State (Option P) (View P E)) → Running cargo f s → is_open (block_of f.layout s.words block).state ≡ false →
+      AreHomesEmpty f.layout block s

@@ -1,28 +1,39 @@
--- What a hand remembers of the starts that it owes.
+-- What a hand remembers: the starts that it owes, and the callbacks that it runs.
 use Rattle.std.specs.Prelude.{◌≡◌, ℕ, ◌<◌, true, ◌||◌, ◌++◌, List, [], Option}
 use Rattle.std.specs.List.{list_any}
 use Rattle.life_rules.specs.declared.event.Name.{Name}
 use Rattle.life_rules.specs.Views.{one, same, beside}
 use Rattle.table_words.specs.declared.layout.Layout.{Layout}
 use Rattle.table_words.specs.Layouts.{words_in, places_in}
+use Rattle.atomic_table.specs.Seated.{TableId}
 use Rattle.atomic_table.specs.declared.shared.Seat.{Seat}
 use Rattle.name_set.specs.Sets.{Marks, has, IsOfItsBlock}
 use Rattle.table_rules.specs.declared.view.View.{View}
-use Rattle.table_rules.specs.Named.{Each}
+use Rattle.table_rules.specs.Named.{count_by, Each}
 use Rattle.op_table.specs.Owing.{owing}
 use Rattle.op_table.specs.Awaits.{is_named}
 use Rattle.op_table.specs.Views.{Board, knows}
 
--- the set is for the places of the seat's table, and has exactly the names whose start the view owes
-pub record Remembers {P E : Type 0} (seat : Seat (Option P) (View P E)) (set : Marks) : Type 0 where
-  pub words : seat.table_id.words ≡ words_in set.layout
-  pub slots : seat.table_id.slots ≡ places_in set.layout
-  pub names : (x : Name) → owing seat.me.0 x ≡ one (has set x)
+-- how often the view runs the callback of x
+abbrev pub running : {P E : Type 0} → View P E → Name → ℕ
+running v x = count_by (λ y. y) v.runs x
 
--- the seat is one of this table's, and owes no start
-pub record OwesNothing {P E O : Type 0} (board : Board O) (seat : Seat (Option P) (View P E)) : Type 0 where
+-- the set is for the places of this table, and has exactly the names that count, which count once
+pub record HasExactly (table : TableId) (count : Name → ℕ) (set : Marks) : Type 0 where
+  pub words : table.words ≡ words_in set.layout
+  pub slots : table.slots ≡ places_in set.layout
+  pub names : (x : Name) → count x ≡ one (has set x)
+
+-- one set has exactly the names whose start the view owes, the other those whose callback it runs
+pub record Remembers {P E : Type 0} (seat : Seat (Option P) (View P E)) (starts callbacks : Marks) : Type 0 where
+  pub owed : HasExactly seat.table_id (owing seat.me.0) starts
+  pub runs : HasExactly seat.table_id (running seat.me.0) callbacks
+
+-- the seat is one of this table's, owes no start and runs no callback
+pub record OwesAndRunsNone {P E O : Type 0} (board : Board O) (seat : Seat (Option P) (View P E)) : Type 0 where
   pub table_is : seat.table_id ≡ board.table_id
   pub owed : (knows seat).owed ≡ []
+  pub runs : (knows seat).runs ≡ []
 
 -- these children of x came to the set
 abbrev pub AreAdded : Name → List ℕ → Marks → Marks → Type 0
@@ -41,7 +52,7 @@ pub record IsAdding (x : Name) (children left : List ℕ) (old now : Marks) : Ty
   pub has_all : (y : Name) → (list_any (λ n. same (beside x n) y) left || has now y)
       ≡ (list_any (λ n. same (beside x n) y) children || has old y)
 
--- of these seats the first became hands, and these are left, which owe nothing
+-- of these seats the first became hands, and these are left, which owe and run nothing
 pub record IsHanding {P E O : Type 0} (board : Board O) (seats hands left : List (Seat (Option P) (View P E))) : Type 0 where
   pub in_order : hands ++ left ≡ seats
-  pub each : Each (OwesNothing board) left
+  pub each : Each (OwesAndRunsNone board) left

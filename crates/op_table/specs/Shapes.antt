@@ -11,6 +11,7 @@ pub record IsShape (shape : Shape) : Type 0 where
   pub hands : shape.hands ≤ MOST_HANDS
   pub nodes : shape.layout.nodes ≡ length shape.tree
   pub most_nodes : length shape.tree ≤ MOST_NODES
+  pub most : shape.most ≤ 65535
 
 -- the frame of this shape, over what the key says
 abbrev pub frame_of : {O : Type 0} → Shape → Frame O → Frame O

@@ -5,14 +5,16 @@ use Rattle.life_rules.specs.declared.event.Name.{Name}
 use Rattle.life_rules.specs.declared.event.SourceRef.{SourceRef}
 use Rattle.life_rules.specs.declared.event.SourceRef.TheVariants.{Scope, Node}
 use Rattle.life_rules.specs.Tree.{nearest, has_source}
-use Rattle.life_rules.specs.Views.{same}
+use Rattle.life_rules.specs.Views.{same, beside}
 use Rattle.life_rules.specs.States.{source_for}
 use Rattle.table_words.specs.Stamps.{stamp_of}
 use Rattle.table_words.specs.Controls.{source_read}
 use Rattle.table_words.specs.Layouts.{Spot, TheScopeSource, OfSource, IsSpot, index}
 use Rattle.atomic_table.specs.declared.shared.Seat.{Seat}
 use Rattle.table_rules.specs.declared.view.View.{View}
-use Rattle.table_rules.specs.ShownViews.{has_name}
+use Rattle.table_rules.specs.declared.view.Held.{Held}
+use Rattle.table_rules.specs.Named.{find_by}
+use Rattle.table_rules.specs.ShownViews.{has_name, has_source_ref}
 use Rattle.op_table.specs.Views.{Board}
 use Rattle.op_table.specs.Claims.{logged, Seated}
 
@@ -79,6 +81,22 @@ module _ {P E : Type 0} where
     logged i word (sees source after (says_requested source word) m.0),
     m.1,
   )
+
+-- the source can't go away under the hand: it is the scope's, or of an operation of which the hand holds a
+-- node
+abbrev pub KeepsAlive : {P E : Type 0} → View P E → SourceRef → Type 0
+KeepsAlive v Scope = Unit {0}
+KeepsAlive {P} {E} v (Node x) =
+    (node : ℕ) × (held : Held E) × (find_by (λ e. e.name) v.held (beside x node) ≡ Some held)
+
+-- a request that the hand has seen there still stands
+abbrev pub StillAsked : {P E : Type 0} → View P E → SourceRef → Bool → Type 0
+StillAsked v source answer = has_source_ref v.seen source ≡ true → KeepsAlive v source → answer ≡ true
+
+-- what the load tells: that, and that a request that was seen still stands
+abbrev pub LooksAt : {P E : Type 0} → SourceRef → Option Name → ℕ → ℕ → Seated P E → Seated P E → Type 0
+LooksAt source after i word m m' =
+    (m' ≡ looks_at source after i word m) × StillAsked m.0 source (says_requested source word)
 
 -- the answer is what the word that was read says, and the hand has noted it
 abbrev pub IsLookedAt : {P E O : Type 0} → Board O → SourceRef → Option Name → Bool → Seat (Option P) (View P E) → Seat (Option P) (View P E) → Type 0

@@ -13,7 +13,7 @@ use Rattle.op_table.specs.Begins.{BeginsAt, IsRenewed, Begins}
 use Rattle.op_table.specs.Rests.{LeftControl, RestsAt}
 use Rattle.op_table.specs.Finishes.{FinishesAt}
 use Rattle.op_table.specs.Awaits.{AwaitsAt}
-use Rattle.op_table.specs.Releases.{LeftBlock, ReleasesAt, word_after}
+use Rattle.op_table.specs.Releases.{LeftBlock, LeftEmpty, ReleasesAt, word_after}
 
 -- the index of the node's control word
 abbrev pub control_index : {O : Type 0} → Board O → Name → ℕ
@@ -51,3 +51,8 @@ Released board block generation old new =
 abbrev pub LeftGivenBack : {P E O : Type 0} → Board O → ℕ → ℕ → Seat (Option P) (View P E) → Seat (Option P) (View P E) → Type 0
 LeftGivenBack board block generation old new =
     LeftBlock board.frame.layout block (word_after generation) old.me new.me
+
+-- in the table that the step left all homes of the block are empty
+abbrev pub LeftAllEmpty : {P E O : Type 0} → Board O → ℕ → ℕ → Seat (Option P) (View P E) → Ghosts P E O → Type 0
+LeftAllEmpty board block generation new cargo =
+    LeftEmpty cargo board.frame new.id block (word_after generation) new.me

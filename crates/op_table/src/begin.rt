@@ -1,7 +1,7 @@
 //! How a node is begun.
 ghost use Rattle.std.specs.Prelude.{◌≡◌};
 ghost use Rattle.op_table.specs.Views.{IsHandOf, IsSameHand, IsPlaceIn, aim_at};
-ghost use Rattle.op_table.specs.Begins.{CanBegin};
+ghost use Rattle.op_table.specs.Begins.{CanBegin, HasRenewed};
 ghost use Rattle.op_table.specs.Steps.{Renewed, Held, Begun};
 
 use crate::plays::{Beginnings, Renewals, Subject};
@@ -16,11 +16,12 @@ impl<P: Cargo> OpTable<P> {
     ///
     /// Step: one store of the node's control word, idle to held. Before it, where the node has a
     /// stop source, one store of the source's word, which is clear, at the name's generation.
-    /// Needs: the hand owes the start, and its home has an item. The start that the item shows goes
-    /// on with the parent's, has the table's key, and draws the lot with which the node is owed.
+    /// Needs: the hand owes the start, and its home has an item, which is no completion. The start
+    /// that the item shows goes on with the parent's, has the table's key, and draws the lot with
+    /// which the node is owed.
     /// Afterwards: the hand holds the node, and has its home and the empty homes of its children.
-    /// It has noted the start of a root: where it comes to hold the root again, it knows that this
-    /// is its start.
+    /// What lies in its home is no completion. The hand has noted the start of a root: where it
+    /// comes to hold the root again, it knows that this is its start.
     pub fn begin(&self, hand: &mut Hand<P>, name: Name)
         requires table { IsHandOf self.now hand.old }
         requires place { IsPlaceIn self.now name }
@@ -58,11 +59,12 @@ impl<P: Cargo> OpTable<P> {
         }
     }
 
-    // Makes the node held.
+    // Makes the node held, where its source is renewed.
     fn begin_at<K: Subject>(&self, seat: &mut SeatOf<P>, name: Name)
         requires table { IsHandOf self.now seat.old }
         requires place { IsPlaceIn self.now name }
         requires needs { CanBegin P.Cargo self.now.frame seat.old.me name }
+        requires renewed { HasRenewed (aim_at self.now name) seat.old.me }
         requires subject { K.aim ≡ aim_at self.now name }
         ensures table { IsSameHand seat.old seat.new }
         ensures hand { IsHandOf self.now seat.new }

@@ -4,8 +4,10 @@
 //! and on the laws of the pure machine. Many threads work on one table, each by a `Hand` of its
 //! own; no step takes memory or a lock, and none waits.
 //!
-//! Beside its seat a hand has a set (name_set) of the starts that it owes, in room that `open`
-//! takes: `claim` and `await_children` add to it, `begin` takes out, and `owed` reads it.
+//! Beside its seat a hand has two sets (name_set), in room that `open` takes. One has the starts
+//! that it owes: `claim` and `await_children` add to it, `begin` takes out, and `owed` reads it. The
+//! other has the callbacks that it runs: `run_step` adds to it, `end_run_step` and
+//! `withdraw_own_step` take out, and `runs` reads it.
 //!
 //! # The life of a block
 //!
@@ -22,11 +24,24 @@
 //! `claim`, `take`, `take_parked` and `rouse` are exchanges, and lose where the word changed first.
 //! `report` is a fetch_sub, by the hand that owes it. The rest are stores, by the one hand that
 //! owes the start or holds the node.
+//!
+//! # The life of a stop request and of a callback
+//!
+//!     clear --request_step--> requested --seal_scan_step--> requested and scanned
+//!     never --arm_step--> armed --run_step--> running --end_run_step--> ran
+//!                         armed --withdraw_step--> removed
+//!                                             running --withdraw_own_step--> removed
+//!
+//! `request_step` is a fetch_or, and begins a scan where it is the first. `run_step` loads the word
+//! of the scan's next place, passes it where it isn't armed, and else exchanges it, again at each
+//! later generation at which it finds the place armed; `withdraw_step` is an exchange.
 #![tactic(auto)]
 
+mod arm;
 mod begin;
 mod claim;
 mod close;
+mod enter;
 mod finish;
 mod looks;
 mod open;
@@ -35,15 +50,26 @@ mod plays;
 mod reads;
 mod release;
 mod report;
+mod request;
 mod rest;
 mod root;
+mod rouse;
+mod run;
+mod run_end;
+mod running;
+mod scan_seal;
+mod scope;
+mod scope_look;
+mod scope_set;
 mod shape;
 mod sight;
+mod skip;
 mod swaps;
 mod table;
 #[cfg(test)]
 mod tests;
 mod waiting;
+mod withdraw;
 
 pub use claim::Block;
 pub use close::Closing;

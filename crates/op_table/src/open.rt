@@ -3,7 +3,7 @@ ghost use Rattle.std.specs.Prelude.{◌≡◌, ◌≤◌, [], ◌∷◌, length,
 ghost use Rattle.life_rules.specs.declared.tree.TheConstants.{MOST_BLOCKS, MOST_HANDS};
 ghost use Rattle.table_rules.specs.Named.{Each};
 ghost use Rattle.op_table.specs.Views.{IsHandOf, AreFreshHands, IsOpenedOver};
-ghost use Rattle.op_table.specs.Remembers.{OwesNothing};
+ghost use Rattle.op_table.specs.Remembers.{OwesAndRunsNone};
 
 use crate::plays::NextHand;
 use crate::shape::Shape;
@@ -89,19 +89,29 @@ impl<P: Cargo> OpTable<P> {
         Ok(all)
     }
 
-    // The hands on these seats, which owe nothing yet. They have all the room that they need.
+    // The hands on these seats, in their order.
     fn hands_of(&self, alloc: Global, mut seats: Vec<SeatOf<P>>) -> Result<Vec<Hand<P>>, AllocError>
         requires nodes { 1 ≤ self.now.frame.layout.nodes }
-        requires seats { Each (OwesNothing self.now) seats.items }
+        requires seats { Each (OwesAndRunsNone self.now) seats.items }
         ensures { IfOk result (λ all. all.items ≡ seats.items) }
     {
         let mut all = Vec::with_capacity(alloc, seats.len())?;
         while !seats.is_empty() {
-            let seat = seats.remove(0);
-            let owed = NameSet::empty(alloc, self.frame.layout)?;
-            all.push(Hand { seat, owed })?;
+            let hand = self.hand_on(alloc, seats.remove(0))?;
+            all.push(hand)?;
         }
         Ok(all)
+    }
+
+    // The hand on this seat, which owes and runs nothing yet. It has all the room that it needs.
+    fn hand_on(&self, alloc: Global, seat: SeatOf<P>) -> Result<Hand<P>, AllocError>
+        requires nodes { 1 ≤ self.now.frame.layout.nodes }
+        requires seat { OwesAndRunsNone self.now seat }
+        ensures { IfOk result (λ hand. hand ≡ seat) }
+    {
+        let owed = NameSet::empty(alloc, self.frame.layout)?;
+        let runs = NameSet::empty(alloc, self.frame.layout)?;
+        Ok(Hand { seat, owed, runs })
     }
 
     /// The number of blocks.

@@ -29,8 +29,9 @@ impl<P: Cargo> Hand<P> {
     pub(crate) fn into_seat(self) -> SeatOf<P>
         ensures { result ≡ self }
     {
-        let Hand { seat, owed } = self;
+        let Hand { seat, owed, runs } = self;
         drop(owed);
+        drop(runs);
         seat
     }
 }

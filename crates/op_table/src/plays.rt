@@ -3,6 +3,7 @@ ghost use Rattle.std.specs.Prelude.{◌≡◌, List, [], ℕ, Option, None};
 ghost use Rattle.life_rules.specs.declared.event.Name.{Name};
 ghost use Rattle.life_rules.specs.declared.event.SourceRef.{SourceRef};
 ghost use Rattle.life_rules.specs.declared.event.SourceRef.TheVariants.{Scope};
+ghost use Rattle.table_rules.specs.declared.frame.Frame.{Frame};
 ghost use Rattle.op_table.specs.Views.{fresh, split_once, fresh_after};
 ghost use Rattle.op_table.specs.Closings.{gathered, spent};
 ghost use Rattle.op_table.specs.Slots.{Aim};
@@ -13,9 +14,9 @@ ghost use Rattle.op_table.specs.Takes.{TakesAt};
 ghost use Rattle.op_table.specs.Finishes.{FinishesAt};
 ghost use Rattle.op_table.specs.Awaits.{AwaitsAt};
 ghost use Rattle.op_table.specs.Readings.{reads_child, reads_phase};
-ghost use Rattle.op_table.specs.Sights.{looks_at};
+ghost use Rattle.op_table.specs.Sights.{LooksAt};
 ghost use Rattle.op_table.specs.Reports.{ReportsAt};
-ghost use Rattle.op_table.specs.Releases.{ReleasesAt};
+ghost use Rattle.op_table.specs.Releases.{TellsRelease};
 ghost use Rattle.op_table.specs.Swaps.{TurnsTo};
 
 use atomic_table::{Join, Play, Split};
@@ -89,7 +90,7 @@ impl<P, E, K: Subject> Play<Option<P>, View<P, E>> for Claims<K> {
 pub struct Renewals;
 
 impl<P, E> Play<Option<P>, View<P, E>> for Renewals {
-    ghost then = { λ step m found m'. Renews step.word m m' };
+    ghost then = { λ step m found m'. Renews step.word found m m' };
 }
 
 /// The store by which a node is begun.
@@ -195,7 +196,7 @@ pub struct Sights<K> {
 }
 
 impl<P, E, K: Regard> Play<Option<P>, View<P, E>> for Sights<K> {
-    ghost then = { λ step m found m'. m' ≡ looks_at K.source K.after step.word found m };
+    ghost then = { λ step m found m'. LooksAt K.source K.after step.word found m m' };
 }
 
 /// The subtraction by which a child is reported to its parent.
@@ -210,11 +211,25 @@ impl<P: Cargo, K: Subject, J: Subject, L: Keyed<P::Over>> Play<Option<P>, View<P
     ghost then = { ReportsAt P.Cargo K.aim J.aim.name L.overs };
 }
 
-/// The store by which a block is given back.
-pub struct Releases<K> {
-    subject: PhantomData<K>,
+/// In which table a step is made, and by the hand of which number. A call picks them.
+pub trait Site<O> {
+    ghost frames: { List (Frame O) };
+
+    ghost hand: { ℕ };
 }
 
-impl<P, E, K: Subject> Play<Option<P>, View<P, E>> for Releases<K> {
-    ghost then = { λ step m found m'. ReleasesAt K.aim step.word m m' × LeftAt step.word found m m' };
+impl<O> Site<O> for Brand {
+    ghost frames = { [] };
+
+    ghost hand = { 0 };
+}
+
+/// The store by which a block is given back.
+pub struct Releases<K, J> {
+    subject: PhantomData<K>,
+    site: PhantomData<J>,
+}
+
+impl<P: Cargo, K: Subject, J: Site<P::Over>> Play<Option<P>, View<P, P::Entry>> for Releases<K, J> {
+    ghost then = { λ step m found m'. TellsRelease P.Cargo J.frames J.hand K.aim step.word found m m' };
 }

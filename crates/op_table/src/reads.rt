@@ -25,7 +25,7 @@ fn says_begun(generation: u32, word: u64) -> bool
 }
 
 // The phase that the word says at this generation.
-fn says_phase(generation: u32, word: u64) -> CallbackPhase
+pub(crate) fn says_phase(generation: u32, word: u64) -> CallbackPhase
     ensures { result ≡ says_phase generation word }
 {
     if stamp(word) == generation {

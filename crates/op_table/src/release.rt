@@ -1,12 +1,12 @@
 //! How a block is given back.
-ghost use Rattle.std.specs.Prelude.{◌≡◌, ◌<◌};
+ghost use Rattle.std.specs.Prelude.{◌≡◌, ◌<◌, [], ◌∷◌};
 ghost use Rattle.op_table.specs.Views.{IsHandOf, IsSameHand, aim_at};
 ghost use Rattle.op_table.specs.Claims.{root_name};
-ghost use Rattle.op_table.specs.Releases.{CanReleaseBlock, word_after};
-ghost use Rattle.op_table.specs.Steps.{Released, LeftGivenBack};
+ghost use Rattle.op_table.specs.Releases.{CanReleaseBlock, StayEmpty, word_after};
+ghost use Rattle.op_table.specs.Steps.{Released, LeftGivenBack, LeftAllEmpty};
 
 use crate::claim::Block;
-use crate::plays::{Releases, Subject};
+use crate::plays::{Releases, Site, Subject};
 use crate::table::{Hand, OpTable, SeatOf};
 use life_rules::{BlockState, BlockWord};
 use std::marker::Brand;
@@ -38,7 +38,9 @@ impl<P: Cargo> OpTable<P> {
     /// after the last.
     /// Needs: the hand has the finished root, and its home, which is empty.
     /// Afterwards: the hand has the root no more, and has given its home back. The word that it
-    /// wrote says that the block is free at the next generation, or retired after the last.
+    /// wrote says that the block is free at the next generation, or retired after the last. In the
+    /// table that the step left all homes of the block are empty, and they stay so as long as it
+    /// isn't open.
     pub fn release_step(&self, hand: &mut Hand<P>, block: Block)
         requires table { IsHandOf self.now hand.old }
         requires block { block.index < self.now.frame.layout.blocks }
@@ -47,22 +49,28 @@ impl<P: Cargo> OpTable<P> {
         ensures hand { IsHandOf self.now hand.new }
         ensures released { Released self.now block.index block.generation hand.old hand.new }
         ensures wrote { LeftGivenBack self.now block.index block.generation hand.old hand.new }
+        ensures empty { LeftAllEmpty self.now block.index block.generation hand.new P.Cargo }
+        ensures stay { StayEmpty P.Cargo self.now.frame block.index }
     {
-        self.release_at::<Brand>(&mut hand.seat, block);
+        self.release_at::<Brand, Brand>(&mut hand.seat, block);
     }
 
-    fn release_at<K: Subject>(&self, seat: &mut SeatOf<P>, block: Block)
+    fn release_at<K: Subject, J: Site<P::Over>>(&self, seat: &mut SeatOf<P>, block: Block)
         requires table { IsHandOf self.now seat.old }
         requires block { block.index < self.now.frame.layout.blocks }
         requires needs { CanReleaseBlock self.now.frame block.index block.generation seat.old.me }
         requires subject { K.aim ≡ aim_at self.now (root_name self.now block.index block.generation) }
+        requires frames { J.frames ≡ self.now.frame ∷ [] }
+        requires site { J.hand ≡ seat.old.id }
         ensures table { IsSameHand seat.old seat.new }
         ensures hand { IsHandOf self.now seat.new }
         ensures released { Released self.now block.index block.generation seat.old seat.new }
         ensures wrote { LeftGivenBack self.now block.index block.generation seat.old seat.new }
+        ensures empty { LeftAllEmpty self.now block.index block.generation seat.new P.Cargo }
+        ensures stay { StayEmpty P.Cargo self.now.frame block.index }
     {
         let free = block_number(word_after(block.generation));
         let index = self.frame.layout.block(block.index);
-        self.table.shared.store::<Releases<K>>(seat, index, free);
+        self.table.shared.store::<Releases<K, J>>(seat, index, free);
     }
 }

@@ -3,7 +3,7 @@ ghost use Rattle.std.specs.Prelude.{◌≡◌, ◌≤◌, ◌<◌, None};
 ghost use Rattle.life_rules.specs.declared.event.SourceRef.TheVariants.{Scope};
 ghost use Rattle.table_words.specs.Layouts.{IsSpot, index, words_in};
 ghost use Rattle.op_table.specs.Views.{IsHandOf, IsSameHand};
-ghost use Rattle.op_table.specs.Sights.{spot_of, says_requested, IsSourceIn, MayLookAfter, IsLookedAt};
+ghost use Rattle.op_table.specs.Sights.{spot_of, says_requested, IsSourceIn, MayLookAfter, IsLookedAt, StillAsked};
 
 use crate::plays::{Regard, Sights};
 use crate::table::{Hand, OpTable, SeatOf};
@@ -13,7 +13,7 @@ use table_rules::Cargo;
 use table_words::{Layout, SCOPE_SOURCE, read_source, stamp};
 
 // The index of the source's word.
-fn source_index(layout: &Layout, source: SourceRef) -> usize
+pub(crate) fn source_index(layout: &Layout, source: SourceRef) -> usize
     requires blocks { layout.now.blocks ≤ 256 }
     requires nodes { layout.now.nodes ≤ 1025 }
     requires spot { IsSpot layout.now (spot_of source) }
@@ -45,7 +45,8 @@ impl<P: Cargo> OpTable<P> {
     /// Needs: a source of the table. After an arming: this hand armed the place and hasn't looked
     /// after it yet, and the place's callback is registered on this source.
     /// Afterwards: the place is looked after. A request that was read is seen, and was read after
-    /// the place was armed.
+    /// the place was armed. One that was seen before still stands: the answer is true, where the
+    /// source can't go away under the hand.
     pub fn look_step(&self, hand: &mut Hand<P>, source: SourceRef, after: Option<Name>) -> bool
         requires table { IsHandOf self.now hand.old }
         requires source { IsSourceIn self.now source }
@@ -53,6 +54,7 @@ impl<P: Cargo> OpTable<P> {
         ensures table { IsSameHand hand.old hand.new }
         ensures hand { IsHandOf self.now hand.new }
         ensures looked { IsLookedAt self.now source after result hand.old hand.new }
+        ensures stands { StillAsked hand.old.me.0 source result }
     {
         self.look_after::<Brand>(&mut hand.seat, source, after)
     }
@@ -71,6 +73,7 @@ impl<P: Cargo> OpTable<P> {
         ensures table { IsSameHand seat.old seat.new }
         ensures hand { IsHandOf self.now seat.new }
         ensures looked { IsLookedAt self.now source after result seat.old seat.new }
+        ensures stands { StillAsked seat.old.me.0 source result }
     {
         let index = source_index(&self.frame.layout, source);
         let word = self.table.shared.load::<Sights<K>>(seat, index);

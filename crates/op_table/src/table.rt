@@ -29,6 +29,8 @@ pub struct Hand<P: Cargo> {
     pub(crate) seat: SeatOf<P>,
     // The nodes whose start it owes.
     pub(crate) owed: NameSet,
+    // The nodes whose callback it runs.
+    pub(crate) runs: NameSet,
 }
 
 impl<P: Cargo> Model for Hand<P> {
@@ -41,7 +43,7 @@ impl<P: Cargo> Model for Hand<P> {
 
     ghost view = { λ h. h.seat };
 
-    ghost invariant = { λ h. Remembers h.seat h.owed };
+    ghost invariant = { λ h. Remembers h.seat h.owed h.runs };
 }
 
 /// A table of operations. Threads share it, and step on it each by its own hand.

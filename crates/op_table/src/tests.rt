@@ -1,5 +1,5 @@
 //! A small cargo of the tests' own on a table of one node a block.
-ghost use Rattle.std.specs.Prelude.{List, [], ℤ};
+ghost use Rattle.std.specs.Prelude.{◌≡◌, false, List, [], ◌∷◌, ℤ, None, IfOk};
 
 use crate::{Cargo, OpTable};
 use life_rules::{ScopeKind, TreeNode};
@@ -7,9 +7,13 @@ use node_tree::Tree;
 use std::alloc::Global;
 use std::test::Fail;
 
+mod callbacks;
 mod closes;
 mod looks;
 mod owing;
+mod requests;
+mod running;
+mod scopes;
 mod threads;
 
 // A cargo that tells nothing.
@@ -43,7 +47,9 @@ impl Cargo for Token {
 }
 
 // A tree of the receiver node alone.
-fn one_node(alloc: Global) -> Result<Tree, Fail> {
+fn one_node(alloc: Global) -> Result<Tree, Fail>
+    ensures { IfOk result (λ tree. tree ≡ record { parent = None; source = false; unstoppable = false } ∷ []) }
+{
     let root = TreeNode {
         parent: None,
         source: false,

@@ -8,4 +8,5 @@ pub mod Items
 pub mod Lots
 pub mod Notes
 pub mod Counts
+pub mod Grown
 pub mod Running

@@ -52,8 +52,9 @@ pub struct Scanning {
     pub next: u64,
 }
 
-/// A step or a load of the hand: the index of the word, and what was read there, or written by a
-/// store.
+/// A step or a load of the hand: the index of the word, and what was read there; or what was written
+/// by a store, by the exchange of a removal that won, or by a step that closes the scope or starts its
+/// join, which lists what it read too.
 pub struct Seen {
     pub index: u64,
     pub word: u64,

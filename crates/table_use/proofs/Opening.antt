@@ -1,26 +1,27 @@
 -- A node is started and opened, and it is finished and reported.
-use Rattle.std.proofs.Common.{◌≡◌, ℕ, ◌<◌, true, false, ◌==◌, List, [], ◌∷◌, arith, refl, sym, ap, ◌∙◌, subst}
+use Rattle.std.proofs.Common.{◌≡◌, ◌≢◌, ℕ, ◌<◌, true, false, ◌==◌, List, [], ◌∷◌, arith, refl, sym, ap, ◌∙◌, subst}
 use Rattle.std.specs.Prelude.{Option, Some, None}
-use Rattle.std.proofs.lemmas.Bool.{both_ways, eq-eqb}
+use Rattle.std.specs.Option.{option_map_or}
+use Rattle.std.proofs.lemmas.Bool.{both_ways, cond-false, eq-eqb, eqb-true}
 use Rattle.life_rules.specs.declared.words.CallbackPhase.{CallbackPhase}
 use Rattle.life_rules.specs.declared.words.CallbackPhase.TheVariants.{Never}
 use Rattle.life_rules.specs.declared.event.Name.{Name}
-use Rattle.life_rules.specs.Tree.{is_child}
+use Rattle.life_rules.specs.Tree.{is_child, parent_of}
 use Rattle.life_rules.specs.Views.{beside, same}
-use Rattle.life_rules.proofs.Tests.{same-other}
+use Rattle.life_rules.proofs.Tests.{either, same-other}
 use Rattle.life_kept.proofs.Trees.{child-parent}
 use Rattle.table_rules.specs.declared.view.Held.{Held}
 use Rattle.table_rules.specs.declared.view.Owed.{Owed}
-use Rattle.table_rules.specs.Named.{find_by}
+use Rattle.table_rules.specs.Named.{find_by, Each}
 use Rattle.op_table.specs.declared.report.Report.{Report}
 use Rattle.op_table.specs.declared.report.Report.TheVariants.{Last, Others}
 use Rattle.op_table.specs.Views.{Board}
 use Rattle.op_table.specs.Begins.{Begins, CanBegin}
 use Rattle.op_table.specs.Claims.{Seated}
 use Rattle.op_table.specs.Finishes.{CanFinish, FinishesAt}
-use Rattle.op_table.specs.Readings.{Holds, IsPhaseAs}
-use Rattle.op_table.specs.Reports.{CanReport, IsReportedAs}
-use Rattle.op_table.specs.Slots.{slot_of, kept}
+use Rattle.op_table.specs.Readings.{above_it, Holds, IsPhaseAs}
+use Rattle.op_table.specs.Reports.{laid, CanReport, IsReportedAs}
+use Rattle.op_table.specs.Slots.{slot_of, kids_of, kept, AreApart as Apart}
 use Rattle.op_table.specs.Swaps.{HasHome}
 use Rattle.op_slot.specs.Puts.{CanPut, FitsOwed, IsPut, IsTakenOut}
 use Rattle.op_slot.specs.Tends.{aimed, AreApart, IsCalm, HasPlaces, KeepsOwed, Owes, Tends}
@@ -31,13 +32,20 @@ use Rattle.table_use.specs.declared.cargo.Entry.{Entry}
 use Rattle.table_use.specs.declared.cargo.Env.{Env}
 use Rattle.table_use.specs.declared.cargo.Item.{Item}
 use Rattle.table_use.specs.declared.cargo.Item.TheVariants.{Start, Done}
-use Rattle.table_use.specs.Starts.{entry_at, above_of, path, value_at}
-use Rattle.table_use.specs.Uses.{IsNode, IsEnv, OwesNode, OwesStart, HoldsNode, OwesDone, HoldsLast}
+use Rattle.table_use.specs.Starts.{entry_at, above_of, path, value_at, env_of}
+use Rattle.table_use.specs.Uses.{use_tree, control_at, IsNode, IsEnv, OwesNode, OwesStart, HoldsNode, OwesDone, HoldsLast}
 use Rattle.table_use.specs.contracts.cargo.ItemCargo.TheImpl.{ghosts}
 use Rattle.table_use.proofs.Nodes.{node-places, node-inner, node-parent, leaf-alone, leaf-family, kid-above, pair-kid}
 
-start-same : (a b : Env) → Some (Start a) ≡ Some (Start b) → a ≡ b
-start-same a b e = cc
+some-same : (a b : Item) → Some a ≡ Some b → a ≡ b
+some-same a b e = cc
+
+-- a slot in which the hand keeps something stands in the list of what it carries
+carried : {A : Type 0} (slot : ℕ) (inside : A) (cs : List (ℕ × A)) → kept slot cs ≡ Some inside → Each (λ d. d.0 ≢ slot) cs → ⊥
+carried slot inside [] has apart = cc
+carried slot inside (c ∷ cs) has apart =
+    either (c.0 == slot) (λ t. apart.0 (eqb-true c.0 slot t))
+    (λ no. carried slot inside cs (sym (cond-false (c.0 == slot) (Some c.1) (kept slot cs) no) ∙ has) apart.1)
 
 module _ (board : Board ℕ) (x : Name) (is : IsNode board x) where
   -- the start of an env goes on with that of the parent
@@ -48,7 +56,7 @@ module _ (board : Board ℕ) (x : Name) (is : IsNode board x) where
       FitsOwed ghosts board.frame m x (Start env)
   start-fits env inside m owes =
       owes-fits board.frame x m ghosts (Start env) inside _ owes.owes (entry_at env x.node) (path-is env owes.is) owes.is.step refl
-      (owes.is.node, tt)
+      (owes.is.node, tt) (λ e. e)
 
   pub start-puts : (env : Env) (m : Seated Item Entry) → OwesNode board.frame x env None m → CanPut ghosts board.frame m x (Start env)
   start-puts env m owes = owes-puts board.frame x m ghosts (Start env) _ owes.owes (start-fits env None m owes)
@@ -78,6 +86,7 @@ module _ (board : Board ℕ) (x : Name) (is : IsNode board x) where
           start = path-is owes.0 owes.1.is;
           key = owes.1.is.step;
           drawn = refl;
+          goes_on = λ e. e;
         }
 
     module _ (began : Begins ghosts (aimed board.frame x) m m1) where
@@ -91,11 +100,16 @@ module _ (board : Board ℕ) (x : Name) (is : IsNode board x) where
       start-home = tends-home board.frame x m1 held (Some (Start owes.0)) (λ _. None) start-begun
 
       module _ (m2 : Seated Item Entry) (out : Option Item) (took : IsTakenOut board.frame x out m1 m2) where
-        pub start-opened : (env : Env) → out ≡ Some (Start env) → HoldsNode board.frame x env m2
-        start-opened env said =
-            let same = start-same owes.0 env
-            (sym (swapped-old board.frame x None out m1 m2 took (Some (Start owes.0)) start-begun.own) ∙ said) in
-            subst (λ e. HoldsNode board.frame x e m2) same
+        pub start-out : out ≡ Some (Start owes.0)
+        start-out = swapped-old board.frame x None out m1 m2 took (Some (Start owes.0)) start-begun.own
+
+        -- the env is the one with which the node was owed
+        pub start-env : (item : Item) (env : Env) → out ≡ Some item → env ≡ env_of item → env ≡ owes.0
+        start-env item env some is = is ∙ ap env_of (some-same item (Start owes.0) (sym some ∙ start-out))
+
+        pub start-opened : (env : Env) → env ≡ owes.0 → HoldsNode board.frame x env m2
+        start-opened env is_it =
+            subst (λ e. HoldsNode board.frame x e m2) (sym is_it)
             (record {
               is = owes.1.is;
               calm = swapped-calm board.frame x None out m1 m2 took (begun-calm ghosts board.frame x m m1 began owes.1.calm);
@@ -105,12 +119,6 @@ module _ (board : Board ℕ) (x : Name) (is : IsNode board x) where
               empty = λ n child. refl;
               tends = swapped-own board.frame x None out m1 m2 took held (Some (Start owes.0)) (λ _. None) (node-places board x is) start-begun;
             })
-
-        -- the env is the one with which the node was owed
-        pub start-env : (env : Env) → out ≡ Some (Start env) → env ≡ owes.0
-        start-env env said =
-            start-same env owes.0
-            (sym said ∙ swapped-old board.frame x None out m1 m2 took (Some (Start owes.0)) start-begun.own)
 
         pub start-beside : x.node < 2 → KeepsOwed board.frame x m m2
         start-beside below y owed inside apart has =
@@ -145,25 +153,30 @@ module _ (board : Board ℕ) (x : Name) (is : IsNode board x) where
             phased-calm board.frame x holds.held (Some (Done env value)) holds.kid m1 m2 phase read
             (swapped-calm board.frame x (Some (Done env value)) None m m1 put holds.calm)
 
+        pub done-still : Holds m2.0 x
+        done-still = record { held = record (holds.held) { phase = Some phase }; holds = done-read.holds }
+
         pub done-finishes : phase ≡ Never → CanFinish ghosts board.frame m2 x
         done-finishes never =
             tends-finishes ghosts board.frame x m2 (record (holds.held) { phase = Some phase }) holds.kid done-calm holds.empty
             (Done env value) Never done-read (ap (λ p. Some p) never) refl (omega arith) (sym holds.start) (holds.is.node, right) tt
 
-        module _ (i : ℕ) (below : x.node < 3) (did : FinishesAt ghosts (aimed board.frame x) i m2 m3) where
+        module _ (below : x.node < 3) (did : FinishesAt ghosts (aimed board.frame x) (control_at board.frame x) m2 m3) where
           pub done-owes : OwesDone board.frame x m3
           done-owes =
               let at = did.0 (node-inner board x is below) in
               record {
-                calm = finished-calm board.frame x m2 m3 i ghosts at done-calm;
+                calm = finished-calm board.frame x m2 m3 _ ghosts at done-calm;
                 entry = _;
-                owes = finished-owes board.frame x m2 m3 i ghosts at;
+                owes = finished-owes board.frame x m2 m3 _ ghosts at;
+                word = at.word;
+                newest = record { earlier = m2.0.steps; steps_are = ap (λ (z : Seated Item Entry). z.0.steps) at.me_is };
               }
 
           pub done-beside : x.node < 2 → KeepsOwed board.frame x m m3
           done-beside leaf y owed inside apart has =
               let f = board.frame in
-              finished-beside f x m2 m3 i ghosts (did.0 (node-inner board x is below)) y owed inside (leaf-family board x is leaf y apart)
+              finished-beside f x m2 m3 _ ghosts (did.0 (node-inner board x is below)) y owed inside (leaf-family board x is leaf y apart)
               (phased-beside f x phase m1 m2 read y owed inside
               (swapped-beside f x (Some (Done env value)) None m m1 put y owed inside apart has))
 
@@ -188,6 +201,21 @@ module _ (board : Board ℕ) (x : Name) (is : IsNode board x) where
             home = ap (λ (z : Seated Item Entry). kept (slot_of board.frame.layout y) z.1) said.2 ∙ has.home;
           }
 
+    -- the report of a left leaf isn't the last: the hand would have the right leaf's home twice
+    pub first-others : (zero : x.node ≡ 0) → OwesStart board.frame (beside x 1) m → (answer : Report) →
+        IsReportedAs ghosts board.frame x answer m m1 → Apart m1.1 → answer ≡ Last → ⊥
+    first-others zero right answer did apart last =
+        let f = board.frame in
+        let l = f.layout in
+        let at = (subst (λ a. IsReportedAs ghosts f x a m m1) last did).2 in
+        let parent : parent_of f.tree x.node ≡ Some 2 = ap (λ t. parent_of t x.node) is.tree ∙ ap (parent_of use_tree) zero in
+        let above : above_it f.tree x ≡ beside x 2 = ap (λ o. option_map_or (λ p. beside x p) o x) parent in
+        let both = (subst (λ (z : Seated Item Entry). Apart z.1) at.me_is apart).1 in
+        let here = subst (λ (z : Name). Apart (laid l z.block (kids_of f.tree z.node) at.content m.1)) above both in
+        let kids : kids_of f.tree 2 ≡ 1 ∷ 0 ∷ [] = ap (λ t. kids_of t 2) is.tree in
+        let each = subst (λ ns. Apart (laid l x.block ns at.content m.1)) kids here in
+        carried (slot_of l (beside x 1)) _ m.1 right.1.owes.home each.0.1
+
 -- the last report gives the parent
 module _ (board : Board ℕ) (x : Name) (is : IsNode board x) (n : ℕ) (child : is_child board.frame.tree x.node n ≡ true) (y : Name) (name : y ≡ beside x n) (m m1 : Seated Item Entry) (done : OwesDone board.frame (beside x n) m) where
   pub last-reports : CanReport board.frame.tree m.0 y
@@ -211,7 +239,9 @@ module _ (board : Board ℕ) (x : Name) (is : IsNode board x) (n : ℕ) (child :
             (subst (λ z. HasPlaces f z) (sym above) (node-places board x is));
         shows = at.shows;
         fit = λ requested. at.fit;
+        goes_on = at.goes_on;
         bound = at.bound;
+        count = at.count;
         key = at.key.0;
         ends = at.ends;
         fits_child = at.fits_child;

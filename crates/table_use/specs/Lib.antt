@@ -1,3 +1,4 @@
 pub mod Starts
 pub mod Uses
 pub mod Notes
+pub mod Causes

@@ -52,11 +52,15 @@ HasValue (Done env value) = value ≡ value_at env env.node
 abbrev pub Fits : Item → ℕ → Bool → Type 0
 Fits item node requested = ((env_of item).node ≡ node) × HasValue item
 
--- a node that waits has named its children
+-- so many children a node names when it waits: a pair both leaves, and the root its pair
+abbrev pub kids_asked : ℕ → ℕ
+kids_asked node = if node == 2 then 2 else 1
+
+-- an item that is no completion asks for as many
 abbrev pub least_of : Item → ℕ
-least_of (Start env) = 0
-least_of (Rest env) = if env.node == 2 then 2 else 1
-least_of (Kept env value) = 1
+least_of (Start env) = kids_asked env.node
+least_of (Rest env) = kids_asked env.node
+least_of (Kept env value) = kids_asked env.node
 least_of (Done env value) = 0
 
 -- all starts of a table share the step

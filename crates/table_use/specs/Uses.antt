@@ -1,15 +1,22 @@
 -- What a hand has at each point of an operation of this use.
-use Rattle.std.specs.Prelude.{◌≡◌, ℕ, ◌<◌, ◌≤◌, Bool, true, false, List, [], ◌∷◌, Option, Some, None}
+use Rattle.std.specs.Prelude.{◌≡◌, ℕ, ◌*◌, ◌<◌, ◌≤◌, Bool, true, false, List, [], ◌∷◌, length, Option, Some, None, is_some}
 use Rattle.life_rules.specs.declared.tree.TreeNode.{TreeNode}
 use Rattle.life_rules.specs.declared.event.Name.{Name}
 use Rattle.life_rules.specs.Tree.{is_child}
-use Rattle.life_rules.specs.Views.{beside}
+use Rattle.life_rules.specs.States.{total}
+use Rattle.life_rules.specs.Views.{one, beside}
+use Rattle.table_words.specs.Layouts.{OfControl, index}
 use Rattle.table_rules.specs.declared.frame.Frame.{Frame}
 use Rattle.table_rules.specs.declared.view.Held.{Held}
 use Rattle.table_rules.specs.declared.view.Reported.{Reported}
+use Rattle.atomic_table.specs.declared.shared.Seat.{Seat}
+use Rattle.table_rules.specs.declared.cargo.Cargo.{Ghosts}
+use Rattle.table_rules.specs.declared.view.View.{View}
 use Rattle.op_table.specs.Views.{Board}
 use Rattle.op_table.specs.declared.claim.Block.{Block}
 use Rattle.op_table.specs.Claims.{Seated, root_name}
+use Rattle.op_table.specs.Runs.{IsNewest}
+use Rattle.op_table.specs.Steps.{LeftAllEmpty}
 use Rattle.op_slot.specs.Tends.{IsCalm, KeepsOwed, OwesReport, Owes, Tends}
 use Rattle.table_use.specs.declared.cargo.Entry.{Entry}
 use Rattle.table_use.specs.declared.cargo.Env.{Env}
@@ -31,6 +38,10 @@ pub record IsNode {O : Type 0} (board : Board O) (x : Name) : Type 0 where
   pub block : x.block < board.frame.layout.blocks
   pub wide : 3 < board.frame.layout.nodes
   pub node : x.node < 4
+
+-- the index of the node's control word
+abbrev pub control_at : Frame ℕ → Name → ℕ
+control_at f x = index f.layout (OfControl x.block x.node)
 
 module _ (f : Frame ℕ) (x : Name) where
   -- the env is that of the node, in this table
@@ -58,11 +69,13 @@ module _ (f : Frame ℕ) (x : Name) where
     pub empty : (n : ℕ) → is_child f.tree x.node n ≡ true → kid n ≡ None
     pub tends : Tends f x held None kid m
 
-  -- the hand owes the node's report
+  -- the hand owes the node's report, and its newest step is on the node's control word
   pub record OwesDone (m : Seated Item Entry) : Type 0 where
     pub calm : IsCalm m
     pub entry : Reported Item Entry
     pub owes : OwesReport x entry m
+    pub word : ℕ
+    pub newest : IsNewest (control_at f x) word m.0
 
   -- the hand holds the node after the last report
   pub record HoldsLast (m : Seated Item Entry) : Type 0 where
@@ -73,7 +86,9 @@ module _ (f : Frame ℕ) (x : Name) where
     pub tends : Tends f x held (Some item) content m
     pub shows : start_of item ≡ held.start
     pub fit : (requested : Bool) → Fits item x.node requested
+    pub goes_on : ¬ Ends item
     pub bound : least_of item ≤ held.named
+    pub count : total (λ n. one (is_child f.tree x.node n) * one (is_some (content n))) (length f.tree) ≡ held.named
     pub key : key_of held.start ≡ f.over.value
     pub ends : (n : ℕ) (kid : Item) → is_child f.tree x.node n ≡ true → content n ≡ Some kid → Ends kid
     pub fits_child : (n : ℕ) (kid : Item) → is_child f.tree x.node n ≡ true → content n ≡ Some kid → Fits kid n true
@@ -87,6 +102,11 @@ OwesBelow f x n env m = OwesNode f (beside x n) (record env { node = n }) None m
 -- it holds the root of the block
 abbrev pub HoldsBlock : Board ℕ → Block → Env → Seated Item Entry → Type 0
 HoldsBlock board b env m = HoldsNode board.frame (root_name board b.index b.generation) env m
+
+-- the hand's newest step gave a block of the table back, and left all its homes empty
+abbrev pub HasEmptied : Board ℕ → Seat (Option Item) (View Item Entry) → Ghosts Item Entry ℕ → Type 0
+HasEmptied board hand cargo =
+    (b : Block) × (b.index < board.frame.layout.blocks) × LeftAllEmpty board b.index b.generation hand cargo
 
 -- what it owes besides a leaf it still owes
 abbrev pub KeepsBesideLeaf : Frame ℕ → Name → Seated Item Entry → Seated Item Entry → Type 0

@@ -11,7 +11,8 @@
 //! Each leaf's value follows from its start, the pair adds them, and the root keeps the sum. The
 //! hand notes the root's start when it begins it. So what is answered is what the start says, for
 //! the number that was given: the table lost no item and mixed none up, and it gave the hand the
-//! facts that it needs for each next call.
+//! facts that it needs for each next call. Where an operation isn't taken to its end, the
+//! contract of `run` names, for each fault, the word that told the hand so.
 #![tactic(auto)]
 
 mod cargo;

@@ -1,14 +1,15 @@
 //! What a hand does with a node of any kind: it starts it, opens it, finishes it and reports it.
-ghost use Rattle.std.specs.Prelude.{◌≡◌, ◌<◌, true, false, Some, None, IfOk};
+ghost use Rattle.std.specs.Prelude.{◌≡◌, ◌≢◌, ◌<◌, true, false, Some, None, IfOk, IfErr};
 ghost use Rattle.life_rules.specs.Views.{beside};
 ghost use Rattle.life_rules.specs.Tree.{is_child};
 ghost use Rattle.life_rules.specs.declared.words.CallbackPhase.TheVariants.{Never};
 ghost use Rattle.op_table.specs.Views.{IsHandOf};
-ghost use Rattle.op_slot.specs.Tends.{KeepsOwed, IsCalm};
-ghost use Rattle.table_use.specs.declared.cargo.Item.TheVariants.{Start, Rest, Kept, Done};
-ghost use Rattle.table_use.specs.Starts.{value_at};
+ghost use Rattle.op_slot.specs.Tends.{KeepsOwed};
+ghost use Rattle.table_use.specs.declared.cargo.Item.TheVariants.{Start, Done};
+ghost use Rattle.table_use.specs.Starts.{value_at, env_of, Ends};
 ghost use Rattle.table_use.specs.Uses.{IsNode, OwesNode, OwesStart, HoldsNode, OwesDone, HoldsLast, KeepsBesideLeaf, IsOwedEnv};
 ghost use Rattle.table_use.specs.Notes.{HasNoted, KeepsNotes};
+ghost use Rattle.table_use.specs.Causes.{StopsAt};
 
 use crate::cargo::{Env, Item};
 use life_rules::{CallbackPhase, Name};
@@ -30,14 +31,12 @@ pub enum Fault {
     Begun,
     /// A callback was registered.
     Registered,
-    /// A home kept another item, or none.
-    OtherItem,
-    /// A report was the last too early, or not the last.
+    /// A report that had to be the last wasn't.
     Order,
-    /// A sum doesn't fit.
-    TooGreat,
-    /// Another hand took the node.
+    /// Another hand took the root where it rested.
     Lost,
+    /// The root that was taken again keeps an item with no value.
+    OtherItem,
 }
 
 /// Another node of the same block.
@@ -51,68 +50,30 @@ pub(crate) fn beside(x: Name, node: u32) -> Name
     }
 }
 
-/// The env of a start.
-pub(crate) fn started(item: Option<Item>) -> Result<Env, Fault>
-    ensures { IfOk result (λ env. item ≡ Some (Start env)) }
+/// The env of the node in whose home the item lay.
+pub(crate) fn env_in(item: Item) -> Env
+    ensures { result ≡ env_of item }
 {
     match item {
-        Some(item) => match item {
-            Item::Start(env) => Ok(env),
-            Item::Rest(_env) => Err(Fault::OtherItem),
-            Item::Kept(_env, _value) => Err(Fault::OtherItem),
-            Item::Done(_env, _value) => Err(Fault::OtherItem),
-        },
-        None => Err(Fault::OtherItem),
-    }
-}
-
-/// The env of a node that waited.
-pub(crate) fn rested(item: Option<Item>) -> Result<Env, Fault>
-    ensures { IfOk result (λ env. item ≡ Some (Rest env)) }
-{
-    match item {
-        Some(item) => match item {
-            Item::Start(_env) => Err(Fault::OtherItem),
-            Item::Rest(env) => Ok(env),
-            Item::Kept(_env, _value) => Err(Fault::OtherItem),
-            Item::Done(_env, _value) => Err(Fault::OtherItem),
-        },
-        None => Err(Fault::OtherItem),
-    }
-}
-
-/// What a node that rests keeps.
-pub(crate) fn kept(item: Option<Item>) -> Result<(Env, u64), Fault>
-    ensures { IfOk result (λ r. item ≡ Some (Kept r.0 r.1)) }
-{
-    match item {
-        Some(item) => match item {
-            Item::Start(_env) => Err(Fault::OtherItem),
-            Item::Rest(_env) => Err(Fault::OtherItem),
-            Item::Kept(env, value) => Ok((env, value)),
-            Item::Done(_env, _value) => Err(Fault::OtherItem),
-        },
-        None => Err(Fault::OtherItem),
+        Item::Start(env) | Item::Rest(env) => env,
+        Item::Kept(env, _) | Item::Done(env, _) => env,
     }
 }
 
 /// What a child delivered.
-pub(crate) fn delivered(item: Option<Item>) -> Result<(Env, u64), Fault>
-    ensures { IfOk result (λ r. item ≡ Some (Done r.0 r.1)) }
+pub(crate) fn delivered(item: Item) -> (Env, u64)
+    requires { Ends item }
+    ensures { item ≡ Done result.0 result.1 }
 {
     match item {
-        Some(item) => match item {
-            Item::Start(_env) => Err(Fault::OtherItem),
-            Item::Rest(_env) => Err(Fault::OtherItem),
-            Item::Kept(_env, _value) => Err(Fault::OtherItem),
-            Item::Done(env, value) => Ok((env, value)),
-        },
-        None => Err(Fault::OtherItem),
+        Item::Start(_) | Item::Rest(_) | Item::Kept(_, _) => unreachable!(),
+        Item::Done(env, value) => (env, value),
     }
 }
 
 pub(crate) fn is_registered(phase: CallbackPhase) -> bool
-    ensures { result ≡ false → phase ≡ Never }
+    ensures never { result ≡ false → phase ≡ Never }
+    ensures other { result ≡ true → phase ≢ Never }
 {
     !matches!(phase, CallbackPhase::Never)
 }
@@ -131,20 +92,19 @@ pub(crate) fn puts_start(table: &Table, hand: &mut Worker, x: Name, env: Env)
 }
 
 /// Begins the node, and takes its start out of its home.
-pub(crate) fn opens(table: &Table, hand: &mut Worker, x: Name) -> Result<Env, Fault>
+pub(crate) fn opens(table: &Table, hand: &mut Worker, x: Name) -> Env
     requires table { IsHandOf table.now hand.old }
     requires node { IsNode table.now x }
     requires owes { OwesStart table.now.frame x hand.old.me }
     ensures table { IsHandOf table.now hand.new }
-    ensures env { IfOk result (λ env. IsOwedEnv table.now.frame x hand.old.me env) }
-    ensures holds { IfOk result (λ env. HoldsNode table.now.frame x env hand.new.me) }
-    ensures notes { IfOk result (λ _. x.node < 3 → KeepsNotes hand.old.me hand.new.me) }
-    ensures noted { IfOk result (λ env. x.node ≡ 3 → HasNoted x env hand.new.me) }
-    ensures beside { IfOk result (λ _. KeepsBesideLeaf table.now.frame x hand.old.me hand.new.me) }
+    ensures env { IsOwedEnv table.now.frame x hand.old.me result }
+    ensures holds { HoldsNode table.now.frame x result hand.new.me }
+    ensures notes { x.node < 3 → KeepsNotes hand.old.me hand.new.me }
+    ensures noted { x.node ≡ 3 → HasNoted x result hand.new.me }
+    ensures beside { KeepsBesideLeaf table.now.frame x hand.old.me hand.new.me }
 {
     table.begin(hand, x);
-    let env = started(take_home(table, hand, x))?;
-    Ok(env)
+    env_in(take_home(table, hand, x).unwrap())
 }
 
 /// Puts the completion into the node's home, and finishes the node.
@@ -162,8 +122,9 @@ pub(crate) fn finishes(
     requires value { value ≡ value_at env env.node }
     ensures table { IsHandOf table.now hand.new }
     ensures done { IfOk result (λ _. OwesDone table.now.frame x hand.new.me) }
-    ensures notes { IfOk result (λ _. KeepsNotes hand.old.me hand.new.me) }
+    ensures notes { KeepsNotes hand.old.me hand.new.me }
     ensures beside { IfOk result (λ _. KeepsBesideLeaf table.now.frame x hand.old.me hand.new.me) }
+    ensures fault { IfErr result (StopsAt table.now.frame x hand.new.me) }
 {
     put_home(table, hand, x, Item::Done(env, value));
     if is_registered(table.phase_of(hand, x)) {
@@ -171,23 +132,6 @@ pub(crate) fn finishes(
     }
     table.finish(hand, x);
     Ok(())
-}
-
-/// Reports a node whose parent waits for another.
-pub(crate) fn reports_first(table: &Table, hand: &mut Worker, x: Name) -> Result<(), Fault>
-    requires table { IsHandOf table.now hand.old }
-    requires node { IsNode table.now x }
-    requires inner { x.node < 3 }
-    requires done { OwesDone table.now.frame x hand.old.me }
-    ensures table { IsHandOf table.now hand.new }
-    ensures calm { IfOk result (λ _. IsCalm hand.new.me) }
-    ensures notes { IfOk result (λ _. KeepsNotes hand.old.me hand.new.me) }
-    ensures beside { IfOk result (λ _. KeepsOwed table.now.frame x hand.old.me hand.new.me) }
-{
-    match table.report(hand, x) {
-        Report::Others => Ok(()),
-        Report::Last => Err(Fault::Order),
-    }
 }
 
 /// Reports the last node for which its parent waits: the hand holds the parent then.
@@ -203,7 +147,8 @@ pub(crate) fn reports_last(
     requires done { OwesDone table.now.frame (beside parent node) hand.old.me }
     ensures table { IsHandOf table.now hand.new }
     ensures last { IfOk result (λ _. HoldsLast table.now.frame parent hand.new.me) }
-    ensures notes { IfOk result (λ _. KeepsNotes hand.old.me hand.new.me) }
+    ensures notes { KeepsNotes hand.old.me hand.new.me }
+    ensures fault { IfErr result (StopsAt table.now.frame (beside parent node) hand.new.me) }
 {
     let child = beside(parent, node);
     match table.report(hand, child) {

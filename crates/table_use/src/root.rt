@@ -1,18 +1,20 @@
 //! A root with one child, from its claim to its release.
-ghost use Rattle.std.specs.Prelude.{◌≡◌, ◌+◌, ◌<◌, IfOk};
+ghost use Rattle.std.specs.Prelude.{◌≡◌, ◌+◌, ◌<◌, IfOk, IfErr, OnErr};
+ghost use Rattle.life_rules.specs.Views.{beside};
 ghost use Rattle.op_table.specs.Views.{IsHandOf};
 ghost use Rattle.op_slot.specs.Tends.{IsCalm};
-ghost use Rattle.table_use.specs.Uses.{use_tree, IsNode, OwesBelow, HoldsNode, HoldsBlock, HoldsLast};
+ghost use Rattle.op_table.specs.Steps.{LeftAllEmpty};
+ghost use Rattle.table_use.specs.Uses.{use_tree, IsNode, OwesBelow, HoldsNode, HoldsBlock, HoldsLast, HasEmptied};
 ghost use Rattle.table_use.specs.Notes.{HasNotedRoot, IsNotedNumber, KeepsNotes};
+ghost use Rattle.table_use.specs.Causes.{IsLeft, IsRootLeft, HasNoBlock, StopsAt, StopsAtRoot, IsCause};
 
 use crate::cargo::{Env, Item};
 use crate::node::{
-    Fault, Table, Worker, beside, delivered, is_registered, kept, opens, puts_start, reports_last,
-    rested,
+    Fault, Table, Worker, beside, delivered, env_in, is_registered, opens, puts_start, reports_last,
 };
 use crate::pair::pair_runs;
 use life_rules::Name;
-use op_slot::{Block, claim_any, put_home, release, take_home};
+use op_slot::{Block, Cargo, claim_any, put_home, release, take_home};
 use op_table::Context;
 
 /// What an operation answered, and for which number.
@@ -33,6 +35,7 @@ fn begins(table: &Table, hand: &mut Worker, step: u32, number: u32) -> Result<(B
     ensures holds { IfOk result (λ r. HoldsBlock table.now r.0 r.1 hand.new.me) }
     ensures number { IfOk result (λ r. r.1.number ≡ number) }
     ensures noted { IfOk result (λ r. HasNotedRoot table.now r.0 r.1 hand.new.me) }
+    ensures fault { IfErr result (HasNoBlock table.now hand.old hand.new) }
 {
     match claim_any(table, hand) {
         Some(block) => {
@@ -47,7 +50,7 @@ fn begins(table: &Table, hand: &mut Worker, step: u32, number: u32) -> Result<(B
                     step,
                 },
             );
-            let env = opens(table, hand, root)?;
+            let env = opens(table, hand, root);
             Ok((block, env))
         }
         None => Err(Fault::NoBlock),
@@ -62,7 +65,8 @@ fn waits_for_one(table: &Table, hand: &mut Worker, root: Name, env: Env) -> Resu
     requires holds { HoldsNode table.now.frame root env hand.old.me }
     ensures table { IsHandOf table.now hand.new }
     ensures pair { IfOk result (λ _. OwesBelow table.now.frame root 2 env hand.new.me) }
-    ensures notes { IfOk result (λ _. KeepsNotes hand.old.me hand.new.me) }
+    ensures notes { KeepsNotes hand.old.me hand.new.me }
+    ensures fault { IfErr result (StopsAt table.now.frame (beside root 2) hand.new.me) }
 {
     put_home(table, hand, root, Item::Rest(env));
     let pair = beside(root, 2);
@@ -74,38 +78,47 @@ fn waits_for_one(table: &Table, hand: &mut Worker, root: Name, env: Env) -> Resu
 }
 
 // Leaves the root at rest, with what the pair delivered in its home.
-fn keeps(table: &Table, hand: &mut Worker, root: Name) -> Result<(), Fault>
+fn keeps(table: &Table, hand: &mut Worker, root: Name)
     requires table { IsHandOf table.now hand.old }
     requires node { IsNode table.now root }
     requires root { root.node ≡ 3 }
     requires last { HoldsLast table.now.frame root hand.old.me }
     ensures table { IsHandOf table.now hand.new }
-    ensures calm { IfOk result (λ _. IsCalm hand.new.me) }
-    ensures notes { IfOk result (λ _. KeepsNotes hand.old.me hand.new.me) }
+    ensures calm { IsCalm hand.new.me }
+    ensures notes { KeepsNotes hand.old.me hand.new.me }
+    ensures left { IsLeft table.now.frame root hand.new.me }
 {
-    let parcel = delivered(take_home(table, hand, beside(root, 2)))?;
-    let env = rested(take_home(table, hand, root))?;
+    let parcel = delivered(take_home(table, hand, beside(root, 2)).unwrap());
+    let env = env_in(take_home(table, hand, root).unwrap());
     put_home(table, hand, root, Item::Kept(env, parcel.1));
     table.rest(hand, root, Context::Pool);
-    Ok(())
 }
 
-// Takes the root again, empties its home, finishes it and gives the block back.
+// Takes the root again, empties its home, finishes it and gives the block back. An item that keeps
+// no value stays in the home.
 fn collects(table: &Table, hand: &mut Worker, block: Block) -> Result<Answer, Fault>
     requires table { IsHandOf table.now hand.old }
     requires tree { table.now.frame.tree ≡ use_tree }
     requires block { block.index < table.now.frame.layout.blocks }
     requires calm { IsCalm hand.old.me }
+    requires left { IsRootLeft table.now block hand.old.me }
     ensures table { IsHandOf table.now hand.new }
     ensures calm { IfOk result (λ _. IsCalm hand.new.me) }
     ensures answer { IfOk result (λ r. r.value ≡ r.number + (r.number + table.now.frame.over.value)) }
     ensures number { IfOk result (λ r. IsNotedNumber table.now block hand.old.me r.number) }
+    ensures emptied { IfOk result (λ _. LeftAllEmpty table.now block.index block.generation hand.new ⟦<Item as Cargo>⟧) }
+    ensures notes { OnErr result (KeepsNotes hand.old.me hand.new.me) }
+    ensures fault { IfErr result (StopsAtRoot table.now block hand.new.me) }
 {
     let root = table.root(block);
     if !table.take(hand, root, Context::Pool) {
         return Err(Fault::Lost);
     }
-    let (env, value) = kept(take_home(table, hand, root))?;
+    let item = take_home(table, hand, root).unwrap();
+    let Item::Kept(env, value) = item else {
+        put_home(table, hand, root, item);
+        return Err(Fault::OtherItem);
+    };
     if is_registered(table.phase_of(hand, root)) {
         return Err(Fault::Registered);
     }
@@ -119,7 +132,11 @@ fn collects(table: &Table, hand: &mut Worker, block: Block) -> Result<Answer, Fa
 
 /// Takes one operation from its claim to its release. It answers for the number that was given,
 /// with the value that the start says: the hand noted the root's start when it began it, and when
-/// it takes the root again the table says that it is the same.
+/// it takes the root again the table says that it is the same. The table keeps no item of it: in
+/// the table that the last step left all homes of its block are empty.
+///
+/// A fault says that no block was free, or else at which node of the operation the hand stopped,
+/// and which word told it to.
 pub fn run(table: &Table, hand: &mut Worker, step: u32, number: u32) -> Result<Answer, Fault>
     requires table { IsHandOf table.now hand.old }
     requires tree { table.now.frame.tree ≡ use_tree }
@@ -129,6 +146,8 @@ pub fn run(table: &Table, hand: &mut Worker, step: u32, number: u32) -> Result<A
     ensures calm { IfOk result (λ _. IsCalm hand.new.me) }
     ensures number { IfOk result (λ r. r.number ≡ number) }
     ensures answer { IfOk result (λ r. r.value ≡ r.number + (r.number + step)) }
+    ensures emptied { IfOk result (λ _. HasEmptied table.now hand.new ⟦<Item as Cargo>⟧) }
+    ensures fault { IfErr result (IsCause table.now number hand.old hand.new) }
 {
     let (block, env) = begins(table, hand, step, number)?;
     let root = table.root(block);
@@ -146,7 +165,7 @@ pub fn run(table: &Table, hand: &mut Worker, step: u32, number: u32) -> Result<A
     );
     pair_runs(table, hand, pair)?;
     reports_last(table, hand, root, 2)?;
-    keeps(table, hand, root)?;
+    keeps(table, hand, root);
     let answer = collects(table, hand, block)?;
     Ok(answer)
 }

@@ -1,7 +1,8 @@
-use Rattle.std.proofs.Common.{sym, subst, ◌∙◌}
+use Rattle.std.proofs.Common.{sym, ap, subst, ◌∙◌}
+use Rattle.std.specs.Prelude.{is_some}
 use Rattle.table_use.specs.Notes.{HasNoted}
 use Rattle.table_use.proofs.Nodes.{node-place}
-use Rattle.table_use.proofs.Opening.{start-begins, start-home, start-opened, start-env, start-beside}
+use Rattle.table_use.proofs.Opening.{start-begins, start-home, start-out, start-opened, start-env, start-beside}
 use Rattle.table_use.proofs.Noted.{swapped-notes, noted-still, begun-notes, begun-noted}
 use Rattle.table_use.proofs.node.opens.Goals as goal
 
@@ -21,10 +22,18 @@ pub take_home-requires-clause-home : goal.take_home-requires-clause-home
 take_home-requires-clause-home c κs =
     start-home c.args.table.now c.args.x c.requires.node c.args.hand.now.me c.begin.new.hand.me c.requires.owes c.begin.ensures.begun
 
+pub unwrap-requires : goal.unwrap-requires
+unwrap-requires c =
+    ap is_some
+    (start-out c.args.table.now c.args.x c.requires.node c.args.hand.now.me c.begin.new.hand.me c.requires.owes c.begin.ensures.begun c.take_home.new.hand.me
+    c.take_home.result c.take_home.ensures.taken)
+
 pub returns-clause-holds : goal.returns-clause-holds
 returns-clause-holds c =
     start-opened c.args.table.now c.args.x c.requires.node c.args.hand.now.me c.begin.new.hand.me c.requires.owes c.begin.ensures.begun c.take_home.new.hand.me
-    c.take_home.result c.take_home.ensures.taken c.in_ok-env.env c.in_ok-env.ensures
+    c.take_home.result c.take_home.ensures.taken c.env_in.result
+    (start-env c.args.table.now c.args.x c.requires.node c.args.hand.now.me c.begin.new.hand.me c.requires.owes c.begin.ensures.begun c.take_home.new.hand.me
+    c.take_home.result c.take_home.ensures.taken c.unwrap.result c.env_in.result c.unwrap.ensures c.env_in.ensures)
 
 pub returns-clause-beside : goal.returns-clause-beside
 returns-clause-beside c =
@@ -35,7 +44,7 @@ pub returns-clause-env : goal.returns-clause-env
 returns-clause-env c =
     λ given owes.
     start-env c.args.table.now c.args.x c.requires.node c.args.hand.now.me c.begin.new.hand.me (given, owes) c.begin.ensures.begun c.take_home.new.hand.me
-    c.take_home.result c.take_home.ensures.taken c.in_ok-env.env c.in_ok-env.ensures
+    c.take_home.result c.take_home.ensures.taken c.unwrap.result c.env_in.result c.unwrap.ensures c.env_in.ensures
 
 pub returns-clause-notes : goal.returns-clause-notes
 returns-clause-notes c =
@@ -47,8 +56,8 @@ pub returns-clause-noted : goal.returns-clause-noted
 returns-clause-noted c =
     λ three.
     let env = start-env c.args.table.now c.args.x c.requires.node c.args.hand.now.me c.begin.new.hand.me c.requires.owes c.begin.ensures.begun c.take_home.new.hand.me
-    c.take_home.result c.take_home.ensures.taken c.in_ok-env.env c.in_ok-env.ensures in
-    noted-still c.args.x c.begin.new.hand.me c.take_home.new.hand.me c.in_ok-env.env
+    c.take_home.result c.take_home.ensures.taken c.unwrap.result c.env_in.result c.unwrap.ensures c.env_in.ensures in
+    noted-still c.args.x c.begin.new.hand.me c.take_home.new.hand.me c.env_in.result
     (swapped-notes c.args.table.now c.args.x c.begin.new.hand.me c.take_home.new.hand.me _ _ c.take_home.ensures.taken)
     (subst (λ e. HasNoted c.args.x e c.begin.new.hand.me) (sym env)
     (begun-noted c.args.table.now c.args.x c.args.hand.now.me c.begin.new.hand.me c.requires.node c.begin.ensures.begun three c.requires.owes))

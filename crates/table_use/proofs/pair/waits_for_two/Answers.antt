@@ -1,6 +1,8 @@
-use Rattle.std.proofs.Common.{refl, ◌∙◌}
+use Rattle.std.proofs.Common.{arith, refl, ◌∙◌}
+use Rattle.table_use.specs.declared.node.Fault.TheVariants.{Begun}
 use Rattle.table_use.proofs.Nodes.{node-place, kid-node, pair-kid}
 use Rattle.table_use.proofs.Waiting.{rest-puts, rest-held, next-held, pair-waits, pair-left, pair-right}
+use Rattle.table_use.proofs.Stopping.{begun-stops, stops-beside}
 use Rattle.table_use.proofs.Noted.{swapped-notes, read-notes, awaited-notes}
 use Rattle.table_use.proofs.pair.waits_for_two.Goals as goal
 
@@ -59,5 +61,39 @@ pub returns-clause-notes : goal.returns-clause-notes
 returns-clause-notes c =
     awaited-notes c.args.table.now c.args.pair c.has_begun-2.new.hand.me c.await_children.new.hand.me _ _ c.await_children.ensures.awaits
     ∙ read-notes c.args.table.now c.beside-right.result c.has_begun.new.hand.me c.has_begun-2.new.hand.me _ c.has_begun-2.ensures.begun
+    ∙ read-notes c.args.table.now c.beside-left.result c.put_home.new.hand.me c.has_begun.new.hand.me _ c.has_begun.ensures.begun
+    ∙ swapped-notes c.args.table.now c.args.pair c.args.hand.now.me c.put_home.new.hand.me _ _ c.put_home.ensures.put
+
+pub returns-then-has_begun-clause-fault : goal.returns-then-has_begun-clause-fault
+returns-then-has_begun-clause-fault c = (
+  0,
+  omega arith,
+  stops-beside c.args.table.now c.args.pair c.beside-left.result c.has_begun.new.hand.me Begun 0 c.beside-left.ensures
+      (begun-stops c.args.table.now c.beside-left.result c.put_home.new.hand.me c.has_begun.new.hand.me c.has_begun.result c.if-has_begun.true
+      c.has_begun.ensures.begun
+      (rest-held c.args.table.now c.args.pair c.requires.node c.args.env c.args.hand.now.me c.put_home.new.hand.me c.requires.holds c.put_home.ensures.put c.beside-left.result 0 c.beside-left.ensures
+      (pair-kid c.args.table.now c.args.pair c.requires.node c.requires.pair 0 refl))),
+)
+
+pub returns-then-has_begun-clause-notes : goal.returns-then-has_begun-clause-notes
+returns-then-has_begun-clause-notes c =
+    read-notes c.args.table.now c.beside-left.result c.put_home.new.hand.me c.has_begun.new.hand.me _ c.has_begun.ensures.begun
+    ∙ swapped-notes c.args.table.now c.args.pair c.args.hand.now.me c.put_home.new.hand.me _ _ c.put_home.ensures.put
+
+pub returns-then-has_begun-2-clause-fault : goal.returns-then-has_begun-2-clause-fault
+returns-then-has_begun-2-clause-fault c = (
+  1,
+  omega arith,
+  stops-beside c.args.table.now c.args.pair c.beside-right.result c.has_begun-2.new.hand.me Begun 1 c.beside-right.ensures
+      (begun-stops c.args.table.now c.beside-right.result c.has_begun.new.hand.me c.has_begun-2.new.hand.me c.has_begun-2.result c.if-has_begun-2.true
+      c.has_begun-2.ensures.begun
+      (next-held c.args.table.now c.args.pair c.requires.node c.args.env c.args.hand.now.me c.put_home.new.hand.me c.requires.holds c.put_home.ensures.put c.has_begun.new.hand.me
+      c.beside-left.result 0 c.beside-left.ensures (pair-kid c.args.table.now c.args.pair c.requires.node c.requires.pair 0 refl) c.has_begun.result c.if-has_begun.false
+      c.has_begun.ensures.begun c.beside-right.result 1 c.beside-right.ensures (pair-kid c.args.table.now c.args.pair c.requires.node c.requires.pair 1 refl))),
+)
+
+pub returns-then-has_begun-2-clause-notes : goal.returns-then-has_begun-2-clause-notes
+returns-then-has_begun-2-clause-notes c =
+    read-notes c.args.table.now c.beside-right.result c.has_begun.new.hand.me c.has_begun-2.new.hand.me _ c.has_begun-2.ensures.begun
     ∙ read-notes c.args.table.now c.beside-left.result c.put_home.new.hand.me c.has_begun.new.hand.me _ c.has_begun.ensures.begun
     ∙ swapped-notes c.args.table.now c.args.pair c.args.hand.now.me c.put_home.new.hand.me _ _ c.put_home.ensures.put

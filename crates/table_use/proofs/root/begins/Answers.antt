@@ -1,5 +1,8 @@
 use Rattle.std.proofs.Common.{refl, subst}
+use Rattle.std.specs.Prelude.{Option}
 use Rattle.life_rules.specs.declared.event.Name.{Name}
+use Rattle.op_table.specs.declared.claim.Block.{Block}
+use Rattle.op_slot.specs.Searches.{IsSearched}
 use Rattle.op_slot.proofs.Searching.{searched-found}
 use Rattle.op_slot.proofs.Found.{found-calm, found-owes}
 use Rattle.table_use.specs.Uses.{HoldsNode}
@@ -29,22 +32,28 @@ puts_start-requires-clause-owes c =
     (found-calm c.args.table.now c.in-Some.block c.args.hand.now c.claim_any.new.hand found c.requires.calm)
     (found-owes c.args.table.now c.in-Some.block c.args.hand.now c.claim_any.new.hand found c.root-root.result c.root-root.ensures.name)
 
-pub opens-requires-clause-node : goal.opens-requires-clause-node
-opens-requires-clause-node c =
+pub opens-env-requires-clause-node : goal.opens-env-requires-clause-node
+opens-env-requires-clause-node c =
     let root = named-node c.args.table.now c.root-root.result c.in-Some.block.index c.in-Some.block.generation c.requires.tree
     c.root-root.ensures.place c.root-root.ensures.name in
     root.0
 
-pub opens-requires-clause-owes : goal.opens-requires-clause-owes
-opens-requires-clause-owes c =
+pub opens-env-requires-clause-owes : goal.opens-env-requires-clause-owes
+opens-env-requires-clause-owes c =
     (_, c.puts_start.ensures.owes)
 
-pub returns-in_ok-env-in-Some-clause-block : goal.returns-in_ok-env-in-Some-clause-block
-returns-in_ok-env-in-Some-clause-block c =
+pub returns-in-Some-clause-block : goal.returns-in-Some-clause-block
+returns-in-Some-clause-block c =
     let found = searched-found c.args.table.now c.args.hand.now c.claim_any.new.hand c.claim_any.result c.in-Some.block c.in-Some.is
     c.claim_any.ensures.claimed in
     found.within
 
-pub returns-in_ok-env-in-Some-clause-holds : goal.returns-in_ok-env-in-Some-clause-holds
-returns-in_ok-env-in-Some-clause-holds c =
-    subst (λ (x : Name). HoldsNode c.args.table.now.frame x c.in_ok-env-in-Some.env c.opens.new.hand.me) c.root-root.ensures.name c.in_ok-env-in-Some.ensures.holds
+pub returns-in-Some-clause-holds : goal.returns-in-Some-clause-holds
+returns-in-Some-clause-holds c =
+    subst (λ (x : Name). HoldsNode c.args.table.now.frame x c.opens-env.result c.opens-env.new.hand.me) c.root-root.ensures.name c.opens-env.ensures.holds
+
+pub returns-in-None-clause-fault : goal.returns-in-None-clause-fault
+returns-in-None-clause-fault c = (
+  refl,
+  subst (λ (r : Option Block). IsSearched c.args.table.now r c.args.hand.now c.claim_any.new.hand) c.in-None.is c.claim_any.ensures.claimed,
+)

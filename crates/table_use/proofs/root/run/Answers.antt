@@ -1,8 +1,10 @@
-use Rattle.std.proofs.Common.{◌+◌, sym, ap, ◌∙◌, subst}
+use Rattle.std.proofs.Common.{◌+◌, arith, inl, inr, sym, ap, ◌∙◌, subst}
 use Rattle.life_rules.specs.declared.event.Name.{Name}
 use Rattle.std.specs.Prelude.{None}
 use Rattle.table_use.specs.Uses.{OwesNode, OwesDone, HoldsNode}
+use Rattle.table_use.specs.Causes.{IsLeft, IsCause}
 use Rattle.table_use.proofs.Nodes.{kid-node, root-kid, named-node}
+use Rattle.table_use.proofs.Stopping.{hands-on, stops-beside, stops-near, own-name, stops-for}
 use Rattle.table_use.proofs.root.run.Goals as goal
 
 pub root-root-requires-after_bounds : goal.root-root-requires-after_bounds
@@ -81,3 +83,62 @@ keeps-requires-clause-root c =
 pub returns-clause-answer : goal.returns-clause-answer
 returns-clause-answer c =
     c.in_ok-answer.ensures.answer ∙ ap (λ s. c.in_ok-answer.answer.number + (c.in_ok-answer.answer.number + s)) (sym c.requires.step)
+
+pub returns-clause-emptied : goal.returns-clause-emptied
+returns-clause-emptied c = (c.in_ok-block.block, c.in_ok-block.ensures.block, c.in_ok-answer.ensures.emptied)
+
+pub returns-in_err-block-clause-fault : goal.returns-in_err-block-clause-fault
+returns-in_err-block-clause-fault c =
+    hands-on c.from_residual.result (IsCause c.args.table.now c.args.number c.args.hand.now c.begins.new.hand) _
+    c.from_residual.ensures.1 (inl c.in_err-block.ensures.fault)
+
+pub returns-in_err-waits_for_one-clause-fault : goal.returns-in_err-waits_for_one-clause-fault
+returns-in_err-waits_for_one-clause-fault c =
+    hands-on c.from_residual-in_err-waits_for_one.result (IsCause c.args.table.now c.args.number c.args.hand.now c.waits_for_one.new.hand) _
+    c.from_residual-in_err-waits_for_one.ensures.1
+    (inr
+    (stops-for c.args.table.now c.args.number c.in_ok-block.block c.in_ok-block.env c.begins.new.hand.me c.waits_for_one.new.hand.me _
+    c.in_ok-block.ensures.block c.in_ok-block.ensures.number c.in_ok-block.ensures.noted
+    c.waits_for_one.ensures.notes
+    c.root-root.result c.root-root.ensures.name 2 (omega arith) c.in_err-waits_for_one.ensures.fault))
+
+pub returns-in_err-pair_runs-clause-fault : goal.returns-in_err-pair_runs-clause-fault
+returns-in_err-pair_runs-clause-fault c =
+    let stops = c.in_err-pair_runs.ensures.fault in
+    let below = stops.1 in
+    hands-on c.from_residual-in_err-pair_runs.result (IsCause c.args.table.now c.args.number c.args.hand.now c.pair_runs.new.hand) _
+    c.from_residual-in_err-pair_runs.ensures.1
+    (inr
+    (stops-for c.args.table.now c.args.number c.in_ok-block.block c.in_ok-block.env c.begins.new.hand.me c.pair_runs.new.hand.me _
+    c.in_ok-block.ensures.block c.in_ok-block.ensures.number c.in_ok-block.ensures.noted
+    (c.pair_runs.ensures.notes ∙ c.puts_start.ensures.notes ∙ c.waits_for_one.ensures.notes)
+    c.root-root.result c.root-root.ensures.name stops.0 (omega (arith, below))
+    (stops-near c.args.table.now c.root-root.result c.beside-pair.result c.pair_runs.new.hand.me _ 2 stops.0 c.beside-pair.ensures stops.2)))
+
+pub returns-in_err-reports_last-clause-fault : goal.returns-in_err-reports_last-clause-fault
+returns-in_err-reports_last-clause-fault c =
+    hands-on c.from_residual-in_err-reports_last.result (IsCause c.args.table.now c.args.number c.args.hand.now c.reports_last.new.hand) _
+    c.from_residual-in_err-reports_last.ensures.1
+    (inr
+    (stops-for c.args.table.now c.args.number c.in_ok-block.block c.in_ok-block.env c.begins.new.hand.me c.reports_last.new.hand.me _
+    c.in_ok-block.ensures.block c.in_ok-block.ensures.number c.in_ok-block.ensures.noted
+    (c.reports_last.ensures.notes ∙ c.pair_runs.ensures.notes ∙ c.puts_start.ensures.notes ∙ c.waits_for_one.ensures.notes)
+    c.root-root.result c.root-root.ensures.name 2 (omega arith) c.in_err-reports_last.ensures.fault))
+
+pub returns-in_err-answer-clause-fault : goal.returns-in_err-answer-clause-fault
+returns-in_err-answer-clause-fault c =
+    let root = named-node c.args.table.now c.root-root.result c.in_ok-block.block.index c.in_ok-block.block.generation c.requires.tree
+    c.root-root.ensures.place c.root-root.ensures.name in
+    hands-on c.from_residual-in_err-answer.result (IsCause c.args.table.now c.args.number c.args.hand.now c.collects.new.hand) _
+    c.from_residual-in_err-answer.ensures.1
+    (inr
+    (stops-for c.args.table.now c.args.number c.in_ok-block.block c.in_ok-block.env c.begins.new.hand.me c.collects.new.hand.me _
+    c.in_ok-block.ensures.block c.in_ok-block.ensures.number c.in_ok-block.ensures.noted
+    (c.in_err-answer.ensures.notes ∙ c.keeps.ensures.notes ∙ c.reports_last.ensures.notes ∙ c.pair_runs.ensures.notes ∙ c.puts_start.ensures.notes ∙ c.waits_for_one.ensures.notes)
+    c.root-root.result c.root-root.ensures.name 3 (omega arith)
+    (stops-beside c.args.table.now c.root-root.result _ c.collects.new.hand.me _ 3
+    (sym c.root-root.ensures.name ∙ own-name c.root-root.result 3 root.1) c.in_err-answer.ensures.fault)))
+
+pub collects-requires-clause-left : goal.collects-requires-clause-left
+collects-requires-clause-left c =
+    subst (λ (x : Name). IsLeft c.args.table.now.frame x c.keeps.new.hand.me) c.root-root.ensures.name c.keeps.ensures.left

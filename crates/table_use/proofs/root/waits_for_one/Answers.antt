@@ -1,6 +1,8 @@
 use Rattle.std.proofs.Common.{◌∙◌}
+use Rattle.table_use.specs.declared.node.Fault.TheVariants.{Begun}
 use Rattle.table_use.proofs.Nodes.{node-place, kid-node, root-kid}
 use Rattle.table_use.proofs.Waiting.{rest-puts, rest-held, one-waits, one-owes}
+use Rattle.table_use.proofs.Stopping.{begun-stops, stops-beside}
 use Rattle.table_use.proofs.Noted.{swapped-notes, read-notes, awaited-notes}
 use Rattle.table_use.proofs.root.waits_for_one.Goals as goal
 
@@ -42,4 +44,17 @@ pub returns-clause-notes : goal.returns-clause-notes
 returns-clause-notes c =
     awaited-notes c.args.table.now c.args.root c.has_begun.new.hand.me c.await_children.new.hand.me _ _ c.await_children.ensures.awaits
     ∙ read-notes c.args.table.now c.beside-pair.result c.put_home.new.hand.me c.has_begun.new.hand.me _ c.has_begun.ensures.begun
+    ∙ swapped-notes c.args.table.now c.args.root c.args.hand.now.me c.put_home.new.hand.me _ _ c.put_home.ensures.put
+
+pub returns-then-has_begun-clause-fault : goal.returns-then-has_begun-clause-fault
+returns-then-has_begun-clause-fault c =
+    stops-beside c.args.table.now c.args.root c.beside-pair.result c.has_begun.new.hand.me Begun 2 c.beside-pair.ensures
+    (begun-stops c.args.table.now c.beside-pair.result c.put_home.new.hand.me c.has_begun.new.hand.me c.has_begun.result c.if-has_begun.true
+    c.has_begun.ensures.begun
+    (rest-held c.args.table.now c.args.root c.requires.node c.args.env c.args.hand.now.me c.put_home.new.hand.me c.requires.holds c.put_home.ensures.put
+    c.beside-pair.result 2 c.beside-pair.ensures (root-kid c.args.table.now c.args.root c.requires.node c.requires.root)))
+
+pub returns-then-has_begun-clause-notes : goal.returns-then-has_begun-clause-notes
+returns-then-has_begun-clause-notes c =
+    read-notes c.args.table.now c.beside-pair.result c.put_home.new.hand.me c.has_begun.new.hand.me _ c.has_begun.ensures.begun
     ∙ swapped-notes c.args.table.now c.args.root c.args.hand.now.me c.put_home.new.hand.me _ _ c.put_home.ensures.put

@@ -16,7 +16,7 @@ put_home-requires-clause-needs c κs =
     let root = c.root-root.result in
     let has = c.in_ok-block.ensures.owes root c.root-root.ensures.name in
     owes-puts board.frame root c.claimed.new.hand.me _ _ _ has
-    (owes-fits board.frame root c.claimed.new.hand.me _ _ None _ has tt refl refl refl tt)
+    (owes-fits board.frame root c.claimed.new.hand.me _ _ None _ has tt refl refl refl tt (λ e. cc))
 
 pub begin-requires-clause-needs : goal.begin-requires-clause-needs
 begin-requires-clause-needs c κs =
@@ -24,7 +24,7 @@ begin-requires-clause-needs c κs =
     let root = c.root-root.result in
     let has = c.in_ok-block.ensures.owes root c.root-root.ensures.name in
     c.put_home.ensures.begins
-    (owes-fits board.frame root c.claimed.new.hand.me _ _ None _ has tt refl refl refl tt)
+    (owes-fits board.frame root c.claimed.new.hand.me _ _ None _ has tt refl refl refl tt (λ e. cc))
 
 pub returns-clause-root : goal.returns-clause-root
 returns-clause-root c =
@@ -38,7 +38,7 @@ returns-clause-root c =
     (begun-root ghosts board root (named-root board root block.index block.generation c.requires.tree c.root-root.ensures.place name)
     _ _ c.put_home.new.hand.me c.begin.new.hand.me c.begin.ensures.begun
     (swapped-calm board.frame root _ None c.claimed.new.hand.me c.put_home.new.hand.me put c.in_ok-block.ensures.calm)
-    (swapped-owes board.frame root _ None c.claimed.new.hand.me c.put_home.new.hand.me put _ None has) refl refl (λ e. cc))
+    (swapped-owes board.frame root _ None c.claimed.new.hand.me c.put_home.new.hand.me put _ None has) refl refl)
 
 pub returns-clause-entries : goal.returns-clause-entries
 returns-clause-entries c n has =

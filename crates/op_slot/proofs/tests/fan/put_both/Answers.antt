@@ -8,14 +8,14 @@ use Rattle.op_slot.proofs.tests.fan.put_both.Goals as goal
 pub put_home-requires-clause-needs : goal.put_home-requires-clause-needs
 put_home-requires-clause-needs c κs =
     owes-puts c.args.table.now.frame c.args.first c.args.hand.now.me _ _ _ c.requires.owes_first
-    (owes-fits c.args.table.now.frame c.args.first c.args.hand.now.me _ _ None _ c.requires.owes_first tt refl refl refl tt)
+    (owes-fits c.args.table.now.frame c.args.first c.args.hand.now.me _ _ None _ c.requires.owes_first tt refl refl refl tt (λ e. cc))
 
 pub put_home-requires-2-clause-needs : goal.put_home-requires-2-clause-needs
 put_home-requires-2-clause-needs c κs =
     let has = swapped-beside c.args.table.now.frame c.args.first _ _ c.args.hand.now.me c.put_home.new.hand.me c.put_home.ensures.put c.args.second _ _
     c.requires.apart c.requires.owes_second in
     owes-puts c.args.table.now.frame c.args.second c.put_home.new.hand.me _ _ _ has
-    (owes-fits c.args.table.now.frame c.args.second c.put_home.new.hand.me _ _ None _ has tt refl refl refl tt)
+    (owes-fits c.args.table.now.frame c.args.second c.put_home.new.hand.me _ _ None _ has tt refl refl refl tt (λ e. cc))
 
 pub returns-clause-calm : goal.returns-clause-calm
 returns-clause-calm c =
@@ -27,6 +27,7 @@ returns-clause-first c =
     let f = c.args.table.now.frame in (
       _,
       refl,
+      (λ e. cc),
       swapped-beside f c.args.second _ _ c.put_home.new.hand.me c.put_home-2.new.hand.me c.put_home-2.ensures.put c.args.first _ _
           (apart-sym f c.args.first c.args.second c.requires.apart)
           (swapped-owes f c.args.first _ _ c.args.hand.now.me c.put_home.new.hand.me c.put_home.ensures.put _ _ c.requires.owes_first),
@@ -37,6 +38,7 @@ returns-clause-second c =
     let f = c.args.table.now.frame in (
       _,
       refl,
+      (λ e. cc),
       swapped-owes f c.args.second _ _ c.put_home.new.hand.me c.put_home-2.new.hand.me c.put_home-2.ensures.put _ _
           (swapped-beside f c.args.first _ _ c.args.hand.now.me c.put_home.new.hand.me c.put_home.ensures.put c.args.second _ _ c.requires.apart
           c.requires.owes_second),

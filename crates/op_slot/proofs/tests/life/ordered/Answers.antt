@@ -27,8 +27,9 @@ runs-requires-2-clause-full c =
     let full = c.put_both.ensures.second in (
       full.0,
       full.1,
+      full.2,
       c.in_ok-reports_first.ensures.beside c.args.second _ _ c.requires.apart
-          (c.in_ok-runs.ensures.beside c.args.second _ _ c.requires.apart full.2),
+          (c.in_ok-runs.ensures.beside c.args.second _ _ c.requires.apart full.3),
     )
 
 pub closed-requires-clause-tree : goal.closed-requires-clause-tree

@@ -81,4 +81,4 @@ returns-in-Some-clause-entries c n has =
     (swapped-keeps f leaf c.take_home.new.hand.me c.put_home.new.hand.me _ None c.put_home.ensures.put n
     (swapped-keeps f leaf c.phase_of.new.hand.me c.take_home.new.hand.me None _ c.take_home.ensures.taken n
     (phased-keeps f leaf c.begin.new.hand.me c.phase_of.new.hand.me c.phase_of.result c.phase_of.ensures.phase n
-    (begun-keeps _ f leaf c.args.hand.now.me c.begin.new.hand.me c.begin.ensures.begun _ c.requires.full.2.owes n has))))
+    (begun-keeps _ f leaf c.args.hand.now.me c.begin.new.hand.me c.begin.ensures.begun _ c.requires.full.3.owes n has))))

@@ -7,7 +7,7 @@ use Rattle.op_table.proofs.table.OpTable.await_children.Goals as goal
 pub add_children-requires-clause-places : goal.add_children-requires-clause-places
 add_children-requires-clause-places g c =
     let b = c.args.self.now in
-    places-here c.hand.inside.seat c.hand.inside.owed c.hand.invariant b
+    places-here c.hand.invariant.owed b
     (subst IsLaid c.self.view_is (record { words = c.self.invariant.2; slots = c.self.invariant.3 }))
     (ap (λ s. s.table_id) c.hand.view_is ∙ c.requires.table.table_is) c.args.name.block c.args.children.now
     (named-places g.P.Cargo b.frame c.args.hand.now.me c.args.name c.args.children.now

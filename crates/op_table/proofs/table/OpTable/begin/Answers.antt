@@ -1,7 +1,7 @@
 use Rattle.std.proofs.Common.{sym, ◌∙◌, subst}
 use Rattle.op_table.specs.Views.{aim_at}
 use Rattle.op_table.specs.Begins.{CanBegin, Begins}
-use Rattle.op_table.proofs.BeginTold.{can-renewed}
+use Rattle.op_table.proofs.BeginTold.{can-renewed, has-renewed, begun-goes-on}
 use Rattle.op_table.proofs.Remembering.{has-owed}
 use Rattle.op_table.proofs.RememberTold.{remembers-begun}
 use Rattle.op_table.proofs.table.OpTable.begin.Goals as goal
@@ -11,6 +11,10 @@ begin_at-requires-clause-needs g c =
     λ κs _. can-renewed g.P.Cargo c.args.self.now.frame c.args.name c.hand.inside.seat.me c.renew.new.seat.me
     c.renew.ensures.renewed
     (subst (λ s. CanBegin g.P.Cargo c.args.self.now.frame s.me c.args.name) (sym c.hand.view_is) c.requires.needs)
+
+pub begin_at-requires-clause-renewed : goal.begin_at-requires-clause-renewed
+begin_at-requires-clause-renewed g c =
+    λ κs _. has-renewed g.P.Cargo (aim_at c.args.self.now c.args.name) c.hand.inside.seat.me c.renew.new.seat.me c.renew.ensures.renewed
 
 pub remove-requires : goal.remove-requires
 remove-requires g c =
@@ -29,9 +33,12 @@ invariant_of-hand g c =
 
 pub returns-clause-begun : goal.returns-clause-begun
 returns-clause-begun g c =
+    let can = subst (λ s. CanBegin g.P.Cargo c.args.self.now.frame s.me c.args.name) (sym c.hand.view_is) c.requires.needs in
     subst (λ s. Begins g.P.Cargo (aim_at c.args.self.now c.args.name) s.me c.begin_at.new.seat.me) c.hand.view_is
     (record {
       middle = c.renew.new.seat.me;
       renewed = c.renew.ensures.renewed;
       began = c.begin_at.ensures.begun;
+      goes_on = begun-goes-on g.P.Cargo c.args.self.now.frame _ c.args.name c.hand.inside.seat.me c.renew.new.seat.me
+          c.begin_at.new.seat.me can c.renew.ensures.renewed c.begin_at.ensures.begun c.begin_at.ensures.hand.seated;
     })

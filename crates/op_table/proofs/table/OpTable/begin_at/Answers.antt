@@ -12,7 +12,7 @@ store-requires g c =
       begins-at g.P.Cargo c.args.self.now.frame c.self.inside.table.shared.key _ c.args.seat.now.id
           c.control-index.result c.control_number-held.result c.args.name g.K.Subject.aim c.args.seat.now.me
           (sym (ap (λ b. b.frame) c.self.view_is) ∙ sym c.self.invariant.0) (c.control-index.ensures.value ∙ ap (λ b. index b.frame.layout (OfControl c.args.name.block c.args.name.node)) c.self.view_is)
-          c.requires.subject c.requires.needs c.control_number-held.ensures.stamp c.control_number-held.ensures.control,
+          c.requires.subject c.requires.needs c.requires.renewed c.control_number-held.ensures.stamp c.control_number-held.ensures.control,
     )
 
 pub returns-clause-begun : goal.returns-clause-begun

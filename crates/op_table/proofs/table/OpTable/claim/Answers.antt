@@ -6,7 +6,7 @@ use Rattle.op_table.proofs.table.OpTable.claim.Goals as goal
 
 pub insert-requires-clause-place : goal.insert-requires-clause-place
 insert-requires-clause-place g c =
-    place-here c.hand.inside.seat c.hand.inside.owed c.hand.invariant c.args.self.now
+    place-here c.hand.invariant.owed c.args.self.now
     (subst IsLaid c.self.view_is (record { words = c.self.invariant.2; slots = c.self.invariant.3 }))
     (ap (λ s. s.table_id) c.hand.view_is ∙ c.requires.table.table_is) c.root.result c.root.ensures.place
 

@@ -4,7 +4,7 @@ use Rattle.table_words.specs.Blocks.{block_read}
 use Rattle.op_table.specs.Owing.{OwesNoneThere}
 use Rattle.op_table.specs.Claims.{logged, root_name}
 use Rattle.op_table.proofs.Hands.{hand-aimed, hand-logged}
-use Rattle.op_table.proofs.Claims.{claims_at}
+use Rattle.op_table.proofs.ClaimAllowed.{claims_at}
 use Rattle.op_table.proofs.ClaimTold.{won}
 use Rattle.op_table.proofs.table.OpTable.claim_from.Goals as goal
 

@@ -1,7 +1,7 @@
 use Rattle.std.proofs.Common.{arith, sym, ap, ◌∙◌, subst}
 use Rattle.table_words.specs.Layouts.{index}
 use Rattle.op_table.specs.Slots.{IsSeated}
-use Rattle.op_table.specs.Sights.{spot_of, looks_at}
+use Rattle.op_table.specs.Sights.{spot_of, says_requested, looks_at, StillAsked}
 use Rattle.op_table.proofs.Hands.{hand-seated}
 use Rattle.op_table.proofs.LookRuns.{look-at, look-seated}
 use Rattle.op_table.proofs.table.OpTable.look_after.Goals as goal
@@ -23,7 +23,7 @@ pub returns-clause-looked : goal.returns-clause-looked
 returns-clause-looked g c = (
   c.load-word.result,
   c.says_requested.ensures,
-  c.load-word.ensures.2
+  c.load-word.ensures.2.0
       ∙ (λ k. looks_at (c.requires.source_is k) (c.requires.after_is k) c.source_index-index.result c.load-word.result c.args.seat.now.me)
       ∙ ap (λ i. looks_at c.args.source c.args.after i c.load-word.result c.args.seat.now.me)
       (c.source_index-index.ensures.value ∙ ap (λ b. index b.frame.layout (spot_of c.args.source)) c.self.view_is),
@@ -33,6 +33,11 @@ pub returns-clause-hand : goal.returns-clause-hand
 returns-clause-hand g c =
     let b = c.args.self.now in
     hand-seated b c.args.seat.now c.load-word.new.seat c.requires.table c.load-word.ensures.0
-    (subst (IsSeated b.frame.tree b.frame.layout) (sym c.load-word.ensures.2)
+    (subst (IsSeated b.frame.tree b.frame.layout) (sym c.load-word.ensures.2.0)
     (look-seated b.frame.tree b.frame.layout g.K.Regard.source g.K.Regard.after c.source_index-index.result c.load-word.result
     c.args.seat.now.me c.requires.table.seated))
+
+pub returns-clause-stands : goal.returns-clause-stands
+returns-clause-stands g c =
+    subst (StillAsked c.args.seat.now.me.0 c.args.source) (sym c.says_requested.ensures)
+    (subst (λ t. StillAsked c.args.seat.now.me.0 t (says_requested t c.load-word.result)) c.requires.source_is c.load-word.ensures.2.1)

@@ -2,7 +2,7 @@ use Rattle.std.proofs.Common.{◌≤◌, sym, ◌∙◌, subst}
 use Rattle.life_rules.specs.Tree.{IsTree}
 use Rattle.life_rules.specs.declared.tree.TheConstants.{MOST_NODES}
 use Rattle.op_table.proofs.Opening.{framed, opens_with}
-use Rattle.op_table.proofs.PoppedHands.{owe-nothing}
+use Rattle.op_table.proofs.PoppedHands.{have-none}
 use Rattle.op_table.proofs.table.OpTable.open.Goals as goal
 
 pub vacant-requires : goal.vacant-requires
@@ -16,4 +16,4 @@ vacant-requires g c =
 
 pub hands_of-requires-clause-seats : goal.hands_of-requires-clause-seats
 hands_of-requires-clause-seats g c κs within =
-    owe-nothing _ c.args.hands c.in_ok-seats.seats.items c.in_ok-seats.ensures
+    have-none _ c.args.hands c.in_ok-seats.seats.items c.in_ok-seats.ensures

@@ -11,6 +11,6 @@ returns-clause-owes g c =
 
 pub returns-clause-place : goal.returns-clause-place
 returns-clause-place g c =
-    tells-place c.hand.inside.seat c.hand.inside.owed c.hand.invariant c.args.self.now
+    tells-place c.hand.invariant.owed c.args.self.now
     (subst IsLaid c.self.view_is (record { words = c.self.invariant.2; slots = c.self.invariant.3 }))
     (ap (λ s. s.table_id) c.hand.view_is ∙ c.requires.table.table_is) c.first.result c.first.ensures

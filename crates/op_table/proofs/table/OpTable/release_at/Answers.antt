@@ -2,7 +2,7 @@ use Rattle.std.proofs.Common.{arith, sym, ap, ◌∙◌}
 use Rattle.op_table.specs.Claims.{root_name}
 use Rattle.op_table.proofs.Hands.{hand-aimed}
 use Rattle.op_table.proofs.Loads.{left-under}
-use Rattle.op_table.proofs.ReleaseAllowed.{releases-at, releases-told}
+use Rattle.op_table.proofs.ReleaseAllowed.{releases-at, releases-told, empties-told, stay-empty}
 use Rattle.op_table.proofs.table.OpTable.release_at.Goals as goal
 
 pub store-requires : goal.store-requires
@@ -12,17 +12,18 @@ store-requires g c =
       c.requires.table.table_is ∙ sym (ap (λ b. b.table_id) c.self.view_is),
       omega (arith, counts, within),
       releases-at g.P.Cargo c.args.self.now.frame c.self.inside.table.shared.key _ c.args.seat.now.id
-          c.block-index.result c.block_number-free.result c.args.block.index c.args.block.generation g.K.Subject.aim
-          c.args.seat.now.me (sym (ap (λ b. b.frame) c.self.view_is) ∙ sym c.self.invariant.0) c.block-index.ensures.value
-          c.requires.subject c.requires.table.seated c.requires.needs
+          c.block-index.result c.block_number-free.result c.args.block.index c.args.block.generation g.J.Site.hand
+          g.K.Subject.aim g.J.Site.frames c.args.seat.now.me (sym (ap (λ b. b.frame) c.self.view_is) ∙ sym c.self.invariant.0) c.block-index.ensures.value
+          c.requires.subject c.requires.frames c.requires.site c.requires.table.seated c.requires.needs
           (c.block_number-free.ensures.reads ∙ c.word_after.ensures),
     )
 
 pub returns-clause-released : goal.returns-clause-released
 returns-clause-released g c =
-    releases-told g.P.Cargo c.args.self.now.frame c.block-index.result c.args.block.index
-    (root_name c.args.self.now c.args.block.index c.args.block.generation) g.K.Subject.aim c.args.seat.now.me
-    c.store.new.seat.me c.block-index.ensures.value c.requires.subject c.store.ensures.2.0
+    releases-told g.P.Cargo c.args.self.now.frame c.block-index.result c.args.block.index g.J.Site.hand
+    c.block_number-free.result (root_name c.args.self.now c.args.block.index c.args.block.generation)
+    g.K.Subject.aim g.J.Site.frames c.args.seat.now.me c.store.new.seat.me c.block-index.ensures.value
+    c.requires.subject c.store.ensures.2
 
 pub returns-clause-hand : goal.returns-clause-hand
 returns-clause-hand g c =
@@ -38,3 +39,13 @@ returns-clause-wrote g c =
       left = left-under c.block-index.result _ c.block_number-free.result c.args.seat.now.me c.store.new.seat.me
           c.block-index.ensures.value c.store.ensures.2.1;
     }
+
+pub returns-clause-empty : goal.returns-clause-empty
+returns-clause-empty g c =
+    empties-told g.P.Cargo c.args.self.now.frame c.block-index.result g.J.Site.hand c.store.new.seat.id
+    c.block_number-free.result (root_name c.args.self.now c.args.block.index c.args.block.generation)
+    g.K.Subject.aim g.J.Site.frames c.args.seat.now.me c.store.new.seat.me c.requires.subject
+    c.requires.frames (c.requires.site ∙ sym c.store.ensures.1) c.store.ensures.2
+
+pub returns-clause-stay : goal.returns-clause-stay
+returns-clause-stay g c = stay-empty g.P.Cargo c.args.self.now.frame c.args.block.index c.requires.block

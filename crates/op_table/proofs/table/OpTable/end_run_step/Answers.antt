@@ -1,0 +1,17 @@
+use Rattle.std.proofs.Common.{sym, ap, subst}
+use Rattle.op_table.specs.RunEnds.{CanEndRun}
+use Rattle.op_table.proofs.RememberRuns.{has-run, remembers-ended}
+use Rattle.op_table.proofs.table.OpTable.end_run_step.Goals as goal
+
+pub remove-requires : goal.remove-requires
+remove-requires g c =
+    let can = subst (λ s. CanEndRun s.me.0 c.args.name) (sym c.hand.view_is) c.requires.needs in
+    record { has = has-run c.hand.inside.seat c.hand.inside.owed c.hand.inside.runs c.hand.invariant c.args.name can.runs }
+
+pub invariant_of-hand : goal.invariant_of-hand
+invariant_of-hand g c =
+    let can = subst (λ s. CanEndRun s.me.0 c.args.name) (sym c.hand.view_is) c.requires.needs in
+    let left = c.end_run_at.ensures.ended.me_is in
+    remembers-ended c.hand.inside.seat c.hand.inside.owed c.hand.inside.runs c.hand.invariant c.end_run_at.new.seat
+    c.remove.new.self c.end_run_at.ensures.table.0 c.remove.ensures.layout (ap (λ m. m.0.owed) left) c.args.name can.runs
+    (ap (λ m. m.0.runs) left) c.remove.ensures.has

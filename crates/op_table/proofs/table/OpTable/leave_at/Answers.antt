@@ -1,0 +1,24 @@
+use Rattle.std.proofs.Common.{arith, sym, ap, ◌∙◌, subst}
+use Rattle.op_table.specs.Slots.{IsSeated}
+use Rattle.op_table.proofs.Hands.{hand-seated}
+use Rattle.op_table.proofs.ScopeKinds.{leaves_allowed, left-seated}
+use Rattle.op_table.proofs.table.OpTable.leave_at.Goals as goal
+
+pub fetch_sub-word-requires : goal.fetch_sub-word-requires
+fetch_sub-word-requires g c =
+    let counts = c.self.invariant.2 in (
+      c.requires.table.table_is ∙ sym (ap (λ b. b.table_id) c.self.view_is),
+      omega (arith, counts),
+      leaves_allowed g.P.Cargo c.self.inside.table.shared.key _ c.args.seat.now.id c.args.seat.now.me c.requires.leaves,
+    )
+
+pub returns-clause-hand : goal.returns-clause-hand
+returns-clause-hand g c =
+    let b = c.args.self.now in
+    hand-seated b c.args.seat.now c.fetch_sub-word.new.seat c.requires.table c.fetch_sub-word.ensures.0
+    (subst (IsSeated b.frame.tree b.frame.layout) (sym c.fetch_sub-word.ensures.2)
+    (left-seated b.frame.tree b.frame.layout c.fetch_sub-word.result c.args.seat.now.me c.requires.table.seated))
+
+pub returns-clause-left : goal.returns-clause-left
+returns-clause-left g c =
+    record { word = c.fetch_sub-word.result; answer_is = c.read_scope.ensures; me_is = c.fetch_sub-word.ensures.2 }

@@ -1,0 +1,23 @@
+use Rattle.std.proofs.Common.{arith, sym, ap, ◌∙◌, subst}
+use Rattle.op_table.specs.Slots.{IsSeated}
+use Rattle.op_table.proofs.Hands.{hand-seated}
+use Rattle.op_table.proofs.ScopeKinds.{makes_allowed, made-seated}
+use Rattle.op_table.proofs.table.OpTable.mark_used_at.Goals as goal
+
+pub fetch_or-word-requires : goal.fetch_or-word-requires
+fetch_or-word-requires g c =
+    let counts = c.self.invariant.2 in (
+      c.requires.table.table_is ∙ sym (ap (λ b. b.table_id) c.self.view_is),
+      omega (arith, counts),
+      makes_allowed g.P.Cargo c.self.inside.table.shared.key _ c.args.seat.now.id c.args.seat.now.me c.requires.making,
+    )
+
+pub returns-clause-hand : goal.returns-clause-hand
+returns-clause-hand g c =
+    let b = c.args.self.now in
+    hand-seated b c.args.seat.now c.fetch_or-word.new.seat c.requires.table c.fetch_or-word.ensures.0
+    (subst (IsSeated b.frame.tree b.frame.layout) (sym c.fetch_or-word.ensures.2)
+    (made-seated b.frame.tree b.frame.layout c.fetch_or-word.result c.args.seat.now.me c.requires.table.seated))
+
+pub returns-clause-made : goal.returns-clause-made
+returns-clause-made g c = record { word = c.fetch_or-word.result; me_is = c.fetch_or-word.ensures.2 }

@@ -1,0 +1,48 @@
+use Rattle.std.proofs.Common.{not, arith, sym, ap, ◌∙◌, subst}
+use Rattle.life_rules.specs.declared.words.Bits.{Bits}
+use Rattle.table_words.specs.Layouts.{index}
+use Rattle.op_table.specs.Slots.{IsSeated}
+use Rattle.op_table.specs.Claims.{logged}
+use Rattle.op_table.specs.Sights.{spot_of}
+use Rattle.op_table.specs.Requests.{asks, asks_at, IsWordOf}
+use Rattle.op_table.proofs.Hands.{hand-seated}
+use Rattle.op_table.proofs.RequestAllowed.{asks-at, asked-seated}
+use Rattle.op_table.proofs.table.OpTable.request_at.Goals as goal
+
+pub fetch_or-word-requires : goal.fetch_or-word-requires
+fetch_or-word-requires g c =
+    let counts = c.self.invariant.2 in
+    let within = c.source_index-index.ensures.within in (
+      c.requires.table.table_is ∙ sym (ap (λ b. b.table_id) c.self.view_is),
+      omega (arith, counts, within),
+      asks-at g.P.Cargo c.args.self.now.frame c.self.inside.table.shared.key _ c.args.seat.now.id
+          c.source_index-index.result c.mask.result c.args.source g.K.Regard.source c.args.failure c.args.seat.now.me
+          (sym (ap (λ b. b.frame) c.self.view_is) ∙ sym c.self.invariant.0)
+          (c.source_index-index.ensures.value ∙ ap (λ b. index b.frame.layout (spot_of c.args.source)) c.self.view_is)
+          c.mask.ensures c.requires.source_is c.requires.source.spot c.requires.source.is_one c.requires.needs,
+    )
+
+pub returns-clause-hand : goal.returns-clause-hand
+returns-clause-hand g c =
+    let b = c.args.self.now in
+    hand-seated b c.args.seat.now c.fetch_or-word.new.seat c.requires.table c.fetch_or-word.ensures.0
+    (subst (IsSeated b.frame.tree b.frame.layout) (sym c.fetch_or-word.ensures.2.0)
+    (asked-seated b.frame.tree b.frame.layout c.source_index-index.result c.fetch_or-word.result g.K.Regard.source
+    c.args.seat.now.me c.requires.table.seated))
+
+pub returns-clause-asked : goal.returns-clause-asked
+returns-clause-asked g c =
+    let word = c.fetch_or-word.result in
+    let m = c.args.seat.now.me in
+    let source = c.args.source in
+    let at = index c.args.self.now.frame.layout (spot_of source) in
+    record {
+      word = word;
+      is_of = subst (λ t. IsWordOf t word) c.requires.source_is c.fetch_or-word.ensures.2.1;
+      answer_is = c.read_source.ensures;
+      me_is = c.fetch_or-word.ensures.2.0
+          ∙ ap (λ t. asks_at t c.source_index-index.result word m) c.requires.source_is
+          ∙ ap (λ i. asks_at source i word m)
+          (c.source_index-index.ensures.value ∙ ap (λ b. index b.frame.layout (spot_of source)) c.self.view_is)
+          ∙ ap (λ (b : Bits). (logged at word (asks source (not b.requested) m.0), m.1)) (sym c.read_source.ensures);
+    }

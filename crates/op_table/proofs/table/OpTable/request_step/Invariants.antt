@@ -1,0 +1,5 @@
+use Rattle.std.specs.Prelude.{None}
+use Rattle.op_table.proofs.table.OpTable.request_step.Given as goal
+
+abbrev pub ghosts-request_at : goal.ghosts-request_at
+ghosts-request_at g a = record { source = a.source; after = None }

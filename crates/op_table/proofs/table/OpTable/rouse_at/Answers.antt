@@ -1,0 +1,36 @@
+use Rattle.std.proofs.Common.{arith, ◌==◌, sym, ap, ◌∙◌}
+use Rattle.table_words.specs.Layouts.{OfControl, index}
+use Rattle.op_table.specs.Claims.{logged}
+use Rattle.op_table.proofs.Hands.{hand-logged}
+use Rattle.op_table.proofs.RouseRuns.{rouses-at}
+use Rattle.op_table.proofs.table.OpTable.rouse_at.Goals as goal
+
+pub compare_exchange-was-requires : goal.compare_exchange-was-requires
+compare_exchange-was-requires g c =
+    let counts = c.self.invariant.2 in
+    let within = c.control-index.ensures.within in (
+      c.requires.table.table_is ∙ sym (ap (λ b. b.table_id) c.self.view_is),
+      omega (arith, counts, within),
+      rouses-at g.P.Cargo c.args.self.now.frame c.self.inside.table.shared.key _ c.args.seat.now.id
+          c.control-index.result c.control_number-parked.result c.control_number-ready.result c.args.name c.args.seat.now.me
+          (sym (ap (λ b. b.frame) c.self.view_is) ∙ sym c.self.invariant.0)
+          (c.control-index.ensures.value ∙ ap (λ b. index b.frame.layout (OfControl c.args.name.block c.args.name.node)) c.self.view_is)
+          c.requires.place.block c.requires.place.node c.requires.rouses
+          c.control_number-parked.ensures.stamp c.control_number-parked.ensures.control
+          c.control_number-ready.ensures.stamp c.control_number-ready.ensures.control,
+    )
+
+pub returns-clause-hand : goal.returns-clause-hand
+returns-clause-hand g c =
+    hand-logged c.args.self.now c.args.seat.now c.compare_exchange-was.new.seat c.requires.table
+    c.compare_exchange-was.ensures.0 c.control-index.result c.compare_exchange-was.result c.compare_exchange-was.ensures.2
+
+pub returns-clause-roused : goal.returns-clause-roused
+returns-clause-roused g c =
+    record {
+      word = c.compare_exchange-was.result;
+      answer_is = ap (λ n. c.compare_exchange-was.result == n) c.control_number-parked.ensures.value;
+      me_is = c.compare_exchange-was.ensures.2
+          ∙ ap (λ i. (logged i c.compare_exchange-was.result c.args.seat.now.me.0, c.args.seat.now.me.1))
+          (c.control-index.ensures.value ∙ ap (λ b. index b.frame.layout (OfControl c.args.name.block c.args.name.node)) c.self.view_is);
+    }

@@ -1,0 +1,28 @@
+use Rattle.std.proofs.Common.{sym, ap, ◌∙◌, subst}
+use Rattle.op_table.specs.Runs.{CanRun}
+use Rattle.op_table.proofs.Remembering.{IsLaid, place-here}
+use Rattle.op_table.proofs.RememberRuns.{run-of_block, remembers-run}
+use Rattle.op_table.proofs.RunTold.{unrun-named}
+use Rattle.op_table.proofs.table.OpTable.run_step.Goals as goal
+
+pub insert-requires-clause-place : goal.insert-requires-clause-place
+insert-requires-clause-place g c =
+    place-here c.hand.invariant.runs c.args.self.now
+    (subst IsLaid c.self.view_is (record { words = c.self.invariant.2; slots = c.self.invariant.3 }))
+    (ap (λ s. s.table_id) c.hand.view_is ∙ c.requires.table.table_is) c.in_ok-name.name c.in_ok-name.ensures.place
+
+pub insert-requires-clause-generation : goal.insert-requires-clause-generation
+insert-requires-clause-generation g c =
+    run-of_block c.hand.inside.seat c.hand.inside.owed c.hand.inside.runs c.hand.invariant c.in_ok-name.name
+    c.in_ok-name.ensures.run.of_scan.beside_it
+
+pub invariant_of-hand-2 : goal.invariant_of-hand-2
+invariant_of-hand-2 g c =
+    let name = c.in_ok-name.name in
+    let ran = c.in_ok-name.ensures.run in
+    let can = subst (λ s. CanRun c.args.self.now.frame.tree s.me.0 c.args.source c.args.block c.args.node) (sym c.hand.view_is) c.requires.needs in
+    remembers-run c.hand.inside.seat c.hand.inside.owed c.hand.inside.runs c.hand.invariant c.run_at.new.seat
+    c.insert.new.self c.run_at.ensures.table.0 c.insert.ensures.layout (ap (λ m. m.0.owed) ran.me_is) name
+    (ap (λ m. m.0.runs) ran.me_is)
+    (unrun-named c.args.block c.args.node _ name c.hand.inside.seat.me.0.runs ran.name_is can.unrun)
+    c.insert.ensures.has

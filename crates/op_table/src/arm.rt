@@ -1,0 +1,56 @@
+//! How a callback is registered ([stopcallback]).
+ghost use Rattle.std.specs.Prelude.{◌≡◌};
+ghost use Rattle.op_table.specs.Views.{IsHandOf, IsSameHand, IsPlaceIn, aim_at};
+ghost use Rattle.op_table.specs.Claims.{logged};
+ghost use Rattle.op_table.specs.Callbacks.{CanArm, IsArmed, arms};
+
+use crate::plays::Subject;
+use crate::table::{Hand, OpTable, SeatOf};
+use atomic_table::Play;
+use life_rules::{CallbackPhase, Name};
+use std::marker::{Brand, PhantomData};
+use table_rules::{Cargo, View};
+use table_words::callback_number;
+
+/// The store by which a callback is registered.
+pub struct Arms<K> {
+    subject: PhantomData<K>,
+}
+
+impl<P, E, K: Subject> Play<Option<P>, View<P, E>> for Arms<K> {
+    ghost then = { λ step m found m'. m' ≡ (logged step.word found (arms K.aim.name m.0), m.1) };
+}
+
+impl<P: Cargo> OpTable<P> {
+    /// Registers the node's callback on the node's nearest source. A request may have been made before:
+    /// so a look at that source has to follow.
+    ///
+    /// Step: one store of the node's callback word, never to armed.
+    /// Needs: the hand holds the node, has read that its callback was never registered, and the node
+    /// hears a source.
+    /// Afterwards: the place is armed, and not looked after yet.
+    pub fn arm_step(&self, hand: &mut Hand<P>, name: Name)
+        requires table { IsHandOf self.now hand.old }
+        requires place { IsPlaceIn self.now name }
+        requires needs { CanArm self.now.frame.tree hand.old.me.0 name }
+        ensures table { IsSameHand hand.old hand.new }
+        ensures hand { IsHandOf self.now hand.new }
+        ensures armed { IsArmed self.now name hand.old hand.new }
+    {
+        self.arm_at::<Brand>(&mut hand.seat, name);
+    }
+
+    fn arm_at<K: Subject>(&self, seat: &mut SeatOf<P>, name: Name)
+        requires table { IsHandOf self.now seat.old }
+        requires place { IsPlaceIn self.now name }
+        requires needs { CanArm self.now.frame.tree seat.old.me.0 name }
+        requires subject { K.aim ≡ aim_at self.now name }
+        ensures table { IsSameHand seat.old seat.new }
+        ensures hand { IsHandOf self.now seat.new }
+        ensures armed { IsArmed self.now name seat.old seat.new }
+    {
+        let armed = callback_number(name.generation, CallbackPhase::Armed);
+        let index = self.frame.layout.callback(name.block, name.node);
+        self.table.shared.store::<Arms<K>>(seat, index, armed);
+    }
+}

@@ -1,0 +1,72 @@
+//! How a stop is requested ([stopsource], `request_stop`).
+ghost use Rattle.std.specs.Prelude.{◌≡◌};
+ghost use Rattle.op_table.specs.Views.{IsHandOf, IsSameHand};
+ghost use Rattle.op_table.specs.Sights.{IsSourceIn};
+ghost use Rattle.op_table.specs.Requests.{mask, asks_at, IsWordOf, MayRequest, IsAsked};
+
+use crate::plays::Regard;
+use crate::sight::source_index;
+use crate::table::{Hand, OpTable, SeatOf};
+use atomic_table::Play;
+use life_rules::{Bits, SourceRef};
+use std::marker::{Brand, PhantomData};
+use table_rules::{Cargo, View};
+use table_words::read_source;
+
+/// The step by which a stop is requested.
+pub struct Asks<K> {
+    regard: PhantomData<K>,
+}
+
+impl<P, E, K: Regard> Play<Option<P>, View<P, E>> for Asks<K> {
+    ghost then = { λ step m found m'. (m' ≡ asks_at K.source step.word found m) × IsWordOf K.source found };
+}
+
+// The bits that a request sets: requested, and with a failure failed too.
+fn mask(failure: bool) -> u64
+    ensures { result ≡ mask failure }
+{
+    if failure { 3 } else { 1 }
+}
+
+impl<P: Cargo> OpTable<P> {
+    /// Requests a stop on the source, and tells the bits that were read there. The request is new
+    /// exactly where they say that none was made, and then the hand begins a scan of the source's
+    /// callbacks.
+    ///
+    /// Step: one fetch_or of the source's word, which sets requested, and with a failure failed
+    /// too.
+    /// Needs: with a failure, that the hand owes the report of a child of the source's node, and
+    /// that this child failed. Without, that it passes on a request above the node: it runs the
+    /// node's callback, or holds the node, whose children were never awaited, and has seen that
+    /// request. The scope's source hand 0 requests, where the scope is a counting one. A hand that has
+    /// seen the request on a source that can't go away under it may request again: nothing changes.
+    /// Afterwards: the request is seen.
+    pub fn request_step(&self, hand: &mut Hand<P>, source: SourceRef, failure: bool) -> Bits
+        requires table { IsHandOf self.now hand.old }
+        requires source { IsSourceIn self.now source }
+        requires needs { MayRequest P.Cargo self.now.frame hand.old.me.0 source failure }
+        ensures table { IsSameHand hand.old hand.new }
+        ensures hand { IsHandOf self.now hand.new }
+        ensures asked { IsAsked self.now source result hand.old hand.new }
+    {
+        self.request_at::<Brand>(&mut hand.seat, source, failure)
+    }
+
+    fn request_at<K: Regard>(&self, seat: &mut SeatOf<P>, source: SourceRef, failure: bool) -> Bits
+        requires table { IsHandOf self.now seat.old }
+        requires source { IsSourceIn self.now source }
+        requires needs { MayRequest P.Cargo self.now.frame seat.old.me.0 source failure }
+        requires source_is { K.source ≡ source }
+        ensures table { IsSameHand seat.old seat.new }
+        ensures hand { IsHandOf self.now seat.new }
+        ensures asked { IsAsked self.now source result seat.old seat.new }
+    {
+        let index = source_index(&self.frame.layout, source);
+        let word = self
+            .table
+            .shared
+            .fetch_or::<Asks<K>>(seat, index, mask(failure));
+        read_source(word)
+    }
+}

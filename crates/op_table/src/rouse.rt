@@ -1,0 +1,47 @@
+//! How a parked node is woken.
+ghost use Rattle.op_table.specs.Views.{IsHandOf, IsSameHand, IsPlaceIn};
+ghost use Rattle.op_table.specs.Rouses.{MayRouse, IsRoused};
+
+use crate::plays::Looks;
+use crate::table::{Hand, OpTable, SeatOf};
+use life_rules::{ControlWord, Name};
+use table_rules::Cargo;
+use table_words::control_number;
+
+impl<P: Cargo> OpTable<P> {
+    /// Wakes the parked node, which is ready in the loop then. False exactly where the word that was read
+    /// said something else: then nothing changed.
+    ///
+    /// Step: one exchange of the node's control word, parked to ready in the loop. It loses where the
+    /// word changed first. A store would overwrite the word of a node that was taken meanwhile.
+    /// Needs: the hand runs the node's callback, or is hand 0.
+    /// Afterwards: the hand knows what it knew.
+    pub fn rouse(&self, hand: &mut Hand<P>, name: Name) -> bool
+        requires table { IsHandOf self.now hand.old }
+        requires place { IsPlaceIn self.now name }
+        requires rouses { MayRouse hand.old.me.0 name }
+        ensures table { IsSameHand hand.old hand.new }
+        ensures hand { IsHandOf self.now hand.new }
+        ensures roused { IsRoused self.now name result hand.old hand.new }
+    {
+        self.rouse_at(&mut hand.seat, name)
+    }
+
+    fn rouse_at(&self, seat: &mut SeatOf<P>, name: Name) -> bool
+        requires table { IsHandOf self.now seat.old }
+        requires place { IsPlaceIn self.now name }
+        requires rouses { MayRouse seat.old.me.0 name }
+        ensures table { IsSameHand seat.old seat.new }
+        ensures hand { IsHandOf self.now seat.new }
+        ensures roused { IsRoused self.now name result seat.old seat.new }
+    {
+        let parked = control_number(name.generation, ControlWord::Parked);
+        let ready = control_number(name.generation, ControlWord::ReadyLoop);
+        let index = self.frame.layout.control(name.block, name.node);
+        let was = self
+            .table
+            .shared
+            .compare_exchange::<Looks>(seat, index, parked, ready);
+        was == parked
+    }
+}

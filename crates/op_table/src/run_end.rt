@@ -1,0 +1,98 @@
+//! How a callback's run ends, also by a removal from inside it ([stopcallback]).
+ghost use Rattle.std.specs.Prelude.{◌≡◌};
+ghost use Rattle.op_table.specs.Views.{IsHandOf, IsSameHand, IsPlaceIn, aim_at};
+ghost use Rattle.op_table.specs.Claims.{logged};
+ghost use Rattle.op_table.specs.RunEnds.{ends_run, removes_own, CanEndRun, CanWithdrawOwn, IsRunEnded, IsOwnWithdrawn};
+
+use crate::plays::Subject;
+use crate::table::{Hand, OpTable, SeatOf};
+use atomic_table::Play;
+use life_rules::{CallbackPhase, Name};
+use std::marker::{Brand, PhantomData};
+use table_rules::{Cargo, View};
+use table_words::callback_number;
+
+/// The store by which a run ends.
+pub struct EndsRun<K> {
+    subject: PhantomData<K>,
+}
+
+impl<P, E, K: Subject> Play<Option<P>, View<P, E>> for EndsRun<K> {
+    ghost then = { λ step m found m'. m' ≡ (logged step.word found (ends_run K.aim.tree K.aim.name m.0), m.1) };
+}
+
+/// The store by which a callback is removed from inside it.
+pub struct RemovesOwn<K> {
+    subject: PhantomData<K>,
+}
+
+impl<P, E, K: Subject> Play<Option<P>, View<P, E>> for RemovesOwn<K> {
+    ghost then = { λ step m found m'. m' ≡ (logged step.word found (removes_own K.aim.tree K.aim.name m.0), m.1) };
+}
+
+impl<P: Cargo> OpTable<P> {
+    /// Ends the run of the place's callback.
+    ///
+    /// Step: one store of the callback word, running to ran.
+    /// Needs: the hand runs the place, and makes no scan of the node's own source.
+    /// Afterwards: the hand no longer runs it, and its scan has passed the place.
+    pub fn end_run_step(&self, hand: &mut Hand<P>, name: Name)
+        requires table { IsHandOf self.now hand.old }
+        requires place { IsPlaceIn self.now name }
+        requires needs { CanEndRun hand.old.me.0 name }
+        ensures table { IsSameHand hand.old hand.new }
+        ensures hand { IsHandOf self.now hand.new }
+        ensures ended { IsRunEnded self.now name hand.old hand.new }
+    {
+        self.end_run_at::<Brand>(&mut hand.seat, name);
+        hand.runs.remove(name);
+    }
+
+    fn end_run_at<K: Subject>(&self, seat: &mut SeatOf<P>, name: Name)
+        requires table { IsHandOf self.now seat.old }
+        requires place { IsPlaceIn self.now name }
+        requires needs { CanEndRun seat.old.me.0 name }
+        requires subject { K.aim ≡ aim_at self.now name }
+        ensures table { IsSameHand seat.old seat.new }
+        ensures hand { IsHandOf self.now seat.new }
+        ensures ended { IsRunEnded self.now name seat.old seat.new }
+    {
+        let ran = callback_number(name.generation, CallbackPhase::Ran);
+        let index = self.frame.layout.callback(name.block, name.node);
+        self.table.shared.store::<EndsRun<K>>(seat, index, ran);
+    }
+
+    /// Removes the node's callback from inside it, which ends the run.
+    ///
+    /// Step: one store of the callback word, running to removed.
+    /// Needs: the hand runs the place and holds the node, and makes no scan of the node's own source.
+    /// Afterwards: the hand no longer runs it, its scan has passed the place, and it has noted that the
+    /// callback was removed.
+    pub fn withdraw_own_step(&self, hand: &mut Hand<P>, name: Name)
+        requires table { IsHandOf self.now hand.old }
+        requires place { IsPlaceIn self.now name }
+        requires needs { CanWithdrawOwn hand.old.me.0 name }
+        ensures table { IsSameHand hand.old hand.new }
+        ensures hand { IsHandOf self.now hand.new }
+        ensures withdrawn { IsOwnWithdrawn self.now name hand.old hand.new }
+    {
+        self.withdraw_own_at::<Brand>(&mut hand.seat, name);
+        hand.runs.remove(name);
+    }
+
+    fn withdraw_own_at<K: Subject>(&self, seat: &mut SeatOf<P>, name: Name)
+        requires table { IsHandOf self.now seat.old }
+        requires place { IsPlaceIn self.now name }
+        requires needs { CanWithdrawOwn seat.old.me.0 name }
+        requires subject { K.aim ≡ aim_at self.now name }
+        ensures table { IsSameHand seat.old seat.new }
+        ensures hand { IsHandOf self.now seat.new }
+        ensures withdrawn { IsOwnWithdrawn self.now name seat.old seat.new }
+    {
+        let removed = callback_number(name.generation, CallbackPhase::Removed);
+        let index = self.frame.layout.callback(name.block, name.node);
+        self.table
+            .shared
+            .store::<RemovesOwn<K>>(seat, index, removed);
+    }
+}

@@ -1,0 +1,60 @@
+//! How a scan of a stop source ends.
+ghost use Rattle.std.specs.Prelude.{◌≡◌};
+ghost use Rattle.op_table.specs.Views.{IsHandOf, IsSameHand};
+ghost use Rattle.op_table.specs.Claims.{logged};
+ghost use Rattle.op_table.specs.Sights.{IsSourceIn};
+ghost use Rattle.op_table.specs.ScanSeals.{seals_scan, CanSealScan, IsScanSealed};
+
+use crate::plays::Regard;
+use crate::sight::source_index;
+use crate::table::{Hand, OpTable, SeatOf};
+use atomic_table::Play;
+use life_rules::SourceRef;
+use std::marker::{Brand, PhantomData};
+use table_rules::{Cargo, View};
+
+/// All callbacks of the source that were armed before its request have been looked at.
+const SCANNED: u64 = 4;
+
+/// The step by which a scan is sealed.
+pub struct SealsScan<K> {
+    regard: PhantomData<K>,
+}
+
+impl<P, E, K: Regard> Play<Option<P>, View<P, E>> for SealsScan<K> {
+    ghost then = { λ step m found m'. m' ≡ (logged step.word found (seals_scan K.source m.0), m.1) };
+}
+
+impl<P: Cargo> OpTable<P> {
+    /// Seals the hand's scan of the source.
+    ///
+    /// Step: one fetch_or of the source's word, which sets the scanned bit.
+    /// Needs: the hand scans the source, and its scan has passed all places.
+    /// Afterwards: the hand no longer makes the scan.
+    pub fn seal_scan_step(&self, hand: &mut Hand<P>, source: SourceRef)
+        requires table { IsHandOf self.now hand.old }
+        requires source { IsSourceIn self.now source }
+        requires needs { CanSealScan self.now.frame hand.old.me.0 source }
+        ensures table { IsSameHand hand.old hand.new }
+        ensures hand { IsHandOf self.now hand.new }
+        ensures sealed { IsScanSealed self.now source hand.old hand.new }
+    {
+        self.seal_scan_at::<Brand>(&mut hand.seat, source);
+    }
+
+    fn seal_scan_at<K: Regard>(&self, seat: &mut SeatOf<P>, source: SourceRef)
+        requires table { IsHandOf self.now seat.old }
+        requires source { IsSourceIn self.now source }
+        requires needs { CanSealScan self.now.frame seat.old.me.0 source }
+        requires source_is { K.source ≡ source }
+        ensures table { IsSameHand seat.old seat.new }
+        ensures hand { IsHandOf self.now seat.new }
+        ensures sealed { IsScanSealed self.now source seat.old seat.new }
+    {
+        let index = source_index(&self.frame.layout, source);
+        let _word = self
+            .table
+            .shared
+            .fetch_or::<SealsScan<K>>(seat, index, SCANNED);
+    }
+}

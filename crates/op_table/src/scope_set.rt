@@ -1,0 +1,73 @@
+//! The steps that close the counting scope and start its join (P3149, [exec.scope]).
+//!
+//! Each sets a bit of the scope's word, and lists what it read and what it left. So a hand knows of a bit
+//! that it set: each word of the scope that it reads afterwards has it.
+ghost use Rattle.std.specs.Prelude.{◌≡◌, bit_or};
+ghost use Rattle.op_table.specs.Views.{IsHandOf, IsSameHand};
+ghost use Rattle.op_table.specs.Claims.{logged};
+ghost use Rattle.op_table.specs.ScopeSets.{SetsScope, closing, joining};
+
+use crate::table::{Hand, OpTable, SeatOf};
+use atomic_table::Play;
+use life_rules::ScopeWord;
+use table_rules::{Cargo, View};
+use table_words::{SCOPE, read_scope};
+
+/// No association is made any more.
+const CLOSED: u64 = 1 << 33;
+
+/// Someone waits for the last association to be left.
+const JOINING: u64 = 1 << 34;
+
+/// A step that sets bits, and lists the word that it read, and then the one that it left.
+pub struct Sets;
+
+impl<P, E> Play<Option<P>, View<P, E>> for Sets {
+    ghost then = { λ step m found m'. m' ≡ (logged step.word (bit_or found step.first) (logged step.word found m.0), m.1) };
+}
+
+impl<P: Cargo> OpTable<P> {
+    /// Closes the scope, and tells the word that was read.
+    ///
+    /// Step: one fetch_or of the scope's word, which sets the closed bit.
+    pub fn close_step(&self, hand: &mut Hand<P>) -> ScopeWord
+        requires table { IsHandOf self.now hand.old }
+        ensures table { IsSameHand hand.old hand.new }
+        ensures hand { IsHandOf self.now hand.new }
+        ensures closed { SetsScope closing result hand.old hand.new }
+    {
+        self.close_at(&mut hand.seat)
+    }
+
+    fn close_at(&self, seat: &mut SeatOf<P>) -> ScopeWord
+        requires table { IsHandOf self.now seat.old }
+        ensures table { IsSameHand seat.old seat.new }
+        ensures hand { IsHandOf self.now seat.new }
+        ensures closed { SetsScope closing result seat.old seat.new }
+    {
+        let word = self.table.shared.fetch_or::<Sets>(seat, SCOPE, CLOSED);
+        read_scope(word)
+    }
+
+    /// Starts the join of the scope, and tells the word that was read.
+    ///
+    /// Step: one fetch_or of the scope's word, which sets the joining bit.
+    pub fn join_step(&self, hand: &mut Hand<P>) -> ScopeWord
+        requires table { IsHandOf self.now hand.old }
+        ensures table { IsSameHand hand.old hand.new }
+        ensures hand { IsHandOf self.now hand.new }
+        ensures joins { SetsScope joining result hand.old hand.new }
+    {
+        self.join_at(&mut hand.seat)
+    }
+
+    fn join_at(&self, seat: &mut SeatOf<P>) -> ScopeWord
+        requires table { IsHandOf self.now seat.old }
+        ensures table { IsSameHand seat.old seat.new }
+        ensures hand { IsHandOf self.now seat.new }
+        ensures joins { SetsScope joining result seat.old seat.new }
+    {
+        let word = self.table.shared.fetch_or::<Sets>(seat, SCOPE, JOINING);
+        read_scope(word)
+    }
+}
