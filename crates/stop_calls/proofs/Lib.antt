@@ -1,0 +1,6 @@
+pub mod Order
+pub mod Walking
+pub mod Looking
+pub mod Waiting
+mod Lone
+mod Stops

@@ -1,0 +1,16 @@
+use Rattle.std.proofs.Common.{◌∙◌, suc}
+use Rattle.stop_calls.proofs.Waiting.{again}
+use Rattle.stop_calls.proofs.removing.withdraw.Goals as goal
+
+pub loop-preserved : goal.loop-preserved
+loop-preserved g c =
+    let before = c.loop.invariant in
+    let tried = c.in-Running.ensures.tried in
+    record {
+      next = tt;
+      finite = tt;
+      table = (c.try_withdraw.ensures.table.0 ∙ before.table.0, c.try_withdraw.ensures.table.1 ∙ before.table.1);
+      hand = c.try_withdraw.ensures.hand;
+      may = again c.args.table.now c.args.node c.loop.hand c.try_withdraw.new.hand before.may tried;
+      waited = (suc before.waited.0, (c.loop.hand, before.waited.1, tried));
+    }

@@ -1,0 +1,37 @@
+-- What a stop request answers ([stopsource.inplace.mem]).
+use Rattle.std.specs.Prelude.{◌≡◌, ℕ, Bool, true, false, not, Option}
+use Rattle.life_rules.specs.declared.event.Name.{Name}
+use Rattle.life_rules.specs.declared.event.SourceRef.{SourceRef}
+use Rattle.life_rules.specs.declared.event.SourceRef.TheVariants.{Node}
+use Rattle.table_words.specs.Controls.{source_read}
+use Rattle.table_words.specs.Layouts.{index}
+use Rattle.atomic_table.specs.declared.shared.Seat.{Seat}
+use Rattle.table_rules.specs.declared.view.View.{View}
+use Rattle.op_table.specs.Views.{Board}
+use Rattle.op_table.specs.Sights.{spot_of}
+use Rattle.op_table.specs.Requests.{asks_at, IsWordOf}
+use Rattle.stop_calls.specs.declared.requesting.Request.{Request}
+use Rattle.stop_calls.specs.declared.requesting.Request.TheVariants.{Made, Already}
+use Rattle.stop_calls.specs.declared.requesting.Failure.{Failure}
+use Rattle.stop_calls.specs.Cursors.{first_scan}
+
+-- where a stop was requested before, a request answers so; else it gives a scan from the first
+-- place on
+abbrev pub is_answer : SourceRef → Bool → Request → Type 0
+is_answer source before (Made scan) = (before ≡ false) × (scan ≡ first_scan source)
+is_answer source before Already = before ≡ true
+
+-- the answer is what the word that was read says, and the hand has noted the request
+pub record IsRequested {P E O : Type 0} (board : Board O) (source : SourceRef) (answer : Request) (old new : Seat (Option P) (View P E)) : Type 0 where
+  pub word : ℕ
+  pub is_of : IsWordOf source word
+  pub answer_is : is_answer source (source_read word).requested answer
+  pub me_is : new.me ≡ asks_at source (index board.frame.layout (spot_of source)) word old.me
+
+-- and so with a failure, which is the first where the word says that none was told before
+pub record IsFailed {P E O : Type 0} (board : Board O) (node : Name) (answer : Failure) (old new : Seat (Option P) (View P E)) : Type 0 where
+  pub word : ℕ
+  pub is_of : IsWordOf (Node node) word
+  pub first_is : answer.first ≡ not (source_read word).failed
+  pub answer_is : is_answer (Node node) (source_read word).requested answer.request
+  pub me_is : new.me ≡ asks_at (Node node) (index board.frame.layout (spot_of (Node node))) word old.me
