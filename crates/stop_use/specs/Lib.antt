@@ -1,0 +1,4 @@
+pub mod Starts
+pub mod Uses
+pub mod Scans
+pub mod Causes

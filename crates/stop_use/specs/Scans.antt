@@ -1,0 +1,69 @@
+-- How a hand of this use scans a stop source, inside other scans.
+use Rattle.std.specs.Prelude.{◌≡◌, ℕ, ◌-◌, ◌*◌, ◌<◌, true, List, [], ◌∷◌, length, Some}
+use Rattle.life_rules.specs.declared.tree.TreeNode.{TreeNode}
+use Rattle.life_rules.specs.declared.event.Name.{Name}
+use Rattle.life_rules.specs.declared.event.SourceRef.{SourceRef}
+use Rattle.life_rules.specs.declared.event.SourceRef.TheVariants.{Scope, Node}
+use Rattle.life_rules.specs.Tree.{nearest, has_source}
+use Rattle.life_rules.specs.Views.{beside}
+use Rattle.life_rules.specs.States.{source_for}
+use Rattle.table_rules.specs.declared.view.Scanning.{Scanning}
+use Rattle.table_rules.specs.Named.{Each}
+use Rattle.op_table.specs.Views.{Board}
+use Rattle.op_table.specs.Claims.{Seated}
+use Rattle.op_table.specs.ScanSeals.{drops}
+use Rattle.stop_calls.specs.declared.scanning.Scan.{Scan}
+use Rattle.stop_calls.specs.Cursors.{cursor, Stands, NoneHears}
+use Rattle.stop_use.specs.declared.cargo.Item.{Item}
+use Rattle.stop_use.specs.Uses.{IsNode}
+
+-- the source is that of a node with a greater number
+abbrev pub IsAbove : ℕ → SourceRef → Type 0
+IsAbove n Scope = ⊥
+IsAbove n (Node y) = n < y.node
+
+abbrev pub AreAbove : ℕ → List Scanning → Type 0
+AreAbove n = Each (λ s. IsAbove n s.source)
+
+-- the callback of x is registered on the source
+abbrev pub Hears : List TreeNode → SourceRef → Name → Type 0
+Hears tree source x = source_for x (nearest tree x.node) ≡ Some source
+
+-- the hand makes this scan of a node's source, innermost, which stands where the next call needs it. The
+-- other scans are of nodes above, and the hand runs no callback of the source
+pub record Scans (board : Board (Unit {0})) (scan : Scan) (m : Seated Item ℕ) : Type 0 where
+  pub of : Name
+  pub is_node : IsNode board of
+  pub is_source : has_source board.frame.tree of.node ≡ true
+  pub source : scan.source ≡ Node of
+  pub from : ℕ
+  pub outer : List Scanning
+  pub scans : m.0.scans ≡ record { source = Node of; next = from } ∷ outer
+  pub above : AreAbove of.node outer
+  pub stands : Stands board.frame.tree scan m.0
+  pub unrun : NoneHears board.frame.tree (Node of) m.0.runs
+
+-- so many places are left of the scan
+abbrev pub places_left : Board (Unit {0}) → Scan → ℕ
+places_left board scan = length board.frame.tree * board.frame.layout.blocks - cursor board.frame.tree scan
+
+-- the hand's scans but for that of this source
+abbrev pub other_scans : SourceRef → Seated Item ℕ → List Scanning
+other_scans source m = drops source m.0.scans
+
+-- the hand runs the callback of this place alone, and makes a scan of the root's source alone
+pub record IsInside (place : Name) (m : Seated Item ℕ) : Type 0 where
+  pub runs : m.0.runs ≡ place ∷ []
+  pub from : ℕ
+  pub scans : m.0.scans ≡ record { source = Node (beside place 3); next = from } ∷ []
+
+-- fewer places are left of the scan
+abbrev pub IsFewer : Board (Unit {0}) → Scan → Scan → Type 0
+IsFewer board before after = places_left board after < places_left board before
+
+-- the hand runs nothing, and makes this scan of the root's source alone
+pub record IsOuter (board : Board (Unit {0})) (root : Name) (scan : Scan) (m : Seated Item ℕ) : Type 0 where
+  pub makes : Scans board scan m
+  pub source : scan.source ≡ Node root
+  pub runs : m.0.runs ≡ []
+  pub alone : makes.outer ≡ []

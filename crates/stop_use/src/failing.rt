@@ -1,0 +1,71 @@
+//! How the failure is told, and the leaf reported.
+ghost use Rattle.std.specs.Prelude.{◌≡◌, [], IfOk, IfErr};
+ghost use Rattle.life_rules.specs.Views.{beside};
+ghost use Rattle.op_table.specs.Views.{IsHandOf};
+ghost use Rattle.stop_use.specs.Uses.{use_tree, IsRoot, IsIdle, HasFailed};
+ghost use Rattle.stop_use.specs.Causes.{GoesOn, IsStopCause, IsCause};
+
+use crate::node::{Fault, Table, Worker, beside};
+use crate::passing::scans;
+use crate::starting::starts;
+use life_rules::Name;
+use op_table::Report;
+use stop_calls::{Failure, Request, fail_stop};
+
+/// What happened to an operation whose leaf failed.
+#[derive(Clone, Copy, Debug, PartialEq, Eq)]
+pub struct Answer {
+    /// The root of the operation.
+    pub root: Name,
+    /// No failure of another child was told before.
+    pub first: bool,
+    /// The place that the scan of the root's source ran first, and that of the branch's.
+    pub ran: (Name, Name),
+}
+
+// Tells the root that its leaf failed, and runs the callbacks that hear it.
+fn tells(table: &Table, hand: &mut Worker, root: Name) -> Result<Answer, Fault>
+    requires table { IsHandOf table.now hand.old }
+    requires root { IsRoot table.now root }
+    requires idle { IsIdle hand.old.me }
+    requires failed { HasFailed (beside root 0) hand.old.me }
+    ensures table { IsHandOf table.now hand.new }
+    ensures idle { IsIdle hand.new.me }
+    ensures failed { HasFailed (beside root 0) hand.new.me }
+    ensures root { IfOk result (λ r. r.root ≡ root) }
+    ensures branch { IfOk result (λ r. r.ran.0 ≡ beside root 2) }
+    ensures twig { IfOk result (λ r. r.ran.1 ≡ beside root 1) }
+    ensures steps { IfOk result (λ _. GoesOn hand.old.me hand.new.me) }
+    ensures fault { IfErr result (IsStopCause table.now hand.old.me hand.new.me root) }
+{
+    let Failure { first, request } = fail_stop(table, hand, root);
+    match request {
+        Request::Already => Err(Fault::Asked),
+        Request::Made(scan) => {
+            let ran = scans(table, hand, root, scan)?;
+            Ok(Answer { root, first, ran })
+        }
+    }
+}
+
+/// Takes one operation from its claim to the report of its failed leaf. The callbacks that ran are
+/// those of the branch and, from inside it, of the twig. However it ends, the hand makes no scan
+/// and runs no callback afterwards. A fault rests on what the hand read in this call.
+pub fn run(table: &Table, hand: &mut Worker) -> Result<Answer, Fault>
+    requires table { IsHandOf table.now hand.old }
+    requires tree { table.now.frame.tree ≡ use_tree }
+    requires idle { IsIdle hand.old.me }
+    ensures table { IsHandOf table.now hand.new }
+    ensures idle { IsIdle hand.new.me }
+    ensures root { IfOk result (λ r. IsRoot table.now r.root) }
+    ensures branch { IfOk result (λ r. r.ran.0 ≡ beside r.root 2) }
+    ensures twig { IfOk result (λ r. r.ran.1 ≡ beside r.root 1) }
+    ensures fault { IfErr result (IsCause table.now hand.old hand.new) }
+{
+    let root = starts(table, hand)?;
+    let answer = tells(table, hand, root)?;
+    match table.report(hand, beside(root, 0)) {
+        Report::Others => Ok(answer),
+        Report::Last => Err(Fault::Order),
+    }
+}
