@@ -1,0 +1,6 @@
+pub mod Rising
+mod Trying
+mod Leaving
+mod Associating
+mod Starting
+mod Hands

@@ -1,0 +1,40 @@
+-- How an association is made, or turned away (P3149, [exec.scope]).
+use Rattle.std.specs.Prelude.{◌≡◌, ℕ, ◌+◌, Bool, true, false, Some, None, Result, MatchResult}
+use Rattle.life_rules.specs.declared.scope.Refused.{Refused}
+use Rattle.life_rules.specs.Scopes.{refusal}
+use Rattle.table_words.specs.ScopeNumbers.{scope_read}
+use Rattle.op_table.specs.Claims.{logged, Seated}
+use Rattle.count_scope.specs.declared.members.Association.{Association}
+use Rattle.count_scope.specs.Leaves.{Leaves}
+
+-- what `associate` answers
+abbrev pub Answer : Type 0
+Answer = Result Association Refused
+
+module _ {P E : Type 0} where
+  -- the hand has one association more
+  abbrev pub associated : Seated P E → Seated P E
+  associated m = (record (m.0) { made = m.0.made + 1 }, m.1)
+
+  -- the used bit was read as set, and there was no step more; else a step marked it
+  abbrev pub MarksWhere : Bool → Seated P E → Seated P E → Type 0
+  MarksWhere true m m' = m' ≡ m
+  MarksWhere false m m' = (word : ℕ) × (m' ≡ (logged 0 word m.0, m.1))
+
+  -- the entry read this word, and by it alone the association is kept or refused. One that is kept
+  -- is made, the scope being marked as used. One that is refused is left again
+  pub record Associates (most : ℕ) (answer : Answer) (m m' : Seated P E) : Type 0 where
+    pub word : ℕ
+    pub ends : MatchResult answer
+        (λ _. (refusal (scope_read word) most ≡ None)
+        × MarksWhere (scope_read word).used (associated (logged 0 word m.0, m.1)) m')
+        (λ cause. (refusal (scope_read word) most ≡ Some cause)
+        × Leaves (logged 0 word m.0, m.1) m')
+
+  -- the hand has one association more where one was made, and as many as before where it was
+  -- refused; else only the list of its steps is another
+  abbrev pub CountsOne : Answer → Seated P E → Seated P E → Type 0
+  CountsOne answer m m' =
+      MatchResult answer
+      (λ _. m' ≡ (record (m.0) { made = m.0.made + 1; steps = m'.0.steps }, m.1))
+      (λ _. m' ≡ (record (m.0) { steps = m'.0.steps }, m.1))

@@ -1,0 +1,40 @@
+-- How an association is left (P3149, [exec.counting.scopes]).
+use Rattle.std.specs.Prelude.{◌≡◌, ℕ, ◌-◌, ◌≤◌, Bool, true, false, not, ◌&&◌, ◌==◌, List, []}
+use Rattle.life_rules.specs.declared.scope.ScopeWord.{ScopeWord}
+use Rattle.table_words.specs.ScopeNumbers.{scope_read}
+use Rattle.table_rules.specs.declared.view.View.{View}
+use Rattle.op_table.specs.Claims.{logged, Seated}
+use Rattle.op_table.specs.ScopeEntries.{MayEnter}
+use Rattle.count_scope.specs.Tries.{Sealed, AreTries}
+use Rattle.count_scope.specs.Seals.{listed}
+
+-- a leave that read this word left the last association of a scope that joins
+abbrev pub is_last : ScopeWord → Bool
+is_last w = w.count == 1 && (w.joining && not w.joined)
+
+-- the word with no association
+abbrev pub emptied : ScopeWord → ScopeWord
+emptied w = record w { count = 0 }
+
+-- the scope is sealed where that is asked, by tries that read these words; else there was none
+abbrev pub SealsWhere : Bool → ScopeWord → List ℕ → Type 0
+SealsWhere true first words = (answer : Sealed) × AreTries first answer words
+SealsWhere false first words = words ≡ []
+
+module _ {P E : Type 0} where
+  -- the hand has an association, and none in the making or being refused
+  pub record HasAssociation (v : View P E) : Type 0 where
+    pub settled : MayEnter v
+    pub one : 1 ≤ v.made
+
+  -- the hand has one association less
+  abbrev pub disassociated : Seated P E → Seated P E
+  disassociated m = (record (m.0) { made = m.0.made - 1 }, m.1)
+
+  -- the leave read this word, and where that left the last one of a scope that joins, the scope is
+  -- sealed by tries that read these words
+  pub record Leaves (m m' : Seated P E) : Type 0 where
+    pub word : ℕ
+    pub words : List ℕ
+    pub me_is : m' ≡ (listed words (logged 0 word m.0), m.1)
+    pub seals : SealsWhere (is_last (scope_read word)) (emptied (scope_read word)) words

@@ -1,0 +1,30 @@
+//! Counting scopes: who may start work in a scope, and when all of it has ended (P3149,
+//! [exec.counting.scopes]).
+//!
+//! It stands on op_table, whose steps on the scope's word it makes, and for a stop request on
+//! stop_calls. An association is a place in the scope's count, which its holder must give back. It
+//! keeps one promise: where the join of a scope was started, whoever leaves last seals it, and a
+//! sealed scope is joined for good.
+//!
+//!     associate --> Association --> disassociate
+//!     close .. start_join --> Waiting .. the last disassociate seals --> is_joined
+//!                         --> Joined
+//!
+//! No call takes memory or a lock, and none waits. docs/SCOPE.md shows the protocol and its races.
+#![tactic(auto)]
+
+mod joining;
+mod looks;
+mod members;
+mod requesting;
+mod seals;
+#[cfg(test)]
+mod tests;
+
+pub use joining::{JoinStart, close, start_join};
+pub use life_rules::{Refused, ScopeKind, ScopeState};
+pub use looks::{is_joined, state};
+pub use members::{Association, associate, disassociate};
+pub use op_table::{Cargo, Hand, OpTable};
+pub use requesting::request_scope;
+pub use stop_calls::Request;
