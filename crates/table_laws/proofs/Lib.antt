@@ -1,0 +1,5 @@
+mod Standing
+mod Ends
+mod Listing
+mod Runs
+mod Misses

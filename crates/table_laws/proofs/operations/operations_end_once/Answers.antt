@@ -1,0 +1,9 @@
+use Rattle.table_laws.proofs.operations.operations_end_once.Goals as goal
+use Rattle.table_laws.proofs.Ends.{done-is_over, parents-wait, releases-quiet}
+
+pub returns : goal.returns
+returns g c = record {
+  done_is_over = done-is_over g.P.Cargo;
+  parents_wait = parents-wait g.P.Cargo;
+  releases_quiet = releases-quiet g.P.Cargo;
+}

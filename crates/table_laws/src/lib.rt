@@ -1,0 +1,15 @@
+//! What follows for running hands from the rule of the table: laws of every table in which the rule
+//! holds, and so between any two steps of any hands.
+//!
+//! It stands on table_rules, whose rule `Running` each step of op_table keeps, and on op_table,
+//! which says what its calls need. It has no code: each function's contract is laws over the
+//! definitions alone, for every cargo, tree, number of blocks and hands, and every order of steps.
+#![tactic(auto)]
+
+mod callbacks;
+mod operations;
+mod scopes;
+
+pub use callbacks::callbacks_run_once;
+pub use operations::operations_end_once;
+pub use scopes::joined_scopes_are_empty;
