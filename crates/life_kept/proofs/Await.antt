@@ -5,19 +5,23 @@ use Rattle.std.proofs.lemmas.Bool.{and_parts, leb-true, both_ways, false_from_ne
 use Rattle.life_rules.specs.declared.words.ControlWord.TheVariants.{Idle, Busy}
 use Rattle.life_rules.specs.declared.event.Name.{Name}
 use Rattle.life_rules.specs.declared.event.Place.{Place}
-use Rattle.life_rules.specs.Tree.{is_root, is_child}
+use Rattle.node_tree.specs.Tree.{is_root, is_child}
 use Rattle.life_rules.specs.Words.{is_idle, is_held, is_under_way, pending}
-use Rattle.life_rules.specs.Views.{View, one, beside, same, gain_each, lose}
-use Rattle.life_rules.specs.States.{State, size, is_live, is_place, control_at, name_at, stand, total}
-use Rattle.life_rules.specs.LifeSteps.{may_leave_node, may_be_awaited, are_different, may_await, after_await}
+use Rattle.life_rules.specs.Views.{View, beside, same, gain_each, lose}
+use Rattle.common_lemmas.specs.Sums.{one}
+use Rattle.life_rules.specs.States.{State, size, is_live, is_place, control_at, name_at, stand}
+use Rattle.common_lemmas.specs.Sums.{total}
+use Rattle.life_rules.specs.LifeSteps.{may_leave_node, may_be_awaited, may_await, after_await}
+use Rattle.common_lemmas.specs.Lists.{are_different}
 use Rattle.life_rules.specs.Owned.{Fits, IsOwned, weight, owed_below, Counted}
 use Rattle.life_rules.specs.Sound.{Sound}
-use Rattle.life_rules.proofs.Tests.{either, one-most}
-use Rattle.life_rules.proofs.Totals.{total-same, total-plus}
+use Rattle.common_lemmas.proofs.Bool.{either, one-most}
+use Rattle.common_lemmas.proofs.Totals.{total-same, total-plus}
 use Rattle.life_rules.proofs.Readings.{Lives, lives, is_live-from}
 use Rattle.life_kept.proofs.Trees.{child-within, parent-same}
 use Rattle.life_kept.proofs.Members.{any-passes, any-beside, count-different}
-use Rattle.life_kept.proofs.Fitting.{Fits-along, by_name, idle-word, lose-here, lose-other}
+use Rattle.life_rules.proofs.Names.{by_name, lose-here, lose-other}
+use Rattle.life_kept.proofs.Fitting.{Fits-along, idle-word}
 use Rattle.life_kept.proofs.Puts.{put, IsPut, reads-here, reads-other, moves, stays, owned-other, counted-at, sound-put, scan-more}
 use Rattle.life_kept.proofs.Holding.{IsHeld, held-by, MayLeave, leave-needs, leave-other, weight-most, parent-begun, owned-busy}
 

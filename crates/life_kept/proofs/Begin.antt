@@ -4,15 +4,17 @@ use Rattle.std.proofs.lemmas.Bool.{and_parts, leb-true}
 use Rattle.life_rules.specs.declared.words.ControlWord.TheVariants.{Idle, Busy}
 use Rattle.life_rules.specs.declared.event.Name.{Name}
 use Rattle.life_rules.specs.declared.event.Place.{Place}
-use Rattle.life_rules.specs.Tree.{is_root, is_child}
+use Rattle.node_tree.specs.Tree.{is_root, is_child}
 use Rattle.life_rules.specs.Words.{is_idle, is_held, is_under_way, pending}
-use Rattle.life_rules.specs.Views.{View, one, beside, gain, lose}
+use Rattle.life_rules.specs.Views.{View, beside, gain, lose}
+use Rattle.common_lemmas.specs.Sums.{one}
 use Rattle.life_rules.specs.States.{State, size, is_place, control_at, name_at, stand}
 use Rattle.life_rules.specs.LifeSteps.{may_begin, after_begin}
 use Rattle.life_rules.specs.Owned.{Fits, IsOwned, weight}
 use Rattle.life_rules.specs.Sound.{Sound}
 use Rattle.life_rules.proofs.Readings.{lives, stand-at}
-use Rattle.life_kept.proofs.Fitting.{Fits-along, busy-Fits, by_name, gain-here, gain-other, lose-here, lose-other, idle-word}
+use Rattle.life_rules.proofs.Names.{by_name, gain-here, gain-other, lose-here, lose-other}
+use Rattle.life_kept.proofs.Fitting.{Fits-along, busy-Fits, idle-word}
 use Rattle.life_kept.proofs.Puts.{put, IsPut, reads-here, moves, stays, owned-other, counted-put, sound-put, scan-more}
 use Rattle.life_kept.proofs.Holding.{owed-start, weight-most, weight-other}
 

@@ -9,21 +9,23 @@ use Rattle.life_rules.specs.declared.words.CallbackPhase.TheVariants.{Never}
 use Rattle.life_rules.specs.declared.event.Name.{Name}
 use Rattle.life_rules.specs.declared.event.SourceRef.{SourceRef}
 use Rattle.life_rules.specs.declared.event.SourceRef.TheVariants.{Scope, Node}
-use Rattle.life_rules.specs.Tree.{is_root, is_child}
+use Rattle.node_tree.specs.Tree.{is_root, is_child}
 use Rattle.life_rules.specs.Words.{is_open, is_free, is_idle, is_under_way, is_armed, is_running, pending, clear}
-use Rattle.life_rules.specs.Views.{View, one, beside, gain, is_scanning}
+use Rattle.life_rules.specs.Views.{View, beside, gain, is_scanning}
+use Rattle.common_lemmas.specs.Sums.{one}
 use Rattle.life_rules.specs.States.{State, size, is_live, control_at, bits_at, stand, with_block}
 use Rattle.life_rules.specs.LifeSteps.{root_of, may_claim, after_claim}
 use Rattle.life_rules.specs.Owned.{Fits, IsOwned, IsUnused, Counted}
 use Rattle.life_rules.specs.Callbacks.{BeginsInOrder, ArmedLives}
 use Rattle.life_rules.specs.Requests.{may_scan}
 use Rattle.life_rules.specs.Sound.{Sound}
-use Rattle.life_rules.proofs.Tests.{either, one-most}
-use Rattle.life_rules.proofs.Totals.{total-same}
+use Rattle.common_lemmas.proofs.Bool.{either, one-most}
+use Rattle.common_lemmas.proofs.Totals.{total-same}
 use Rattle.life_rules.proofs.Readings.{Lives, lives, is_live-from, live_unique, stand-with_view}
 use Rattle.life_kept.proofs.Trees.{root-orphan}
 use Rattle.life_kept.proofs.ScopeFrames.{of_scope, associations-framed, scope-framed}
-use Rattle.life_kept.proofs.Fitting.{Fits-along, by_name, gain-here, gain-other}
+use Rattle.life_rules.proofs.Names.{by_name, gain-here, gain-other}
+use Rattle.life_kept.proofs.Fitting.{Fits-along}
 use Rattle.life_kept.proofs.Frames.{rest, over, IsFramed, runs-framed, requests-framed, missed-framed, scans-framed}
 use Rattle.life_kept.proofs.Puts.{views-same, views-each, times-same}
 

@@ -4,16 +4,18 @@ use Rattle.std.proofs.lemmas.Bool.{and_parts, ltb-true, cond-true, cond-false, b
 use Rattle.life_rules.specs.declared.words.ControlWord.TheVariants.{Done}
 use Rattle.life_rules.specs.declared.event.Name.{Name}
 use Rattle.life_rules.specs.declared.event.Place.{Place}
-use Rattle.life_rules.specs.Tree.{is_root, is_child}
+use Rattle.node_tree.specs.Tree.{is_root, is_child}
 use Rattle.life_rules.specs.Words.{is_idle, is_held, is_under_way, is_armed, is_running, pending}
-use Rattle.life_rules.specs.Views.{View, one, beside, gain, lose}
+use Rattle.life_rules.specs.Views.{View, beside, gain, lose}
+use Rattle.common_lemmas.specs.Sums.{one}
 use Rattle.life_rules.specs.States.{State, size, is_live, is_place, control_at, phase_at, name_at, stand}
 use Rattle.life_rules.specs.LifeSteps.{may_leave_node, may_finish, after_finish}
 use Rattle.life_rules.specs.Owned.{Fits, IsOwned, weight}
 use Rattle.life_rules.specs.Sound.{Sound}
-use Rattle.life_rules.proofs.Tests.{either}
+use Rattle.common_lemmas.proofs.Bool.{either}
 use Rattle.life_kept.proofs.Trees.{root-orphan}
-use Rattle.life_kept.proofs.Fitting.{Fits-along, done-Fits-root, done-Fits-child, Fits-busy, by_name, gain-here, gain-other, lose-here, lose-other}
+use Rattle.life_rules.proofs.Names.{by_name, gain-here, gain-other, lose-here, lose-other}
+use Rattle.life_kept.proofs.Fitting.{Fits-along, done-Fits-root, done-Fits-child, Fits-busy}
 use Rattle.life_kept.proofs.Puts.{put, IsPut, reads-here, moves, stays, owned-other, counted-put, sound-put, scan-more}
 use Rattle.life_kept.proofs.Holding.{IsHeld, held-by, MayLeave, leave-needs, leave-other, weight-other, parent-begun}
 

@@ -6,27 +6,11 @@ use Rattle.life_rules.specs.declared.words.ControlWord.{ControlWord}
 use Rattle.life_rules.specs.declared.words.ControlWord.TheVariants.{Idle, Busy, ReadyLoop, ReadyPool, Parked, Done}
 use Rattle.life_rules.specs.declared.event.Name.{Name}
 use Rattle.life_rules.specs.Words.{is_idle, is_held, is_done, is_under_way, pending}
-use Rattle.life_rules.specs.Views.{one, same, gain, lose}
+use Rattle.common_lemmas.specs.Sums.{one}
+use Rattle.life_rules.specs.Views.{same, gain, lose}
 use Rattle.life_rules.specs.Owned.{Fits}
-use Rattle.life_rules.proofs.Tests.{either, one-false, same-refl, same-true, same-other}
-
--- two names are one or not
-pub by_name : {G : Type 0} (x y : Name) → (x ≡ y → G) → ((x ≡ y → ⊥) → G) → G
-by_name x y here other =
-    either (same x y) (λ t. here (same-true x y t))
-    (λ f. other (λ e. both_ways (same x y) f (subst (λ z. same x z ≡ true) e (same-refl x))))
-
-pub gain-here : (x : Name) (f : Name → ℕ) → gain x f x ≡ f x + 1
-gain-here x f = ap (λ b. f x + one b) (same-refl x)
-
-pub gain-other : (x y : Name) (f : Name → ℕ) → (x ≡ y → ⊥) → gain x f y ≡ f y
-gain-other x y f ne = let e : one (same x y) ≡ 0 = one-false (same-other x y ne) in omega (arith, e)
-
-pub lose-here : (x : Name) (f : Name → ℕ) → lose x f x ≡ f x - 1
-lose-here x f = ap (λ b. f x - one b) (same-refl x)
-
-pub lose-other : (x y : Name) (f : Name → ℕ) → (x ≡ y → ⊥) → lose x f y ≡ f y
-lose-other x y f ne = let e : one (same x y) ≡ 0 = one-false (same-other x y ne) in omega (arith, e)
+use Rattle.common_lemmas.proofs.Bool.{either, one-false}
+use Rattle.life_rules.proofs.Names.{same-refl, same-true, same-other}
 
 pub gain-least : (x y : Name) (f : Name → ℕ) → f y ≤ gain x f y
 gain-least x y f = omega arith

@@ -7,12 +7,14 @@ use Rattle.life_rules.specs.declared.event.Name.{Name}
 use Rattle.life_rules.specs.declared.event.SourceRef.{SourceRef}
 use Rattle.life_rules.specs.declared.event.SourceRef.TheVariants.{Node}
 use Rattle.life_rules.specs.Words.{is_armed, is_running, has_run, is_never}
-use Rattle.life_rules.specs.Views.{View, one, is_scanning}
-use Rattle.life_rules.specs.States.{State, size, phase_at, bits_at, nearest_of, stand, total}
-use Rattle.life_rules.specs.Scans.{is_for, place_at, index, is_next, is_next_in, HasPassed}
+use Rattle.life_rules.specs.Views.{View, is_scanning}
+use Rattle.common_lemmas.specs.Sums.{one}
+use Rattle.life_rules.specs.States.{State, size, phase_at, bits_at, nearest_of, stand}
+use Rattle.common_lemmas.specs.Sums.{total}
+use Rattle.life_rules.specs.Scans.{is_nearest, place_at, index, is_next, is_next_in, HasPassed}
 use Rattle.life_rules.specs.Callbacks.{RunsAreScanned, is_next_of_nearest, nearest_is_requested}
 use Rattle.life_rules.specs.Requests.{ScansStand, RequestsFollow, NothingMissed, IsNoted, WasPassed, may_scan}
-use Rattle.life_rules.proofs.Totals.{total-same}
+use Rattle.common_lemmas.proofs.Totals.{total-same}
 use Rattle.life_rules.proofs.ScanOrder.{has_none-frame}
 
 -- the view without what it knows of the lives of nodes
@@ -34,10 +36,10 @@ module _ (s : State) (b : ℕ → BlockWord) (c : ℕ → ℕ → ControlWord) (
   next-same : (source : SourceRef) (i : ℕ) (x : Name) →
       is_next (over s b c w) source i x ≡ is_next s source i x
   next-same source i x =
-      let place : (j : ℕ) → is_for s source (place_at (over s b c w) j) ≡ is_for s source (place_at s j) =
-      λ j k. is_for s source (record { block = j / size s; generation = same.generation (j / size s) k; node = j % size s }) in
+      let place : (j : ℕ) → is_nearest s source (place_at (over s b c w) j) ≡ is_nearest s source (place_at s j) =
+      λ j k. is_nearest s source (record { block = j / size s; generation = same.generation (j / size s) k; node = j % size s }) in
       let none = has_none-frame s (over s b c w) source i (index s x - i) place in
-      λ k. is_for s source x && (nat_le i (index s x) && none k)
+      λ k. is_nearest s source x && (nat_le i (index s x) && none k)
 
   next_in-same : (h : ℕ) (source : SourceRef) (x : Name) →
       is_next_in (over s b c w) (w h) source x ≡ is_next_in s (s.view h) source x

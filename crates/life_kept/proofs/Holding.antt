@@ -5,17 +5,19 @@ use Rattle.life_rules.specs.declared.words.ControlWord.{ControlWord}
 use Rattle.life_rules.specs.declared.words.ControlWord.TheVariants.{Idle, Busy}
 use Rattle.life_rules.specs.declared.event.Name.{Name}
 use Rattle.life_rules.specs.declared.event.SourceRef.TheVariants.{Node}
-use Rattle.life_rules.specs.Tree.{is_child}
+use Rattle.node_tree.specs.Tree.{is_child}
 use Rattle.life_rules.specs.Words.{is_idle, is_held, is_under_way, pending}
-use Rattle.life_rules.specs.Views.{View, one, beside, is_scanning}
+use Rattle.life_rules.specs.Views.{View, beside, is_scanning}
+use Rattle.common_lemmas.specs.Sums.{one}
 use Rattle.life_rules.specs.States.{State, size, is_live, control_at, stand}
 use Rattle.life_rules.specs.LifeSteps.{may_leave_node}
 use Rattle.life_rules.specs.Owned.{IsOwned, weight, owed_below}
 use Rattle.life_rules.specs.Sound.{Sound}
-use Rattle.life_rules.proofs.Tests.{one-is}
+use Rattle.common_lemmas.proofs.Bool.{one-is}
 use Rattle.life_rules.proofs.Readings.{begun-live, stand-at}
-use Rattle.life_rules.proofs.Totals.{total-at}
-use Rattle.life_kept.proofs.Fitting.{Fits-busy, busy-Fits, by_name, held-word, idle-word}
+use Rattle.common_lemmas.proofs.Totals.{total-at}
+use Rattle.life_rules.proofs.Names.{by_name}
+use Rattle.life_kept.proofs.Fitting.{Fits-busy, busy-Fits, held-word, idle-word}
 use Rattle.life_kept.proofs.Puts.{put, IsPut, reads-here, reads-other, moves, stays, owned-other, counted-put, sound-put, scan-more}
 
 -- a node that a view holds is live, and busy with no child

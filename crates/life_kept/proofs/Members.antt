@@ -3,11 +3,12 @@ use Rattle.std.proofs.Common.{◌≡◌, ℕ, ◌+◌, ◌<◌, Bool, true, fals
 use Rattle.std.specs.List.{list_any, list_all}
 use Rattle.std.proofs.lemmas.Bool.{and_parts, or_cases, not-true, eqb-true, eq-eqb, ne_eqb}
 use Rattle.life_rules.specs.declared.event.Name.{Name}
-use Rattle.life_rules.specs.Views.{one, same, beside}
-use Rattle.life_rules.specs.States.{total}
-use Rattle.life_rules.specs.LifeSteps.{are_different}
-use Rattle.life_rules.proofs.Tests.{same-true}
-use Rattle.life_rules.proofs.Totals.{total-zero, total-same, total-plus, total-moved}
+use Rattle.common_lemmas.specs.Sums.{one}
+use Rattle.life_rules.specs.Views.{same, beside}
+use Rattle.common_lemmas.specs.Sums.{total}
+use Rattle.common_lemmas.specs.Lists.{are_different}
+use Rattle.life_rules.proofs.Names.{same-true}
+use Rattle.common_lemmas.proofs.Totals.{total-zero, total-same, total-plus, total-moved}
 
 -- a name of the list is of a node that passes the test of all
 pub any-passes : (x y : Name) (test : ℕ → Bool) (nodes : List ℕ) →

@@ -5,20 +5,23 @@ use Rattle.life_rules.specs.declared.words.ControlWord.{ControlWord}
 use Rattle.life_rules.specs.declared.words.ControlWord.TheVariants.{Idle}
 use Rattle.life_rules.specs.declared.event.Name.{Name}
 use Rattle.life_rules.specs.declared.event.SourceRef.TheVariants.{Node}
-use Rattle.life_rules.specs.Tree.{is_child}
+use Rattle.node_tree.specs.Tree.{is_child}
 use Rattle.life_rules.specs.Words.{is_open, is_idle, is_under_way, is_armed, is_running, pending}
-use Rattle.life_rules.specs.Views.{View, one, beside, is_scanning}
-use Rattle.life_rules.specs.States.{State, size, is_live, control_at, phase_at, stand, set_at, total, with_view, with_control}
+use Rattle.life_rules.specs.Views.{View, beside, is_scanning}
+use Rattle.common_lemmas.specs.Sums.{one}
+use Rattle.life_rules.specs.States.{State, size, is_live, control_at, phase_at, stand, set_at, with_view, with_control}
+use Rattle.common_lemmas.specs.Sums.{total}
 use Rattle.life_rules.specs.Owned.{owed_below, IsOwned, IsUnused, Counted, weight}
 use Rattle.life_rules.specs.Callbacks.{BeginsInOrder, ArmedLives}
 use Rattle.life_rules.specs.Requests.{may_scan}
 use Rattle.life_rules.specs.Sound.{Sound}
-use Rattle.life_rules.proofs.Tests.{either}
-use Rattle.life_rules.proofs.Totals.{total-same, total-most}
+use Rattle.common_lemmas.proofs.Bool.{either}
+use Rattle.common_lemmas.proofs.Totals.{total-same, total-most}
 use Rattle.life_rules.proofs.Readings.{lives, read-here, read-other, stand-with_view}
 use Rattle.life_kept.proofs.Frames.{rest, IsFramed, runs-framed, requests-framed, missed-framed, scans-framed}
 use Rattle.life_kept.proofs.ScopeFrames.{of_scope, associations-framed, scope-framed}
-use Rattle.life_kept.proofs.Fitting.{Fits-along, by_name}
+use Rattle.life_rules.proofs.Names.{by_name}
+use Rattle.life_kept.proofs.Fitting.{Fits-along}
 
 abbrev pub put : State → ℕ → Name → ControlWord → View → State
 put s h x w v = with_view (with_control s x.block x.node w) h v

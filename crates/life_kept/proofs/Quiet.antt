@@ -6,16 +6,18 @@ use Rattle.life_rules.specs.declared.words.ControlWord.TheVariants.{Idle, Busy, 
 use Rattle.life_rules.specs.declared.words.CallbackPhase.TheVariants.{Never}
 use Rattle.life_rules.specs.declared.event.Name.{Name}
 use Rattle.life_rules.specs.declared.event.SourceRef.TheVariants.{Node}
-use Rattle.life_rules.specs.Tree.{is_root, is_child}
+use Rattle.node_tree.specs.Tree.{is_root, is_child}
 use Rattle.life_rules.specs.Words.{is_idle, is_held, is_done, is_under_way, is_armed, is_running, clear}
-use Rattle.life_rules.specs.Views.{one, beside, is_scanning}
-use Rattle.life_rules.specs.States.{State, size, is_live, control_at, phase_at, bits_at, name_of, stand, total}
+use Rattle.common_lemmas.specs.Sums.{one}
+use Rattle.life_rules.specs.Views.{beside, is_scanning}
+use Rattle.life_rules.specs.States.{State, size, is_live, control_at, phase_at, bits_at, name_of, stand}
+use Rattle.common_lemmas.specs.Sums.{total}
 use Rattle.life_rules.specs.LifeSteps.{root_of, may_release}
 use Rattle.life_rules.specs.Requests.{may_scan}
 use Rattle.life_rules.specs.Quiet.{IsQuietAt, Quiet}
 use Rattle.life_rules.specs.Sound.{Sound}
-use Rattle.life_rules.proofs.Tests.{either, one-is, one-true, one-false}
-use Rattle.life_rules.proofs.Totals.{total-zero}
+use Rattle.common_lemmas.proofs.Bool.{either, one-is, one-true, one-false}
+use Rattle.common_lemmas.proofs.Totals.{total-zero}
 use Rattle.life_rules.proofs.Readings.{stand-at, name_of-live, lives}
 use Rattle.life_kept.proofs.Trees.{parent-above}
 use Rattle.life_kept.proofs.Fitting.{done-word, pending-none}

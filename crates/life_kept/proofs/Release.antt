@@ -6,17 +6,18 @@ use Rattle.life_rules.specs.declared.words.CallbackPhase.TheVariants.{Never, Arm
 use Rattle.life_rules.specs.declared.event.Name.{Name}
 use Rattle.life_rules.specs.declared.event.SourceRef.{SourceRef}
 use Rattle.life_rules.specs.declared.event.SourceRef.TheVariants.{Scope, Node}
-use Rattle.life_rules.specs.Tree.{nearest}
+use Rattle.node_tree.specs.Tree.{nearest}
 use Rattle.life_rules.specs.Words.{is_under_way, is_armed, is_running, has_run, is_never}
-use Rattle.life_rules.specs.Views.{one, is_scanning, is_in_block}
+use Rattle.common_lemmas.specs.Sums.{one}
+use Rattle.life_rules.specs.Views.{is_scanning, is_in_block}
 use Rattle.life_rules.specs.States.{State, phase_at, bits_at, stand}
 use Rattle.life_rules.specs.Scans.{HasPassed}
 use Rattle.life_rules.specs.LifeSteps.{may_release, after_release}
 use Rattle.life_rules.specs.Callbacks.{ArmedLives, RunsAreScanned}
 use Rattle.life_rules.specs.Requests.{ScansStand, RequestsFollow, NothingMissed, WasPassed, IsNoted, may_scan}
 use Rattle.life_rules.specs.Sound.{Sound}
-use Rattle.life_rules.proofs.Tests.{either}
-use Rattle.life_rules.proofs.Totals.{total-same}
+use Rattle.common_lemmas.proofs.Bool.{either}
+use Rattle.common_lemmas.proofs.Totals.{total-same}
 use Rattle.life_rules.proofs.Readings.{stand-at}
 use Rattle.life_kept.proofs.ScopeFrames.{of_scope, associations-framed, scope-framed}
 use Rattle.life_kept.proofs.Quiet.{MayRelease, release-needs, quiet-all}

@@ -6,17 +6,19 @@ use Rattle.life_rules.specs.declared.words.ControlWord.TheVariants.{Idle}
 use Rattle.life_rules.specs.declared.words.CallbackPhase.TheVariants.{Never}
 use Rattle.life_rules.specs.declared.event.Name.{Name}
 use Rattle.life_rules.specs.declared.event.SourceRef.TheVariants.{Node}
-use Rattle.life_rules.specs.Tree.{is_root, is_child}
+use Rattle.node_tree.specs.Tree.{is_root, is_child}
 use Rattle.life_rules.specs.Words.{is_open, is_idle, is_done, is_under_way, pending, clear}
-use Rattle.life_rules.specs.Views.{one, beside, lose}
+use Rattle.common_lemmas.specs.Sums.{one}
+use Rattle.life_rules.specs.Views.{beside, lose}
 use Rattle.life_rules.specs.States.{State, size, is_live, control_at, stand}
 use Rattle.life_rules.specs.LifeSteps.{root_of}
 use Rattle.life_rules.specs.Owned.{Fits, IsOwned, IsUnused, Counted, weight}
 use Rattle.life_rules.specs.Callbacks.{BeginsInOrder}
-use Rattle.life_rules.proofs.Tests.{either, one-false}
-use Rattle.life_rules.proofs.Totals.{total-same, total-zero}
+use Rattle.common_lemmas.proofs.Bool.{either, one-false}
+use Rattle.common_lemmas.proofs.Totals.{total-same, total-zero}
 use Rattle.life_rules.proofs.Readings.{begun-live, live_unique, stand-with_view}
-use Rattle.life_kept.proofs.Fitting.{Fits-along, done-word, by_name, lose-here, lose-other}
+use Rattle.life_rules.proofs.Names.{by_name, lose-here, lose-other}
+use Rattle.life_kept.proofs.Fitting.{Fits-along, done-word}
 use Rattle.life_kept.proofs.Quiet.{MayRelease, root-finished, quiet-all}
 use Rattle.life_kept.proofs.Released.{released, still-closed, live-other, dead-after, control-other, control-gone, phase-other, phase-gone, bits-other, bits-gone, stand-kept}
 

@@ -9,15 +9,15 @@ use Rattle.life_rules.specs.declared.words.CallbackPhase.TheVariants.{Never}
 use Rattle.life_rules.specs.declared.event.Name.{Name}
 use Rattle.life_rules.specs.declared.event.SourceRef.{SourceRef}
 use Rattle.life_rules.specs.declared.event.SourceRef.TheVariants.{Scope, Node}
-use Rattle.life_rules.specs.Tree.{Nearest, TheScope, TheNode, Nowhere, nearest}
+use Rattle.node_tree.specs.Tree.{Nearest, TheScope, TheNode, Nowhere, nearest}
 use Rattle.life_rules.specs.Words.{is_open, clear}
 use Rattle.life_rules.specs.Views.{View, beside, lose, forget, is_in_block, same, same_source}
 use Rattle.life_rules.specs.States.{State, size, is_live, control_at, phase_at, bits_at, source_for, stand}
-use Rattle.life_rules.specs.Scans.{is_for, place_at, index, is_next, is_next_in}
+use Rattle.life_rules.specs.Scans.{is_nearest, place_at, index, is_next, is_next_in}
 use Rattle.life_rules.specs.LifeSteps.{root_of, last_generation, after_release}
 use Rattle.life_rules.specs.Callbacks.{is_next_of_nearest, nearest_is_requested}
-use Rattle.life_rules.proofs.Tests.{either}
-use Rattle.life_rules.proofs.Totals.{total-same}
+use Rattle.common_lemmas.proofs.Bool.{either}
+use Rattle.common_lemmas.proofs.Totals.{total-same}
 use Rattle.life_rules.proofs.Readings.{lives}
 use Rattle.life_rules.proofs.ScanOrder.{has_none-frame}
 use Rattle.life_kept.proofs.Puts.{views-same}
@@ -49,17 +49,17 @@ other-block b q x apart at =
     ((λ k. q.block == eqb-true x.block b at k) ∙ apart)
 
 -- a source that isn't of block b is the source of a place of b whatever the place's generation is
-is_for-gone : (b : ℕ) (source : SourceRef) (x y : Name) (near : Nearest) → is_in_block b source ≡ false →
+is_nearest-gone : (b : ℕ) (source : SourceRef) (x y : Name) (near : Nearest) → is_in_block b source ≡ false →
     (x.block == b) ≡ true → (y.block == b) ≡ true →
     option_map_or (same_source source) (source_for x near) false
     ≡ option_map_or (same_source source) (source_for y near) false
-is_for-gone b Scope x y TheScope apart at_x at_y = refl
-is_for-gone b Scope x y (TheNode p) apart at_x at_y = refl
-is_for-gone b Scope x y Nowhere apart at_x at_y = refl
-is_for-gone b (Node q) x y TheScope apart at_x at_y = refl
-is_for-gone b (Node q) x y (TheNode p) apart at_x at_y =
+is_nearest-gone b Scope x y TheScope apart at_x at_y = refl
+is_nearest-gone b Scope x y (TheNode p) apart at_x at_y = refl
+is_nearest-gone b Scope x y Nowhere apart at_x at_y = refl
+is_nearest-gone b (Node q) x y TheScope apart at_x at_y = refl
+is_nearest-gone b (Node q) x y (TheNode p) apart at_x at_y =
     other-block b q (beside x p) apart at_x ∙ sym (other-block b q (beside y p) apart at_y)
-is_for-gone b (Node q) x y Nowhere apart at_x at_y = refl
+is_nearest-gone b (Node q) x y Nowhere apart at_x at_y = refl
 
 module _ (s : State) (h b : ℕ) where
   abbrev pub released : State
@@ -146,12 +146,12 @@ module _ (s : State) (h b : ℕ) where
 
   -- the order of a scan of a source that isn't of the block
   place-other : (source : SourceRef) → is_in_block b source ≡ false → (j : ℕ) →
-      is_for s source (place_at released j) ≡ is_for s source (place_at s j)
+      is_nearest s source (place_at released j) ≡ is_nearest s source (place_at s j)
   place-other source apart j =
       let i : ℕ = j / size s in
       either (i == b)
-      (λ at. is_for-gone b source (place_at released j) (place_at s j) (nearest s.tree (j % size s)) apart at at)
-      (λ away. λ k. is_for s source (record {
+      (λ at. is_nearest-gone b source (place_at released j) (place_at s j) (nearest s.tree (j % size s)) apart at at)
+      (λ away. λ k. is_nearest s source (record {
         block = i;
         generation = (block-other i away k).generation;
         node = j % size s;
@@ -161,7 +161,7 @@ module _ (s : State) (h b : ℕ) where
       is_next released source i x ≡ is_next s source i x
   next-other source i x apart =
       let none = has_none-frame s released source i (index s x - i) (place-other source apart) in
-      λ k. is_for s source x && (nat_le i (index s x) && none k)
+      λ k. is_nearest s source x && (nat_le i (index s x) && none k)
 
   next_in-other : (hand : ℕ) (source : SourceRef) (x : Name) → is_in_block b source ≡ false →
       is_next_in released (released.view hand) source x ≡ is_next_in s (s.view hand) source x

@@ -7,18 +7,20 @@ use Rattle.life_rules.specs.declared.words.ControlWord.TheVariants.{Busy, Done}
 use Rattle.life_rules.specs.declared.event.Name.{Name}
 use Rattle.life_rules.specs.declared.event.Place.{Place}
 use Rattle.life_rules.specs.declared.event.SourceRef.TheVariants.{Node}
-use Rattle.life_rules.specs.Tree.{is_root, is_child, parent_of}
+use Rattle.node_tree.specs.Tree.{is_root, is_child, parent_of}
 use Rattle.life_rules.specs.Words.{is_idle, is_done, is_held, is_under_way, one_less, pending}
-use Rattle.life_rules.specs.Views.{View, one, beside, gain, lose, is_scanning}
+use Rattle.life_rules.specs.Views.{View, beside, gain, lose, is_scanning}
+use Rattle.common_lemmas.specs.Sums.{one}
 use Rattle.life_rules.specs.States.{State, size, is_live, is_place, control_at, name_of, name_at, stand}
 use Rattle.life_rules.specs.LifeSteps.{may_report, after_report, reported_to}
 use Rattle.life_rules.specs.Owned.{Fits, IsOwned, weight, owed_below, Counted}
 use Rattle.life_rules.specs.Sound.{Sound}
-use Rattle.life_rules.proofs.Tests.{either, one-is, one-most}
-use Rattle.life_rules.proofs.Totals.{total-moved}
+use Rattle.common_lemmas.proofs.Bool.{either, one-is, one-most}
+use Rattle.common_lemmas.proofs.Totals.{total-moved}
 use Rattle.life_rules.proofs.Readings.{begun-live, stand-at}
 use Rattle.life_kept.proofs.Trees.{parent-child, child-within, parent-same, some-maps}
-use Rattle.life_kept.proofs.Fitting.{Fits-along, by_name, done-word, pending-word, gain-here, gain-other, gain-least, lose-here, lose-other}
+use Rattle.life_rules.proofs.Names.{by_name, gain-here, gain-other, lose-here, lose-other}
+use Rattle.life_kept.proofs.Fitting.{Fits-along, done-word, pending-word, gain-least}
 use Rattle.life_kept.proofs.Puts.{put, IsPut, reads-here, reads-other, moves, stays, owned-other, counted-at, sound-put, scan-more, times-same}
 use Rattle.life_kept.proofs.Holding.{leave-other, weight-most, weight-other, weight-stays, parent-begun, owned-busy}
 

@@ -8,12 +8,13 @@ use Rattle.life_rules.specs.declared.event.Place.{Place}
 use Rattle.life_rules.specs.declared.event.Resting.{Resting}
 use Rattle.life_rules.specs.declared.event.Resting.TheVariants.{Loop, Pool, Parked as Aside}
 use Rattle.life_rules.specs.Words.{is_idle, is_held, is_under_way, may_be_taken, resting_at, pending}
-use Rattle.life_rules.specs.Views.{View, one, gain, lose}
+use Rattle.life_rules.specs.Views.{View, gain, lose}
+use Rattle.common_lemmas.specs.Sums.{one}
 use Rattle.life_rules.specs.States.{State, is_place, control_at, name_at}
 use Rattle.life_rules.specs.LifeSteps.{may_leave_node, may_rest, after_rest, may_take, after_take}
 use Rattle.life_rules.specs.Sound.{Sound}
 use Rattle.life_rules.proofs.Readings.{begun-live}
-use Rattle.life_kept.proofs.Fitting.{gain-here, gain-other, lose-here, lose-other}
+use Rattle.life_rules.proofs.Names.{gain-here, gain-other, lose-here, lose-other}
 use Rattle.life_kept.proofs.Puts.{IsPut}
 use Rattle.life_kept.proofs.Holding.{IsHeld, held-by, sound-busy, leave-other, leave-needs}
 

@@ -6,9 +6,10 @@ use Rattle.life_rules.specs.declared.words.CallbackPhase.{CallbackPhase}
 use Rattle.life_rules.specs.declared.words.Bits.{Bits}
 use Rattle.life_rules.specs.declared.event.SourceRef.TheVariants.{Scope}
 use Rattle.life_rules.specs.Views.{View, blank, is_scanning}
-use Rattle.life_rules.specs.States.{State, total}
+use Rattle.life_rules.specs.States.{State}
+use Rattle.common_lemmas.specs.Sums.{total}
 use Rattle.life_rules.specs.Associations.{Associations, ScopeRequested, kept}
-use Rattle.life_rules.proofs.Totals.{total-same}
+use Rattle.common_lemmas.proofs.Totals.{total-same}
 
 -- what a view knows of the scope, and its scans
 abbrev pub of_scope : View → View

@@ -9,7 +9,7 @@ use Rattle.life_rules.specs.declared.event.Name.{Name}
 use Rattle.life_rules.specs.Words.{is_open, is_free}
 use Rattle.life_rules.specs.States.{State, is_live}
 use Rattle.life_rules.specs.LifeSteps.{after_claim, next_word, last_generation}
-use Rattle.life_rules.proofs.Tests.{either}
+use Rattle.common_lemmas.proofs.Bool.{either}
 use Rattle.life_rules.proofs.Readings.{lives}
 use Rattle.life_laws.specs.Histories.{is_over, is_past, is_retired}
 

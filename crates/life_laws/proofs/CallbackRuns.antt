@@ -11,15 +11,17 @@ use Rattle.life_rules.specs.declared.event.Event.{Event}
 use Rattle.life_rules.specs.declared.event.Event.TheVariants.{Claim, Begin, Await, Rest, Take, Finish, Report, Release, Arm, Look, Request, Run, EndRun, Withdraw, WithdrawOwn, SealScan, Skip, Rouse, Enter, MarkUsed, Leave, Close, Join, Seal}
 use Rattle.life_rules.specs.declared.words.CallbackPhase.{CallbackPhase}
 use Rattle.life_rules.specs.declared.words.CallbackPhase.TheVariants.{Never, Armed, Running, Ran, Removed}
-use Rattle.life_rules.specs.Tree.{parent_of}
+use Rattle.node_tree.specs.Tree.{parent_of}
 use Rattle.life_rules.specs.Words.{is_never, is_armed, is_free}
-use Rattle.life_rules.specs.Views.{one, same}
+use Rattle.common_lemmas.specs.Sums.{one}
+use Rattle.life_rules.specs.Views.{same}
 use Rattle.life_rules.specs.States.{State, is_live, is_place, name_of, name_at, phase_at, with_callback}
 use Rattle.life_rules.specs.LifeSteps.{reported_to}
 use Rattle.life_rules.specs.StopSteps.{may_arm, after_arm}
 use Rattle.life_rules.specs.Steps.{Move, is_step, moved, run, may_happen, after}
 use Rattle.life_rules.specs.Sound.{Sound}
-use Rattle.life_rules.proofs.Tests.{either, one-most, one-true, one-false, same-true}
+use Rattle.common_lemmas.proofs.Bool.{either, one-most, one-true, one-false}
+use Rattle.life_rules.proofs.Names.{same-true}
 use Rattle.life_rules.proofs.Readings.{read-here}
 use Rattle.life_laws.specs.Histories.{times, runs_callback, is_run_of}
 use Rattle.life_laws.proofs.Times.{MovesKeep, move-marked, times-marked}

@@ -6,15 +6,17 @@ use Rattle.life_rules.specs.declared.event.Name.{Name}
 use Rattle.life_rules.specs.declared.event.Place.{Place}
 use Rattle.life_rules.specs.declared.words.ControlWord.{ControlWord}
 use Rattle.life_rules.specs.declared.words.ControlWord.TheVariants.{Idle, Busy, ReadyLoop, ReadyPool, Parked, Done}
-use Rattle.life_rules.specs.Tree.{is_child}
+use Rattle.node_tree.specs.Tree.{is_child}
 use Rattle.life_rules.specs.Words.{is_idle, is_held, is_done, is_under_way, pending, is_armed, is_running}
-use Rattle.life_rules.specs.Views.{one, beside}
-use Rattle.life_rules.specs.States.{State, size, is_place, name_at, control_at, phase_at, stand, total}
+use Rattle.common_lemmas.specs.Sums.{one}
+use Rattle.life_rules.specs.Views.{beside}
+use Rattle.life_rules.specs.States.{State, size, is_place, name_at, control_at, phase_at, stand}
+use Rattle.common_lemmas.specs.Sums.{total}
 use Rattle.life_rules.specs.LifeSteps.{may_finish, may_leave_node}
 use Rattle.life_rules.specs.Owned.{weight, owed_below}
 use Rattle.life_rules.specs.Sound.{Sound}
-use Rattle.life_rules.proofs.Tests.{one-is, one-true}
-use Rattle.life_rules.proofs.Totals.{total-at, total-most}
+use Rattle.common_lemmas.proofs.Bool.{one-is, one-true}
+use Rattle.common_lemmas.proofs.Totals.{total-at, total-most}
 use Rattle.life_rules.proofs.Readings.{stand-at}
 use Rattle.scope_kept.proofs.Counts.{all_refused, count-parts}
 

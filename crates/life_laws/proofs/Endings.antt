@@ -11,14 +11,17 @@ use Rattle.life_rules.specs.declared.event.Event.{Event}
 use Rattle.life_rules.specs.declared.event.Event.TheVariants.{Claim, Begin, Await, Rest, Take, Finish, Report, Release, Arm, Look, Request, Run, EndRun, Withdraw, WithdrawOwn, SealScan, Skip, Rouse, Enter, MarkUsed, Leave, Close, Join, Seal}
 use Rattle.life_rules.specs.declared.words.ControlWord.{ControlWord}
 use Rattle.life_rules.specs.declared.words.ControlWord.TheVariants.{Idle, Busy, ReadyLoop, ReadyPool, Parked, Done}
-use Rattle.life_rules.specs.Tree.{parent_of}
+use Rattle.node_tree.specs.Tree.{parent_of}
 use Rattle.life_rules.specs.Words.{is_idle, is_held, is_done, is_parked, is_armed, is_running, may_be_taken, one_less}
-use Rattle.life_rules.specs.Views.{one, same}
+use Rattle.common_lemmas.specs.Sums.{one}
+use Rattle.life_rules.specs.Views.{same}
 use Rattle.life_rules.specs.States.{State, is_live, is_place, name_of, name_at, control_at, phase_at, with_control}
-use Rattle.life_rules.specs.LifeSteps.{may_leave_node, are_different, may_be_awaited, reported_to}
+use Rattle.life_rules.specs.LifeSteps.{may_leave_node, may_be_awaited, reported_to}
+use Rattle.common_lemmas.specs.Lists.{are_different}
 use Rattle.life_rules.specs.Steps.{Move, is_step, moved, run, may_happen, after}
 use Rattle.life_rules.specs.Sound.{Sound}
-use Rattle.life_rules.proofs.Tests.{either, one-is, one-most, one-true, one-false, same-true}
+use Rattle.common_lemmas.proofs.Bool.{either, one-is, one-most, one-true, one-false}
+use Rattle.life_rules.proofs.Names.{same-true}
 use Rattle.life_rules.proofs.Readings.{begun-live, stand-at, read-here}
 use Rattle.life_laws.specs.Histories.{times, finishes, is_finish_of, is_over}
 use Rattle.life_laws.proofs.Times.{MovesKeep, move-marked, times-marked}

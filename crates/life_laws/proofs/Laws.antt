@@ -8,8 +8,8 @@ use Rattle.life_rules.specs.States.{State, phase_at}
 use Rattle.life_rules.specs.Steps.{Move, is_step, moved, run}
 use Rattle.life_rules.specs.Keeping.{KeepsSound}
 use Rattle.life_rules.specs.Sound.{Sound}
-use Rattle.life_rules.proofs.Tests.{either, one-true}
-use Rattle.life_rules.proofs.Totals.{total-zero}
+use Rattle.common_lemmas.proofs.Bool.{either, one-true}
+use Rattle.common_lemmas.proofs.Totals.{total-zero}
 use Rattle.life_rules.proofs.Opened.{sound-opening}
 use Rattle.life_kept.proofs.Claim.{sound-claim}
 use Rattle.life_kept.proofs.Begin.{sound-begin}

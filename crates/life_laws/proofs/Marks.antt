@@ -8,7 +8,7 @@ use Rattle.life_rules.specs.declared.words.BlockWord.{BlockWord}
 use Rattle.life_rules.specs.Words.{is_open, is_free}
 use Rattle.life_rules.specs.States.{State, size, name_of, is_live, set_at}
 use Rattle.life_rules.specs.LifeSteps.{after_claim, after_release, next_word}
-use Rattle.life_rules.proofs.Tests.{either}
+use Rattle.common_lemmas.proofs.Bool.{either}
 use Rattle.life_rules.proofs.Readings.{lives, name_of-live}
 use Rattle.life_laws.specs.Histories.{is_over, is_past}
 use Rattle.life_laws.proofs.Blocks.{free-shut, is_over-claim, is_past-next}

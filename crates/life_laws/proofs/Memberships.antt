@@ -8,18 +8,20 @@ use Rattle.life_rules.specs.declared.event.Place.{Place}
 use Rattle.life_rules.specs.declared.event.SourceAt.TheVariants.{Scope as AtScope, At}
 use Rattle.life_rules.specs.declared.event.Event.{Event}
 use Rattle.life_rules.specs.declared.event.Event.TheVariants.{Claim, Begin, Await, Rest, Take, Finish, Report, Release, Arm, Look, Request, Run, EndRun, Withdraw, WithdrawOwn, SealScan, Skip, Rouse, Enter, MarkUsed, Leave, Close, Join, Seal}
-use Rattle.life_rules.specs.Tree.{parent_of, is_root}
+use Rattle.node_tree.specs.Tree.{parent_of, is_root}
 use Rattle.life_rules.specs.Words.{is_armed, pending}
 use Rattle.life_rules.specs.Scopes.{is_refused}
-use Rattle.life_rules.specs.Views.{View, one, lose}
-use Rattle.life_rules.specs.States.{State, name_of, name_at, control_at, phase_at, nearest_of, total, with_view}
+use Rattle.life_rules.specs.Views.{View, lose}
+use Rattle.common_lemmas.specs.Sums.{one}
+use Rattle.life_rules.specs.States.{State, name_of, name_at, control_at, phase_at, nearest_of, with_view}
+use Rattle.common_lemmas.specs.Sums.{total}
 use Rattle.life_rules.specs.LifeSteps.{root_of, reported_to}
 use Rattle.life_rules.specs.StopSteps.{passed, run_over}
 use Rattle.life_rules.specs.ScopeSteps.{entered, left}
 use Rattle.life_rules.specs.Steps.{Move, is_step, moved, run, may_happen, after}
 use Rattle.life_rules.specs.Associations.{kept}
-use Rattle.life_rules.proofs.Tests.{either, one-true, one-false}
-use Rattle.life_rules.proofs.Totals.{total-same}
+use Rattle.common_lemmas.proofs.Bool.{either, one-true, one-false}
+use Rattle.common_lemmas.proofs.Totals.{total-same}
 use Rattle.scope_kept.proofs.Counts.{all_kept}
 use Rattle.life_rules.proofs.Readings.{total-with_view}
 use Rattle.life_laws.specs.Histories.{times, enters, leaves, is_entry, is_exit}

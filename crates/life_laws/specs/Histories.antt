@@ -8,7 +8,8 @@ use Rattle.life_rules.specs.declared.words.BlockState.{BlockState}
 use Rattle.life_rules.specs.declared.words.BlockState.TheVariants.{Free, Open, Retired}
 use Rattle.life_rules.specs.Words.{is_armed}
 use Rattle.life_rules.specs.Scopes.{is_refused}
-use Rattle.life_rules.specs.Views.{one, same}
+use Rattle.common_lemmas.specs.Sums.{one}
+use Rattle.life_rules.specs.Views.{same}
 use Rattle.life_rules.specs.States.{State, name_at, phase_at}
 use Rattle.life_rules.specs.Steps.{Move, is_step, moved}
 

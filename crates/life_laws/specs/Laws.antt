@@ -5,10 +5,11 @@ use Rattle.life_rules.specs.declared.event.Name.{Name}
 use Rattle.life_rules.specs.declared.event.Place.{Place}
 use Rattle.life_rules.specs.declared.event.SourceRef.{SourceRef}
 use Rattle.life_rules.specs.declared.words.CallbackPhase.TheVariants.{Ran, Removed}
-use Rattle.life_rules.specs.Tree.{is_child}
+use Rattle.node_tree.specs.Tree.{is_child}
 use Rattle.life_rules.specs.Words.{is_idle, is_done, is_armed}
 use Rattle.life_rules.specs.Views.{beside}
-use Rattle.life_rules.specs.States.{State, size, is_live, name_at, control_at, phase_at, bits_at, nearest_of, stand, total}
+use Rattle.life_rules.specs.States.{State, size, is_live, name_at, control_at, phase_at, bits_at, nearest_of, stand}
+use Rattle.common_lemmas.specs.Sums.{total}
 use Rattle.life_rules.specs.LifeSteps.{may_finish, may_release}
 use Rattle.life_rules.specs.Steps.{Move, Step, run}
 use Rattle.life_rules.specs.Associations.{kept}

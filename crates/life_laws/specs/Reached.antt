@@ -1,8 +1,8 @@
 -- The states that can be reached.
 use Rattle.std.specs.Prelude.{◌≡◌, ℕ, ◌<◌, List}
-use Rattle.life_rules.specs.declared.tree.TreeNode.{TreeNode}
-use Rattle.life_rules.specs.declared.scope.ScopeKind.{ScopeKind}
-use Rattle.life_rules.specs.Tree.{IsTree}
+use Rattle.node_tree.specs.declared.node.TreeNode.{TreeNode}
+use Rattle.node_tree.specs.declared.scope_kind.ScopeKind.{ScopeKind}
+use Rattle.node_tree.specs.Tree.{IsTree}
 use Rattle.life_rules.specs.States.{State}
 use Rattle.life_rules.specs.Steps.{Move, run}
 use Rattle.life_rules.specs.Opening.{opening}

@@ -1,5 +1,4 @@
-pub mod Tests
-pub mod Totals
+pub mod Names
 pub mod Readings
 pub mod ScanOrder
 pub mod Opened

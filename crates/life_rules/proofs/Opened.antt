@@ -1,22 +1,24 @@
 -- The opening is sound: no block is open, and no hand has done anything.
 use Rattle.std.proofs.Common.{◌≡◌, ℕ, ◌*◌, ◌<◌, Bool, false, ◌&&◌, ◌||◌, List, refl, sym, ap, ◌∙◌, arith}
 use Rattle.std.proofs.lemmas.Bool.{and_left, and_right, cond-false, both_ways, false≢true}
-use Rattle.life_rules.specs.declared.tree.TreeNode.{TreeNode}
-use Rattle.life_rules.specs.declared.scope.ScopeKind.{ScopeKind}
+use Rattle.node_tree.specs.declared.node.TreeNode.{TreeNode}
+use Rattle.node_tree.specs.declared.scope_kind.ScopeKind.{ScopeKind}
 use Rattle.life_rules.specs.declared.words.ControlWord.{ControlWord}
 use Rattle.life_rules.specs.declared.words.ControlWord.TheVariants.{Idle}
 use Rattle.life_rules.specs.declared.words.CallbackPhase.TheVariants.{Never}
 use Rattle.life_rules.specs.declared.event.Name.{Name}
 use Rattle.life_rules.specs.declared.event.SourceRef.{SourceRef}
 use Rattle.life_rules.specs.declared.event.SourceRef.TheVariants.{Scope, Node}
-use Rattle.life_rules.specs.Tree.{IsTree, is_child}
+use Rattle.node_tree.specs.Tree.{IsTree, is_child}
 use Rattle.life_rules.specs.Words.{is_idle, is_held, is_done, is_under_way, pending, is_armed, is_running, has_run, clear}
-use Rattle.life_rules.specs.Views.{one, beside}
-use Rattle.life_rules.specs.States.{State, size, is_live, control_at, phase_at, bits_at, total}
+use Rattle.common_lemmas.specs.Sums.{one}
+use Rattle.life_rules.specs.Views.{beside}
+use Rattle.life_rules.specs.States.{State, size, is_live, control_at, phase_at, bits_at}
+use Rattle.common_lemmas.specs.Sums.{total}
 use Rattle.life_rules.specs.Owned.{Fits, weight}
 use Rattle.life_rules.specs.Sound.{Sound}
 use Rattle.life_rules.specs.Opening.{opening}
-use Rattle.life_rules.proofs.Totals.{total-zero}
+use Rattle.common_lemmas.proofs.Totals.{total-zero}
 
 -- numbers of a name that no view has, where its word is idle and its block isn't open
 fits-none : (a b c d : ℕ) (live root : Bool) (w : ControlWord) → a ≡ 0 → b ≡ 0 → c ≡ 0 → d ≡ 0 →

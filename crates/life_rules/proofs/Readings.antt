@@ -4,10 +4,11 @@ use Rattle.std.proofs.lemmas.Bool.{and_parts, and_from, eqb-true, eq-eqb, ne_eqb
 use Rattle.life_rules.specs.declared.event.Name.{Name}
 use Rattle.life_rules.specs.declared.event.Place.{Place}
 use Rattle.life_rules.specs.Views.{View}
-use Rattle.life_rules.specs.States.{State, size, is_live, control_at, is_place, name_of, name_at, stand, total, set_at, with_view}
+use Rattle.life_rules.specs.States.{State, size, is_live, control_at, is_place, name_of, name_at, stand, set_at, with_view}
+use Rattle.common_lemmas.specs.Sums.{total}
 use Rattle.life_rules.specs.Words.{is_open, is_idle}
-use Rattle.life_rules.proofs.Tests.{either}
-use Rattle.life_rules.proofs.Totals.{total-moved, total-at}
+use Rattle.common_lemmas.proofs.Bool.{either}
+use Rattle.common_lemmas.proofs.Totals.{total-moved, total-at}
 
 -- the sum over all views, after one of them changed
 pub stand-with_view : (s : State) (h : ℕ) (v : View) (part : View → Name → ℕ) (x : Name) → h < s.hands →

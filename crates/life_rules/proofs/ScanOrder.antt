@@ -7,21 +7,21 @@ use Rattle.std.proofs.lemmas.Nat.{div-mul-add, mod-mul-add, mul-add-lt, same_fro
 use Rattle.std.proofs.lemmas.Bool.{and_parts, not-true, leb-true, cases_lt, cases_eq, both_ways}
 use Rattle.life_rules.specs.declared.event.Name.{Name}
 use Rattle.life_rules.specs.declared.event.SourceRef.{SourceRef}
-use Rattle.life_rules.specs.Tree.{nearest}
+use Rattle.node_tree.specs.Tree.{nearest}
 use Rattle.life_rules.specs.Views.{View, same_source}
 use Rattle.life_rules.specs.States.{State, size, name_of, is_live, source_for}
-use Rattle.life_rules.specs.Scans.{index, end, place_at, is_for, has_none, is_next, is_next_in, is_past_all}
+use Rattle.life_rules.specs.Scans.{index, end, place_at, is_nearest, has_none, is_next, is_next_in, is_past_all}
 use Rattle.life_rules.specs.Callbacks.{is_next_of_nearest}
 use Rattle.life_rules.proofs.Readings.{lives, name_of-live, live_unique}
 
 pub has_none-at : (s : State) (source : SourceRef) (i count j : ℕ) → has_none s source i count ≡ true →
-    i ≤ j → j < i + count → is_for s source (place_at s j) ≡ false
+    i ≤ j → j < i + count → is_nearest s source (place_at s j) ≡ false
 unfolding has_none
 has_none-at s source i zero j h l m = absurd (omega (arith, l, m))
 has_none-at s source i (suc count) j h l m =
     let parts = and_parts _ _ h in
     elim (cases_eq i j) [
-      | inl at ↦ subst (λ k. is_for s source (place_at s k) ≡ false) at (not-true _ parts.0)
+      | inl at ↦ subst (λ k. is_nearest s source (place_at s k) ≡ false) at (not-true _ parts.0)
       | inr past ↦ has_none-at s source (suc i) count j parts.1 (omega arith) (omega arith)
     ]
 
@@ -47,18 +47,18 @@ index-end s x l =
 
 -- no place of the source lies between a number and the next place from there on
 pub next-first : (s : State) (source : SourceRef) (i : ℕ) (x y : Name) → is_next s source i x ≡ true →
-    is_live s y ≡ true → is_for s source y ≡ true → i ≤ index s y → index s x ≤ index s y
+    is_live s y ≡ true → is_nearest s source y ≡ true → i ≤ index s y → index s x ≤ index s y
 next-first s source i x y next l for_y from =
-    let a = and_parts (is_for s source x) _ next in
+    let a = and_parts (is_nearest s source x) _ next in
     let b = and_parts (nat_le i (index s x)) _ a.1 in
     let start : i ≤ index s x = leb-true _ _ b.0 in
     elim (cases_lt (index s y) (index s x)) [
       | inl before ↦
           let within : index s y < i + (index s x - i) = omega (arith, before, start) in
-          let none : is_for s source (place_at s (index s y)) ≡ false =
+          let none : is_nearest s source (place_at s (index s y)) ≡ false =
           has_none-at s source i (index s x - i) (index s y) b.1 from within in
-          let same : is_for s source y ≡ false =
-          subst (λ z. is_for s source z ≡ false) (place_at-live s y l) none in
+          let same : is_nearest s source y ≡ false =
+          subst (λ z. is_nearest s source z ≡ false) (place_at-live s y l) none in
           absurd (both_ways _ same for_y)
       | inr behind ↦ behind
     ]
@@ -79,22 +79,22 @@ next-same s source i x y lx ly nx ny =
 
 -- where no place of the source is left, each live one lies behind
 pub past_all-behind : (s : State) (source : SourceRef) (i : ℕ) (x : Name) →
-    is_past_all s source i ≡ true → is_live s x ≡ true → is_for s source x ≡ true → index s x < i
+    is_past_all s source i ≡ true → is_live s x ≡ true → is_nearest s source x ≡ true → index s x < i
 past_all-behind s source i x past l for_x =
     elim (cases_lt (index s x) i) [
       | inl behind ↦ behind
       | inr ahead ↦
           let within : index s x < end s = index-end s x l in
-          let none : is_for s source (place_at s (index s x)) ≡ false =
+          let none : is_nearest s source (place_at s (index s x)) ≡ false =
           has_none-at s source i (end s - i) (index s x) past ahead (omega arith) in
-          let same : is_for s source x ≡ false =
-          subst (λ z. is_for s source z ≡ false) (place_at-live s x l) none in
+          let same : is_nearest s source x ≡ false =
+          subst (λ z. is_nearest s source z ≡ false) (place_at-live s x l) none in
           absurd (both_ways _ same for_x)
     ]
 
 -- where each place is the same source's in both states, so are the stretches with none
 pub has_none-frame : (s t : State) (source : SourceRef) (i count : ℕ) →
-    ((j : ℕ) → is_for t source (place_at t j) ≡ is_for s source (place_at s j)) →
+    ((j : ℕ) → is_nearest t source (place_at t j) ≡ is_nearest s source (place_at s j)) →
     has_none t source i count ≡ has_none s source i count
 unfolding has_none
 has_none-frame s t source i zero e = refl
@@ -112,8 +112,8 @@ module _ (s t : State) (tree : t.tree ≡ s.tree)
       generations (j / size t) ∙ ap (λ b. (s.block b).generation) block in
       λ k. record { block = block k; generation = generation k; node = node k }
 
-  pub is_for-frame : (source : SourceRef) (x : Name) → is_for t source x ≡ is_for s source x
-  is_for-frame source x =
+  pub is_nearest-frame : (source : SourceRef) (x : Name) → is_nearest t source x ≡ is_nearest s source x
+  is_nearest-frame source x =
       ap (λ nodes. option_map_or (same_source source) (source_for x (nearest nodes x.node)) false) tree
 
   pub is_next-frame : (source : SourceRef) (i : ℕ) (x : Name) → is_next t source i x ≡ is_next s source i x
@@ -121,8 +121,8 @@ module _ (s t : State) (tree : t.tree ≡ s.tree)
       let at : index t x ≡ index s x = ap (λ nodes. x.block * length nodes + x.node) tree in
       let none : (count : ℕ) → has_none t source i count ≡ has_none s source i count =
       λ count. has_none-frame s t source i count (λ j.
-      is_for-frame source (place_at t j) ∙ ap (is_for s source) (place_at-frame j)) in
-      ap₂ ◌&&◌ (is_for-frame source x)
+      is_nearest-frame source (place_at t j) ∙ ap (is_nearest s source) (place_at-frame j)) in
+      ap₂ ◌&&◌ (is_nearest-frame source x)
       (ap₂ ◌&&◌ (ap (nat_le i) at)
       (none (index t x - i) ∙ ap (λ n. has_none s source i (n - i)) at))
 

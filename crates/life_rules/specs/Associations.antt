@@ -2,7 +2,8 @@
 use Rattle.std.specs.Prelude.{◌≡◌, ℕ, ◌+◌, ◌<◌, ◌≤◌, true}
 use Rattle.life_rules.specs.declared.event.SourceRef.TheVariants.{Scope}
 use Rattle.life_rules.specs.Views.{View, is_scanning}
-use Rattle.life_rules.specs.States.{State, total}
+use Rattle.life_rules.specs.States.{State}
+use Rattle.common_lemmas.specs.Sums.{total}
 
 -- the associations that aren't being refused
 abbrev pub kept : View → ℕ

@@ -4,9 +4,10 @@ use Rattle.std.specs.Option.{option_map_or}
 use Rattle.life_rules.specs.declared.event.Name.{Name}
 use Rattle.life_rules.specs.declared.event.SourceRef.TheVariants.{Node}
 use Rattle.life_rules.specs.declared.words.CallbackPhase.TheVariants.{Never}
-use Rattle.life_rules.specs.Tree.{is_child}
+use Rattle.node_tree.specs.Tree.{is_child}
 use Rattle.life_rules.specs.Words.{is_idle, is_under_way, is_armed, is_running, has_run, clear}
-use Rattle.life_rules.specs.Views.{View, one, beside}
+use Rattle.life_rules.specs.Views.{View, beside}
+use Rattle.common_lemmas.specs.Sums.{one}
 use Rattle.life_rules.specs.States.{State, control_at, phase_at, bits_at, nearest_of, stand}
 use Rattle.life_rules.specs.Scans.{is_next_in}
 

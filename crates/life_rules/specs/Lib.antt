@@ -1,4 +1,3 @@
-pub mod Tree
 pub mod Words
 pub mod Scopes
 pub mod Views

@@ -10,7 +10,8 @@ use Rattle.life_rules.specs.declared.event.Name.{Name}
 use Rattle.life_rules.specs.declared.event.Place.{Place}
 use Rattle.life_rules.specs.declared.event.Resting.{Resting}
 use Rattle.life_rules.specs.declared.event.SourceRef.TheVariants.{Node}
-use Rattle.life_rules.specs.Tree.{is_child, is_root, parent_of}
+use Rattle.common_lemmas.specs.Lists.{are_different}
+use Rattle.node_tree.specs.Tree.{is_child, is_root, parent_of}
 use Rattle.life_rules.specs.Words.{is_free, is_idle, is_armed, is_running, may_be_taken, one_less, pending, resting_at, clear}
 use Rattle.life_rules.specs.Views.{View, beside, gain, lose, gain_each, is_scanning, forget}
 use Rattle.life_rules.specs.States.{State, size, is_place, name_of, name_at, control_at, phase_at, with_view, with_block, with_control}
@@ -44,10 +45,6 @@ after_begin s h p =
     let x = name_at s p in
     with_view (with_control s p.block p.node (Busy 0)) h
     (record v { starts = lose x v.starts; holds = gain x v.holds })
-
-abbrev pub are_different : List ℕ → Bool
-are_different [] = true
-are_different (n ∷ ns) = not (list_any (λ m. m == n) ns) && are_different ns
 
 -- the node is a child of x that hasn't begun
 abbrev pub may_be_awaited : State → Name → ℕ → Bool

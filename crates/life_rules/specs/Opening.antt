@@ -1,10 +1,10 @@
 -- The state with which all begins.
 use Rattle.std.specs.Prelude.{ℕ, false, List}
-use Rattle.life_rules.specs.declared.tree.TreeNode.{TreeNode}
+use Rattle.node_tree.specs.declared.node.TreeNode.{TreeNode}
 use Rattle.life_rules.specs.declared.words.BlockState.TheVariants.{Free}
 use Rattle.life_rules.specs.declared.words.ControlWord.TheVariants.{Idle}
 use Rattle.life_rules.specs.declared.words.CallbackPhase.TheVariants.{Never}
-use Rattle.life_rules.specs.declared.scope.ScopeKind.{ScopeKind}
+use Rattle.node_tree.specs.declared.scope_kind.ScopeKind.{ScopeKind}
 use Rattle.life_rules.specs.Words.{clear}
 use Rattle.life_rules.specs.Views.{blank}
 use Rattle.life_rules.specs.States.{State}

@@ -4,10 +4,12 @@ use Rattle.life_rules.specs.declared.words.ControlWord.TheVariants.{Idle}
 use Rattle.life_rules.specs.declared.words.CallbackPhase.TheVariants.{Never}
 use Rattle.life_rules.specs.declared.words.ControlWord.{ControlWord}
 use Rattle.life_rules.specs.declared.event.Name.{Name}
-use Rattle.life_rules.specs.Tree.{is_child, is_root}
+use Rattle.node_tree.specs.Tree.{is_child, is_root}
 use Rattle.life_rules.specs.Words.{is_open, is_idle, is_held, is_done, is_under_way, pending, clear}
-use Rattle.life_rules.specs.Views.{one, beside}
-use Rattle.life_rules.specs.States.{State, size, is_live, control_at, total, stand}
+use Rattle.common_lemmas.specs.Sums.{one}
+use Rattle.life_rules.specs.Views.{beside}
+use Rattle.life_rules.specs.States.{State, size, is_live, control_at, stand}
+use Rattle.common_lemmas.specs.Sums.{total}
 
 -- how often all views together have a name, against its word
 pub record Fits (holds starts reports finished : ℕ) (live root : Bool) (word : ControlWord) : Type 0 where

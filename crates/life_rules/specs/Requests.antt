@@ -3,10 +3,12 @@ use Rattle.std.specs.Prelude.{◌≡◌, ◌⊎◌, ℕ, ◌+◌, ◌*◌, ◌<�
 use Rattle.life_rules.specs.declared.event.Name.{Name}
 use Rattle.life_rules.specs.declared.event.SourceRef.{SourceRef}
 use Rattle.life_rules.specs.declared.event.SourceRef.TheVariants.{Node}
-use Rattle.life_rules.specs.Tree.{is_child}
+use Rattle.node_tree.specs.Tree.{is_child}
 use Rattle.life_rules.specs.Words.{is_never, is_armed}
-use Rattle.life_rules.specs.Views.{View, one, beside, is_scanning}
-use Rattle.life_rules.specs.States.{State, size, phase_at, bits_at, nearest_of, total}
+use Rattle.life_rules.specs.Views.{View, beside, is_scanning}
+use Rattle.common_lemmas.specs.Sums.{one}
+use Rattle.life_rules.specs.States.{State, size, phase_at, bits_at, nearest_of}
+use Rattle.common_lemmas.specs.Sums.{total}
 use Rattle.life_rules.specs.Scans.{HasPassed}
 use Rattle.life_rules.specs.Callbacks.{nearest_is_requested}
 

@@ -18,20 +18,20 @@ end s = size s * s.blocks
 abbrev pub place_at : State → ℕ → Name
 place_at s i = name_of s (i / size s) (i % size s)
 
--- callbacks of x are registered on this source
-abbrev pub is_for : State → SourceRef → Name → Bool
-is_for s source x = option_map_or (same_source source) (nearest_of s x) false
+-- the source is the nearest above x: a callback of x is registered on it
+abbrev pub is_nearest : State → SourceRef → Name → Bool
+is_nearest s source x = option_map_or (same_source source) (nearest_of s x) false
 
 -- none of the `count` places from number i on is the source's
 unfoldable pub has_none : State → SourceRef → ℕ → ℕ → Bool
 has_none s source i zero = true
 has_none s source i (suc count) =
-    not (is_for s source (place_at s i)) && has_none s source (suc i) count
+    not (is_nearest s source (place_at s i)) && has_none s source (suc i) count
 
 -- x is the first place of the source from number i on
 abbrev pub is_next : State → SourceRef → ℕ → Name → Bool
 is_next s source i x =
-    is_for s source x && (nat_le i (index s x) && has_none s source i (index s x - i))
+    is_nearest s source x && (nat_le i (index s x) && has_none s source i (index s x - i))
 
 -- no place of the source is left from number i on
 abbrev pub is_past_all : State → SourceRef → ℕ → Bool

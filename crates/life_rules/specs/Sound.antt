@@ -1,6 +1,6 @@
 -- What holds between any two steps.
 use Rattle.std.specs.Prelude.{◌<◌}
-use Rattle.life_rules.specs.Tree.{IsTree}
+use Rattle.node_tree.specs.Tree.{IsTree}
 use Rattle.life_rules.specs.States.{State}
 use Rattle.life_rules.specs.Owned.{Owned, Counted}
 use Rattle.life_rules.specs.Callbacks.{BeginsInOrder, ArmedLives, RunsAreScanned}

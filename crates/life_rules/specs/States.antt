@@ -1,6 +1,7 @@
 -- The state of the whole: the words as they read, and what each hand knows.
-use Rattle.std.specs.Prelude.{ℕ, zero, suc, ◌+◌, Bool, ◌&&◌, ◌==◌, nat_lt, if◌then◌else◌, List, length, Option, Some, None}
-use Rattle.life_rules.specs.declared.tree.TreeNode.{TreeNode}
+use Rattle.std.specs.Prelude.{ℕ, ◌+◌, Bool, ◌&&◌, ◌==◌, nat_lt, if◌then◌else◌, List, length, Option, Some, None}
+use Rattle.common_lemmas.specs.Sums.{total}
+use Rattle.node_tree.specs.declared.node.TreeNode.{TreeNode}
 use Rattle.life_rules.specs.declared.words.BlockWord.{BlockWord}
 use Rattle.life_rules.specs.declared.words.ControlWord.{ControlWord}
 use Rattle.life_rules.specs.declared.words.ControlWord.TheVariants.{Idle}
@@ -8,12 +9,12 @@ use Rattle.life_rules.specs.declared.words.CallbackPhase.{CallbackPhase}
 use Rattle.life_rules.specs.declared.words.CallbackPhase.TheVariants.{Never}
 use Rattle.life_rules.specs.declared.words.Bits.{Bits}
 use Rattle.life_rules.specs.declared.scope.ScopeWord.{ScopeWord}
-use Rattle.life_rules.specs.declared.scope.ScopeKind.{ScopeKind}
+use Rattle.node_tree.specs.declared.scope_kind.ScopeKind.{ScopeKind}
 use Rattle.life_rules.specs.declared.event.Name.{Name}
 use Rattle.life_rules.specs.declared.event.Place.{Place}
 use Rattle.life_rules.specs.declared.event.SourceRef.{SourceRef}
 use Rattle.life_rules.specs.declared.event.SourceRef.TheVariants.{Scope, Node}
-use Rattle.life_rules.specs.Tree.{Nearest, TheScope, TheNode, Nowhere, nearest}
+use Rattle.node_tree.specs.Tree.{Nearest, TheScope, TheNode, Nowhere, nearest}
 use Rattle.life_rules.specs.Words.{is_open, clear}
 use Rattle.life_rules.specs.Views.{View, beside}
 
@@ -73,11 +74,6 @@ source_for x Nowhere = None
 
 abbrev pub nearest_of : State → Name → Option SourceRef
 nearest_of s x = source_for x (nearest s.tree x.node)
-
--- the sum of f below n
-abbrev pub total : (ℕ → ℕ) → ℕ → ℕ
-total f zero = 0
-total f (suc n) = total f n + f n
 
 -- how often all views together have the name so
 abbrev pub stand : State → (View → Name → ℕ) → Name → ℕ

@@ -3,19 +3,19 @@
 use Rattle.std.specs.Prelude.{ℕ, zero, suc, ◌+◌, ◌*◌, Bool, true, false, not, ◌&&◌, ◌||◌, ◌==◌, nat_le, nat_lt, if◌then◌else◌, Option, Some, None, is_some}
 use Rattle.std.specs.Option.{option_map_or}
 use Rattle.life_rules.specs.declared.words.CallbackPhase.TheVariants.{Armed, Running, Ran, Removed}
-use Rattle.life_rules.specs.declared.scope.ScopeKind.{ScopeKind}
-use Rattle.life_rules.specs.declared.scope.ScopeKind.TheVariants.{Simple, Counting}
+use Rattle.node_tree.specs.declared.scope_kind.ScopeKind.{ScopeKind}
+use Rattle.node_tree.specs.declared.scope_kind.ScopeKind.TheVariants.{Simple, Counting}
 use Rattle.life_rules.specs.declared.event.Name.{Name}
 use Rattle.life_rules.specs.declared.event.Place.{Place}
 use Rattle.life_rules.specs.declared.event.SourceAt.{SourceAt}
 use Rattle.life_rules.specs.declared.event.SourceAt.TheVariants.{Scope as AtScope, At}
 use Rattle.life_rules.specs.declared.event.SourceRef.{SourceRef}
 use Rattle.life_rules.specs.declared.event.SourceRef.TheVariants.{Scope, Node}
-use Rattle.life_rules.specs.Tree.{is_child, has_source}
+use Rattle.node_tree.specs.Tree.{is_child, has_source}
 use Rattle.life_rules.specs.Words.{is_never, is_armed, is_running, has_run, is_free, is_idle}
 use Rattle.life_rules.specs.Views.{View, same_source, beside, gain, lose, mark, note, scan_at, is_scanning}
 use Rattle.life_rules.specs.States.{State, size, is_place, name_of, name_at, control_at, phase_at, bits_at, nearest_of, with_view, with_callback, with_bits}
-use Rattle.life_rules.specs.Scans.{index, is_next_in, is_past_all}
+use Rattle.life_rules.specs.Scans.{index, is_nearest, is_next_in, is_past_all}
 
 abbrev pub source_of : State → SourceAt → SourceRef
 source_of s AtScope = Scope
@@ -30,10 +30,6 @@ is_source s (At p) = is_place s p && has_source s.tree p.node
 abbrev pub some_below : (ℕ → Bool) → ℕ → Bool
 some_below test zero = false
 some_below test (suc n) = some_below test n || test n
-
--- a callback of x is registered on this source
-abbrev pub is_nearest : State → Name → SourceRef → Bool
-is_nearest s x source = option_map_or (same_source source) (nearest_of s x) false
 
 -- arm: the hand holds the node, whose callback place is none, and the node's nearest source is one
 abbrev pub may_arm : State → ℕ → Place → Bool
@@ -54,7 +50,7 @@ abbrev pub may_look : State → ℕ → SourceAt → Option Place → Bool
 may_look s h at None = is_source s at
 may_look s h at (Some p) =
     let x = name_at s p in
-    is_place s p && ((s.view h).unlooked x && is_nearest s x (source_of s at))
+    is_place s p && ((s.view h).unlooked x && is_nearest s (source_of s at) x)
 
 -- a request that is read is seen, and the place is looked after
 abbrev pub after_look : State → ℕ → SourceAt → Option Place → State

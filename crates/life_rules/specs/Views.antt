@@ -1,12 +1,10 @@
 -- What one hand knows of its own doings. A hand is the token by which one thread works on the words.
 use Rattle.std.specs.Prelude.{ℕ, ◌+◌, ◌-◌, Bool, true, false, ◌&&◌, ◌||◌, not, ◌==◌, if◌then◌else◌, List, Option, None, is_some}
 use Rattle.std.specs.List.{list_any}
+use Rattle.common_lemmas.specs.Sums.{one}
 use Rattle.life_rules.specs.declared.event.Name.{Name}
 use Rattle.life_rules.specs.declared.event.SourceRef.{SourceRef}
 use Rattle.life_rules.specs.declared.event.SourceRef.TheVariants.{Scope, Node}
-
-abbrev pub one : Bool → ℕ
-one b = if b then 1 else 0
 
 -- both are the same place at the same generation
 abbrev pub same : Name → Name → Bool

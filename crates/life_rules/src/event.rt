@@ -1,9 +1,7 @@
 //! The events: each is one atomic action of one hand on one word.
-ghost use Rattle.std.specs.Prelude.{List, ℕ, ◌≡◌, IfOk};
 
 use crate::scope::ScopeWord;
-use std::alloc::{AllocError, Global};
-use std::marker::Model;
+use node_tree::NodeList;
 
 /// The place of a node in a block.
 #[derive(Clone, Copy, Debug, PartialEq, Eq)]
@@ -34,51 +32,12 @@ pub enum SourceRef {
     Node(Name),
 }
 
-/// Where a node runs.
-#[derive(Clone, Copy, Debug, PartialEq, Eq)]
-pub enum Context {
-    /// The run loop ([exec.run.loop]).
-    Loop,
-    /// The pool of workers.
-    Pool,
-}
-
 /// Where a node rests.
 #[derive(Clone, Copy, Debug, PartialEq, Eq)]
 pub enum Resting {
     Loop,
     Pool,
     Parked,
-}
-
-/// A list of nodes.
-#[derive(Debug, Drop)]
-pub struct NodeList {
-    nodes: Vec<u32>,
-}
-
-impl Model for NodeList {
-    ghost Value = { List ℕ };
-
-    ghost view = { λ list. list.nodes.items };
-}
-
-impl NodeList {
-    /// A list of these nodes.
-    pub fn from_slice(alloc: Global, nodes: &[u32]) -> Result<NodeList, AllocError>
-        ensures { IfOk result (λ list. list ≡ nodes.now) }
-    {
-        Ok(NodeList {
-            nodes: nodes.to_vec(alloc)?,
-        })
-    }
-
-    /// The nodes, in order.
-    pub fn as_slice(&self) -> &[u32]
-        ensures { result.now ≡ self.now }
-    {
-        &self.nodes
-    }
 }
 
 /// What one hand does to one word.

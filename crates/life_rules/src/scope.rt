@@ -1,14 +1,5 @@
 //! The word of a counting scope, and how it reads (P3149, [exec.scope]).
 
-/// Whether a scope has a stop source whose token reaches the operations spawned in it.
-#[derive(Clone, Copy, Debug, PartialEq, Eq)]
-pub enum ScopeKind {
-    /// `simple_counting_scope`: it has none.
-    Simple,
-    /// `counting_scope`: it has one.
-    Counting,
-}
-
 /// What a scope's word says ([exec.scope.simple.counting]).
 #[derive(Clone, Copy, Debug, PartialEq, Eq)]
 pub enum ScopeState {

@@ -2,8 +2,8 @@
 use Rattle.std.proofs.Common.{◌≡◌, ℕ, ◌+◌, ◌<◌, ◌≤◌, List, length, Some, None, sym, ap, ◌∙◌, inl, inr, get_or, set, arith}
 use Rattle.std.proofs.lemmas.Bool.{cases_eq}
 use Rattle.std.proofs.lemmas.List.{get_or-set_same, get_or-set_other, get_or_read}
-use Rattle.life_rules.specs.declared.tree.TreeNode.{TreeNode}
-use Rattle.life_rules.specs.Tree.{IsTree, parent_of, given_by, nearest}
+use Rattle.node_tree.specs.declared.node.TreeNode.{TreeNode}
+use Rattle.node_tree.specs.Tree.{IsTree, parent_of, given_by, nearest}
 use Rattle.node_tree.specs.declared.nearest.NearestSource.{NearestSource}
 use Rattle.node_tree.specs.declared.nearest.NearestSource.TheVariants.{Scope}
 use Rattle.node_tree.specs.Nearest.{read}

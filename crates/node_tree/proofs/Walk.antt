@@ -4,17 +4,13 @@ use Rattle.std.specs.Prelude.{nat_lt, is_none, if◌then◌else◌}
 use Rattle.std.specs.Option.{option_map_or, option_and_then}
 use Rattle.std.proofs.lemmas.Bool.{and_parts, ltb-true, cond-true, cond-false, cases_lt, both_ways}
 use Rattle.std.proofs.lemmas.Option.{slice_get_past, slice_get-get_or}
-use Rattle.life_rules.specs.declared.tree.TreeNode.{TreeNode}
-use Rattle.life_rules.specs.Tree.{IsTree, TheScope, TheNode, Nowhere, parent_of, has_source, is_unstoppable, is_root, has_place, given_by, source_above, nearest}
-use Rattle.life_rules.proofs.Tests.{either}
+use Rattle.node_tree.specs.declared.node.TreeNode.{TreeNode}
+use Rattle.node_tree.specs.Tree.{IsTree, TheScope, TheNode, Nowhere, parent_of, has_source, is_unstoppable, is_root, has_place, given_by, source_above, nearest}
+use Rattle.common_lemmas.proofs.Bool.{either}
+use Rattle.common_lemmas.proofs.Options.{known}
 use Rattle.node_tree.specs.declared.nearest.NearestSource.{NearestSource}
 use Rattle.node_tree.specs.declared.nearest.NearestSource.TheVariants.{Scope, Node, Nowhere as NoNode}
 use Rattle.node_tree.specs.Nearest.{read, IsSourceOf}
-
--- an option is none, or has a value
-pub known : {A G : Type 0} (o : Option A) → (o ≡ None → G) → ((x : A) → o ≡ Some x → G) → G
-known None is_none is_some = is_none refl
-known (Some x) is_none is_some = is_some x refl
 
 source_above-some : (tree : List TreeNode) (steps n p : ℕ) → parent_of tree n ≡ Some p →
     source_above tree (suc steps) n ≡ given_by tree p (source_above tree steps p)

@@ -1,8 +1,8 @@
 -- The nearest source of each node, as a tree keeps it beside its nodes.
 use Rattle.std.specs.Prelude.{◌≡◌, ℕ, true, ◌<◌, List, length}
 use Rattle.std.proofs.Common.{get_or}
-use Rattle.life_rules.specs.declared.tree.TreeNode.{TreeNode}
-use Rattle.life_rules.specs.Tree.{IsTree, Nearest, TheScope, TheNode, Nowhere as NoSource, nearest, has_source}
+use Rattle.node_tree.specs.declared.node.TreeNode.{TreeNode}
+use Rattle.node_tree.specs.Tree.{IsTree, Nearest, TheScope, TheNode, Nowhere as NoSource, nearest, has_source}
 use Rattle.node_tree.specs.declared.nearest.NearestSource.{NearestSource}
 use Rattle.node_tree.specs.declared.nearest.NearestSource.TheVariants.{Scope, Node, Nowhere}
 

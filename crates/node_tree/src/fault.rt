@@ -1,8 +1,8 @@
 //! The test whether a list of nodes is a tree.
 ghost use Rattle.std.specs.Prelude.{◌≡◌, ◌<◌, ◌≤◌, length, MatchOption};
-ghost use Rattle.life_rules.specs.Tree.{has_place, is_node, IsTree, IsFirstFault};
+ghost use Rattle.node_tree.specs.Tree.{has_place, is_node, IsTree, IsFirstFault};
 
-use life_rules::{MOST_NODES, TreeNode};
+use crate::node::{MOST_NODES, TreeNode};
 
 // A node has a parent of greater number exactly where it isn't the root.
 fn has_place(nodes: &[TreeNode], node: usize) -> bool

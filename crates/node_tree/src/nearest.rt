@@ -1,9 +1,9 @@
 //! The nearest source above each node, found once for all nodes, from the root downwards.
 ghost use Rattle.std.specs.Prelude.{◌≡◌, ◌<◌, length, IfOk};
-ghost use Rattle.life_rules.specs.Tree.{IsTree, given_by};
+ghost use Rattle.node_tree.specs.Tree.{IsTree, given_by};
 ghost use Rattle.node_tree.specs.Nearest.{read, TellsNearest};
 
-use life_rules::TreeNode;
+use crate::node::TreeNode;
 use std::alloc::{AllocError, Global};
 
 /// What a stop callback of a node is registered on.

@@ -1,11 +1,11 @@
 //! A tree of nodes that keeps its rules.
 ghost use Rattle.std.specs.Prelude.{◌≡◌, ◌<◌, ◌≤◌, ◌↔◌, ℕ, length, slice_get, Some, Ok, Err, IfOk, OnOk};
-ghost use Rattle.life_rules.specs.Tree.{IsTree, IsFirstFault, nearest};
+ghost use Rattle.node_tree.specs.Tree.{IsTree, IsFirstFault, nearest};
 ghost use Rattle.node_tree.specs.Nearest.{read, IsSourceOf};
 
 use crate::fault::first_fault;
 use crate::nearest::{NearestSource, nearest_sources};
-use life_rules::{MOST_NODES, TreeNode};
+use crate::node::{MOST_NODES, TreeNode};
 use std::alloc::{AllocError, Global};
 use std::error::Error;
 use std::fmt;
@@ -42,7 +42,7 @@ pub struct Tree {
 
 impl Model for Tree {
     ghost use Rattle.std.specs.Prelude.{List};
-    ghost use Rattle.life_rules.specs.declared.tree.TreeNode.{TreeNode};
+    ghost use Rattle.node_tree.specs.declared.node.TreeNode.{TreeNode};
     ghost use Rattle.node_tree.specs.Nearest.{IsTreeWith};
 
     ghost Value = { List TreeNode };

@@ -3,10 +3,11 @@ use Rattle.std.proofs.Common.{◌≡◌, ℕ, ◌+◌, ◌<◌, ◌≤◌, true,
 use Rattle.std.proofs.lemmas.Bool.{cases_eq, cond-true, cond-false, eq-eqb, ne_eqb}
 use Rattle.life_rules.specs.declared.scope.ScopeWord.{ScopeWord}
 use Rattle.life_rules.specs.Views.{View}
-use Rattle.life_rules.specs.States.{State, total, with_view, with_scope}
+use Rattle.life_rules.specs.States.{State, with_view, with_scope}
+use Rattle.common_lemmas.specs.Sums.{total}
 use Rattle.life_rules.specs.Associations.{Associations, kept}
 use Rattle.life_rules.proofs.Readings.{total-with_view}
-use Rattle.life_rules.proofs.Totals.{total-plus}
+use Rattle.common_lemmas.proofs.Totals.{total-plus}
 
 -- the associations of all views that are kept, and those that are being refused
 abbrev pub all_kept : State → ℕ

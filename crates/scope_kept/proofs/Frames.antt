@@ -4,7 +4,7 @@ use Rattle.std.proofs.Common.{◌≡◌, ℕ, ◌<◌, false, refl, sym, ap, ◌
 use Rattle.std.proofs.lemmas.Bool.{cond-true, cond-false, eqb-true}
 use Rattle.life_rules.specs.declared.scope.ScopeWord.{ScopeWord}
 use Rattle.life_rules.specs.declared.event.Name.{Name}
-use Rattle.life_rules.specs.Tree.{IsTree}
+use Rattle.node_tree.specs.Tree.{IsTree}
 use Rattle.life_rules.specs.Views.{View}
 use Rattle.life_rules.specs.States.{State, with_view, with_scope}
 use Rattle.life_rules.specs.Owned.{Owned, Counted}
@@ -12,7 +12,7 @@ use Rattle.life_rules.specs.Callbacks.{BeginsInOrder, ArmedLives, RunsAreScanned
 use Rattle.life_rules.specs.Requests.{ScansStand, RequestsFollow, NothingMissed}
 use Rattle.life_rules.specs.Associations.{Associations, ScopeRequested}
 use Rattle.life_rules.specs.Sound.{Sound}
-use Rattle.life_rules.proofs.Tests.{either}
+use Rattle.common_lemmas.proofs.Bool.{either}
 use Rattle.life_rules.proofs.ScanOrder.{is_next_of_nearest-frame}
 
 -- all of `Sound` but the part on associations

@@ -7,15 +7,17 @@ use Rattle.life_rules.specs.declared.words.ControlWord.{ControlWord}
 use Rattle.life_rules.specs.declared.words.ControlWord.TheVariants.{Idle, Busy, ReadyLoop, ReadyPool, Parked, Done}
 use Rattle.life_rules.specs.declared.event.Name.{Name}
 use Rattle.life_rules.specs.declared.event.Place.{Place}
-use Rattle.life_rules.specs.Tree.{is_child}
+use Rattle.node_tree.specs.Tree.{is_child}
 use Rattle.life_rules.specs.Words.{is_open, is_idle, is_held, is_done, is_parked, is_under_way, pending}
-use Rattle.life_rules.specs.Views.{same, one, beside}
+use Rattle.life_rules.specs.Views.{same, beside}
+use Rattle.common_lemmas.specs.Sums.{one}
 use Rattle.life_rules.specs.States.{State, size, is_live, is_place, name_at, control_at, stand}
 use Rattle.life_rules.specs.ScopeSteps.{may_rouse, after_rouse}
 use Rattle.life_rules.specs.Owned.{Fits, weight, owed_below}
 use Rattle.life_rules.specs.Sound.{Sound}
-use Rattle.life_rules.proofs.Tests.{either, same-refl, same-true}
-use Rattle.life_rules.proofs.Totals.{total-same}
+use Rattle.common_lemmas.proofs.Bool.{either}
+use Rattle.life_rules.proofs.Names.{same-refl, same-true}
+use Rattle.common_lemmas.proofs.Totals.{total-same}
 use Rattle.life_rules.proofs.Readings.{lives, read-here, read-other}
 use Rattle.life_rules.proofs.ScanOrder.{is_next_of_nearest-frame}
 

@@ -13,8 +13,8 @@ use Rattle.life_rules.specs.States.{State, with_view, with_scope}
 use Rattle.life_rules.specs.ScopeSteps.{may_enter, after_enter, entered, may_mark_used, after_mark_used, may_leave, after_leave, left, may_seal_as, after_seal, agree, same_word}
 use Rattle.life_rules.specs.Associations.{Associations, kept}
 use Rattle.life_rules.specs.Sound.{Sound}
-use Rattle.life_rules.proofs.Tests.{either}
-use Rattle.life_rules.proofs.Totals.{total-at}
+use Rattle.common_lemmas.proofs.Bool.{either}
+use Rattle.common_lemmas.proofs.Totals.{total-at}
 use Rattle.scope_kept.proofs.Frames.{bare, other_parts, sound_from, others-kept, word-kept}
 use Rattle.scope_kept.proofs.Rouse.{sound-rouse}
 use Rattle.scope_kept.proofs.Counts.{all_kept, count-parts, associations-kept}

@@ -11,10 +11,10 @@ use Rattle.life_rules.specs.States.{State, phase_at, with_view, name_at, set_at}
 use Rattle.life_rules.specs.StopSteps.{may_arm, after_arm}
 use Rattle.life_rules.specs.Requests.{IsNoted}
 use Rattle.life_rules.specs.Sound.{Sound}
-use Rattle.life_rules.proofs.Tests.{same-refl, same-other}
+use Rattle.life_rules.proofs.Names.{same-refl, same-other, by_name}
 use Rattle.stop_kept.proofs.StopFrames.{changed, related, view-here, SameRoles, owned-kept, counted-kept, associations-kept}
 use Rattle.stop_kept.proofs.Standing.{holds-under_way}
-use Rattle.stop_kept.proofs.Phases.{name_cases, Writes, writes, set_at-shut, begins-written, armed-written, tests_alike, never-is}
+use Rattle.stop_kept.proofs.Phases.{Writes, writes, set_at-shut, begins-written, armed-written, tests_alike, never-is}
 use Rattle.stop_kept.proofs.Notes.{SameDoings, same_roles, is_noted, runs-kept, scans-kept, scope-kept, passed-kept}
 
 -- the view of the hand that armed x
@@ -72,14 +72,14 @@ sound-arm s h p sound l may =
         cause = sound.requests.cause;
         seen = λ i source below e. sound.requests.seen i source below (ap (λ f. f source) (seen i) ∙ e);
         noted = λ i y below e.
-            name_cases y x
+            by_name y x
             (λ at. subst (λ z. is_never (phase_at t z) ≡ false) (sym at) (ap is_never wrote.here))
             (λ other.
             ap is_never (wrote.there y other)
             ∙ sound.requests.noted i y below (sym (noted-other s h x y other i) ∙ e));
       };
       missed = λ y source near armed passed.
-          name_cases y x
+          by_name y x
           (λ at. subst (IsNoted t) (sym at) (h, l, noted-here s h x))
           (λ other.
           let n : IsNoted s y =

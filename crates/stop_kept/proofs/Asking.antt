@@ -6,14 +6,16 @@ use Rattle.life_rules.specs.declared.event.Name.{Name}
 use Rattle.life_rules.specs.declared.event.SourceRef.{SourceRef}
 use Rattle.life_rules.specs.declared.event.SourceRef.TheVariants.{Scope, Node}
 use Rattle.life_rules.specs.declared.words.Bits.{Bits}
-use Rattle.life_rules.specs.Views.{View, one, is_scanning, note, scan_at}
-use Rattle.life_rules.specs.States.{State, bits_at, total, with_view}
+use Rattle.life_rules.specs.Views.{View, is_scanning, note, scan_at}
+use Rattle.common_lemmas.specs.Sums.{one}
+use Rattle.life_rules.specs.States.{State, bits_at, with_view}
+use Rattle.common_lemmas.specs.Sums.{total}
 use Rattle.life_rules.specs.StopSteps.{is_scope}
 use Rattle.life_rules.specs.Callbacks.{nearest_is_requested}
 use Rattle.life_rules.specs.Requests.{ScansStand, may_scan, IsScannable}
 use Rattle.life_rules.specs.Sound.{Sound}
-use Rattle.life_rules.proofs.Tests.{one-most, one-false}
-use Rattle.life_rules.proofs.Totals.{total-zero}
+use Rattle.common_lemmas.proofs.Bool.{one-most, one-false}
+use Rattle.common_lemmas.proofs.Totals.{total-zero}
 use Rattle.life_rules.proofs.Readings.{total-with_view}
 use Rattle.stop_kept.proofs.StopFrames.{related, related_at}
 use Rattle.stop_kept.proofs.Standing.{begun}

@@ -9,15 +9,17 @@ use Rattle.life_rules.specs.declared.event.SourceRef.TheVariants.{Node}
 use Rattle.life_rules.specs.declared.words.CallbackPhase.{CallbackPhase}
 use Rattle.life_rules.specs.declared.words.CallbackPhase.TheVariants.{Ran, Removed}
 use Rattle.life_rules.specs.Words.{is_never, is_armed, is_running, has_run}
-use Rattle.life_rules.specs.Views.{View, one, is_scanning, lose}
+use Rattle.life_rules.specs.Views.{View, is_scanning, lose}
+use Rattle.common_lemmas.specs.Sums.{one}
 use Rattle.life_rules.specs.States.{State, phase_at, nearest_of, with_view, stand, name_at, with_callback, set_at}
 use Rattle.life_rules.specs.Scans.{index, is_next_in}
 use Rattle.life_rules.specs.StopSteps.{passed, run_over, may_end_run, after_end_run, may_withdraw_own, after_withdraw_own}
 use Rattle.life_rules.specs.Sound.{Sound}
-use Rattle.life_rules.proofs.Tests.{one-true, one-most, one-false, same-refl, same-other}
+use Rattle.common_lemmas.proofs.Bool.{one-true, one-most, one-false}
+use Rattle.life_rules.proofs.Names.{same-refl, same-other, by_name, lose-here, lose-other}
 use Rattle.life_rules.proofs.Readings.{stand-at, stand-with_view}
 use Rattle.stop_kept.proofs.Standing.{runs-running}
-use Rattle.stop_kept.proofs.Phases.{name_cases, Writes, writes, set_at-shut, begins-written, armed-written}
+use Rattle.stop_kept.proofs.Phases.{Writes, writes, set_at-shut, begins-written, armed-written}
 use Rattle.stop_kept.proofs.ScanAt.{map_or-some, armed-live, passed-but, Next, next_of, place-node, runs-other}
 use Rattle.stop_kept.proofs.Passes.{passer, after_passing, Passes, sound-passing}
 
@@ -33,13 +35,6 @@ record Runs (s : State) (h : ℕ) (x : Name) : Type 0 where
   unscanned : is_scanning (s.view h) (Node x) ≡ false
   running : is_running (phase_at s x) ≡ true
 
-lose-here : (x : Name) (f : Name → ℕ) → lose x f x ≡ f x - 1
-lose-here x f = ap (λ n. f x - n) (one-true (same-refl x))
-
-lose-other : (x : Name) (f : Name → ℕ) (y : Name) → (y ≡ x → ⊥) → lose x f y ≡ f y
-lose-other x f y other =
-    let none = one-false (same-other x y (λ at. other (sym at))) in omega (arith, none)
-
 -- no view runs the place any more
 runs-ended : (s : State) (h : ℕ) (x : Name) (u : View) (phase : CallbackPhase) (t : State) →
     Sound s → h < s.hands →
@@ -50,7 +45,7 @@ runs-ended s h x u phase t sound l r rest wrote lost y =
     let moved = stand-with_view s h u (λ a. a.runs) y l in
     let before = sound.runs.runs y in
     let less : u.runs y ≡ lose x f y = ap (λ g. g y) lost in
-    name_cases y x
+    by_name y x
     (λ at.
     let here : lose x f y ≡ f y - 1 = subst (λ z. lose x f z ≡ f z - 1) (sym at) (lose-here x f) in
     let old : one (is_running (phase_at s y)) ≡ 1 =
@@ -60,7 +55,7 @@ runs-ended s h x u phase t sound l r rest wrote lost y =
     let run : 1 ≤ f y = subst (λ z. 1 ≤ f z) (sym at) r.run in
     omega (arith, moved, before, less, here, old, new, run))
     (λ other.
-    let kept = lose-other x f y other in
+    let kept = lose-other x y f (λ at. other (sym at)) in
     let alike = ap (λ g. one (is_running g)) (wrote.there y other) in
     omega (arith, moved, before, less, kept, alike))
 
@@ -104,14 +99,14 @@ ended s h p phase source sound l g r rest =
           let old = others-run s h x sound l y run in
           (old.0, λ near. old.1 (runs-other s h source p.block p.node sound l g y old.0 near));
       ran = λ y e.
-          name_cases y x
+          by_name y x
           (λ at. or_left _ _ (subst (λ z. is_running (phase_at s z) ≡ true) (sym at) r.running))
           (λ other. subst (λ f. (is_running f || has_run f) ≡ true) (wrote.there y other) e);
       within = λ y e.
-          lose-other x v.runs y
-          (λ at. both_ways _ r.unscanned (subst (λ z. is_scanning v (Node z) ≡ true) at e));
+          lose-other x y v.runs
+          (λ at. both_ways _ r.unscanned (subst (λ z. is_scanning v (Node z) ≡ true) (sym at) e));
       never = λ y e.
-          name_cases y x
+          by_name y x
           (λ at. subst (λ z. is_never (phase_at t z) ≡ false) (sym at) (ap is_never wrote.here ∙ rest.never))
           (λ other. ap is_never (wrote.there y other) ∙ e);
       still = λ y e.

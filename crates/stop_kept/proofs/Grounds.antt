@@ -9,17 +9,19 @@ use Rattle.life_rules.specs.declared.event.SourceRef.{SourceRef}
 use Rattle.life_rules.specs.declared.event.SourceRef.TheVariants.{Scope, Node}
 use Rattle.life_rules.specs.declared.words.ControlWord.{ControlWord}
 use Rattle.life_rules.specs.declared.words.ControlWord.TheVariants.{Idle, Busy, ReadyLoop, ReadyPool, Parked, Done}
-use Rattle.life_rules.specs.Tree.{is_child}
+use Rattle.node_tree.specs.Tree.{is_child}
 use Rattle.life_rules.specs.Words.{is_idle, pending}
-use Rattle.life_rules.specs.Views.{View, one, beside}
-use Rattle.life_rules.specs.States.{State, bits_at, nearest_of, total, stand, size, control_at}
+use Rattle.life_rules.specs.Views.{View, beside}
+use Rattle.common_lemmas.specs.Sums.{one}
+use Rattle.life_rules.specs.States.{State, bits_at, nearest_of, stand, size, control_at}
+use Rattle.common_lemmas.specs.Sums.{total}
 use Rattle.life_rules.specs.StopSteps.{some_below, owes_report_below, has_begun_below, has_seen_nearest, may_forward, is_counting, is_live_for, may_request_first, may_repeat, may_request}
 use Rattle.life_rules.specs.Owned.{Counted, weight}
 use Rattle.life_rules.specs.Callbacks.{nearest_is_requested}
 use Rattle.life_rules.specs.Requests.{may_scan}
 use Rattle.life_rules.specs.Sound.{Sound}
-use Rattle.life_rules.proofs.Tests.{one-true}
-use Rattle.life_rules.proofs.Totals.{total-at}
+use Rattle.common_lemmas.proofs.Bool.{one-true}
+use Rattle.common_lemmas.proofs.Totals.{total-at}
 use Rattle.life_rules.proofs.Readings.{stand-at}
 use Rattle.stop_kept.proofs.Standing.{holds-under_way, begun, runs-running}
 use Rattle.stop_kept.proofs.Sources.{requested-begun}

@@ -12,9 +12,8 @@ use Rattle.life_rules.specs.States.{State, phase_at, bits_at, nearest_of, with_v
 use Rattle.life_rules.specs.StopSteps.{source_of, may_look, after_look}
 use Rattle.life_rules.specs.Requests.{IsNoted, RequestsFollow}
 use Rattle.life_rules.specs.Sound.{Sound}
-use Rattle.life_rules.proofs.Tests.{same-refl, same-other}
+use Rattle.life_rules.proofs.Names.{same-refl, same-other, by_name}
 use Rattle.stop_kept.proofs.StopFrames.{related, view-here}
-use Rattle.stop_kept.proofs.Phases.{name_cases}
 use Rattle.stop_kept.proofs.Notes.{SameDoings, is_noted, passed-requested, sound-noted, seen_cases}
 use Rattle.stop_kept.proofs.ScanAt.{for_nearest}
 
@@ -85,12 +84,12 @@ sound-look s h at (Some p) sound l may =
     sound-noted s w sound (related s h u SameDoings (λ _. refl) refl)
     (seen-note s h u source sound.requests refl)
     (λ i y below e.
-    name_cases y x
+    by_name y x
     (λ at. subst (λ z. is_never (phase_at s z) ≡ false) (sym at)
     (sound.requests.noted h x l (or_left _ _ b.0)))
     (λ other. sound.requests.noted i y below (sym (noted-other s h source x y other i) ∙ e)))
     (λ y t near armed passed.
-    name_cases y x
+    by_name y x
     (λ at.
     let here : Some t ≡ Some source = sym near ∙ ap (nearest_of s) at ∙ nearest in
     let requested : (bits_at s source).requested ≡ true =

@@ -7,15 +7,17 @@ use Rattle.life_rules.specs.declared.event.SourceRef.{SourceRef}
 use Rattle.life_rules.specs.declared.event.SourceRef.TheVariants.{Scope}
 use Rattle.life_rules.specs.declared.words.CallbackPhase.{CallbackPhase}
 use Rattle.life_rules.specs.Words.{is_never, is_armed, is_running, has_run}
-use Rattle.life_rules.specs.Views.{View, one, is_scanning, note, same}
-use Rattle.life_rules.specs.States.{State, phase_at, bits_at, nearest_of, total, with_view}
+use Rattle.life_rules.specs.Views.{View, is_scanning, note, same}
+use Rattle.common_lemmas.specs.Sums.{one}
+use Rattle.life_rules.specs.States.{State, phase_at, bits_at, nearest_of, with_view}
+use Rattle.common_lemmas.specs.Sums.{total}
 use Rattle.life_rules.specs.Scans.{index}
 use Rattle.life_rules.specs.StopSteps.{passed}
 use Rattle.life_rules.specs.Callbacks.{RunsAreScanned}
 use Rattle.life_rules.specs.Requests.{ScansStand, WasPassed, IsNoted}
 use Rattle.life_rules.specs.Associations.{ScopeRequested}
 use Rattle.life_rules.specs.Sound.{Sound}
-use Rattle.life_rules.proofs.Tests.{same_source-true}
+use Rattle.life_rules.proofs.Names.{same_source-true}
 use Rattle.stop_kept.proofs.StopFrames.{changed, related, bare, SameRoles, owned-kept, counted-kept, associations-kept, next-frame}
 
 -- the view without its notes

@@ -6,8 +6,10 @@ use Rattle.life_rules.specs.declared.event.SourceRef.{SourceRef}
 use Rattle.life_rules.specs.declared.event.SourceRef.TheVariants.{Scope, Node}
 use Rattle.life_rules.specs.declared.words.CallbackPhase.{CallbackPhase}
 use Rattle.life_rules.specs.Words.{is_never, is_armed, is_running, has_run, is_open}
-use Rattle.life_rules.specs.Views.{View, one, is_scanning, scan_at}
-use Rattle.life_rules.specs.States.{State, phase_at, nearest_of, total, with_view, stand}
+use Rattle.life_rules.specs.Views.{View, is_scanning, scan_at}
+use Rattle.common_lemmas.specs.Sums.{one}
+use Rattle.life_rules.specs.States.{State, phase_at, nearest_of, with_view, stand}
+use Rattle.common_lemmas.specs.Sums.{total}
 use Rattle.life_rules.specs.Scans.{index, HasPassed}
 use Rattle.life_rules.specs.Callbacks.{BeginsInOrder, ArmedLives, is_next_of_nearest}
 use Rattle.life_rules.specs.Requests.{ScansStand, WasPassed, may_scan}

@@ -6,19 +6,15 @@ use Rattle.life_rules.specs.declared.event.Place.{Place}
 use Rattle.life_rules.specs.declared.words.CallbackPhase.{CallbackPhase}
 use Rattle.life_rules.specs.declared.words.CallbackPhase.TheVariants.{Ran, Removed, Never, Armed, Running}
 use Rattle.life_rules.specs.Words.{is_never, is_armed, is_running, is_open, is_idle, is_under_way}
-use Rattle.life_rules.specs.Views.{View, one, same}
+use Rattle.life_rules.specs.Views.{View, same}
+use Rattle.common_lemmas.specs.Sums.{one}
 use Rattle.life_rules.specs.States.{State, phase_at, control_at, name_at, set_at, is_live}
 use Rattle.life_rules.specs.Callbacks.{BeginsInOrder, ArmedLives}
-use Rattle.life_rules.proofs.Tests.{same-refl, either, same-true}
+use Rattle.life_rules.proofs.Names.{by_name}
+use Rattle.common_lemmas.proofs.Bool.{either}
 use Rattle.life_rules.proofs.Readings.{begun-live, lives, read-here, read-other}
 use Rattle.stop_kept.proofs.StopFrames.{changed}
 use Rattle.stop_kept.proofs.Standing.{begun}
-
--- two names are one or not
-pub name_cases : {G : Type 0} (x y : Name) → (x ≡ y → G) → ((x ≡ y → ⊥) → G) → G
-name_cases x y one other =
-    either (same x y) (λ e. one (same-true x y e))
-    (λ e. other (λ at. both_ways _ e (subst (λ z. same x z ≡ true) at (same-refl x))))
 
 -- the callback word of x, which is under way, reads `phase` in t, and each other one as in s
 pub record Writes (s t : State) (x : Name) (phase : CallbackPhase) : Type 0 where
@@ -75,7 +71,7 @@ pub armed-written : (s : State) (c : ℕ → ℕ → CallbackPhase) (w : ℕ →
     ArmedLives s → Writes s (changed s c s.source s.scope_source w) x phase →
     ArmedLives (changed s c s.source s.scope_source w)
 armed-written s c w x phase armed wrote y e =
-    name_cases y x
+    by_name y x
     (λ at. subst (λ z. is_under_way (control_at s z) ≡ true) (sym at) wrote.under_way)
     (λ other. armed y (subst (λ f. (is_armed f || is_running f) ≡ true) (wrote.there y other) e))
 
@@ -84,7 +80,7 @@ pub tests_alike : (s t : State) (x : Name) (old new : CallbackPhase) (f : Callba
     Writes s t x new → phase_at s x ≡ old → f new ≡ f old → (y : Name) →
     f (phase_at t y) ≡ f (phase_at s y)
 tests_alike s t x old new f wrote was alike y =
-    name_cases y x
+    by_name y x
     (λ at. subst (λ z. f (phase_at t z) ≡ f (phase_at s z)) (sym at)
     (ap f wrote.here ∙ alike ∙ sym (ap f was)))
     (λ other. ap f (wrote.there y other))

@@ -10,17 +10,20 @@ use Rattle.life_rules.specs.declared.event.SourceRef.TheVariants.{Scope, Node}
 use Rattle.life_rules.specs.declared.words.CallbackPhase.{CallbackPhase}
 use Rattle.life_rules.specs.declared.words.CallbackPhase.TheVariants.{Armed, Running}
 use Rattle.life_rules.specs.Words.{is_never, is_armed, is_running, has_run}
-use Rattle.life_rules.specs.Views.{View, one, same, gain}
-use Rattle.life_rules.specs.States.{State, phase_at, bits_at, total, with_view, name_at, set_at, name_of}
+use Rattle.life_rules.specs.Views.{View, same, gain}
+use Rattle.common_lemmas.specs.Sums.{one}
+use Rattle.life_rules.specs.States.{State, phase_at, bits_at, with_view, name_at, set_at, name_of}
+use Rattle.common_lemmas.specs.Sums.{total}
 use Rattle.life_rules.specs.Scans.{index, HasPassed}
 use Rattle.life_rules.specs.StopSteps.{passed, source_of, may_run, after_run}
 use Rattle.life_rules.specs.Callbacks.{RunsAreScanned, is_next_of_nearest, nearest_is_requested}
 use Rattle.life_rules.specs.Requests.{WasPassed, IsNoted, may_scan}
 use Rattle.life_rules.specs.Sound.{Sound}
-use Rattle.life_rules.proofs.Tests.{one-true, one-false, same-refl, same-other}
+use Rattle.common_lemmas.proofs.Bool.{one-true, one-false}
+use Rattle.life_rules.proofs.Names.{same-refl, same-other, by_name}
 use Rattle.life_rules.proofs.Readings.{stand-with_view}
 use Rattle.stop_kept.proofs.StopFrames.{changed, related, SameRoles, owned-kept, counted-kept, associations-kept, next-frame}
-use Rattle.stop_kept.proofs.Phases.{name_cases, Writes, writes, set_at-shut, begins-written, armed-written, armed-is}
+use Rattle.stop_kept.proofs.Phases.{Writes, writes, set_at-shut, begins-written, armed-written, armed-is}
 use Rattle.stop_kept.proofs.Notes.{is_noted}
 use Rattle.stop_kept.proofs.ScanAt.{armed-live, passed-but, Next, next_of, place-node, runs-other, next-of}
 use Rattle.stop_kept.proofs.Passes.{passer, Passes, sound-passing}
@@ -86,7 +89,7 @@ runs-start s h p source sound l g wrote was =
       runs = λ y.
           let moved = stand-with_view s h u (λ a. a.runs) y l in
           let before = sound.runs.runs y in
-          name_cases y x
+          by_name y x
           (λ at.
           let here : gain x v.runs y ≡ v.runs y + 1 =
           ap (λ n. v.runs y + n) (one-true (subst (λ z. same x z ≡ true) (sym at) (same-refl x))) in
@@ -106,12 +109,12 @@ runs-start s h p source sound l g wrote was =
           (λ v f run. next-frame s c s.source s.scope_source w v v y (λ a near. refl) ∙ f run)
           (λ f run.
           next-frame s c s.source s.scope_source w v u y (λ a near. refl)
-          ∙ name_cases y x
+          ∙ by_name y x
           (λ at. subst (λ z. is_next_of_nearest s v z ≡ true) (sym at) (next-of s v source p.block p.node g))
           (λ other. f (subst (λ n. 1 ≤ n) (gained y other) run)))
           k (sound.runs.next k y below);
       cause = λ y e.
-          name_cases y x
+          by_name y x
           (λ at.
           subst (λ z. nearest_is_requested s z ≡ true) (sym at)
           (subst (λ o. option_map_or (λ a. (bits_at s a).requested) o false ≡ true) (sym g.near)
@@ -180,14 +183,14 @@ sound-start s h p source sound l g armed =
             related s h u (λ v b. v.seen ≡ b.seen) (λ _. refl) refl k in
             sound.requests.seen k a below (ap (λ f. f a) seen ∙ e);
         noted = λ k y below e.
-            name_cases y x
+            by_name y x
             (λ at. subst (λ z. is_never (phase_at t z) ≡ false) (sym at) (ap is_never wrote.here))
             (λ other.
             ap is_never (wrote.there y other)
             ∙ sound.requests.noted k y below (sym (noted k y) ∙ e));
       };
       missed = λ y a near still passed.
-          name_cases y x
+          by_name y x
           (λ at.
           absurd (both_ways _ (ap is_armed wrote.here)
           (subst (λ z. is_armed (phase_at t z) ≡ true) at still)))

@@ -10,11 +10,11 @@ use Rattle.life_rules.specs.declared.event.SourceRef.{SourceRef}
 use Rattle.life_rules.specs.Words.{is_never, is_armed, is_running}
 use Rattle.life_rules.specs.Views.{View, same_source}
 use Rattle.life_rules.specs.States.{State, phase_at, nearest_of, size, is_live, name_of, is_place}
-use Rattle.life_rules.specs.Scans.{index, HasPassed, is_next_in, is_for, is_next, place_at, has_none}
+use Rattle.life_rules.specs.Scans.{index, HasPassed, is_next_in, is_nearest, is_next, place_at, has_none}
 use Rattle.life_rules.specs.StopSteps.{passed}
 use Rattle.life_rules.specs.Callbacks.{is_next_of_nearest}
 use Rattle.life_rules.specs.Sound.{Sound}
-use Rattle.life_rules.proofs.Tests.{same_source-true, same_source-refl}
+use Rattle.life_rules.proofs.Names.{same_source-true, same_source-refl}
 use Rattle.life_rules.proofs.Readings.{lives, name_of-live}
 use Rattle.life_rules.proofs.ScanOrder.{has_none-at, place_at-index, next-first}
 use Rattle.stop_kept.proofs.Standing.{phase-live, runs-running}
@@ -33,7 +33,7 @@ running-live s x e = phase-live s x (ap is_never (running-is (phase_at s x) e))
 
 -- a callback of x is registered on its nearest source
 pub nearest-for : (s : State) (x : Name) (source : SourceRef) → nearest_of s x ≡ Some source →
-    is_for s source x ≡ true
+    is_nearest s source x ≡ true
 nearest-for s x source near =
     subst (λ o. option_map_or (same_source source) o false ≡ true) (sym near) (same_source-refl source)
 
@@ -85,16 +85,16 @@ pub next-one : (s : State) (source : SourceRef) (i b n : ℕ) (y : Name) → n <
     is_next s source i (name_of s b n) ≡ true → is_next s source i y ≡ true → y ≡ name_of s b n
 next-one s source i b n y l live next_x next_y =
     let x : Name = name_of s b n in
-    let for_x : is_for s source x ≡ true = (and_parts _ _ next_x).0 in
-    let for_y : is_for s source y ≡ true = (and_parts _ _ next_y).0 in
+    let for_x : is_nearest s source x ≡ true = (and_parts _ _ next_x).0 in
+    let for_y : is_nearest s source y ≡ true = (and_parts _ _ next_y).0 in
     let from_x : i ≤ index s x = next-from s source i x next_x in
     let from_y : i ≤ index s y = next-from s source i y next_y in
     let up : index s x ≤ index s y = next-first s source i x y next_x live for_y from_y in
     elim (cases_lt (index s x) (index s y)) [
       | inl before ↦
-          let apart : is_for s source (place_at s (index s x)) ≡ false =
+          let apart : is_nearest s source (place_at s (index s x)) ≡ false =
           has_none-at s source i (index s y - i) (index s x) (next-none s source i y next_y) from_x (omega (arith, before, from_y)) in
-          absurd (both_ways _ (subst (λ z. is_for s source z ≡ false) (place_at-index s b n l) apart) for_x)
+          absurd (both_ways _ (subst (λ z. is_nearest s source z ≡ false) (place_at-index s b n l) apart) for_x)
       | inr behind ↦ same-number s b n y l live (omega (arith, up, behind))
     ]
 
@@ -133,7 +133,7 @@ pub next_of : (s : State) (v : View) (source : SourceRef) (b n : ℕ) → n < si
 next_of s v source b n l next =
     let x : Name = name_of s b n in
     let at = map_or-some (λ i. is_next s source i x) (v.scan source) next in
-    let for_x : is_for s source x ≡ true = (and_parts _ _ at.2).0 in
+    let for_x : is_nearest s source x ≡ true = (and_parts _ _ at.2).0 in
     record {
       i = at.0;
       at = at.1;

@@ -10,16 +10,18 @@ use Rattle.life_rules.specs.declared.event.SourceRef.{SourceRef}
 use Rattle.life_rules.specs.declared.event.SourceRef.TheVariants.{Scope, Node}
 use Rattle.life_rules.specs.declared.words.Bits.{Bits}
 use Rattle.life_rules.specs.Words.{is_armed}
-use Rattle.life_rules.specs.Views.{View, one, is_scanning, scan_at, same_source}
-use Rattle.life_rules.specs.States.{State, phase_at, bits_at, nearest_of, total, with_view, name_at, is_live}
-use Rattle.life_rules.specs.Scans.{index, HasPassed, is_for, is_past_all}
+use Rattle.life_rules.specs.Views.{View, is_scanning, scan_at, same_source}
+use Rattle.common_lemmas.specs.Sums.{one}
+use Rattle.life_rules.specs.States.{State, phase_at, bits_at, nearest_of, with_view, name_at, is_live}
+use Rattle.common_lemmas.specs.Sums.{total}
+use Rattle.life_rules.specs.Scans.{index, HasPassed, is_nearest, is_past_all}
 use Rattle.life_rules.specs.StopSteps.{may_seal_scan, after_seal_scan}
 use Rattle.life_rules.specs.Callbacks.{is_next_of_nearest}
 use Rattle.life_rules.specs.Requests.{ScansStand, WasPassed, may_scan, IsScannable}
 use Rattle.life_rules.specs.Associations.{ScopeRequested}
 use Rattle.life_rules.specs.Sound.{Sound}
-use Rattle.life_rules.proofs.Tests.{one-true}
-use Rattle.life_rules.proofs.Totals.{total-most, total-single}
+use Rattle.common_lemmas.proofs.Bool.{one-true}
+use Rattle.common_lemmas.proofs.Totals.{total-most, total-single}
 use Rattle.life_rules.proofs.ScanOrder.{past_all-behind}
 use Rattle.stop_kept.proofs.StopFrames.{related, related_at, SameRoles, next-frame}
 use Rattle.stop_kept.proofs.Standing.{runs-running}
@@ -169,7 +171,7 @@ passed-sealing s h source l g y a near armed was =
       | inl scanned ↦
           source_cases a source
           (λ at.
-          let for_y : is_for s source y ≡ true = nearest-for s y source (near ∙ ap Some at) in
+          let for_y : is_nearest s source y ≡ true = nearest-for s y source (near ∙ ap Some at) in
           let behind : index s y < g.i =
           past_all-behind s source g.i y g.past (armed-live s y armed) for_y in
           let passed : HasPassed s (s.view h) a y =

@@ -6,7 +6,8 @@ use Rattle.life_rules.specs.declared.event.SourceRef.TheVariants.{Scope}
 use Rattle.life_rules.specs.declared.words.BlockState.{BlockState}
 use Rattle.life_rules.specs.declared.words.BlockState.TheVariants.{Free, Open, Retired}
 use Rattle.life_rules.specs.Words.{is_open, is_free}
-use Rattle.life_rules.specs.States.{State, total, size, is_live, name_of}
+use Rattle.life_rules.specs.States.{State, size, is_live, name_of}
+use Rattle.common_lemmas.specs.Sums.{total}
 use Rattle.life_rules.specs.Scans.{index, is_next_in}
 use Rattle.life_rules.specs.StopSteps.{may_skip, after_skip}
 use Rattle.life_rules.specs.Sound.{Sound}

@@ -7,14 +7,17 @@ use Rattle.life_rules.specs.declared.event.SourceRef.{SourceRef}
 use Rattle.life_rules.specs.declared.event.SourceRef.TheVariants.{Scope, Node}
 use Rattle.life_rules.specs.declared.words.Bits.{Bits}
 use Rattle.life_rules.specs.Words.{is_armed, is_open, is_idle, clear}
-use Rattle.life_rules.specs.Views.{View, one, scan_at, same_source}
-use Rattle.life_rules.specs.States.{State, phase_at, bits_at, nearest_of, total, control_at, set_at, is_live}
+use Rattle.life_rules.specs.Views.{View, scan_at, same_source}
+use Rattle.common_lemmas.specs.Sums.{one}
+use Rattle.life_rules.specs.States.{State, phase_at, bits_at, nearest_of, control_at, set_at, is_live}
+use Rattle.common_lemmas.specs.Sums.{total}
 use Rattle.life_rules.specs.StopSteps.{passed}
 use Rattle.life_rules.specs.Callbacks.{is_next_of_nearest, nearest_is_requested}
 use Rattle.life_rules.specs.Requests.{ScansStand, WasPassed}
 use Rattle.life_rules.specs.Associations.{ScopeRequested}
 use Rattle.life_rules.specs.Sound.{Sound}
-use Rattle.life_rules.proofs.Tests.{same_source-true, either, same_source-refl}
+use Rattle.life_rules.proofs.Names.{same_source-true, same_source-refl}
+use Rattle.common_lemmas.proofs.Bool.{either}
 use Rattle.life_rules.proofs.Readings.{begun-live, read-here, read-other}
 use Rattle.stop_kept.proofs.StopFrames.{changed, SameRoles, owned-kept, counted-kept, associations-kept}
 use Rattle.stop_kept.proofs.Standing.{begun}

@@ -9,7 +9,7 @@ use Rattle.life_rules.specs.Words.{is_never, is_running, is_idle, is_under_way, 
 use Rattle.life_rules.specs.States.{State, phase_at, control_at, is_live}
 use Rattle.life_rules.specs.Owned.{Owned}
 use Rattle.life_rules.specs.Callbacks.{RunsAreScanned}
-use Rattle.life_rules.proofs.Tests.{either, one-is}
+use Rattle.common_lemmas.proofs.Bool.{either, one-is}
 use Rattle.life_rules.proofs.Readings.{stand-at}
 
 held-under_way : (word : ControlWord) → is_held word ≡ true → is_under_way word ≡ true

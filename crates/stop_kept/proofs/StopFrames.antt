@@ -11,7 +11,7 @@ use Rattle.life_rules.specs.declared.words.CallbackPhase.{CallbackPhase}
 use Rattle.life_rules.specs.Words.{is_open}
 use Rattle.life_rules.specs.Views.{View, same, blank}
 use Rattle.life_rules.specs.States.{State, nearest_of, with_view}
-use Rattle.life_rules.specs.Scans.{index, is_next_in, is_for}
+use Rattle.life_rules.specs.Scans.{index, is_next_in, is_nearest}
 use Rattle.life_rules.specs.Owned.{Counted, Owned, IsOwned}
 use Rattle.life_rules.specs.Callbacks.{is_next_of_nearest}
 use Rattle.life_rules.specs.Associations.{Associations}
@@ -110,7 +110,7 @@ next_in-frame s c q z w v u source x e =
     let t = changed s c q z w in
     ap (λ o. is_next_in t (record u { scan = λ _. o }) source x) e
     ∙ ap (λ f. option_map_or f (v.scan source) false)
-    (fun_ext (λ i. ap (λ b. is_for s source x && (nat_le i (index s x) && b))
+    (fun_ext (λ i. ap (λ b. is_nearest s source x && (nat_le i (index s x) && b))
     (has_none-frame s t source i (index s x - i) (λ j. refl))))
 
 pub next-frame : (s : State) (c : ℕ → ℕ → CallbackPhase) (q : ℕ → ℕ → Bits) (z : Bits)

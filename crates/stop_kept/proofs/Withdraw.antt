@@ -16,7 +16,8 @@ use Rattle.life_rules.specs.Requests.{IsNoted}
 use Rattle.life_rules.specs.Sound.{Sound}
 use Rattle.stop_kept.proofs.StopFrames.{changed, related, owned-kept, associations-kept}
 use Rattle.stop_kept.proofs.Standing.{holds-under_way}
-use Rattle.stop_kept.proofs.Phases.{name_cases, Writes, writes, set_at-shut, begins-written, armed-written, tests_alike, armed-is}
+use Rattle.life_rules.proofs.Names.{by_name}
+use Rattle.stop_kept.proofs.Phases.{Writes, writes, set_at-shut, begins-written, armed-written, tests_alike, armed-is}
 use Rattle.stop_kept.proofs.Notes.{SameDoings, is_noted, runs-kept, scans-kept, scope-kept, sound-noted, note-true}
 use Rattle.stop_kept.proofs.Sources.{requested_of}
 
@@ -50,7 +51,7 @@ sound-remove s h p sound l holds armed =
             tests_alike s t x Armed Removed is_never wrote was refl y ∙ sound.requests.noted i y below e;
       };
       missed = λ y source near armed passed.
-          name_cases y x
+          by_name y x
           (λ at.
           absurd (both_ways _ (ap is_armed wrote.here)
           (subst (λ z. is_armed (phase_at t z) ≡ true) at armed)))

@@ -1,6 +1,6 @@
 use Rattle.std.proofs.Common.{◌<◌, ℕ}
 use Rattle.std.specs.Prelude.{IsTrue}
-use Rattle.life_rules.specs.Tree.{is_node}
+use Rattle.node_tree.specs.Tree.{is_node}
 use Rattle.node_tree.proofs.fault.first_fault.Given as goal
 
 abbrev pub invariant-loop-node : goal.invariant-loop-node

@@ -1,5 +1,5 @@
 use Rattle.std.proofs.Common.{◌≡◌, ◌<◌, ◌≤◌, length, ℕ, get_or}
-use Rattle.life_rules.specs.Tree.{nearest}
+use Rattle.node_tree.specs.Tree.{nearest}
 use Rattle.node_tree.specs.declared.nearest.NearestSource.TheVariants.{Scope}
 use Rattle.node_tree.specs.Nearest.{read}
 use Rattle.node_tree.proofs.nearest.nearest_sources.Given as goal

@@ -1,6 +1,6 @@
 use Rattle.std.proofs.Common.{◌∙◌, ap, arith, length, ◌<◌, subst, List}
 use Rattle.std.proofs.lemmas.List.{get_or_read}
-use Rattle.life_rules.specs.declared.tree.TreeNode.{TreeNode}
+use Rattle.node_tree.specs.declared.node.TreeNode.{TreeNode}
 use Rattle.node_tree.specs.declared.nearest.NearestSource.TheVariants.{Scope}
 use Rattle.node_tree.specs.Nearest.{read, IsSourceOf}
 use Rattle.node_tree.proofs.Walk.{source-read}

@@ -1,13 +1,7 @@
-//! The tree of an operation's nodes.
+//! The nodes of a tree.
 
 /// The most nodes of a tree: 1,024 of a plan, and the receiver node above them.
 pub const MOST_NODES: usize = 1_025;
-
-/// The most blocks of a table.
-pub const MOST_BLOCKS: u32 = 256;
-
-/// The most hands that work on a table.
-pub const MOST_HANDS: u32 = 32;
 
 /// A node of a tree. Its children have smaller numbers than it has.
 #[derive(Clone, Copy, Debug, PartialEq, Eq)]

@@ -2,8 +2,8 @@
 -- greater number. Some nodes have a stop source, some are unstoppable, none is both.
 use Rattle.std.specs.Prelude.{◌≡◌, ℕ, zero, suc, ◌+◌, ◌-◌, ◌<◌, ◌≤◌, Bool, false, not, ◌&&◌, ◌==◌, nat_lt, if◌then◌else◌, List, length, Option, IsTrue, slice_get, is_none}
 use Rattle.std.specs.Option.{option_map_or, option_and_then}
-use Rattle.life_rules.specs.declared.tree.TreeNode.{TreeNode}
-use Rattle.life_rules.specs.declared.tree.TheConstants.{MOST_NODES}
+use Rattle.node_tree.specs.declared.node.TreeNode.{TreeNode}
+use Rattle.node_tree.specs.declared.node.TheConstants.{MOST_NODES}
 
 -- the node's parent: none for the root
 abbrev pub parent_of : List TreeNode → ℕ → Option ℕ

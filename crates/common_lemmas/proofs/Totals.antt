@@ -1,7 +1,7 @@
 -- Sums below a number: what a change at one place does.
 use Rattle.std.proofs.Common.{◌≡◌, ℕ, zero, suc, ◌+◌, ◌<◌, ◌≤◌, refl, sym, ap, inl, inr, arith}
 use Rattle.std.proofs.lemmas.Bool.{cases_eq, cases_lt}
-use Rattle.life_rules.specs.States.{total}
+use Rattle.common_lemmas.specs.Sums.{total}
 
 pub total-same : (f g : ℕ → ℕ) (n : ℕ) → ((i : ℕ) → i < n → f i ≡ g i) → total f n ≡ total g n
 total-same f g zero e = refl
@@ -16,6 +16,10 @@ total-zero f (suc n) e =
     let before : total f n ≡ 0 = total-zero f n (λ i l. e i (omega arith)) in
     let here : f n ≡ 0 = e n (omega arith) in
     omega (arith, before, here)
+
+pub total-ones : (n : ℕ) → total (λ _. 1) n ≡ n
+total-ones zero = refl
+total-ones (suc n) = omega (arith, total-ones n)
 
 pub total-plus : (f g : ℕ → ℕ) (n : ℕ) → total (λ i. f i + g i) n ≡ total f n + total g n
 total-plus f g zero = refl

@@ -1,0 +1,4 @@
+pub mod Bool
+pub mod Lists
+pub mod Options
+pub mod Totals
