@@ -7,15 +7,19 @@ use Rattle.std.proofs.lemmas.List.Folds.{list_any_more, list_all_at}
 use Rattle.life_rules.specs.declared.event.Name.{Name}
 use Rattle.life_rules.specs.declared.event.Place.{Place}
 use Rattle.life_rules.specs.declared.words.ControlWord.TheVariants.{Idle, Busy}
-use Rattle.life_rules.specs.LifeSteps.{may_leave_node, may_be_awaited, may_await, after_await, are_different}
-use Rattle.life_rules.specs.States.{size, is_place, name_at, control_at, set_at, stand, total}
-use Rattle.life_rules.specs.Tree.{is_child}
-use Rattle.life_rules.specs.Views.{View, one, same, beside, gain_each}
+use Rattle.life_rules.specs.LifeSteps.{may_leave_node, may_be_awaited, may_await, after_await}
+use Rattle.common_lemmas.specs.Lists.{are_different}
+use Rattle.life_rules.specs.States.{size, is_place, name_at, control_at, set_at, stand}
+use Rattle.common_lemmas.specs.Sums.{total}
+use Rattle.node_tree.specs.Tree.{is_child}
+use Rattle.life_rules.specs.Views.{View, same, beside, gain_each}
+use Rattle.common_lemmas.specs.Sums.{one}
 use Rattle.life_rules.specs.Words.{is_idle, pending}
 use Rattle.life_rules.specs.Owned.{weight}
 use Rattle.life_rules.proofs.Readings.{stand-at}
-use Rattle.life_rules.proofs.Tests.{either, one-true, one-false, one-most, same-true}
-use Rattle.life_rules.proofs.Totals.{total-most}
+use Rattle.common_lemmas.proofs.Bool.{either, one-true, one-false, one-most}
+use Rattle.life_rules.proofs.Names.{same-true}
+use Rattle.common_lemmas.proofs.Totals.{total-most}
 use Rattle.life_kept.proofs.Fitting.{Fits-along, idle-word}
 use Rattle.life_kept.proofs.Holding.{held-by, weight-most, leave-needs}
 use Rattle.life_kept.proofs.Members.{any-passes, any-beside, count-different}

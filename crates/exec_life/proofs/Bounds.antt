@@ -3,9 +3,9 @@ use Rattle.std.proofs.Common.{◌-◌, ◌*◌, ◌<◌, ◌≤◌, ◌&&◌, Li
 use Rattle.std.specs.Prelude.{nat_lt}
 use Rattle.std.proofs.lemmas.Bool.{and_parts, ltb-true}
 use Rattle.std.proofs.Math.Nat.{mul-le-mul_left}
-use Rattle.life_rules.specs.declared.tree.TreeNode.{TreeNode}
-use Rattle.life_rules.specs.declared.tree.TheConstants.{MOST_NODES}
-use Rattle.life_rules.specs.Tree.{IsTree, has_place}
+use Rattle.node_tree.specs.declared.node.TreeNode.{TreeNode}
+use Rattle.node_tree.specs.declared.node.TheConstants.{MOST_NODES}
+use Rattle.node_tree.specs.Tree.{IsTree, has_place}
 use Rattle.life_rules.specs.Scans.{end}
 use Rattle.exec_life.specs.StateLists.{StateLists, machine, IsState}
 

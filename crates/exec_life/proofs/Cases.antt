@@ -7,7 +7,8 @@ use Rattle.life_rules.specs.declared.event.SourceRef.{SourceRef}
 use Rattle.life_rules.specs.declared.event.SourceRef.TheVariants.{Scope, Node}
 use Rattle.life_rules.specs.Views.{same, same_source, gain, lose, note}
 use Rattle.life_rules.specs.States.{set_at}
-use Rattle.life_rules.proofs.Tests.{either, one-true, one-false, same-true, same_source-true}
+use Rattle.common_lemmas.proofs.Bool.{either, one-true, one-false}
+use Rattle.life_rules.proofs.Names.{same-true, same_source-true}
 use Rattle.exec_life.specs.StateLists.{said_of, said_of_source}
 
 -- f, but k at x

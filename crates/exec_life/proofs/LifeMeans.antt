@@ -11,11 +11,11 @@ use Rattle.life_rules.specs.declared.words.ControlWord.{ControlWord}
 use Rattle.life_rules.specs.declared.words.ControlWord.TheVariants.{Idle, Busy, ReadyLoop, ReadyPool, Parked, Done}
 use Rattle.life_rules.specs.LifeSteps.{may_leave_node, may_claim, after_claim, may_begin, after_begin, may_rest, after_rest, may_take, after_take, may_finish, after_finish, root_of}
 use Rattle.life_rules.specs.States.{State, size, is_place, name_of, name_at, is_live, control_at, phase_at, stand, with_view, with_block, with_control}
-use Rattle.life_rules.specs.Tree.{is_root}
+use Rattle.node_tree.specs.Tree.{is_root}
 use Rattle.life_rules.specs.Views.{View, blank}
 use Rattle.life_rules.specs.Words.{is_free, is_open, is_held, is_under_way, may_be_taken, resting_at}
 use Rattle.life_rules.proofs.Readings.{stand-at, lives}
-use Rattle.life_rules.proofs.Tests.{either}
+use Rattle.common_lemmas.proofs.Bool.{either}
 use Rattle.life_kept.proofs.Fitting.{Fits-along}
 use Rattle.life_laws.proofs.Blocks.{free-shut}
 use Rattle.exec_life.specs.declared.view.Role.TheVariants.{Nothing, Holds, OwesStart, OwesReport, HoldsFinished}

@@ -6,13 +6,14 @@ use Rattle.std.proofs.lemmas.Option.{get_or_from_slice_get, slice_get_within}
 use Rattle.life_rules.specs.declared.event.Name.{Name}
 use Rattle.life_rules.specs.declared.event.SourceRef.{SourceRef}
 use Rattle.life_rules.specs.declared.event.SourceRef.TheVariants.{Scope, Node}
-use Rattle.life_rules.specs.declared.tree.TheConstants.{MOST_BLOCKS, MOST_HANDS}
+use Rattle.life_rules.specs.declared.limits.TheConstants.{MOST_BLOCKS, MOST_HANDS}
 use Rattle.life_rules.specs.Opening.{opening}
 use Rattle.life_rules.specs.Sound.{Sound}
-use Rattle.life_rules.specs.Tree.{IsTree}
-use Rattle.life_rules.specs.Views.{one, blank}
+use Rattle.node_tree.specs.Tree.{IsTree}
+use Rattle.common_lemmas.specs.Sums.{one}
+use Rattle.life_rules.specs.Views.{blank}
 use Rattle.life_rules.proofs.Opened.{sound-opening}
-use Rattle.node_tree.proofs.Walk.{known}
+use Rattle.common_lemmas.proofs.Options.{known}
 use Rattle.exec_life.specs.declared.view.Role.{Role}
 use Rattle.exec_life.specs.declared.view.Role.TheVariants.{Nothing}
 use Rattle.exec_life.specs.StateLists.{StateLists, machine, view_of, generations, said_of, said_of_source, IsState}

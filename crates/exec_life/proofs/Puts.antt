@@ -7,7 +7,7 @@ use Rattle.life_rules.specs.declared.words.BlockWord.{BlockWord}
 use Rattle.life_rules.specs.declared.event.Place.{Place}
 use Rattle.life_rules.specs.States.{State, is_place, with_view}
 use Rattle.life_rules.specs.Views.{View}
-use Rattle.life_rules.proofs.Tests.{either}
+use Rattle.common_lemmas.proofs.Bool.{either}
 use Rattle.exec_life.specs.Parts.{Means}
 use Rattle.exec_life.specs.StateLists.{StateLists, machine, view_of, generations, IsFitted, IsState, IsOver}
 use Rattle.exec_life.specs.ViewLists.{ViewLists, KnowsPlace}

@@ -11,10 +11,12 @@ use Rattle.life_rules.specs.declared.words.CallbackPhase.TheVariants.{Never}
 use Rattle.life_rules.specs.declared.words.ControlWord.TheVariants.{Idle}
 use Rattle.life_rules.specs.LifeSteps.{root_of, may_release, after_release, next_word}
 use Rattle.life_rules.specs.States.{stand}
-use Rattle.life_rules.specs.Views.{View, one, same, lose, forget, blank, is_scanning}
+use Rattle.life_rules.specs.Views.{View, same, lose, forget, blank, is_scanning}
+use Rattle.common_lemmas.specs.Sums.{one}
 use Rattle.life_rules.specs.Words.{clear}
 use Rattle.life_rules.proofs.Readings.{stand-at}
-use Rattle.life_rules.proofs.Tests.{either, same-other}
+use Rattle.common_lemmas.proofs.Bool.{either}
+use Rattle.life_rules.proofs.Names.{same-other}
 use Rattle.exec_life.specs.Grids.{row_at}
 use Rattle.exec_life.specs.Parts.{Means}
 use Rattle.exec_life.specs.StateLists.{StateLists, machine, view_of, generations, IsState}
@@ -22,7 +24,7 @@ use Rattle.exec_life.specs.ViewLists.{ViewLists}
 use Rattle.exec_life.specs.ViewWrites.{Forgets, ForgetsFirst}
 use Rattle.exec_life.specs.WordLists.{WordLists, block_word, control_word, callback_word, source_word}
 use Rattle.exec_life.specs.WordWrites.{SetsBlock, ClearsWords}
-use Rattle.node_tree.proofs.Walk.{known}
+use Rattle.common_lemmas.proofs.Options.{known}
 use Rattle.exec_life.proofs.StateMeans.{view-is}
 use Rattle.exec_life.proofs.ForgetMeans.{forgotten-view}
 use Rattle.exec_life.proofs.ReleasedNames.{no_holds, no_starts, no_reports, no_runs, no_scan, no_finished}

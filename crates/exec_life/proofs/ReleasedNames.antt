@@ -9,12 +9,14 @@ use Rattle.life_rules.specs.declared.words.ControlWord.TheVariants.{Idle}
 use Rattle.life_rules.specs.LifeSteps.{root_of, may_release}
 use Rattle.life_rules.specs.Sound.{Sound}
 use Rattle.life_rules.specs.States.{State, size, is_live, name_of, control_at, bits_at, stand}
-use Rattle.life_rules.specs.Tree.{is_root}
-use Rattle.life_rules.specs.Views.{one, same, lose, is_scanning}
+use Rattle.node_tree.specs.Tree.{is_root}
+use Rattle.common_lemmas.specs.Sums.{one}
+use Rattle.life_rules.specs.Views.{same, lose, is_scanning}
 use Rattle.life_rules.specs.Words.{clear, is_done, is_running}
 use Rattle.life_rules.proofs.Readings.{stand-at, lives, name_of-live}
-use Rattle.life_rules.proofs.Tests.{either, one-false, one-most, same-true, same-refl}
-use Rattle.life_rules.proofs.Totals.{total-single}
+use Rattle.common_lemmas.proofs.Bool.{either, one-false, one-most}
+use Rattle.life_rules.proofs.Names.{same-true, same-refl}
+use Rattle.common_lemmas.proofs.Totals.{total-single}
 use Rattle.life_kept.proofs.Fitting.{Fits-along}
 use Rattle.life_kept.proofs.Quiet.{quiet-at_release}
 

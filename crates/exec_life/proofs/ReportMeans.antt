@@ -7,10 +7,10 @@ use Rattle.life_rules.specs.declared.event.Place.{Place}
 use Rattle.life_rules.specs.declared.words.ControlWord.TheVariants.{Busy}
 use Rattle.life_rules.specs.LifeSteps.{may_report, after_report, reported_to}
 use Rattle.life_rules.specs.States.{State, size, is_place, name_of, name_at, control_at, with_view, with_control}
-use Rattle.life_rules.specs.Tree.{parent_of}
+use Rattle.node_tree.specs.Tree.{parent_of}
 use Rattle.life_rules.specs.Views.{View}
 use Rattle.life_rules.specs.Words.{is_held, is_under_way, pending, one_less}
-use Rattle.life_rules.proofs.Tests.{either}
+use Rattle.common_lemmas.proofs.Bool.{either}
 use Rattle.life_kept.proofs.Fitting.{pending-word}
 use Rattle.node_tree.proofs.Walk.{parent_within}
 use Rattle.exec_life.specs.declared.view.Role.TheVariants.{Nothing, Holds, OwesReport}

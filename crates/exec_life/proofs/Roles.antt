@@ -6,11 +6,12 @@ use Rattle.life_rules.specs.declared.event.Name.{Name}
 use Rattle.life_rules.specs.declared.event.Place.{Place}
 use Rattle.life_rules.specs.declared.words.ControlWord.{ControlWord}
 use Rattle.life_rules.specs.States.{name_of, name_at, control_at, with_view, with_control}
-use Rattle.life_rules.specs.Views.{View, one, gain, lose}
+use Rattle.life_rules.specs.Views.{View, gain, lose}
+use Rattle.common_lemmas.specs.Sums.{one}
 use Rattle.life_rules.specs.Words.{is_held, is_under_way}
 use Rattle.life_kept.proofs.Fitting.{Fits-busy}
 use Rattle.life_rules.proofs.Readings.{stand-at}
-use Rattle.life_rules.proofs.Tests.{one-is, one-false}
+use Rattle.common_lemmas.proofs.Bool.{one-is, one-false}
 use Rattle.exec_life.specs.declared.view.Role.{Role}
 use Rattle.exec_life.specs.declared.view.Role.TheVariants.{Nothing, Holds, OwesStart, OwesReport, HoldsFinished}
 use Rattle.exec_life.specs.Parts.{Means}

@@ -7,7 +7,7 @@ use Rattle.life_rules.specs.declared.event.SourceAt.TheVariants.{Scope as AtScop
 use Rattle.life_rules.specs.LifeSteps.{reported_to}
 use Rattle.life_rules.specs.States.{State, name_at, name_of, phase_at}
 use Rattle.life_rules.specs.Steps.{after}
-use Rattle.life_rules.specs.Tree.{parent_of}
+use Rattle.node_tree.specs.Tree.{parent_of}
 use Rattle.life_rules.specs.Words.{is_armed}
 use Rattle.exec_life.specs.Reading.{SameTable}
 

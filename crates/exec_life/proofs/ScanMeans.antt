@@ -12,9 +12,10 @@ use Rattle.life_rules.specs.declared.words.CallbackPhase.TheVariants.{Running}
 use Rattle.life_rules.specs.Scans.{index}
 use Rattle.life_rules.specs.States.{size, name_at, phase_at, bits_at, nearest_of, with_view, with_callback}
 use Rattle.life_rules.specs.StopSteps.{source_of, after_run, passed, after_seal_scan, after_skip}
-use Rattle.life_rules.specs.Views.{View, one, gain, lose, scan_at}
+use Rattle.life_rules.specs.Views.{View, gain, lose, scan_at}
+use Rattle.common_lemmas.specs.Sums.{one}
 use Rattle.life_rules.specs.Words.{is_armed}
-use Rattle.life_rules.proofs.Tests.{one-most}
+use Rattle.common_lemmas.proofs.Bool.{one-most}
 use Rattle.exec_life.specs.Parts.{Means, after_run_over}
 use Rattle.exec_life.specs.StateLists.{StateLists, machine, view_of, generations}
 use Rattle.exec_life.specs.ViewLists.{ViewLists, runs_in}

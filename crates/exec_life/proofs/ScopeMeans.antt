@@ -8,10 +8,11 @@ use Rattle.life_rules.specs.declared.words.ControlWord.TheVariants.{ReadyLoop}
 use Rattle.life_rules.specs.Associations.{kept}
 use Rattle.life_rules.specs.Scopes.{is_refused}
 use Rattle.life_rules.specs.ScopeSteps.{after_rouse, after_enter, after_mark_used, after_leave, entered, left}
-use Rattle.life_rules.specs.States.{total, with_view, with_scope}
+use Rattle.common_lemmas.specs.Sums.{total}
+use Rattle.life_rules.specs.States.{with_view, with_scope}
 use Rattle.life_rules.specs.Views.{View}
-use Rattle.life_rules.proofs.Tests.{either}
-use Rattle.life_rules.proofs.Totals.{total-at}
+use Rattle.common_lemmas.proofs.Bool.{either}
+use Rattle.common_lemmas.proofs.Totals.{total-at}
 use Rattle.life_laws.proofs.Consequences.{count-most}
 use Rattle.exec_life.specs.Parts.{Means}
 use Rattle.exec_life.specs.StateLists.{StateLists, machine, view_of, generations, IsState}

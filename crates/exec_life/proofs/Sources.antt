@@ -7,12 +7,12 @@ use Rattle.life_rules.specs.declared.event.Name.{Name}
 use Rattle.life_rules.specs.declared.event.Place.{Place}
 use Rattle.life_rules.specs.declared.event.SourceAt.{SourceAt}
 use Rattle.life_rules.specs.declared.event.SourceAt.TheVariants.{Scope as AtScope, At}
-use Rattle.life_rules.specs.Scans.{is_next, is_next_in, is_for}
+use Rattle.life_rules.specs.Scans.{is_next, is_next_in, is_nearest}
 use Rattle.life_rules.specs.States.{State, size, is_place, name_at, source_for}
-use Rattle.life_rules.specs.StopSteps.{source_of, is_source, is_nearest, may_look, may_run}
-use Rattle.life_rules.specs.Tree.{Nearest, TheScope, TheNode, Nowhere, nearest, has_source}
+use Rattle.life_rules.specs.StopSteps.{source_of, is_source, may_look, may_run}
+use Rattle.node_tree.specs.Tree.{Nearest, TheScope, TheNode, Nowhere, nearest, has_source}
 use Rattle.life_rules.specs.Views.{beside, same_source}
-use Rattle.life_rules.proofs.Tests.{same-true}
+use Rattle.life_rules.proofs.Names.{same-true}
 use Rattle.life_kept.proofs.Trees.{some-maps}
 use Rattle.node_tree.proofs.Walk.{nearest-source}
 
@@ -38,7 +38,7 @@ near-by s p (At q) Nowhere there e h = absurd (cc)
 
 -- the source on which a callback is registered
 pub near-source : (s : State) (p : Place) (source : SourceAt) → is_place s p ≡ true →
-    is_nearest s (name_at s p) (source_of s source) ≡ true → is_source s source ≡ true
+    is_nearest s (source_of s source) (name_at s p) ≡ true → is_source s source ≡ true
 near-source s p source there h = near-by s p source (nearest s.tree p.node) there refl h
 
 pub look-source : (s : State) (h : ℕ) (source : SourceAt) (after : Option Place) →
@@ -47,7 +47,7 @@ look-source s h source None may = may
 look-source s h source (Some p) may =
     let x = name_at s p in
     let parts = and_parts (is_place s p) _ may in
-    let more = and_parts ((s.view h).unlooked x) (is_nearest s x (source_of s source)) parts.1 in
+    let more = and_parts ((s.view h).unlooked x) (is_nearest s (source_of s source) x) parts.1 in
     near-source s p source parts.0 more.1
 
 pub run-source : (s : State) (h : ℕ) (source : SourceAt) (p : Place) → may_run s h source p ≡ true →
@@ -58,7 +58,7 @@ run-source s h source p may =
     let parts = and_parts (is_place s p) _ may in
     let next = and_parts (is_next_in s v (source_of s source) x) (v.runs x == 0) parts.1 in
     let at = some-maps (v.scan (source_of s source)) (λ i. is_next s (source_of s source) i x) next.0 in
-    near-source s p source parts.0 (and_parts (is_for s (source_of s source) x) _ at.2).0
+    near-source s p source parts.0 (and_parts (is_nearest s (source_of s source) x) _ at.2).0
 
 pub runs-none : (s : State) (h : ℕ) (source : SourceAt) (p : Place) → may_run s h source p ≡ true →
     (s.view h).runs (name_at s p) ≡ 0

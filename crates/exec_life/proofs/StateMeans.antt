@@ -12,7 +12,7 @@ use Rattle.life_rules.specs.declared.words.ControlWord.{ControlWord}
 use Rattle.life_rules.specs.States.{with_view, with_control, with_callback, with_bits}
 use Rattle.life_rules.specs.StopSteps.{source_of}
 use Rattle.life_rules.specs.Views.{View, blank}
-use Rattle.life_rules.proofs.Tests.{either}
+use Rattle.common_lemmas.proofs.Bool.{either}
 use Rattle.exec_life.specs.StateLists.{StateLists, machine, view_of, generations}
 use Rattle.exec_life.specs.ViewLists.{ViewLists}
 use Rattle.exec_life.specs.WordLists.{WordLists}

@@ -11,10 +11,11 @@ use Rattle.life_rules.specs.Owned.{IsUnused}
 use Rattle.life_rules.specs.Sound.{Sound}
 use Rattle.life_rules.specs.States.{State, size, is_place, is_live, name_at, bits_at}
 use Rattle.life_rules.specs.StopSteps.{source_of, is_source}
-use Rattle.life_rules.specs.Views.{View, one}
+use Rattle.life_rules.specs.Views.{View}
+use Rattle.common_lemmas.specs.Sums.{one}
 use Rattle.life_rules.specs.Words.{clear, is_open}
 use Rattle.life_rules.proofs.Readings.{name_at-live}
-use Rattle.life_rules.proofs.Tests.{either}
+use Rattle.common_lemmas.proofs.Bool.{either}
 use Rattle.exec_life.specs.Reading.{TellWords, TellsView}
 use Rattle.exec_life.specs.StateLists.{StateLists, machine, view_of, generations, IsState}
 use Rattle.exec_life.specs.ViewLists.{ViewLists, role_in, runs_in, scan_of, scan_in, seen_in, is_finisher}

@@ -7,7 +7,8 @@ use Rattle.life_rules.specs.declared.event.SourceAt.TheVariants.{Scope as AtScop
 use Rattle.life_rules.specs.declared.event.SourceRef.{SourceRef}
 use Rattle.life_rules.specs.declared.event.SourceRef.TheVariants.{Scope, Node}
 use Rattle.life_rules.specs.StopSteps.{is_scope}
-use Rattle.life_rules.specs.Views.{one, mark, scan_at}
+use Rattle.common_lemmas.specs.Sums.{one}
+use Rattle.life_rules.specs.Views.{mark, scan_at}
 use Rattle.exec_life.specs.declared.view.Role.{Role}
 use Rattle.exec_life.specs.StateLists.{said_of, said_of_source, view_of}
 use Rattle.exec_life.specs.ViewLists.{ViewLists, role_in, runs_in, unlooked_in, seen_after_in, seen_at, scan_of, seen_in, is_holder, is_starter, is_reporter, is_finisher}

@@ -9,7 +9,7 @@ pub mod WordInside
 pub mod Parts
 pub mod Reading
 -- the definitions that the public contracts cite
-pub use Rattle.life_rules.specs.Tree
+pub use Rattle.node_tree.specs.Tree
 pub use Rattle.life_rules.specs.Words
 pub use Rattle.life_rules.specs.Scopes
 pub use Rattle.life_rules.specs.Views

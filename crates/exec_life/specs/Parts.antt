@@ -7,7 +7,7 @@ use Rattle.life_rules.specs.declared.event.SourceRef.TheVariants.{Scope}
 use Rattle.life_rules.specs.Scans.{is_next_in}
 use Rattle.life_rules.specs.States.{State, size, name_of, name_at, control_at, with_view, with_callback}
 use Rattle.life_rules.specs.StopSteps.{some_below, has, run_over}
-use Rattle.life_rules.specs.Tree.{is_child}
+use Rattle.node_tree.specs.Tree.{is_child}
 use Rattle.life_rules.specs.Views.{View, beside}
 use Rattle.life_rules.specs.Words.{is_idle}
 use Rattle.exec_life.specs.declared.parts.Parts.{Parts}

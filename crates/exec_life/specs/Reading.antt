@@ -5,7 +5,7 @@ use Rattle.life_rules.specs.declared.event.SourceAt.{SourceAt}
 use Rattle.life_rules.specs.LifeSteps.{root_of}
 use Rattle.life_rules.specs.States.{State, size, is_place, name_at, control_at, phase_at, bits_at}
 use Rattle.life_rules.specs.StopSteps.{source_of, is_source}
-use Rattle.life_rules.specs.Views.{one}
+use Rattle.common_lemmas.specs.Sums.{one}
 use Rattle.exec_life.specs.ViewLists.{ViewLists, role_in, runs_in, seen_in, scan_in, is_holder, is_starter, is_reporter, is_finisher}
 use Rattle.exec_life.specs.WordLists.{WordLists, block_word, control_word, callback_word, bits_in}
 

@@ -4,12 +4,13 @@ use Rattle.std.specs.Option.{option_map_or}
 use Rattle.life_rules.specs.declared.event.Name.{Name}
 use Rattle.life_rules.specs.declared.event.SourceRef.{SourceRef}
 use Rattle.life_rules.specs.declared.event.SourceRef.TheVariants.{Scope, Node}
-use Rattle.life_rules.specs.declared.scope.ScopeKind.{ScopeKind}
-use Rattle.life_rules.specs.declared.tree.TheConstants.{MOST_BLOCKS, MOST_HANDS}
-use Rattle.life_rules.specs.declared.tree.TreeNode.{TreeNode}
+use Rattle.node_tree.specs.declared.scope_kind.ScopeKind.{ScopeKind}
+use Rattle.life_rules.specs.declared.limits.TheConstants.{MOST_BLOCKS, MOST_HANDS}
+use Rattle.node_tree.specs.declared.node.TreeNode.{TreeNode}
 use Rattle.life_rules.specs.Sound.{Sound}
 use Rattle.life_rules.specs.States.{State}
-use Rattle.life_rules.specs.Views.{View, one, blank}
+use Rattle.life_rules.specs.Views.{View, blank}
+use Rattle.common_lemmas.specs.Sums.{one}
 use Rattle.exec_life.specs.ViewLists.{ViewLists, role_in, runs_in, unlooked_in, seen_after_in, seen_at, scan_of, is_holder, is_starter, is_reporter, is_finisher}
 use Rattle.exec_life.specs.WordLists.{WordLists, block_word, control_word, callback_word, source_word}
 

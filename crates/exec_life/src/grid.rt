@@ -1,7 +1,8 @@
 //! A grid of cells: one for each block and node.
 ghost use Rattle.std.specs.Prelude.{◌≡◌, ◌<◌, ◌≤◌, ◌*◌, ◌+◌, ◌^◌, IfOk, vec_len, length};
 ghost use Rattle.exec_life.specs.Grids.{Cells, at, IsBlank, SetsCell, ClearsRow};
-ghost use Rattle.life_rules.specs.declared.tree.TheConstants.{MOST_NODES, MOST_BLOCKS};
+ghost use Rattle.node_tree.specs.declared.node.TheConstants.{MOST_NODES};
+ghost use Rattle.life_rules.specs.declared.limits.TheConstants.{MOST_BLOCKS};
 
 use life_rules::Place;
 use std::alloc::{AllocError, Global};

@@ -13,24 +13,19 @@ mod scan_needs;
 mod scan_steps;
 mod scope_needs;
 mod scope_steps;
-mod scope_word;
 mod state;
 mod steps;
 mod stop_needs;
 mod stop_steps;
-#[cfg(test)]
-mod tests;
 mod view;
 mod words;
 
 pub use life_laws::{callbacks_run_once, operations_end_once, scopes_join_once, sound_is_kept};
 pub use life_rules::{
-    Bits, BlockState, BlockWord, CallbackPhase, ControlWord, Event, MOST_BLOCKS, MOST_HANDS,
-    MOST_NODES, Name, NodeList, Place, Refused, Resting, ScopeKind, ScopeState, ScopeWord,
-    SourceAt, SourceRef, TreeNode,
+    Bits, BlockState, BlockWord, CallbackPhase, ControlWord, Event, MOST_BLOCKS, MOST_HANDS, Name,
+    Place, Refused, Resting, ScopeState, ScopeWord, SourceAt, SourceRef, refusal, scope_state,
 };
-pub use node_tree::{NearestSource, Tree, TreeFault};
-pub use scope_word::{refusal, scope_state};
+pub use node_tree::{MOST_NODES, NearestSource, NodeList, ScopeKind, Tree, TreeFault, TreeNode};
 pub use state::{State, opening};
 pub use view::View;
 pub use words::Words;

@@ -1,14 +1,16 @@
 //! The needs of the steps of an operation's life.
 ghost use Rattle.std.specs.Prelude.{◌≡◌, ◌<◌, ℕ, true, length};
 ghost use Rattle.std.specs.List.{list_all};
-ghost use Rattle.life_rules.specs.LifeSteps.{may_leave_node, may_claim, may_begin, are_different, may_be_awaited, may_await, may_rest, may_take, may_finish, may_report, may_release};
+ghost use Rattle.life_rules.specs.LifeSteps.{may_leave_node, may_claim, may_begin, may_be_awaited, may_await, may_rest, may_take, may_finish, may_report, may_release};
+ghost use Rattle.common_lemmas.specs.Lists.{are_different};
 ghost use Rattle.life_rules.specs.States.{is_place, name_at};
 ghost use Rattle.life_rules.specs.Words.{may_be_taken};
 ghost use Rattle.exec_life.specs.Parts.{lists_of, shown, IsReady};
 ghost use Rattle.exec_life.specs.StateLists.{IsState};
 
 use crate::parts::Parts;
-use life_rules::{BlockState, CallbackPhase, ControlWord, NodeList, Place};
+use life_rules::{BlockState, CallbackPhase, ControlWord, Place};
+use node_tree::NodeList;
 
 // What is ready in the pool any hand may take, all else hand 0.
 fn may_be_taken(word: ControlWord, hand: u32) -> bool

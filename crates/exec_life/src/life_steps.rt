@@ -2,7 +2,7 @@
 ghost use Rattle.std.specs.Prelude.{◌≡◌, ◌<◌, ◌-◌, ℕ, true, if◌then◌else◌, map, IfSome};
 ghost use Rattle.life_rules.specs.LifeSteps.{may_claim, after_claim, may_begin, after_begin, may_await, after_await, may_rest, after_rest, may_take, after_take, may_finish, after_finish, may_report, after_report, may_release, after_release, next_word};
 ghost use Rattle.life_rules.specs.States.{size, name_at, control_at};
-ghost use Rattle.life_rules.specs.Tree.{is_root};
+ghost use Rattle.node_tree.specs.Tree.{is_root};
 ghost use Rattle.life_rules.specs.Words.{resting_at, pending, one_less};
 ghost use Rattle.exec_life.specs.declared.view.Role.TheVariants.{HoldsFinished, OwesReport};
 ghost use Rattle.exec_life.specs.Parts.{lists_of, shown, IsReady, Means};

@@ -3,9 +3,10 @@ ghost use Rattle.std.specs.Prelude.{◌≡◌, ◌<◌, ◌==◌, true, nat_le, 
 ghost use Rattle.std.specs.Option.{option_map};
 ghost use Rattle.life_rules.specs.LifeSteps.{root_of};
 ghost use Rattle.life_rules.specs.States.{size, is_place, name_at, control_at, phase_at, bits_at, nearest_of};
-ghost use Rattle.life_rules.specs.StopSteps.{source_of, is_source, is_nearest};
+ghost use Rattle.life_rules.specs.Scans.{is_nearest};
+ghost use Rattle.life_rules.specs.StopSteps.{source_of, is_source};
 ghost use Rattle.life_rules.specs.declared.event.SourceRef.TheVariants.{Node};
-ghost use Rattle.life_rules.specs.Tree.{parent_of, has_source};
+ghost use Rattle.node_tree.specs.Tree.{parent_of, has_source};
 ghost use Rattle.life_rules.specs.Views.{is_scanning};
 ghost use Rattle.life_rules.specs.Words.{is_armed};
 ghost use Rattle.exec_life.specs.Parts.{lists_of, shown, IsReady, roles_of};
@@ -14,8 +15,8 @@ ghost use Rattle.exec_life.specs.ViewLists.{KnowsPlace};
 
 use crate::view::{Role, View};
 use crate::words::Words;
-use life_rules::{Bits, CallbackPhase, ControlWord, Place, ScopeKind, SourceAt};
-use node_tree::{NearestSource, Tree};
+use life_rules::{Bits, CallbackPhase, ControlWord, Place, SourceAt};
+use node_tree::{NearestSource, ScopeKind, Tree};
 
 /// The parts of a state.
 #[derive(Debug, Drop)]
@@ -223,7 +224,7 @@ impl Parts {
         requires state { IsState (lists_of self.now) }
         requires place { is_place (shown self.now) place ≡ true }
         ensures { let s = shown self.now in
-            result ≡ is_nearest s (name_at s place) (source_of s source) }
+            result ≡ is_nearest s (source_of s source) (name_at s place) }
     {
         self.nearest(place) == Some(source)
     }

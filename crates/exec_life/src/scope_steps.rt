@@ -6,8 +6,7 @@ ghost use Rattle.exec_life.specs.Parts.{lists_of, shown, IsReady, Means};
 ghost use Rattle.exec_life.specs.StateLists.{IsState};
 
 use crate::parts::Parts;
-use crate::scope_word::refusal;
-use life_rules::{ControlWord, Place, ScopeWord};
+use life_rules::{ControlWord, Place, ScopeWord, refusal};
 
 // Whether a scope turns an association away.
 fn is_refused(word: ScopeWord, most: u32) -> bool

@@ -5,15 +5,15 @@ ghost use Rattle.life_rules.specs.Opening.{opening};
 ghost use Rattle.life_rules.specs.Sound.{Sound};
 ghost use Rattle.life_rules.specs.States.{is_place};
 ghost use Rattle.life_rules.specs.Steps.{may_happen, after};
-ghost use Rattle.life_rules.specs.declared.tree.TheConstants.{MOST_BLOCKS, MOST_HANDS};
+ghost use Rattle.life_rules.specs.declared.limits.TheConstants.{MOST_BLOCKS, MOST_HANDS};
 ghost use Rattle.exec_life.specs.Reading.{TellWords, TellsView, SameTable};
 ghost use Rattle.exec_life.specs.StateLists.{machine};
 
 use crate::parts::Parts;
 use crate::view::{View, blank_views};
 use crate::words::Words;
-use life_rules::{Event, Place, ScopeKind};
-use node_tree::Tree;
+use life_rules::{Event, Place};
+use node_tree::{ScopeKind, Tree};
 use std::alloc::{AllocError, Global};
 use std::marker::Model;
 

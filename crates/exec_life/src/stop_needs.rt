@@ -6,7 +6,8 @@ ghost use Rattle.exec_life.specs.Parts.{lists_of, shown, IsReady, is_in_block, o
 ghost use Rattle.exec_life.specs.StateLists.{IsState};
 
 use crate::parts::Parts;
-use life_rules::{CallbackPhase, ControlWord, Place, ScopeKind, SourceAt};
+use life_rules::{CallbackPhase, ControlWord, Place, SourceAt};
+use node_tree::ScopeKind;
 
 impl Parts {
     /// Arm: the hand holds the node, whose callback place is none, and whose nearest source is one.

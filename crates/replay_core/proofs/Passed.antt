@@ -6,7 +6,8 @@ use Rattle.std.specs.Option.{option_map_or}
 use Rattle.std.proofs.lemmas.Bool.{and_parts, and_left, and_right, cond-true, cond-false, false_from_ne_true, both_ways, false≢true}
 use Rattle.std.proofs.lemmas.List.{append-nil, take_all}
 use Rattle.std.proofs.lemmas.List.Elements.{filter_more}
-use Rattle.life_rules.proofs.Tests.{either, same-true}
+use Rattle.common_lemmas.proofs.Bool.{either}
+use Rattle.life_rules.proofs.Names.{same-true}
 use Rattle.life_rules.specs.declared.event.Event.{Event}
 use Rattle.life_rules.specs.declared.event.Event.TheVariants.{Look, Run}
 use Rattle.life_rules.specs.declared.event.Name.{Name}
@@ -16,8 +17,9 @@ use Rattle.life_rules.specs.declared.event.SourceAt.TheVariants.{Scope, At}
 use Rattle.life_rules.specs.Scans.{is_next, is_next_in}
 use Rattle.life_rules.specs.States.{State, is_place, name_at, source_for}
 use Rattle.life_rules.specs.Steps.{may_happen}
-use Rattle.life_rules.specs.StopSteps.{source_of, is_nearest, may_look, may_run}
-use Rattle.life_rules.specs.Tree.{Nearest, TheScope, TheNode, Nowhere, nearest}
+use Rattle.life_rules.specs.Scans.{is_nearest}
+use Rattle.life_rules.specs.StopSteps.{source_of, may_look, may_run}
+use Rattle.node_tree.specs.Tree.{Nearest, TheScope, TheNode, Nowhere, nearest}
 use Rattle.life_rules.specs.Views.{same_source, same, beside}
 use Rattle.replay_core.specs.Candidates.{place_of, places_of, looks_at, runs_at}
 use Rattle.replay_core.specs.Listings.{Keeps, source_named, is_waiting}
@@ -64,7 +66,7 @@ look-named s h p source Nowhere is may = absurd (false≢true is)
 look-waits : (s : State) (h : ℕ) (source : SourceAt) (p : Place) → may_look s h source (Some p) ≡ true → is_waiting s h p ≡ true
 look-waits s h source p may =
     let at = and_parts (is_place s p) _ may in
-    let near = and_parts ((s.view h).unlooked (name_at s p)) (is_nearest s (name_at s p) (source_of s source)) at.1 in
+    let near = and_parts ((s.view h).unlooked (name_at s p)) (is_nearest s (source_of s source) (name_at s p)) at.1 in
     look-named s h p source (nearest s.tree p.node) near.1 may
 
 -- all looks at a source were tried, where those after the arming of waiting places were

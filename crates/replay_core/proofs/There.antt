@@ -6,7 +6,8 @@ use Rattle.std.proofs.lemmas.List.Folds.{list_all-append, list_all_at}
 use Rattle.std.specs.Option.{option_map_or, option_and_then}
 use Rattle.std.proofs.lemmas.Bool.{and_parts, and_from, eqb-true, lt-ltb, ltb-true, false≢true, both_ways}
 use Rattle.std.proofs.lemmas.Option.{slice_get_within}
-use Rattle.life_rules.proofs.Tests.{same-true, either}
+use Rattle.life_rules.proofs.Names.{same-true}
+use Rattle.common_lemmas.proofs.Bool.{either}
 use Rattle.life_rules.specs.declared.event.Event.{Event}
 use Rattle.life_rules.specs.declared.event.Event.TheVariants.{Claim, Begin, Await, Rest, Take, Finish, Report, Release, Arm, Look, Request, Run, EndRun, Withdraw, WithdrawOwn, SealScan, Skip, Rouse, Enter, MarkUsed, Leave, Close, Join, Seal}
 use Rattle.life_rules.specs.declared.event.Name.{Name}
@@ -15,15 +16,16 @@ use Rattle.life_rules.specs.declared.event.SourceAt.{SourceAt}
 use Rattle.life_rules.specs.declared.event.SourceAt.TheVariants.{Scope as AtScope, At}
 use Rattle.life_rules.specs.declared.event.SourceRef.{SourceRef}
 use Rattle.life_rules.specs.declared.event.SourceRef.TheVariants.{Scope, Node}
-use Rattle.life_rules.specs.declared.tree.TreeNode.{TreeNode}
-use Rattle.life_rules.specs.LifeSteps.{may_be_awaited, may_leave_node, are_different}
-use Rattle.life_rules.specs.Scans.{is_for, is_next, is_next_in}
+use Rattle.node_tree.specs.declared.node.TreeNode.{TreeNode}
+use Rattle.life_rules.specs.LifeSteps.{may_be_awaited, may_leave_node}
+use Rattle.common_lemmas.specs.Lists.{are_different}
+use Rattle.life_rules.specs.Scans.{is_nearest, is_next, is_next_in}
 use Rattle.life_rules.specs.Scopes.{may_seal}
 use Rattle.life_rules.specs.ScopeSteps.{same_word}
 use Rattle.life_rules.specs.States.{State, size, is_place, name_at, nearest_of, source_for}
 use Rattle.life_rules.specs.Steps.{may_happen}
-use Rattle.life_rules.specs.StopSteps.{source_of, is_source, is_nearest, may_end_run}
-use Rattle.life_rules.specs.Tree.{Nearest, TheScope, TheNode, Nowhere, nearest, is_child, parent_of}
+use Rattle.life_rules.specs.StopSteps.{source_of, is_source, may_end_run}
+use Rattle.node_tree.specs.Tree.{Nearest, TheScope, TheNode, Nowhere, nearest, is_child, parent_of}
 use Rattle.life_rules.specs.Views.{View, same, same_source, beside}
 use Rattle.node_tree.proofs.Walk.{nearest-source}
 use Rattle.replay_core.specs.Candidates.{place_of, places_in, places_of, sources_of}
@@ -79,9 +81,9 @@ nearest-there s p (At q) (TheNode m) is there e = own-there s p q m there (neare
 nearest-there s p (At q) Nowhere is there e = absurd (false≢true e)
 
 -- the next place of a scan hears the scan's source
-next-for : (s : State) (source : SourceRef) (x : Name) (scan : Option ℕ) → option_map_or (λ i. is_next s source i x) scan false ≡ true → is_for s source x ≡ true
+next-for : (s : State) (source : SourceRef) (x : Name) (scan : Option ℕ) → option_map_or (λ i. is_next s source i x) scan false ≡ true → is_nearest s source x ≡ true
 next-for s source x None e = absurd (false≢true e)
-next-for s source x (Some i) e = (and_parts (is_for s source x) _ e).0
+next-for s source x (Some i) e = (and_parts (is_nearest s source x) _ e).0
 
 -- what a step names is there
 pub step-there : (s : State) (h : ℕ) (event : Event) → may_happen s h event ≡ true → has_event (setup_in s) event ≡ true

@@ -8,7 +8,7 @@ use Rattle.life_rules.specs.declared.event.SourceAt.TheVariants.{Scope, At}
 use Rattle.life_rules.specs.States.{State, is_place}
 use Rattle.life_rules.specs.Steps.{may_happen}
 use Rattle.life_rules.specs.StopSteps.{may_look}
-use Rattle.life_rules.specs.Tree.{Nearest, TheScope, TheNode, Nowhere, nearest}
+use Rattle.node_tree.specs.Tree.{Nearest, TheScope, TheNode, Nowhere, nearest}
 use Rattle.replay_core.specs.Candidates.{place_of, places_of, sources_of}
 
 -- of these events, those that are steps of the hand were added

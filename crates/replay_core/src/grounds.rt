@@ -9,7 +9,8 @@ ghost use Rattle.replay_core.specs.Listings.{nearest_source};
 ghost use Rattle.replay_core.specs.Candidates.{places_of, places_in, fresh_children as children_of};
 
 use exec_life::{NearestSource, State};
-use life_rules::{ControlWord, NodeList, Place, SourceAt};
+use life_rules::{ControlWord, Place, SourceAt};
+use node_tree::NodeList;
 use std::alloc::{AllocError, Global};
 
 /// All places, by rising block and then node.

@@ -13,8 +13,6 @@ mod check;
 mod grounds;
 mod machine;
 mod replaying;
-#[cfg(test)]
-mod tests;
 
 pub use check::{Verdict, check_trace};
 pub use replaying::replay;

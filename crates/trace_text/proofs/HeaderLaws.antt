@@ -8,9 +8,9 @@ use Rattle.std.proofs.lemmas.Bool.{and_from, cond-true, cond-false, ltb-true, fa
 use Rattle.std.proofs.lemmas.Fmt.{decimal_is_IsNumeral}
 use Rattle.std.proofs.lemmas.List.{append-nil}
 use Rattle.std.proofs.lemmas.Slice.Eq.{bytes_eq-Decides}
-use Rattle.life_rules.specs.declared.scope.ScopeKind.{ScopeKind}
-use Rattle.life_rules.specs.declared.scope.ScopeKind.TheVariants.{Simple, Counting}
-use Rattle.life_rules.specs.declared.tree.TreeNode.{TreeNode}
+use Rattle.node_tree.specs.declared.scope_kind.ScopeKind.{ScopeKind}
+use Rattle.node_tree.specs.declared.scope_kind.ScopeKind.TheVariants.{Simple, Counting}
+use Rattle.node_tree.specs.declared.node.TreeNode.{TreeNode}
 use Rattle.trace_text.specs.declared.header.Header.{Header}
 use Rattle.trace_text.specs.Reading.{said, has_parent, node_of, header_text, is_within, header_of}
 use Rattle.trace_text.specs.Texts.{line_feed, blank, apart, parent_text, mark_text, node_text, kind_text}

@@ -5,9 +5,9 @@ use Rattle.std.specs.Str.{bytes_eq}
 use Rattle.std.proofs.lemmas.Bool.{and_parts, cond-true, cond-false, eqb-true}
 use Rattle.std.proofs.lemmas.List.{append-nil, flat_map_more}
 use Rattle.std.proofs.lemmas.Slice.Eq.{bytes_eq-Decides}
-use Rattle.life_rules.proofs.Tests.{either}
-use Rattle.life_rules.specs.declared.tree.TreeNode.{TreeNode}
-use Rattle.node_tree.proofs.Walk.{known}
+use Rattle.common_lemmas.proofs.Bool.{either}
+use Rattle.node_tree.specs.declared.node.TreeNode.{TreeNode}
+use Rattle.common_lemmas.proofs.Options.{known}
 use Rattle.trace_text.specs.declared.header.Header.{Header}
 use Rattle.trace_text.specs.declared.limits.TheConstants.{ENTRIES}
 use Rattle.trace_text.specs.Reading.{Lines, Nodes, Opened, byte_before, lines_in, said, entry_of, choice_of, node_of, nodes_of, header_text, header_of, is_within, has_parent, first_fault, setup_of, tree_of, opening_of, entries_of, with_entries, whole_of, trace_with, schedule_with, trace_in, schedule_in}

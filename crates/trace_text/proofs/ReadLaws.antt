@@ -2,14 +2,15 @@
 use Rattle.std.proofs.Common.{◌≡◌, ℕ, zero, suc, ◌+◌, ◌-◌, ◌<◌, ◌≤◌, Bool, true, false, not, cond, eqb, List, [], ◌∷◌, ◌++◌, length, Option, Some, None, Result, Ok, Err, inl, inr, refl, sym, ap, subst, ◌∙◌, arith}
 use Rattle.std.specs.Option.{option_map, option_map_or}
 use Rattle.std.specs.Prelude.{nat_le, MatchResult, ◌&&◌}
-use Rattle.std.specs.List.{find, range_with_len}
+use Rattle.std.specs.List.{find, range_with_len, list_all}
 use Rattle.std.specs.Str.{bytes_eq}
-use Rattle.std.proofs.lemmas.Bool.{cond-true, cond-false, ne_eqb, eq-eqb, and_parts, leb-true, not_from_true, not_from_false, cases_eq}
-use Rattle.life_rules.proofs.Tests.{either}
-use Rattle.life_rules.specs.declared.tree.TreeNode.{TreeNode}
-use Rattle.node_tree.proofs.Walk.{known}
+use Rattle.std.proofs.lemmas.Bool.{cond-true, cond-false, ne_eqb, eq-eqb, and_parts, and_from, leb-true, not_from_true, not_from_false, cases_eq}
+use Rattle.std.proofs.lemmas.List.Folds.{list_all-append}
+use Rattle.common_lemmas.proofs.Bool.{either}
+use Rattle.node_tree.specs.declared.node.TreeNode.{TreeNode}
+use Rattle.common_lemmas.proofs.Options.{known}
 use Rattle.trace_text.specs.declared.limits.TheConstants.{NODES, BLOCKS, HANDS, ASSOCIATIONS, ENTRIES}
-use Rattle.life_rules.specs.Tree.{IsTree, IsFirstFault, is_node}
+use Rattle.node_tree.specs.Tree.{IsTree, IsFirstFault, is_node}
 use Rattle.trace_text.specs.declared.fault.TraceFault.{TraceFault}
 use Rattle.trace_text.specs.declared.fault.TraceFault.TheVariants.{TooLong, Line, NoMemory}
 use Rattle.trace_text.specs.declared.header.Header.{Header}
@@ -121,6 +122,49 @@ entries-read one base bytes so_far h read e room is =
     ∙ cond-false (eqb (length so_far) ENTRIES) _ _ (ne_eqb (length so_far) ENTRIES room)
     ∙ ap (more_entries one base h.rest so_far) (sym is)
 
+-- what a line says is good
+pub said-good : {X : Type 0} (text : X → List ℕ) (good : X → Bool) (read : Option X) (line : List ℕ) (x : X) → said text good read line ≡ Some x → good x ≡ true
+said-good text good None line x e = none-some x e
+said-good text good (Some y) line x e =
+    either (good y && bytes_eq (text y) line)
+    (λ is.
+    let same : y ≡ x = some-same y x (sym (cond-true (good y && bytes_eq (text y) line) (Some y) None is) ∙ e) in
+    subst (λ z. good z ≡ true) same (and_parts (good y) (bytes_eq (text y) line) is).0)
+    (λ other. none-some x (sym (cond-false (good y && bytes_eq (text y) line) (Some y) None other) ∙ e))
+
+ok-inside : {X : Type 0} {a b : List X} → ◌≡◌ {A = Result (List X) ℕ} (Ok a) (Ok b) → a ≡ b
+ok-inside e = cc
+
+ok-other : {X G : Type 0} {n : ℕ} {b : List X} → ◌≡◌ {A = Result (List X) ℕ} (Err n) (Ok b) → G
+ok-other e = absurd (cc)
+
+-- where all that a line says is good, so is each entry
+entries-are_good : {X : Type 0} (one : List ℕ → Option X) (good : X → Bool) (base : ℕ) (lines : List (List ℕ)) (rest : List ℕ) (so_far es : List X) →
+    ((line : List ℕ) (x : X) → one line ≡ Some x → good x ≡ true) → list_all good so_far ≡ true → entries_of one base lines rest so_far ≡ Ok es → list_all good es ≡ true
+entries-are_good one good base [] rest so_far es each front e =
+    either (eqb (length rest) 0)
+    (λ all. subst (λ (l : List _). list_all good l ≡ true) (ok-inside (sym (cond-true (eqb (length rest) 0) (Ok so_far) (Err (base + length so_far)) all) ∙ e)) front)
+    (λ more. ok-other (sym (cond-false (eqb (length rest) 0) (Ok so_far) (Err (base + length so_far)) more) ∙ e))
+entries-are_good one good base (line ∷ lines) rest so_far es each front e =
+    let later = λ (read : Option _). option_map_or (λ x. entries_of one base lines rest (so_far ++ x ∷ [])) read (Err (base + length so_far)) in
+    either (eqb (length so_far) ENTRIES)
+    (λ full. ok-other (sym (cond-true (eqb (length so_far) ENTRIES) (Err (base + length so_far)) (later (one line)) full) ∙ e))
+    (λ room.
+    let reads : later (one line) ≡ Ok es = sym (cond-false (eqb (length so_far) ENTRIES) (Err (base + length so_far)) (later (one line)) room) ∙ e in
+    known (one line)
+    (λ none. ok-other (sym (ap later none) ∙ reads))
+    (λ x says.
+    let front_and_x : list_all good (so_far ++ x ∷ []) ≡ true =
+    list_all-append good so_far (x ∷ []) ∙ and_from (list_all good so_far) (list_all good (x ∷ [])) front (and_from (good x) true (each line x says) refl) in
+    entries-are_good one good base lines rest (so_far ++ x ∷ []) es each front_and_x (sym (ap later says) ∙ reads)))
+
+-- where an entry is what a line says, and good
+pub entries-good : {X : Type 0} (text : X → List ℕ) (good : X → Bool) (read : List ℕ → Option X) (base : ℕ) (bytes : List ℕ) (es : List X) →
+    entries_in (λ line. said text good (read line) line) base bytes [] ≡ Ok es → list_all good es ≡ true
+entries-good text good read base bytes es e =
+    entries-are_good (λ line. said text good (read line) line) good base (lines_in bytes).ended (lines_in bytes).rest [] es
+    (λ line x says. said-good text good (read line) line x says) refl e
+
 -- the nodes that the lines of a text say
 pub nodes-none : (total left : ℕ) (bytes : List ℕ) (so_far : List TreeNode) → 0 < left → cut_at line_feed bytes ≡ None → nodes_of total left (lines_in bytes).ended so_far ≡ Err (2 + length so_far)
 nodes-none total zero bytes so_far some none = absurd (omega (arith, some))
@@ -134,16 +178,6 @@ nodes-read total (suc left) bytes so_far h read some e is =
     ap (λ (l : Lines). nodes_of total (suc left) l.ended so_far) (lines_in-cut bytes h e)
     ∙ ap (λ (o : Option TreeNode). option_map_or (λ x. nodes_of total left (lines_in h.rest).ended (so_far ++ x ∷ [])) o (Err (2 + length so_far))) (sym is)
     ∙ ap (λ (k : ℕ). option_map_or (λ x. nodes_of total k (lines_in h.rest).ended (so_far ++ x ∷ [])) read (Err (2 + length so_far))) one
-
--- what a line says is good
-pub said-good : {X : Type 0} (text : X → List ℕ) (good : X → Bool) (read : Option X) (line : List ℕ) (x : X) → said text good read line ≡ Some x → good x ≡ true
-said-good text good None line x e = none-some x e
-said-good text good (Some y) line x e =
-    either (good y && bytes_eq (text y) line)
-    (λ is.
-    let same : y ≡ x = some-same y x (sym (cond-true (good y && bytes_eq (text y) line) (Some y) None is) ∙ e) in
-    subst (λ z. good z ≡ true) same (and_parts (good y) (bytes_eq (text y) line) is).0)
-    (λ other. none-some x (sym (cond-false (good y && bytes_eq (text y) line) (Some y) None other) ∙ e))
 
 -- the first of some numbers that passes a test
 find-none : (test : ℕ → Bool) (a n : ℕ) → ((k : ℕ) → a ≤ k → k < a + n → test k ≡ false) → find test (range_with_len a n) ≡ None

@@ -6,10 +6,10 @@ use Rattle.std.specs.Option.{option_map_or, option_and_then}
 use Rattle.std.proofs.lemmas.Bool.{and_parts, and_from, le-leb, cond-true, cond-false, false≢true}
 use Rattle.std.proofs.lemmas.List.{append-nil}
 use Rattle.std.proofs.lemmas.Option.{slice_get-get_or}
-use Rattle.life_rules.proofs.Tests.{either}
-use Rattle.life_rules.specs.declared.tree.TreeNode.{TreeNode}
-use Rattle.life_rules.specs.declared.tree.TheConstants.{MOST_NODES}
-use Rattle.life_rules.specs.Tree.{IsTree, has_place, has_source, is_unstoppable, parent_of, is_root}
+use Rattle.common_lemmas.proofs.Bool.{either}
+use Rattle.node_tree.specs.declared.node.TreeNode.{TreeNode}
+use Rattle.node_tree.specs.declared.node.TheConstants.{MOST_NODES}
+use Rattle.node_tree.specs.Tree.{IsTree, has_place, has_source, is_unstoppable, parent_of, is_root}
 use Rattle.trace_text.specs.declared.entry.Entry.{Entry}
 use Rattle.trace_text.specs.declared.header.Header.{Header}
 use Rattle.trace_text.specs.declared.limits.TheConstants.{NODES, BLOCKS, HANDS, ASSOCIATIONS, ENTRIES}

@@ -4,8 +4,8 @@ use Rattle.std.proofs.Common.{Vec, Global}
 use Rattle.std.specs.List.{find, range_with_len}
 use Rattle.std.specs.Option.{option_and_then, option_map_or}
 use Rattle.std.specs.Str.{bytes_eq}
-use Rattle.life_rules.specs.declared.tree.TreeNode.{TreeNode}
-use Rattle.life_rules.specs.Tree.{is_node}
+use Rattle.node_tree.specs.declared.node.TreeNode.{TreeNode}
+use Rattle.node_tree.specs.Tree.{is_node}
 use Rattle.trace_text.specs.declared.entry.Choice.{Choice}
 use Rattle.trace_text.specs.declared.entry.Entry.{Entry}
 use Rattle.trace_text.specs.declared.fault.TraceFault.{TraceFault}

@@ -4,7 +4,7 @@ ghost use Rattle.trace_text.specs.Words.{scope_numbers_in, hands_in, blocks_in, 
 
 use crate::cut::cut_at;
 use crate::words::{read_kind, read_number};
-use life_rules::ScopeKind;
+use node_tree::ScopeKind;
 
 /// The numbers of an opening.
 #[derive(Clone, Copy, Debug, PartialEq, Eq)]

@@ -2,8 +2,7 @@
 ghost use Rattle.std.specs.Prelude.{◌≡◌, length};
 ghost use Rattle.trace_text.specs.Setups.{IsWithin, IsSetup};
 
-use life_rules::ScopeKind;
-use node_tree::Tree;
+use node_tree::{ScopeKind, Tree};
 use std::alloc::AllocError;
 use std::marker::Model;
 

@@ -6,7 +6,7 @@ use crate::cut::cut_at;
 use crate::entry::{Choice, Entry};
 use crate::read_event::read_event;
 use crate::words::read_number;
-use life_rules::TreeNode;
+use node_tree::TreeNode;
 use std::alloc::{AllocError, Global};
 
 /// The node that a line says.

@@ -3,7 +3,8 @@ ghost use Rattle.std.specs.Prelude.{◌≡◌, IfOk};
 ghost use Rattle.trace_text.specs.Parts.{event_from};
 
 use crate::kinds::{BareKind, BlockKind, PlaceKind};
-use life_rules::{Event, NodeList, Place, Resting, ScopeWord, SourceAt};
+use life_rules::{Event, Place, Resting, ScopeWord, SourceAt};
+use node_tree::NodeList;
 use std::alloc::{AllocError, Global};
 
 /// What an event consists of.

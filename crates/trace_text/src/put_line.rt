@@ -7,8 +7,7 @@ use crate::entry::{Choice, Entry};
 use crate::opening::Opening;
 use crate::put::{put, put_number};
 use crate::put_event::put_event;
-use life_rules::{ScopeKind, TreeNode};
-use node_tree::Tree;
+use node_tree::{ScopeKind, Tree, TreeNode};
 use std::alloc::AllocError;
 
 /// Adds the lines of entries.

@@ -11,7 +11,8 @@ use crate::opening::Opening;
 use crate::parse_line::{parse_choice, parse_entry, parse_node};
 use crate::parts::{Parts, parts_of};
 use crate::put_line::{put_choice_text, put_entry_text, put_node_text, put_numbers};
-use life_rules::{Event, Place, SourceAt, TreeNode};
+use life_rules::{Event, Place, SourceAt};
+use node_tree::TreeNode;
 use std::alloc::{AllocError, Global};
 
 /// The entry that a line says.

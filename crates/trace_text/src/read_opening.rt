@@ -9,8 +9,7 @@ use crate::fault::TraceFault;
 use crate::header::Header;
 use crate::opening::Opening;
 use crate::read_line::{read_header, read_node};
-use life_rules::TreeNode;
-use node_tree::{Tree, TreeFault};
+use node_tree::{Tree, TreeFault, TreeNode};
 use std::alloc::Global;
 
 /// A text that is read line by line: what is left of it.

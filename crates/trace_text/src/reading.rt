@@ -1,16 +1,13 @@
 //! How a trace or a schedule is read, line by line.
-ghost use Rattle.std.specs.Prelude.{◌≡◌, ◌↔◌, ◌≤◌, ◌<◌, ◌+◌, ℕ, [], Err, Ok, IfOk, OnOk, IsTrue, MatchResult, length};
-ghost use Rattle.std.specs.List.{list_all};
-ghost use Rattle.trace_text.specs.Values.{has_entry, has_choice};
+ghost use Rattle.std.specs.Prelude.{◌≡◌, ◌↔◌, ◌≤◌, ◌<◌, ◌+◌, ℕ, [], Err, Ok, IfOk, OnOk, MatchResult, length};
 ghost use Rattle.trace_text.specs.declared.limits.TheConstants.{FILE_BYTES, ENTRIES};
-ghost use Rattle.trace_text.specs.Reading.{trace_in, schedule_in, entries_of, entry_of, choice_of, lines_in, IsFaultOf};
+ghost use Rattle.trace_text.specs.Reading.{trace_in, schedule_in, entries_of, lines_in, IsFaultOf};
 
 use crate::cut::cut_at;
-use crate::entry::{Choice, Entry};
 use crate::fault::TraceFault;
 use crate::limits::{ENTRIES, FILE_BYTES};
+use crate::on_line::OnLine;
 use crate::opening::Opening;
-use crate::read_line::{read_choice, read_entry};
 use crate::read_opening::{Lines, read_opening};
 use crate::schedule::Schedule;
 use crate::trace::Trace;
@@ -49,7 +46,7 @@ fn read_whole_trace(alloc: Global, bytes: &[u8]) -> Result<Trace, TraceFault>
     let mut lines = Lines { rest: bytes };
     match read_opening(alloc, &mut lines) {
         Err(fault) => Err(fault),
-        Ok(opening) => match read_entries(alloc, &opening, lines.rest) {
+        Ok(opening) => match read_all(alloc, &opening, lines.rest) {
             Err(fault) => Err(fault),
             Ok(entries) => Ok(Trace::new(opening, entries)),
         },
@@ -64,75 +61,41 @@ fn read_whole_schedule(alloc: Global, bytes: &[u8]) -> Result<Schedule, TraceFau
     let mut lines = Lines { rest: bytes };
     match read_opening(alloc, &mut lines) {
         Err(fault) => Err(fault),
-        Ok(opening) => match read_choices(alloc, &opening, lines.rest) {
+        Ok(opening) => match read_all(alloc, &opening, lines.rest) {
             Err(fault) => Err(fault),
             Ok(entries) => Ok(Schedule::new(opening, entries)),
         },
     }
 }
 
-// The entries that lines say, all of them.
-fn read_entries(alloc: Global, opening: &Opening, bytes: &[u8]) -> Result<Vec<Entry>, TraceFault>
+// What lines say, all of them.
+fn read_all<T: OnLine>(alloc: Global, opening: &Opening, bytes: &[u8]) -> Result<Vec<T>, TraceFault>
     ensures read { let l = lines_in bytes.now in
-        let read = entries_of (entry_of opening.now) (length opening.now.nodes + 2) l.ended l.rest [] in
-        MatchResult result (λ entries. read ≡ Ok entries.items) (IsFaultOf read) }
-    ensures few { IfOk result (λ entries. length entries.items ≤ ENTRIES) }
-    ensures there { IfOk result (λ entries. IsTrue (list_all (has_entry opening.now) entries.items)) }
+        let read = entries_of (T.said_on opening.now) (length opening.now.nodes + 2) l.ended l.rest [] in
+        MatchResult result (λ items. read ≡ Ok items.items) (IsFaultOf read) }
+    ensures few { IfOk result (λ items. length items.items ≤ ENTRIES) }
 {
     let base = opening.tree().size() + 2;
-    let mut entries = Vec::new(alloc);
+    let mut items = Vec::new(alloc);
     let mut rest = bytes;
     while !rest.is_empty() {
-        let number = base + entries.len() as u32;
+        let number = base + items.len() as u32;
         let Some(cut) = cut_at(rest, b'\n') else {
             return Err(TraceFault::Line(number));
         };
-        if entries.len() == ENTRIES {
+        if items.len() == ENTRIES {
             return Err(TraceFault::Line(number));
         }
-        let Ok(read) = read_entry(alloc, opening, cut.front) else {
+        let Ok(read) = T::parse(alloc, opening, cut.front) else {
             return Err(TraceFault::NoMemory);
         };
-        let Some(entry) = read else {
+        let Some(item) = read else {
             return Err(TraceFault::Line(number));
         };
-        let Ok(()) = entries.push(entry) else {
+        let Ok(()) = items.push(item) else {
             return Err(TraceFault::NoMemory);
         };
         rest = cut.rest;
     }
-    Ok(entries)
-}
-
-// The choices that lines say, all of them.
-fn read_choices(alloc: Global, opening: &Opening, bytes: &[u8]) -> Result<Vec<Choice>, TraceFault>
-    ensures read { let l = lines_in bytes.now in
-        let read = entries_of (choice_of opening.now) (length opening.now.nodes + 2) l.ended l.rest [] in
-        MatchResult result (λ entries. read ≡ Ok entries.items) (IsFaultOf read) }
-    ensures few { IfOk result (λ entries. length entries.items ≤ ENTRIES) }
-    ensures there { IfOk result (λ entries. IsTrue (list_all (has_choice opening.now) entries.items)) }
-{
-    let base = opening.tree().size() + 2;
-    let mut entries = Vec::new(alloc);
-    let mut rest = bytes;
-    while !rest.is_empty() {
-        let number = base + entries.len() as u32;
-        let Some(cut) = cut_at(rest, b'\n') else {
-            return Err(TraceFault::Line(number));
-        };
-        if entries.len() == ENTRIES {
-            return Err(TraceFault::Line(number));
-        }
-        let Ok(read) = read_choice(alloc, opening, cut.front) else {
-            return Err(TraceFault::NoMemory);
-        };
-        let Some(entry) = read else {
-            return Err(TraceFault::Line(number));
-        };
-        let Ok(()) = entries.push(entry) else {
-            return Err(TraceFault::NoMemory);
-        };
-        rest = cut.rest;
-    }
-    Ok(entries)
+    Ok(items)
 }

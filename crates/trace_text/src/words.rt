@@ -3,7 +3,8 @@ ghost use Rattle.std.specs.Prelude.{◌≡◌, IfOk};
 ghost use Rattle.trace_text.specs.Words.{with_digit, number_in, place_in, source_in, children_in, resting_in, cause_in, bit_in, kind_in, counted_in, joining_in, closed_in, scope_in};
 
 use crate::cut::cut_at;
-use life_rules::{NodeList, Place, Resting, ScopeKind, ScopeWord, SourceAt};
+use life_rules::{Place, Resting, ScopeWord, SourceAt};
+use node_tree::{NodeList, ScopeKind};
 use std::alloc::{AllocError, Global};
 
 /// The number of decimal digits, where it fits.

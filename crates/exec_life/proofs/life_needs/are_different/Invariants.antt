@@ -1,5 +1,5 @@
 use Rattle.std.proofs.Common.{◌≡◌, drop}
-use Rattle.life_rules.specs.LifeSteps.{are_different}
+use Rattle.common_lemmas.specs.Lists.{are_different}
 use Rattle.exec_life.proofs.life_needs.are_different.Given as goal
 
 abbrev pub invariant-loop-index : goal.invariant-loop-index

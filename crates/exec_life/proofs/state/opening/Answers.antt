@@ -1,7 +1,7 @@
 use Rattle.std.proofs.Common.{◌≡◌, List, length, ap, sym, subst, ◌∙◌}
-use Rattle.life_rules.specs.declared.tree.TreeNode.{TreeNode}
+use Rattle.node_tree.specs.declared.node.TreeNode.{TreeNode}
 use Rattle.life_rules.specs.Opening.{opening}
-use Rattle.life_rules.specs.Tree.{IsTree}
+use Rattle.node_tree.specs.Tree.{IsTree}
 use Rattle.exec_life.specs.StateLists.{StateLists}
 use Rattle.exec_life.specs.ViewLists.{AreBlankViews}
 use Rattle.exec_life.specs.WordLists.{AreFirstWords}

@@ -1,5 +1,5 @@
 use Rattle.std.proofs.Common.{◌≡◌, ap, ◌∙◌, length, List}
-use Rattle.life_rules.specs.declared.tree.TreeNode.{TreeNode}
+use Rattle.node_tree.specs.declared.node.TreeNode.{TreeNode}
 use Rattle.trace_text.specs.Texts.{numbers_text, lines, node_text}
 use Rattle.trace_text.proofs.Added.{adds_same, adds_join}
 use Rattle.trace_text.proofs.put_line.put_opening.Goals as goal

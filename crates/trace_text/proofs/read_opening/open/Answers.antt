@@ -1,6 +1,6 @@
 use Rattle.std.proofs.Common.{◌≡◌, ℕ, ◌+◌, List, [], Option, Ok, Err, sym, ap, ◌∙◌, arith}
 use Rattle.std.specs.Option.{option_map_or}
-use Rattle.life_rules.specs.declared.tree.TreeNode.{TreeNode}
+use Rattle.node_tree.specs.declared.node.TreeNode.{TreeNode}
 use Rattle.trace_text.specs.Reading.{setup_of}
 use Rattle.trace_text.specs.Setups.{Setup}
 use Rattle.trace_text.proofs.ReadLaws.{within-limits, first_fault-none, first_fault-some}

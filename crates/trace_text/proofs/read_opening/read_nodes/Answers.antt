@@ -1,6 +1,6 @@
 use Rattle.std.proofs.Common.{◌≡◌, ℕ, ◌+◌, ◌-◌, List, [], ◌∷◌, ◌++◌, length, Some, None, Err, sym, ap, ◌∙◌, arith}
 use Rattle.std.proofs.lemmas.List.{length_push}
-use Rattle.life_rules.specs.declared.tree.TreeNode.{TreeNode}
+use Rattle.node_tree.specs.declared.node.TreeNode.{TreeNode}
 use Rattle.trace_text.specs.Reading.{Lines, lines_in, nodes_of}
 use Rattle.trace_text.specs.Words.{Halves}
 use Rattle.trace_text.proofs.ReadLaws.{lines_in-cut, nodes-none, nodes-read}

@@ -1,6 +1,6 @@
 use Rattle.std.proofs.Common.{◌≡◌, ℕ, ◌+◌, ◌-◌, ◌≤◌, ◌/◌, ◌%◌, Bool, true, false, sym, ap, ◌∙◌, subst, inl, inr, arith}
 use Rattle.std.proofs.lemmas.Bool.{cases_lt}
-use Rattle.life_rules.specs.Scans.{has_none, is_for, place_at}
+use Rattle.life_rules.specs.Scans.{has_none, is_nearest, place_at}
 use Rattle.life_rules.specs.States.{name_of}
 use Rattle.life_rules.specs.StopSteps.{source_of}
 use Rattle.exec_life.specs.Parts.{shown}
@@ -23,8 +23,8 @@ returns-then-is_nearest c =
     let source = source_of s c.args.source in
     let n = c.loop-number.number in
     let from : c.args.from ≤ n = c.loop-number.auto.number in
-    let test : ℕ → Bool = λ k. is_for s source (name_of s (n / k) (n % k)) in
-    let here : is_for s source (place_at s n) ≡ true =
+    let test : ℕ → Bool = λ k. is_nearest s source (name_of s (n / k) (n % k)) in
+    let here : is_nearest s source (place_at s n) ≡ true =
     sym (ap test c.size-size.ensures.size) ∙ sym c.if-is_nearest.ensures in
     sym (has_none-found s source c.args.from (c.args.to - c.args.from) n from (omega arith) here)
 
@@ -35,10 +35,10 @@ loop-number-preserved c =
     let n = c.loop-number.number in
     let i = c.args.from in
     let from : i ≤ n = c.loop-number.auto.number in
-    let test : ℕ → Bool = λ k. is_for s source (name_of s (n / k) (n % k)) in
+    let test : ℕ → Bool = λ k. is_nearest s source (name_of s (n / k) (n % k)) in
     let number : n ≡ i + (n - i) = omega arith in
-    let here : is_for s source (place_at s (i + (n - i))) ≡ false =
-    ap (λ j. is_for s source (place_at s j)) (sym number)
+    let here : is_nearest s source (place_at s (i + (n - i))) ≡ false =
+    ap (λ j. is_nearest s source (place_at s j)) (sym number)
     ∙ sym (ap test c.size-size.ensures.size) ∙ sym c.if-is_nearest.ensures in
     let count : (n - i) + 1 ≡ (n + 1) - i = omega arith in
     record {

@@ -1,0 +1,4 @@
+mod scope;
+mod state;
+mod text;
+mod tree;
