@@ -1,3 +1,5 @@
+pub mod GivenLemmas
+pub mod PutsLemmas
 mod ShelfLemmas
 pub mod SinkLemmas
 mod SourceLemmas

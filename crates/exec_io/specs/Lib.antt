@@ -1,5 +1,9 @@
 pub mod Calls
 pub mod Causes
 pub mod Memory
+pub mod Outside
 pub mod Shelves
 pub mod Sinks
+pub mod Untouched
+pub mod Views
+pub mod Writing

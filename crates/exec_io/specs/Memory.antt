@@ -3,11 +3,16 @@ use Rattle.std.specs.Prelude.{◌≡◌, if◌then◌else◌, min, length, Optio
 use Rattle.std.specs.declared.alloc.Global.{Global}
 use Rattle.exec_io.specs.Calls.{Calls, no_calls, after_call}
 use Rattle.exec_io.specs.Shelves.{Texts}
+use Rattle.exec_io.specs.Views.{SinkView, SourceView, ShelfView}
 
 -- A source: the bytes that are left to read, and its calls.
 pub record SourceState : Type 0 where
   pub left : List ℕ
   pub calls : Calls
+
+-- It tells both.
+abbrev pub source_view : SourceState → SourceView
+source_view source = record { left = Some source.left; faults = source.calls.faults }
 
 -- A sink: the bytes written, how many aren't handed on, the most that a write takes, and its calls.
 pub record SinkState : Type 0 where
@@ -15,6 +20,14 @@ pub record SinkState : Type 0 where
   pub outstanding : ℕ
   pub most : ℕ
   pub calls : Calls
+
+-- It tells all but the most that a write takes.
+abbrev pub sink_view : SinkState → SinkView
+sink_view sink = record {
+  written = Some sink.bytes;
+  outstanding = Some sink.outstanding;
+  faults = sink.calls.faults;
+}
 
 -- A sink into which nothing was written.
 abbrev pub no_bytes : ℕ → List ℕ → SinkState
@@ -41,6 +54,10 @@ pub record ShelfState : Type 0 where
   pub texts : Texts
   pub calls : Calls
 
+-- It tells both.
+abbrev pub shelf_view : ShelfState → ShelfView
+shelf_view shelf = record { texts = Some shelf.texts; faults = shelf.calls.faults }
+
 -- Each name with the text at its place.
 abbrev pub named_texts : List (String Global) → List (Vec ℕ Global) → Texts
 named_texts names texts = zip (map string_bytes names) (map vec_items texts)
@@ -54,13 +71,17 @@ pub record NeverFailsState (T : Type 0) : Type 0 where
   pub inner : T
   pub tells : Bool
 
--- The bytes written, while it tells them.
-abbrev pub told_bytes : NeverFailsState SinkState → Option (List ℕ)
-told_bytes sink = if sink.tells then Some sink.inner.bytes else None
+-- A source that never fails tells the bytes that are left.
+abbrev pub steady_source : NeverFailsState SourceState → SourceView
+steady_source source = record { left = Some source.inner.left; faults = 0 }
 
--- How many of them aren't handed on, while it tells that.
-abbrev pub told_outstanding : NeverFailsState SinkState → Option ℕ
-told_outstanding sink = if sink.tells then Some sink.inner.outstanding else None
+-- A sink that never fails tells what the sink under it does, as long as it tells.
+abbrev pub steady_sink : NeverFailsState SinkState → SinkView
+steady_sink sink = record {
+  written = if sink.tells then Some sink.inner.bytes else None;
+  outstanding = if sink.tells then Some sink.inner.outstanding else None;
+  faults = 0;
+}
 
 -- The sink under it took as many bytes as it takes in a write, and nothing else changed.
 pub record WritesInner (old new : NeverFailsState SinkState) (piece : List ℕ) (count : ℕ)

@@ -1,5 +1,5 @@
 -- The texts of a shelf, each under its name.
-use Rattle.std.specs.Prelude.{◌≡◌, ◌&&◌, not, Bool, true, ℕ, ◌+◌, List, [], ◌∷◌, take, Option, None, Some, Result, IfOk, IsErrOf, IsNone, IsSomeAnd, Vec, bytes_eq, if◌then◌else◌}
+use Rattle.std.specs.Prelude.{◌≡◌, ◌&&◌, not, Bool, true, ℕ, ◌+◌, List, [], ◌∷◌, take, Option, None, Some, Result, IfOk, IfSome, IsErrOf, IsNone, IsSomeAnd, Vec, bytes_eq, if◌then◌else◌}
 use Rattle.std.specs.List.{list_any}
 use Rattle.std.specs.declared.alloc.Global.{Global}
 use Rattle.exec_io.specs.declared.fault.ShelfFault.{ShelfFault}
@@ -28,3 +28,16 @@ pub record ReadsText (texts : Texts) (name : List ℕ) (max : ℕ) (result : Ans
   pub text : IfOk result (λ bytes.
       IsSomeAnd (text_of texts name) (λ text. bytes.items ≡ take (max + 1) text))
   pub missing : IsNone (text_of texts name) → IsErrOf result Failed
+
+-- A shelf that tells its texts gave these bytes of the named one: all, or its first, one more than
+-- `most`.
+abbrev pub Gives : ℕ → Option Texts → List ℕ → List ℕ → Type 0
+Gives most texts name bytes =
+    IfSome texts (λ known.
+    IsSomeAnd (text_of known name) (λ text. bytes ≡ take (most + 1) text))
+
+-- The shelf tells its texts, and what it gives of the named one has this property.
+abbrev pub Stands : ℕ → Option Texts → List ℕ → (List ℕ → Type 0) → Type 0
+Stands most texts name P =
+    IsSomeAnd texts (λ known.
+    IsSomeAnd (text_of known name) (λ text. P (take (most + 1) text)))

@@ -1,8 +1,8 @@
 //! A shelf of texts in memory.
-ghost use Rattle.std.specs.Prelude.{◌≡◌, ◌⊎◌, ◌≤◌, ◌+◌, map, true, false, IsTrue, IsNone, IsErrOf, Some, IfOk, IfSome, OnOk, length, option_copied, string_bytes, vec_len};
+ghost use Rattle.std.specs.Prelude.{◌≡◌, ◌⊎◌, ◌≤◌, ◌+◌, map, true, false, IsTrue, IsNone, IsErrOf, IfOk, IfSome, OnOk, length, option_copied, string_bytes, vec_len};
 ghost use Rattle.exec_io.specs.Calls.{no_calls, is_to_fail};
 ghost use Rattle.exec_io.specs.Causes.{HasShelfCause};
-ghost use Rattle.exec_io.specs.Memory.{ShelfState, named_texts, after_read};
+ghost use Rattle.exec_io.specs.Memory.{ShelfState, shelf_view, named_texts, after_read};
 ghost use Rattle.exec_io.specs.Shelves.{ReadsText, are_distinct, text_of};
 
 use crate::calls::Calls;
@@ -56,15 +56,13 @@ impl MemShelf {
 }
 
 impl Shelf for MemShelf {
-    ghost texts = { λ s. Some s.texts };
-
-    ghost faults = { λ s. s.calls.faults };
+    ghost told = { shelf_view };
 
     fn read(&mut self, alloc: Global, name: &str, max: usize) -> Result<Vec<u8>, ShelfFault>
-        ensures text { IfSome (Some self.old.texts) (λ known. ReadsText known name.now max result) }
+        ensures text { IfSome (shelf_view self.old).texts (λ known. ReadsText known name.now max result) }
         ensures most { IfOk result (λ bytes. vec_len bytes ≤ max + 1) }
-        ensures same { Some self.new.texts ≡ Some self.old.texts }
-        ensures cause { HasShelfCause self.old.calls.faults self.new.calls.faults result }
+        ensures same { (shelf_view self.new).texts ≡ (shelf_view self.old).texts }
+        ensures cause { HasShelfCause (shelf_view self.old).faults (shelf_view self.new).faults result }
 
         // It fails exactly at the calls that are to fail, and where no text has the name.
         ensures listed { IsTrue (is_to_fail self.old.calls) → IsErrOf result ShelfFault.Failed }

@@ -1,8 +1,8 @@
 //! A sink that keeps what is written in memory.
-ghost use Rattle.std.specs.Prelude.{◌==◌, ◌&&◌, nat_le, ◌≡◌, ◌<◌, ◌≤◌, [], length, take, min, is_err, IsErr, IsTrue, Some, IfOk, IfSome, OnOk, OnErr};
+ghost use Rattle.std.specs.Prelude.{◌==◌, ◌&&◌, nat_le, ◌≡◌, ◌<◌, ◌≤◌, [], length, take, min, is_err, IsErr, IsTrue, IfOk, IfSome, OnOk, OnErr};
 ghost use Rattle.exec_io.specs.Calls.{no_calls, is_to_fail, after_call};
 ghost use Rattle.exec_io.specs.Causes.{HasCause};
-ghost use Rattle.exec_io.specs.Memory.{SinkState, no_bytes, after_write, after_finish, after_failure};
+ghost use Rattle.exec_io.specs.Memory.{SinkState, sink_view, no_bytes, after_write, after_finish, after_failure};
 ghost use Rattle.exec_io.specs.Sinks.{Appends, AddsAtMost};
 
 use crate::calls::Calls;
@@ -56,23 +56,20 @@ impl MemSink {
 }
 
 impl Sink for MemSink {
-    ghost written = { λ s. Some s.bytes };
-
-    ghost outstanding = { λ s. Some s.outstanding };
-
-    ghost faults = { λ s. s.calls.faults };
+    ghost told = { sink_view };
 
     fn write(&mut self, piece: &[u8]) -> Result<usize, Failed>
         requires { 0 < length piece.now }
         ensures count { IfOk result (λ n. (1 ≤ n) × (n ≤ length piece.now)) }
-        ensures ok { IfOk result
-            (λ n. Appends (Some self.old.bytes) (Some self.new.bytes) (take n piece.now)) }
-        ensures err { OnErr result (Appends (Some self.old.bytes) (Some self.new.bytes) []) }
-        ensures held { IfOk result
-            (λ n. AddsAtMost (Some self.old.outstanding) (Some self.new.outstanding) n) }
+        ensures ok { IfOk result (λ n.
+            Appends (sink_view self.old).written (sink_view self.new).written (take n piece.now)) }
+        ensures err { OnErr result
+            (Appends (sink_view self.old).written (sink_view self.new).written []) }
+        ensures held { IfOk result (λ n.
+            AddsAtMost (sink_view self.old).outstanding (sink_view self.new).outstanding n) }
         ensures held_err { OnErr result
-            (AddsAtMost (Some self.old.outstanding) (Some self.new.outstanding) 0) }
-        ensures cause { HasCause self.old.calls.faults self.new.calls.faults result }
+            (AddsAtMost (sink_view self.old).outstanding (sink_view self.new).outstanding 0) }
+        ensures cause { HasCause (sink_view self.old).faults (sink_view self.new).faults result }
 
         // It fails at the calls that are to fail, and where it takes nothing or finds no memory.
         ensures listed { IsTrue (is_to_fail self.old.calls) → IsErr result }
@@ -93,10 +90,11 @@ impl Sink for MemSink {
     }
 
     fn finish(&mut self) -> Result<(), Failed>
-        ensures written { Appends (Some self.old.bytes) (Some self.new.bytes) [] }
-        ensures held { AddsAtMost (Some self.old.outstanding) (Some self.new.outstanding) 0 }
-        ensures handed_on { OnOk result (IfSome (Some self.new.outstanding) (λ count. count ≡ 0)) }
-        ensures cause { HasCause self.old.calls.faults self.new.calls.faults result }
+        ensures written { Appends (sink_view self.old).written (sink_view self.new).written [] }
+        ensures held { AddsAtMost (sink_view self.old).outstanding (sink_view self.new).outstanding 0 }
+        ensures handed_on { OnOk result
+            (IfSome (sink_view self.new).outstanding (λ count. count ≡ 0)) }
+        ensures cause { HasCause (sink_view self.old).faults (sink_view self.new).faults result }
 
         ensures failed { is_err result ≡ is_to_fail self.old.calls }
         ensures after_ok { OnOk result (self.new ≡ after_finish self.old) }

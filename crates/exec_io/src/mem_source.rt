@@ -1,10 +1,10 @@
 //! A source over bytes in memory.
-ghost use Rattle.std.specs.Prelude.{◌==◌, ◌≡◌, ◌<◌, ◌≤◌, ◌++◌, length, take, drop, min, is_err, Some, IfOk};
+ghost use Rattle.std.specs.Prelude.{◌==◌, ◌≡◌, ◌<◌, ◌≤◌, ◌++◌, length, take, drop, min, is_err, IfOk};
 ghost use Rattle.std.specs.Io.{ReadsAtMost};
 ghost use Rattle.std.specs.Io.KnownBytes.{ReadConsumes};
 ghost use Rattle.exec_io.specs.Calls.{no_calls, is_to_fail, after_call};
 ghost use Rattle.exec_io.specs.Causes.{HasCause};
-ghost use Rattle.exec_io.specs.Memory.{SourceState};
+ghost use Rattle.exec_io.specs.Memory.{SourceState, source_view};
 
 use crate::calls::Calls;
 use crate::{Failed, Source, Steady};
@@ -56,15 +56,14 @@ fn fill(buf: &mut [u8], bytes: &[u8]) -> usize
 }
 
 impl Source for MemSource {
-    ghost left = { λ s. Some s.left };
-
-    ghost faults = { λ s. s.calls.faults };
+    ghost told = { source_view };
 
     fn read(&mut self, buf: &mut [u8]) -> Result<usize, Failed>
         requires { 0 < length buf.old }
         ensures bound { ReadsAtMost result buf.new }
-        ensures bytes { ReadConsumes (Some self.old.left) (Some self.new.left) result buf.new }
-        ensures cause { HasCause self.old.calls.faults self.new.calls.faults result }
+        ensures bytes { ReadConsumes (source_view self.old).left (source_view self.new).left
+            result buf.new }
+        ensures cause { HasCause (source_view self.old).faults (source_view self.new).faults result }
 
         // It fails exactly at the calls that are to fail, and else gives what there is room for.
         ensures failed { is_err result ≡ is_to_fail self.old.calls }

@@ -1,9 +1,9 @@
 //! An object in memory of which no call fails, so that its count of faults is always 0.
-ghost use Rattle.std.specs.Prelude.{◌≡◌, ◌<◌, ◌≤◌, Bool, [], length, take, min, true, false, IsTrue, IsFalse, Some, IfOk, IfSome, OnOk, OnErr};
+ghost use Rattle.std.specs.Prelude.{◌≡◌, ◌<◌, ◌≤◌, Bool, [], length, take, min, true, false, IsTrue, IsFalse, IfOk, IfSome, OnOk, OnErr};
 ghost use Rattle.std.specs.Io.{ReadsAtMost};
 ghost use Rattle.std.specs.Io.KnownBytes.{ReadConsumes};
 ghost use Rattle.exec_io.specs.Causes.{HasCause};
-ghost use Rattle.exec_io.specs.Memory.{NeverFailsState, WritesInner, after_finish, told_bytes, told_outstanding};
+ghost use Rattle.exec_io.specs.Memory.{NeverFailsState, WritesInner, after_finish, steady_source, steady_sink};
 ghost use Rattle.exec_io.specs.Sinks.{Appends, AddsAtMost};
 
 use crate::{Failed, MemSink, MemSource, Sink, Source};
@@ -49,16 +49,14 @@ impl<T: Steady> NeverFails<T> {
 }
 
 impl Source for NeverFails<MemSource> {
-    ghost left = { λ s. Some s.inner.left };
-
-    ghost faults = { λ _. 0 };
+    ghost told = { steady_source };
 
     fn read(&mut self, buf: &mut [u8]) -> Result<usize, Failed>
         requires { 0 < length buf.old }
         ensures bound { ReadsAtMost result buf.new }
-        ensures bytes { ReadConsumes (Some self.old.inner.left) (Some self.new.inner.left)
+        ensures bytes { ReadConsumes (steady_source self.old).left (steady_source self.new).left
             result buf.new }
-        ensures cause { HasCause 0 0 result }
+        ensures cause { HasCause (steady_source self.old).faults (steady_source self.new).faults result }
 
         ensures full { IfOk result (λ n. n ≡ min (length self.old.inner.left) (length buf.old)) }
     {
@@ -67,23 +65,21 @@ impl Source for NeverFails<MemSource> {
 }
 
 impl Sink for NeverFails<MemSink> {
-    ghost written = { told_bytes };
-
-    ghost outstanding = { told_outstanding };
-
-    ghost faults = { λ _. 0 };
+    ghost told = { steady_sink };
 
     fn write(&mut self, piece: &[u8]) -> Result<usize, Failed>
         requires { 0 < length piece.now }
         ensures count { IfOk result (λ n. (1 ≤ n) × (n ≤ length piece.now)) }
-        ensures ok { IfOk result
-            (λ n. Appends (told_bytes self.old) (told_bytes self.new) (take n piece.now)) }
-        ensures err { OnErr result (Appends (told_bytes self.old) (told_bytes self.new) []) }
-        ensures held { IfOk result
-            (λ n. AddsAtMost (told_outstanding self.old) (told_outstanding self.new) n) }
+        ensures ok { IfOk result (λ n.
+            Appends (steady_sink self.old).written (steady_sink self.new).written
+            (take n piece.now)) }
+        ensures err { OnErr result
+            (Appends (steady_sink self.old).written (steady_sink self.new).written []) }
+        ensures held { IfOk result (λ n.
+            AddsAtMost (steady_sink self.old).outstanding (steady_sink self.new).outstanding n) }
         ensures held_err { OnErr result
-            (AddsAtMost (told_outstanding self.old) (told_outstanding self.new) 0) }
-        ensures cause { HasCause 0 0 result }
+            (AddsAtMost (steady_sink self.old).outstanding (steady_sink self.new).outstanding 0) }
+        ensures cause { HasCause (steady_sink self.old).faults (steady_sink self.new).faults result }
 
         // While it tells, it does what the object under it does.
         ensures telling { IsTrue self.new.tells
@@ -101,10 +97,11 @@ impl Sink for NeverFails<MemSink> {
     }
 
     fn finish(&mut self) -> Result<(), Failed>
-        ensures written { Appends (told_bytes self.old) (told_bytes self.new) [] }
-        ensures held { AddsAtMost (told_outstanding self.old) (told_outstanding self.new) 0 }
-        ensures handed_on { OnOk result (IfSome (told_outstanding self.new) (λ count. count ≡ 0)) }
-        ensures cause { HasCause 0 0 result }
+        ensures written { Appends (steady_sink self.old).written (steady_sink self.new).written [] }
+        ensures held { AddsAtMost (steady_sink self.old).outstanding (steady_sink self.new).outstanding 0 }
+        ensures handed_on { OnOk result
+            (IfSome (steady_sink self.new).outstanding (λ count. count ≡ 0)) }
+        ensures cause { HasCause (steady_sink self.old).faults (steady_sink self.new).faults result }
 
         ensures after { self.new ≡ record self.old { inner = after_finish self.old.inner } }
     {

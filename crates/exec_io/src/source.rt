@@ -1,24 +1,23 @@
 //! Where bytes are read from.
-ghost use Rattle.std.specs.Prelude.{◌<◌, ℕ, List, length, Option};
+ghost use Rattle.std.specs.Prelude.{◌<◌, length};
 ghost use Rattle.std.specs.Io.{ReadsAtMost};
 ghost use Rattle.std.specs.Io.KnownBytes.{ReadConsumes};
 ghost use Rattle.exec_io.specs.Causes.{HasCause};
+ghost use Rattle.exec_io.specs.Views.{SourceView};
 
 use crate::Failed;
 
 /// A source of bytes, which may fail and may be read on after that.
 pub trait Source {
-    /// The bytes that are left, where the source tells them.
-    ghost left: { Self → Option (List ℕ) };
-
-    /// How often a call has failed. It never falls, and stands still at its type's end.
-    ghost faults: { Self → ℕ };
+    /// The bytes that are left, where the source tells them, and how often a call has failed. That
+    /// count never falls, and stands still at its type's end.
+    ghost told: { Self → SourceView };
 
     /// Reads into the front of `buf`. `Ok(n)` gives the next `n` bytes, and `Ok(0)` is the end: no
     /// byte is left. At `Failed` nothing was consumed.
     fn read(&mut self, buf: &mut [u8]) -> Result<usize, Failed>
         requires { 0 < length buf.old }
         ensures bound { ReadsAtMost result buf.new }
-        ensures bytes { ReadConsumes (left self.old) (left self.new) result buf.new }
-        ensures cause { HasCause (faults self.old) (faults self.new) result };
+        ensures bytes { ReadConsumes (told self.old).left (told self.new).left result buf.new }
+        ensures cause { HasCause (told self.old).faults (told self.new).faults result };
 }

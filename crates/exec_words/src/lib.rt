@@ -21,7 +21,7 @@ mod usage;
 mod words;
 
 pub use command::{Command, Options, Order};
-pub use law::options_stand_in_any_place;
+pub use law::{limits_of_words, options_stand_in_any_place};
 pub use number::{MOST_GENERATED, MOST_WINDOW, MOST_WORKERS};
 pub use usage::usage_lines;
 pub use words::read_words;

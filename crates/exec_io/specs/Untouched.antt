@@ -1,7 +1,7 @@
 -- What a call leaves as it was, and what it leaves with nothing to hand on.
 use Rattle.std.specs.Prelude.{◌≡◌, ◌⊎◌, IfSome}
-use Rattle.io_views.specs.Sinks.{SinkView}
-use Rattle.io_views.specs.Sources.{SourceView}
+use Rattle.exec_io.specs.Views.{SinkView}
+use Rattle.exec_io.specs.Views.{SourceView}
 
 -- Nothing was read of a source, and nothing was done to a sink.
 pub record IsUntouched (before after : SourceView) (old new : SinkView) : Type 0 where

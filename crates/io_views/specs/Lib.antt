@@ -1,3 +1,0 @@
-pub mod Sinks
-pub mod Sources
-pub mod Untouched
