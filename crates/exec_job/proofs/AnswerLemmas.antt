@@ -1,5 +1,5 @@
 -- When a call may end for want of memory.
-use Rattle.std.proofs.Common.{◌≡◌, ℕ, ◌<◌, ◌≤◌, Bool, true, false, inl, inr, List, [], ◌∷◌, length, get_or, Option, Some, Result, Ok, Err, refl, ap, subst, sym, leb, arith}
+use Rattle.std.proofs.Common.{◌≡◌, ℕ, ◌<◌, ◌≤◌, false, inl, inr, List, [], ◌∷◌, length, get_or, Option, Some, Result, Ok, Err, refl, ap, subst, sym, leb, arith}
 use Rattle.std.specs.Prelude.{slice_get}
 use Rattle.std.specs.Option.{option_to_list}
 use Rattle.std.proofs.lemmas.Option.{slice_get_read}

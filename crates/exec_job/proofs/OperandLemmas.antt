@@ -1,5 +1,5 @@
 -- What data of known kinds are.
-use Rattle.std.proofs.Common.{◌≡◌, ℕ, ℤ, Bool, true, List, [], ◌∷◌, length, get_or, ◌||◌, inl, inr, ap, subst, sym, ◌∙◌, refl}
+use Rattle.std.proofs.Common.{◌≡◌, ℕ, ℤ, true, List, [], ◌∷◌, length, ◌||◌, inl, inr, subst, sym, refl}
 use Rattle.std.proofs.lemmas.Slice.Zip.{AllZip-long}
 use Rattle.exec_value.specs.Kinds.{HasKind, HaveKinds}
 use Rattle.exec_job.specs.Apply.{HasLength}
@@ -7,7 +7,7 @@ use Rattle.exec_job.specs.Takes.{is_text, is_row, is_maybe_int, is_maybe_text}
 use Rattle.exec_value.specs.declared.kinds.Kind.{Kind}
 use Rattle.exec_value.specs.declared.kinds.Kind.TheVariants.{Int as IntKind, Text as TextKind, Row as RowKind, MaybeInt, MaybeText}
 use Rattle.exec_value.specs.declared.data.Datum.{Datum}
-use Rattle.exec_value.specs.declared.data.Datum.TheVariants.{Int, Text, Row, SomeInt, SomeText, Nothing}
+use Rattle.exec_value.specs.declared.data.Datum.TheVariants.{Int, Text}
 
 -- data of one kind are one datum
 pub one-length : (values : List Datum) (kind : Kind) → HaveKinds values (kind ∷ []) → length values ≡ 1

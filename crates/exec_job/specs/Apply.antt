@@ -1,5 +1,5 @@
 -- What a job makes of the data that it takes.
-use Rattle.std.specs.Prelude.{◌≡◌, ◌⊎◌, ℕ, ℤ, pos, negsuc, IsTrue, List, [], ◌∷◌, ◌++◌, length, map, nat_le, codes, slice_get, Ok, Err, if◌then◌else◌}
+use Rattle.std.specs.Prelude.{◌⊎◌, ℕ, ℤ, pos, negsuc, IsTrue, List, [], ◌∷◌, ◌++◌, length, map, nat_le, codes, slice_get, Ok, Err, if◌then◌else◌}
 use Rattle.std.specs.Fmt.{signed_decimal}
 use Rattle.std.specs.List.{flat_map, range_with_len}
 use Rattle.std.specs.Option.{option_to_list}

@@ -1,5 +1,5 @@
 -- Which operands a job takes.
-use Rattle.std.specs.Prelude.{ℕ, Bool, true, false, ◌||◌, List, [], ◌∷◌, length, nat_lt}
+use Rattle.std.specs.Prelude.{Bool, true, false, ◌||◌, List, [], ◌∷◌, length, nat_lt}
 use Rattle.std.specs.List.{list_all}
 use Rattle.exec_value.specs.declared.kinds.Kind.{Kind}
 use Rattle.exec_value.specs.declared.kinds.Kind.TheVariants.{Int, Text, Row, MaybeInt, MaybeText}

@@ -22,7 +22,7 @@ pub(crate) fn iota(alloc: Global, x: i64) -> Result<Completion, AllocError>
     for n in 0..count {
         numbers.push_reserved(n as i64);
     }
-    let row = Datum::Row(Nums::from_vec(numbers));
+    let row = Datum::Row(Nums::from_vec(numbers)?);
     Ok(Completion::Value(Data::one(alloc, row)))
 }
 

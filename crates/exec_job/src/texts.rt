@@ -17,8 +17,7 @@ pub(crate) fn append(alloc: Global, text: &Txt, more: &Txt) -> Result<Completion
     if text.as_bytes().len() + more.as_bytes().len() > TEXT_BYTES {
         return Ok(too_long(alloc));
     }
-    let mut joined = Txt::empty(alloc);
-    joined.append(text)?;
+    let mut joined = text.clone()?;
     joined.append(more)?;
     Ok(text_ending(alloc, joined))
 }

@@ -3,8 +3,8 @@ use Rattle.std.proofs.Common.{◌≡◌, ◌≢◌, ◌⊎◌, ℕ, List, [], re
 use Rattle.exec_io.specs.Causes.{Rose}
 use Rattle.exec_status.specs.declared.status.Status.{Status}
 use Rattle.exec_status.specs.declared.status.Status.TheVariants.{AllValues, NotAllValues, Usage, PlanRefused, NoMemory, ReadFault, WriteFault, Limit}
-use Rattle.io_views.specs.Sinks.{SinkView}
-use Rattle.io_views.specs.Untouched.{IsHandedOn}
+use Rattle.exec_io.specs.Views.{SinkView}
+use Rattle.exec_io.specs.Untouched.{IsHandedOn}
 use Rattle.exec_status.specs.Sinks.{Tells}
 use Rattle.exec_status.specs.Notes.{note_of}
 use Rattle.exec_status.specs.Noted.{Concludes, Noted}
@@ -21,6 +21,12 @@ pub concluded : (P : Status → Type 0) {first last : SinkView} (status result :
 concluded P status result stands fault (quiet none same) = stands
 concluded P status result stands fault (told some all) = stands
 concluded P status result stands fault (failed some front) = fault some
+
+-- a status without a note stands
+pub quiet-concluded : {first last : SinkView} (status result : Status) → note_of status ≡ [] → Concludes status first last result → result ≡ status
+quiet-concluded status result silent (quiet none same) = refl
+quiet-concluded status result silent (told some all) = absurd (some silent)
+quiet-concluded status result silent (failed some front) = absurd (some silent)
 
 pub read_fault-concluded : {first last : SinkView} (status result : Status) → Concludes status first last result → result ≡ ReadFault → status ≡ ReadFault
 read_fault-concluded status result (quiet none same) is = is

@@ -2,3 +2,4 @@ pub mod Status
 pub mod Sinks
 pub mod Notes
 pub mod Noted
+pub mod Files

@@ -2,7 +2,7 @@
 use Rattle.std.specs.Prelude.{◌≡◌, ◌≢◌, ◌⊎◌, ℕ, List, []}
 use Rattle.exec_status.specs.declared.status.Status.{Status}
 use Rattle.exec_status.specs.declared.status.Status.TheVariants.{AllValues, NotAllValues, Usage, PlanRefused, NoMemory, ReadFault, WriteFault, Limit}
-use Rattle.io_views.specs.Sinks.{SinkView}
+use Rattle.exec_io.specs.Views.{SinkView}
 use Rattle.exec_status.specs.Sinks.{TellsAll, TellsFront, Tells}
 use Rattle.exec_status.specs.Notes.{note_of}
 

@@ -2,8 +2,8 @@
 use Rattle.std.specs.Prelude.{◌≡◌, ◌⊎◌, ℕ, ◌++◌, List, [], ◌∷◌, Option, IfSome, decimal}
 use Rattle.exec_io.specs.Causes.{Rose}
 use Rattle.exec_io.specs.Sinks.{Appends}
-use Rattle.exec_value.specs.Writing.{AppendsFront}
-use Rattle.io_views.specs.Sinks.{SinkView}
+use Rattle.exec_io.specs.Writing.{AppendsFront}
+use Rattle.exec_io.specs.Views.{SinkView}
 
 -- The whole text was written and handed on, and no call of the sink failed.
 pub record TellsAll (old new : SinkView) (text : List ℕ) : Type 0 where

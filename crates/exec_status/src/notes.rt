@@ -2,7 +2,6 @@
 ghost use Rattle.std.specs.Prelude.{◌≡◌, ◌≤◌};
 ghost use Rattle.exec_status.specs.Notes.{note_of};
 ghost use Rattle.exec_status.specs.Noted.{Concludes};
-ghost use Rattle.io_views.specs.Sinks.{view_of};
 ghost use Rattle.exec_status.specs.Sinks.{Tells};
 
 use crate::status::Status;
@@ -27,9 +26,9 @@ pub fn note_of(status: Status) -> &'static [u8]
 /// Tells the note of a status, where it has one, and gives the status that stands then: a write
 /// fault where notes failed.
 pub fn conclude<N: Sink>(status: Status, notes: &mut N) -> Status
-    ensures later { N.faults notes.old ≤ N.faults notes.new }
-    ensures concludes { Concludes status (view_of N.written N.outstanding N.faults notes.old)
-        (view_of N.written N.outstanding N.faults notes.new) result }
+    ensures later { (N.told notes.old).faults ≤ (N.told notes.new).faults }
+    ensures concludes { Concludes status (N.told notes.old)
+        (N.told notes.new) result }
 {
     let note = note_of(status);
     if note.is_empty() {
@@ -43,9 +42,9 @@ pub fn conclude<N: Sink>(status: Status, notes: &mut N) -> Status
 
 /// Tells why nothing is run. The status stands also where notes fail.
 pub fn refuse<N: Sink>(text: &[u8], notes: &mut N)
-    ensures later { N.faults notes.old ≤ N.faults notes.new }
-    ensures tells { Tells (view_of N.written N.outstanding N.faults notes.old)
-        (view_of N.written N.outstanding N.faults notes.new) text.now }
+    ensures later { (N.told notes.old).faults ≤ (N.told notes.new).faults }
+    ensures tells { Tells (N.told notes.old)
+        (N.told notes.new) text.now }
 {
     let _ = tell(text, notes);
 }

@@ -1,18 +1,20 @@
 -- How an int record is read by std's `parse`.
-use Rattle.std.proofs.Common.{◌≡◌, ℕ, suc, ◌^◌, ◌-◌, ◌<◌, ◌≤◌, Bool, true, false, cond, ◌&&◌, eqb, ltb, leb, List, [], ◌∷◌, length, drop, get_or, Option, Some, None, Result, Ok, Err, ℤ, pos, negsuc, neg_ℤ, w64, FitsSigned, Decides, inl, inr, refl, sym, ap, ◌∙◌, subst, rules, arith}
-use Rattle.std.specs.Prelude.{int_le, int_lt, ◌==◌}
+use Rattle.std.proofs.Common.{◌≡◌, ℕ, zero, suc, ◌+◌, ◌*◌, ◌^◌, ◌-◌, ◌<◌, ◌≤◌, Bool, true, false, eqb, ltb, leb, List, [], ◌∷◌, length, drop, get_or, Some, None, Result, Ok, Err, ℤ, pos, negsuc, w64, FitsSigned, Decides, inl, inr, refl, sym, ap, ◌∙◌, subst, rules, arith}
 use Rattle.std.specs.Char.{is_ascii_digit}
 use Rattle.std.specs.List.{list_all}
-use Rattle.std.specs.Result.{result_ok, OkIff}
+use Rattle.std.specs.Result.{result_ok}
 use Rattle.std.specs.Str.{IsAscii, IsUtf8}
 use Rattle.std.specs.Str.Parse.{AllDigits, IsNumeral, ParsesSigned, starts_with_minus, without_leading_plus, without_leading_sign, digits_value, signed_digits_value}
 use Rattle.std.proofs.lemmas.Bool.{and_parts, and_from, and_left, and_right, cases_Bool, ltb-true, lt-ltb, leb-true, le-leb, cond-true, cond-false, false_from_ne_true, eqb-true}
-use Rattle.std.proofs.lemmas.Bool.Decides.{Decides-like}
 use Rattle.std.proofs.lemmas.Fmt.{IsAscii-from_digits}
 use Rattle.std.proofs.lemmas.Str.{IsUtf8-from_ascii}
 use Rattle.std.proofs.lemmas.Str.Ascii.{IsAscii-nil, IsAscii-cons}
-use Rattle.std.proofs.lemmas.Str.Parse.{digit_at, without_leading_plus_none, IsNumeralModel, numerals_by_value, IsDigitsTest}
-use Rattle.exec_value.specs.Number.{is_i64, is_numeral, without_minus, int_of}
+use Rattle.std.proofs.lemmas.Str.Parse.{digit_at, without_leading_plus_none, IsNumeralModel, numerals_by_value}
+use Rattle.std.specs.Char.{digit_value}
+use Rattle.std.proofs.Math.Nat.{pow-le-pow_right, pow-suc}
+use Rattle.std.proofs.lemmas.Bool.Decides.{nat_tests}
+use Rattle.std.proofs.lemmas.Int.Digits.{digits_value-lt}
+use Rattle.exec_value.specs.Number.{is_i64, is_numeral, without_minus, int_of, size_of, signed}
 
 -- std's digits
 digits : IsNumeralModel (λ ds. list_all is_ascii_digit ds ≡ true) (digits_value 10)
@@ -81,3 +83,54 @@ numeral_ascii (b ∷ bs) n =
 -- and so it is text
 pub IsUtf8-numeral : (bs : List ℕ) → is_numeral bs ≡ true → IsUtf8 bs
 IsUtf8-numeral bs e = IsUtf8-from_ascii bs (numeral_ascii bs (numeral_digits bs e))
+
+-- fewer digits show less
+pub tens : (i j : ℕ) → i ≤ j → 10 ^ i ≤ 10 ^ j
+tens i j few = let ten : zero < 10 = omega arith in pow-le-pow_right ten few
+
+pub tens-more : (i : ℕ) → 10 ^ (i + 1) ≡ 10 ^ i * 10
+tens-more i = let next : i + 1 ≡ suc i = omega arith in ap (λ (k : ℕ). 10 ^ k) next ∙ pow-suc 10 i
+
+-- a digit by its byte
+pub digit_value-byte : (b : ℕ) → 48 ≤ b → b ≤ 57 → digit_value b ≡ b - 48
+digit_value-byte b low high = grind (arith, nat_tests)
+
+-- what few digits show
+few_digits : (bs : List ℕ) → IsNumeral 10 (without_minus bs) → length (without_minus bs) ≤ 18 → digits_value 10 (without_minus bs) < 10 ^ 18
+few_digits bs n few =
+    omega (arith, digits_value-lt 10 (without_minus bs) n.1, tens (length (without_minus bs)) 18 few)
+
+small_is_i64 : (minus : Bool) (size : ℕ) → size < 10 ^ 18 → is_i64 (signed minus size) ≡ true
+small_is_i64 true zero below = refl
+small_is_i64 true (suc n) below = (Decides-is_i64 (signed true (suc n))).1 (record { sfits = omega (arith, below) })
+small_is_i64 false size below = (Decides-is_i64 (pos size)).1 (record { sfits = omega (arith, below) })
+
+size_of-some : (bs : List ℕ) (size : ℕ) → size_of bs ≡ Some size → (list_all is_ascii_digit bs ≡ true) × (size ≡ digits_value 10 bs)
+size_of-some bs size e =
+    elim (cases_Bool (list_all is_ascii_digit bs)) [
+      | inl all ↦ let same : Some (digits_value 10 bs) ≡ Some size = sym (cond-true (list_all is_ascii_digit bs) (Some (digits_value 10 bs)) None all) ∙ e in (all, cc)
+      | inr not ↦ let none : None ≡ Some size = sym (cond-false (list_all is_ascii_digit bs) (Some (digits_value 10 bs)) None not) ∙ e in cc
+    ]
+
+-- the number of few digits, with the sign that may stand first
+pub int_of-few : (bs : List ℕ) (size : ℕ) → 0 < length (without_minus bs) → length (without_minus bs) ≤ 18 → size_of (without_minus bs) ≡ Some size → int_of bs ≡ Some (signed (starts_with_minus bs) size)
+unfolding int_of
+int_of-few bs size some few e =
+    let ds = without_minus bs in
+    let p = size_of-some ds size e in
+    let numeral : is_numeral bs ≡ true = and_from (ltb 0 (length ds)) (list_all is_ascii_digit ds) (lt-ltb 0 (length ds) some) p.0 in
+    let n = numeral_digits bs numeral in
+    let same : digits_value 10 (without_leading_sign bs) ≡ size = ap (digits_value 10) (numeral_sign bs n) ∙ sym p.1 in
+    let number : signed_digits_value 10 bs ≡ signed (starts_with_minus bs) size = ap (λ (k : ℕ). signed (starts_with_minus bs) k) same in
+    let fits : is_i64 (signed_digits_value 10 bs) ≡ true = ap is_i64 number ∙ small_is_i64 (starts_with_minus bs) size (omega (arith, p.1, few_digits bs n few)) in
+    cond-true _ (Some (signed_digits_value 10 bs)) None (and_from (is_numeral bs) (is_i64 (signed_digits_value 10 bs)) numeral fits)
+    ∙ ap (λ (z : ℤ). Some z) number
+
+-- bytes that are no digits show nothing
+pub int_of-no_digits : (bs : List ℕ) → size_of (without_minus bs) ≡ None → int_of bs ≡ None
+int_of-no_digits bs e =
+    let ds = without_minus bs in
+    elim (cases_Bool (list_all is_ascii_digit ds)) [
+      | inl all ↦ let some : Some (digits_value 10 ds) ≡ None = sym (cond-true (list_all is_ascii_digit ds) (Some (digits_value 10 ds)) None all) ∙ e in cc
+      | inr not ↦ int_of-none bs (and_right (ltb 0 (length ds)) (list_all is_ascii_digit ds) not)
+    ]

@@ -1,9 +1,9 @@
 -- What a text is, and the test of it.
-use Rattle.std.proofs.Common.{◌≡◌, ℕ, ◌+◌, ◌≤◌, ◌++◌, length-append, arith, Bool, true, false, List, length, Option, None, Some, Result, Ok, Err, subst, Decides, ◌&&◌, leb, refl}
+use Rattle.std.proofs.Common.{◌≡◌, ℕ, ◌+◌, ◌≤◌, ◌++◌, length-append, arith, List, length, None, Some, Result, Ok, Err, subst, Decides, leb, refl}
 use Rattle.std.specs.Result.{MatchResult, is_ok, result_ok}
 use Rattle.std.specs.Str.{IsUtf8, is_utf8}
 use Rattle.std.proofs.lemmas.Str.{IsUtf8-append, IsUtf8-from_is_utf8, is_utf8-from_IsUtf8}
-use Rattle.std.proofs.lemmas.Bool.{leb-true, le-leb, false_from_ne_true}
+use Rattle.std.proofs.lemmas.Bool.{leb-true, le-leb}
 use Rattle.std.proofs.lemmas.Bool.Decides.{Decides-and, Decides-like}
 use Rattle.exec_value.specs.Text.{is_text, IsText}
 use Rattle.exec_value.specs.declared.limits.TheConstants.{TEXT_BYTES}

@@ -1,5 +1,5 @@
 -- That `==` on data tells whether they are equal.
-use Rattle.std.specs.Prelude.{◌≡◌, ℕ, ℤ, Bool, true, false, List, nat_eq, refl}
+use Rattle.std.specs.Prelude.{◌≡◌, ℤ, Bool, List, refl}
 use Rattle.std.specs.Bool.{Decides}
 use Rattle.std.specs.Cmp.{IsEquivalence, decided, signed_Decides}
 use Rattle.std.specs.Cmp.Lexicographic.{pointwise, pointwise_decides, bytes_decides}

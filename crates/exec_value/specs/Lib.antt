@@ -1,13 +1,12 @@
 pub mod Bytes
 pub mod Equal
 pub mod ErrorName
+pub mod Items
+pub mod Kept
 pub mod Kinds
-pub mod Line
 pub mod Number
-pub mod OneToOne
 pub mod Place
 pub mod Record
+pub mod Short
 pub mod Sum
-pub mod Summary
 pub mod Text
-pub mod Writing

@@ -2,7 +2,7 @@
 use Rattle.std.specs.Prelude.{ℕ, ◌^◌, ℤ, pos, neg_ℤ, int_le, int_lt, Bool, ◌&&◌, if◌then◌else◌, List, length, drop, nat_lt, Option, Some, None}
 use Rattle.std.specs.Char.{is_ascii_digit}
 use Rattle.std.specs.List.{list_all}
-use Rattle.std.specs.Str.Parse.{starts_with_minus, signed_digits_value}
+use Rattle.std.specs.Str.Parse.{starts_with_minus, digits_value, signed_digits_value}
 
 -- a number of the type i64
 abbrev pub is_i64 : ℤ → Bool
@@ -20,3 +20,11 @@ is_numeral bytes = nat_lt 0 (length (without_minus bytes)) && list_all is_ascii_
 unfoldable pub int_of : List ℕ → Option ℤ
 int_of bytes =
     if is_numeral bytes && is_i64 (signed_digits_value 10 bytes) then Some (signed_digits_value 10 bytes) else None
+
+-- what digits show, where each byte is one
+abbrev pub size_of : List ℕ → Option ℕ
+size_of bytes = if list_all is_ascii_digit bytes then Some (digits_value 10 bytes) else None
+
+-- a number by its sign and its size
+abbrev pub signed : Bool → ℕ → ℤ
+signed minus size = if minus then neg_ℤ (pos size) else pos size

@@ -1,5 +1,5 @@
 -- Which values stand in place, so that making or copying one wants no memory.
-use Rattle.std.specs.Prelude.{ℕ, ◌≤◌, ⊤, List, length, All}
+use Rattle.std.specs.Prelude.{◌≤◌, ⊤, List, length, All}
 use Rattle.exec_value.specs.declared.limits.TheConstants.{INLINE_BYTES, INLINE_DATA}
 use Rattle.exec_value.specs.declared.data.Datum.{Datum}
 use Rattle.exec_value.specs.declared.data.Datum.TheVariants.{Int, Text, Row, SomeInt, SomeText, Nothing}

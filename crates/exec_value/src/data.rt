@@ -1,15 +1,16 @@
 //! Data, and the lists of them that values are.
 ghost use Rattle.std.specs.Prelude.{◌≡◌, ◌<◌, ◌≤◌, [], ◌∷◌, ◌++◌, List, length, IsOk, IfOk, IfErr, OnOk, OnErr};
 ghost use Rattle.exec_value.specs.declared.limits.TheConstants.{DATA};
+ghost use Rattle.exec_value.specs.Items.{listed, AreManyIfSeveral};
 ghost use Rattle.exec_value.specs.Place.{AreInPlace};
 
 use crate::kinds::Kind;
 use crate::limits::{DATA, INLINE_DATA};
 use crate::nums::Nums;
 use crate::txt::Txt;
-use smallvec::SmallVec;
 use std::alloc::{AllocError, Global};
 use std::marker::Model;
+use std::{mem, slice};
 
 /// One datum.
 #[derive(Clone, Debug, Default, Drop, PartialEq, Eq)]
@@ -56,19 +57,28 @@ impl Datum {
 /// needs no allocation.
 #[derive(Debug, Drop)]
 pub struct Data {
-    items: SmallVec<Datum, INLINE_DATA>,
+    alloc: Global,
+    items: Items,
+}
+
+/// How the data of a list are kept.
+#[derive(Debug, Drop)]
+enum Items {
+    None,
+    One(Datum),
+    Several(Vec<Datum>),
 }
 
 impl Model for Data {
-    ghost use Rattle.std.specs.Prelude.{◌≤◌, List, length};
+    ghost use Rattle.std.specs.Prelude.{List};
+    ghost use Rattle.exec_value.specs.Items.{listed, KeepData};
     ghost use Rattle.exec_value.specs.declared.data.Datum.{Datum};
-    ghost use Rattle.exec_value.specs.declared.limits.TheConstants.{DATA, INLINE_DATA};
 
     ghost Value = { List Datum };
 
-    ghost view = { λ d. d.items.items };
+    ghost view = { λ d. listed d.items };
 
-    ghost invariant = { λ d. (length d.items.items ≤ DATA) × (INLINE_DATA ≤ d.items.capacity) };
+    ghost invariant = { λ d. KeepData d.items };
 }
 
 impl Data {
@@ -77,7 +87,8 @@ impl Data {
         ensures { result ≡ [] }
     {
         Data {
-            items: SmallVec::new(alloc),
+            alloc,
+            items: Items::None,
         }
     }
 
@@ -86,7 +97,19 @@ impl Data {
         ensures { result ≡ datum ∷ [] }
     {
         Data {
-            items: SmallVec::from_buf(alloc, [datum]),
+            alloc,
+            items: Items::One(datum),
+        }
+    }
+
+    /// The one datum of a list. It takes no memory.
+    pub fn into_one(self) -> Datum
+        requires { length self ≡ 1 }
+        ensures { self ≡ result ∷ [] }
+    {
+        match self.items {
+            Items::One(datum) => datum,
+            _ => unreachable!(),
         }
     }
 
@@ -99,7 +122,10 @@ impl Data {
         ensures back { IfErr result (λ returned. returned ≡ datum) }
         ensures first { self.old ≡ [] → IsOk result }
     {
-        self.items.push(datum).map_err(|failed| failed.value)
+        let items = mem::replace(&mut self.items, Items::None);
+        let (items, returned) = pushed(self.alloc, items, datum);
+        self.items = items;
+        returned
     }
 
     /// The data.
@@ -107,7 +133,45 @@ impl Data {
         ensures data { result.now ≡ self.now }
         ensures few { length self.now ≤ DATA }
     {
-        self.items.as_slice()
+        match &self.items {
+            Items::None => &[],
+            Items::One(datum) => slice::from_ref(datum),
+            Items::Several(data) => data.as_slice(),
+        }
+    }
+}
+
+/// The data with one more, or as they are where there is no memory.
+fn pushed(alloc: Global, items: Items, datum: Datum) -> (Items, Result<(), Datum>)
+    requires { AreManyIfSeveral items }
+    ensures ok { OnOk result.1 (listed result.0 ≡ listed items ++ datum ∷ []) }
+    ensures err { IfErr result.1 (λ returned. (listed result.0 ≡ listed items) × (returned ≡ datum)) }
+    ensures first { listed items ≡ [] → IsOk result.1 }
+    ensures many { AreManyIfSeveral result.0 }
+{
+    match items {
+        Items::None => (Items::One(datum), Ok(())),
+        Items::One(first) => with_second(alloc, first, datum),
+        Items::Several(mut data) => match data.push(datum) {
+            Ok(()) => (Items::Several(data), Ok(())),
+            Err(failed) => (Items::Several(data), Err(failed.value)),
+        },
+    }
+}
+
+/// Two data, or the first alone where there is no memory.
+fn with_second(alloc: Global, first: Datum, second: Datum) -> (Items, Result<(), Datum>)
+    ensures ok { OnOk result.1 (listed result.0 ≡ first ∷ second ∷ []) }
+    ensures err { IfErr result.1 (λ returned. (listed result.0 ≡ first ∷ []) × (returned ≡ second)) }
+    ensures many { AreManyIfSeveral result.0 }
+{
+    match Vec::with_capacity(alloc, 2) {
+        Ok(mut data) => {
+            data.push_reserved(first);
+            data.push_reserved(second);
+            (Items::Several(data), Ok(()))
+        }
+        Err(AllocError) => (Items::One(first), Err(second)),
     }
 }
 
@@ -117,7 +181,7 @@ impl Clone for Data {
     ghost is_infallible = { AreInPlace };
 
     fn clone(&self) -> Result<Self, AllocError> {
-        copy_data(*self.items.allocator(), self)
+        copy_data(self.alloc, self)
     }
 }
 
@@ -147,6 +211,10 @@ pub fn copy_data(alloc: Global, values: &Data) -> Result<Data, AllocError>
     ensures ok { IfOk result (λ copy. copy ≡ values.now) }
     ensures in_place { AreInPlace values.now → IsOk result }
 {
-    let items = SmallVec::from_clones(alloc, values.as_slice())?;
-    Ok(Data { items })
+    let items = match &values.items {
+        Items::None => Items::None,
+        Items::One(datum) => Items::One(datum.clone()?),
+        Items::Several(data) => Items::Several(Vec::from_clones(alloc, data.as_slice())?),
+    };
+    Ok(Data { alloc, items })
 }

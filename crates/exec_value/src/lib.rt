@@ -1,4 +1,8 @@
-//! Data, completions and outcomes: how a record is read, and how an outcome is written as a line.
+//! Data, completions and outcomes, and how a line is read as a record.
+//!
+//! Values are cheap to move and to copy. A text has 24 bytes, a datum 32, a completion 48. A short
+//! text and one datum stand in place; a longer text and a row are shared by their copies, so that a
+//! copy counts one owner more and takes no memory.
 #![tactic(auto)]
 
 mod data;
@@ -6,12 +10,12 @@ mod fault;
 mod kinds;
 mod law;
 mod limits;
-mod line;
 mod name;
+mod number;
 mod nums;
 mod outcome;
-mod put;
 mod record;
+mod short;
 mod sum;
 #[cfg(test)]
 mod tests;
@@ -20,14 +24,14 @@ mod txt;
 pub use data::{Data, Datum, copy_data};
 pub use fault::RecordFault;
 pub use kinds::Kind;
-pub use law::text_names_outcomes;
+pub use law::limits_are;
 pub use limits::{
     DATA, ERROR_NAME_BYTES, INLINE_BYTES, INLINE_DATA, LINE_BYTES, NUMBERS, TEXT_BYTES,
 };
-pub use line::put_line;
 pub use name::is_error_name;
+pub use number::read_int;
 pub use nums::Nums;
 pub use outcome::{Completion, Outcome};
-pub use record::{read_int, read_record};
+pub use record::read_record;
 pub use sum::sum_data;
 pub use txt::{Txt, is_text};

@@ -15,8 +15,9 @@ pub const ERROR_NAME_BYTES: usize = 64;
 /// The most bytes of a record's line.
 pub const LINE_BYTES: usize = 131_072;
 
-/// A text of at most so many bytes stands in place and needs no allocation.
-pub const INLINE_BYTES: usize = 64;
+/// A text of at most so many bytes stands in place and needs no allocation: each number in decimal
+/// does, and each error that a job makes, with the index of an element behind it.
+pub const INLINE_BYTES: usize = 22;
 
 /// A list of at most so many data stands in place and needs no allocation.
 pub const INLINE_DATA: usize = 1;

@@ -1,5 +1,6 @@
 //! Rows: lists of at most 4,096 numbers.
 ghost use Rattle.std.specs.Prelude.{◌≡◌, ◌<◌, ◌≤◌, ◌↔◌, List, ℤ, length, vec_len, IfOk, Err};
+ghost use Rattle.std.specs.Arc.{arc_slice_items};
 ghost use Rattle.std.specs.Cmp.{partial_equiv_from_equiv, int_eq_equiv};
 ghost use Rattle.std.specs.Cmp.Lexicographic.{pointwise, lists_per, lists_equiv};
 ghost use Rattle.std.specs.Ordering.{int_eq};
@@ -9,19 +10,21 @@ use crate::fault::RecordFault;
 use crate::limits::NUMBERS;
 use std::alloc::{AllocError, Global};
 use std::marker::Model;
+use std::sync::ArcSlice;
 
-/// A row: a list of at most 4,096 numbers.
+/// A row: a list of at most 4,096 numbers. The copies of a row share them, so that a copy counts
+/// one owner more and takes no memory.
 #[derive(Debug, Drop)]
 pub struct Nums {
-    numbers: Vec<i64>,
+    numbers: ArcSlice<i64>,
 }
 
 impl Model for Nums {
     ghost Value = { List ℤ };
 
-    ghost view = { λ n. n.numbers.items };
+    ghost view = { λ n. arc_slice_items n.numbers };
 
-    ghost invariant = { λ n. vec_len n.numbers ≤ NUMBERS };
+    ghost invariant = { λ n. length (arc_slice_items n.numbers) ≤ NUMBERS };
 }
 
 impl Nums {
@@ -33,16 +36,19 @@ impl Nums {
         if numbers.len() > NUMBERS {
             return Err(RecordFault::Bad);
         }
-        let numbers = Vec::from_slice(alloc, numbers)?;
-        Ok(Nums { numbers })
+        Ok(Nums {
+            numbers: ArcSlice::from_slice(alloc, numbers)?,
+        })
     }
 
-    /// The row of these numbers, which takes no memory.
-    pub fn from_vec(numbers: Vec<i64>) -> Nums
+    /// The row of these numbers. It takes the memory of a count of owners.
+    pub fn from_vec(numbers: Vec<i64>) -> Result<Nums, AllocError>
         requires { vec_len numbers ≤ NUMBERS }
-        ensures { result ≡ numbers.items }
+        ensures { IfOk result (λ row. row ≡ numbers.items) }
     {
-        Nums { numbers }
+        Ok(Nums {
+            numbers: ArcSlice::from_vec(numbers)?,
+        })
     }
 
     /// The numbers.
@@ -75,4 +81,19 @@ impl PartialEq for Nums {
 
 impl Eq for Nums {
     ghost laws = { lists_equiv int_eq_equiv };
+}
+
+#[cfg(test)]
+mod tests {
+    use super::*;
+    use std::test::Fail;
+
+    #[test]
+    fn the_copies_of_a_row_share_its_numbers(rt: HostRuntime) -> Result<(), Fail> {
+        let row = Nums::from_vec(vec![in rt.alloc(); 1; NUMBERS]?)?;
+        let copy = row.clone()?;
+        assert_eq!(rt; ArcSlice::strong_count(&row.numbers), 2);
+        assert_eq!(rt; copy.as_slice().len(), NUMBERS);
+        Ok(())
+    }
 }

@@ -1,22 +1,20 @@
 //! How a line is read as a record.
 ghost use Rattle.std.specs.Prelude.{◌≡◌, ◌≢◌, ◌≤◌, length, vec_len, IfOk, OnOk};
-ghost use Rattle.std.specs.Char.{is_ascii_digit};
-ghost use Rattle.std.specs.List.{list_all};
 ghost use Rattle.std.specs.Option.{option_copied};
-ghost use Rattle.exec_value.specs.Number.{is_numeral, without_minus, int_of};
 ghost use Rattle.exec_value.specs.Record.{bracketed, row_numbers, row_of, with_number, record_of};
 
 use crate::data::Datum;
 use crate::fault::RecordFault;
 use crate::kinds::Kind;
 use crate::limits::{INLINE_BYTES, NUMBERS};
+use crate::number::read_int;
 use crate::nums::Nums;
 use crate::txt::Txt;
 use std::alloc::{AllocError, Global};
 
 /// The datum that a line shows as a record of this kind. No line is a record of a maybe kind.
 ///
-/// An int, and a text of at most 64 bytes, want no memory.
+/// An int, and a text of at most 22 bytes, want no memory.
 pub fn read_record(alloc: Global, kind: Kind, line: &[u8]) -> Result<Datum, RecordFault>
     ensures ok { IfOk result (λ datum. record_of kind line.now ≡ Some datum) }
     ensures bad { result ≡ Err RecordFault.Bad → record_of kind line.now ≡ None }
@@ -35,43 +33,6 @@ pub fn read_record(alloc: Global, kind: Kind, line: &[u8]) -> Result<Datum, Reco
     }
 }
 
-/// The number that an int record shows: an optional minus sign and one or more digits, with a
-/// value that an `i64` holds. Leading zeros are accepted.
-pub fn read_int(line: &[u8]) -> Option<i64>
-    ensures { result ≡ int_of line.now }
-{
-    if !is_numeral(line) {
-        return None;
-    }
-    let text = str::from_utf8(line).ok()?;
-    text.parse().ok()
-}
-
-/// Whether these bytes are one digit or more, after a minus sign that may stand first.
-fn is_numeral(line: &[u8]) -> bool
-    ensures { result ≡ is_numeral line.now }
-{
-    let digits = without_minus(line);
-    !digits.is_empty() && are_digits(digits)
-}
-
-/// The bytes without the minus sign that may stand first.
-fn without_minus(line: &[u8]) -> &[u8]
-    ensures { result.now ≡ without_minus line.now }
-{
-    match line {
-        [b'-', digits @ ..] => digits,
-        _ => line,
-    }
-}
-
-/// Whether all bytes are decimal digits.
-fn are_digits(bytes: &[u8]) -> bool
-    ensures { result ≡ list_all is_ascii_digit bytes.now }
-{
-    bytes.iter().all(|byte| byte.is_ascii_digit())
-}
-
 /// The numbers of a row record: `[`, at most 4,096 numbers as an int record shows them with `,`
 /// between them, and `]`.
 fn read_row(alloc: Global, line: &[u8]) -> Result<Nums, RecordFault>
@@ -79,7 +40,7 @@ fn read_row(alloc: Global, line: &[u8]) -> Result<Nums, RecordFault>
     ensures bad { result ≡ Err RecordFault.Bad → row_of line.now ≡ None }
 {
     match bracketed(line) {
-        Some(inner) => Ok(Nums::from_vec(read_numbers(alloc, inner)?)),
+        Some(inner) => Ok(Nums::from_vec(read_numbers(alloc, inner)?)?),
         None => Err(RecordFault::Bad),
     }
 }

@@ -1,28 +1,43 @@
 //! Texts: UTF-8 of at most 4,096 bytes.
-ghost use Rattle.std.specs.Prelude.{◌≡◌, ◌≢◌, ℕ, ◌+◌, ◌≤◌, ◌↔◌, List, [], ◌++◌, length, false, IsTrue, IsOk, IfOk, OnOk, OnErr, Err, nat_eq};
+ghost use Rattle.std.specs.Prelude.{◌≡◌, ◌≢◌, ◌+◌, ◌<◌, ◌≤◌, ◌↔◌, [], ◌++◌, length, false, IsTrue, IsOk, IfOk, OnOk, OnErr, Err, nat_eq};
 ghost use Rattle.std.specs.Cmp.{partial_equiv_from_equiv};
 ghost use Rattle.std.specs.Cmp.Lexicographic.{pointwise, nat_list_eq_equiv};
+ghost use Rattle.exec_value.specs.Kept.{kept_bytes, AreManyIfShared};
+ghost use Rattle.exec_value.specs.Short.{short_bytes};
 ghost use Rattle.exec_value.specs.Text.{is_text, IsText};
 ghost use Rattle.exec_value.specs.declared.limits.TheConstants.{INLINE_BYTES, TEXT_BYTES};
 
 use crate::fault::RecordFault;
 use crate::limits::{INLINE_BYTES, TEXT_BYTES};
-use smallvec::SmallVec;
+use crate::short::Short;
 use std::alloc::{AllocError, Global};
 use std::marker::Model;
+use std::sync::ArcSlice;
 
-/// A text: UTF-8 of at most 4,096 bytes. Up to 64 bytes stand in place and need no allocation.
+/// A text: UTF-8 of at most 4,096 bytes. Up to 22 bytes stand in place and need no allocation. More
+/// are shared by the copies of a text, so that a copy counts one owner more and takes no memory.
 #[derive(Debug, Drop)]
 pub struct Txt {
-    bytes: SmallVec<u8, INLINE_BYTES>,
+    alloc: Global,
+    kept: Kept,
+}
+
+/// How the bytes of a text are kept.
+#[derive(Debug, Drop)]
+enum Kept {
+    InPlace(Short),
+    Shared(ArcSlice<u8>),
 }
 
 impl Model for Txt {
+    ghost use Rattle.std.specs.Prelude.{List, ℕ};
+    ghost use Rattle.exec_value.specs.Kept.{kept_bytes, KeepText};
+
     ghost Value = { List ℕ };
 
-    ghost view = { λ t. t.bytes.items };
+    ghost view = { λ t. kept_bytes t.kept };
 
-    ghost invariant = { λ t. IsText t.bytes.items × (INLINE_BYTES ≤ t.bytes.capacity) };
+    ghost invariant = { λ t. KeepText t.kept };
 }
 
 /// Whether these bytes are a text.
@@ -43,31 +58,43 @@ impl Txt {
         if !is_text(bytes) {
             return Err(RecordFault::Bad);
         }
-        let bytes = SmallVec::from_slice(alloc, bytes)?;
-        Ok(Txt { bytes })
+        Ok(Txt {
+            alloc,
+            kept: Kept::from_slice(alloc, bytes)?,
+        })
     }
 
-    /// A text of at most 64 bytes. It takes no memory.
+    /// A text of at most 22 bytes. It takes no memory.
     pub fn short(alloc: Global, text: &str) -> Txt
         requires { length text.now ≤ INLINE_BYTES }
         ensures { result ≡ text.now }
     {
-        match SmallVec::from_slice(alloc, text.as_bytes()) {
-            Ok(bytes) => Txt { bytes },
-            Err(_) => unreachable!(),
+        Txt {
+            alloc,
+            kept: Kept::InPlace(Short::from_slice(text.as_bytes())),
         }
+    }
+
+    /// A text of at most 4,096 bytes. One of at most 22 bytes takes no memory.
+    pub fn from_text(alloc: Global, text: &str) -> Result<Txt, AllocError>
+        requires { length text.now ≤ TEXT_BYTES }
+        ensures ok { IfOk result (λ made. made ≡ text.now) }
+        ensures small { length text.now ≤ INLINE_BYTES → IsOk result }
+    {
+        Ok(Txt {
+            alloc,
+            kept: Kept::from_slice(alloc, text.as_bytes())?,
+        })
     }
 
     /// The empty text. It takes no memory.
     pub fn empty(alloc: Global) -> Txt
         ensures { result ≡ [] }
     {
-        Txt {
-            bytes: SmallVec::new(alloc),
-        }
+        Txt::short(alloc, "")
     }
 
-    /// Appends a text. Two that have at most 64 bytes together want no memory. Where there is
+    /// Appends a text. Two that have at most 22 bytes together want no memory. Where there is
     /// none, the text is as it was.
     pub fn append(&mut self, more: &Txt) -> Result<(), AllocError>
         requires { length self.old + length more.now ≤ TEXT_BYTES }
@@ -75,7 +102,7 @@ impl Txt {
         ensures err { OnErr result (self.new ≡ self.old) }
         ensures small { length self.old + length more.now ≤ INLINE_BYTES → IsOk result }
     {
-        self.bytes.extend_from_slice(more.as_bytes())?;
+        self.kept = self.kept.with(self.alloc, more.as_bytes())?;
         Ok(())
     }
 
@@ -84,8 +111,85 @@ impl Txt {
         ensures bytes { result.now ≡ self.now }
         ensures text { IsText self.now }
     {
-        self.bytes.as_slice()
+        self.kept.as_slice()
     }
+}
+
+impl Kept {
+    /// These bytes, in place where they are few.
+    fn from_slice(alloc: Global, bytes: &[u8]) -> Result<Kept, AllocError>
+        ensures ok { IfOk result (λ kept. kept_bytes kept ≡ bytes.now) }
+        ensures many { IfOk result AreManyIfShared }
+        ensures small { length bytes.now ≤ INLINE_BYTES → IsOk result }
+    {
+        if bytes.len() <= INLINE_BYTES {
+            return Ok(Kept::InPlace(Short::from_slice(bytes)));
+        }
+        Ok(Kept::Shared(ArcSlice::from_slice(alloc, bytes)?))
+    }
+
+    /// These bytes and then more.
+    fn with(&self, alloc: Global, more: &[u8]) -> Result<Kept, AllocError>
+        requires short { length (kept_bytes self.now) + length more.now ≤ TEXT_BYTES }
+        requires many { AreManyIfShared self.now }
+        ensures ok { IfOk result (λ kept. kept_bytes kept ≡ kept_bytes self.now ++ more.now) }
+        ensures many { IfOk result AreManyIfShared }
+        ensures small { length (kept_bytes self.now) + length more.now ≤ INLINE_BYTES → IsOk result }
+    {
+        match self {
+            Kept::InPlace(short) => short_with(alloc, short, more),
+            Kept::Shared(bytes) => shared(alloc, bytes.as_slice(), more),
+        }
+    }
+
+    /// The same bytes. Those that are shared have one owner more.
+    fn copy(&self) -> Result<Kept, AllocError>
+        ensures ok { IfOk result (λ kept. kept_bytes kept ≡ kept_bytes self.now) }
+        ensures many { AreManyIfShared self.now → IfOk result AreManyIfShared }
+        ensures small { AreManyIfShared self.now → length (kept_bytes self.now) ≤ INLINE_BYTES
+            → IsOk result }
+    {
+        match self {
+            Kept::InPlace(short) => Ok(Kept::InPlace(*short)),
+            Kept::Shared(bytes) => Ok(Kept::Shared(bytes.clone()?)),
+        }
+    }
+
+    /// The bytes.
+    fn as_slice(&self) -> &[u8]
+        ensures { result.now ≡ kept_bytes self.now }
+    {
+        match self {
+            Kept::InPlace(short) => short.as_slice(),
+            Kept::Shared(bytes) => bytes.as_slice(),
+        }
+    }
+}
+
+/// Bytes that stand in place and then more.
+fn short_with(alloc: Global, short: &Short, more: &[u8]) -> Result<Kept, AllocError>
+    requires { length (short_bytes short.now) + length more.now ≤ TEXT_BYTES }
+    ensures ok { IfOk result (λ kept. kept_bytes kept ≡ short_bytes short.now ++ more.now) }
+    ensures many { IfOk result AreManyIfShared }
+    ensures small { length (short_bytes short.now) + length more.now ≤ INLINE_BYTES → IsOk result }
+{
+    if short.as_slice().len() + more.len() <= INLINE_BYTES {
+        return Ok(Kept::InPlace(short.with(more)));
+    }
+    shared(alloc, short.as_slice(), more)
+}
+
+/// Bytes and then more, which are too many to stand in place.
+fn shared(alloc: Global, front: &[u8], more: &[u8]) -> Result<Kept, AllocError>
+    requires short { length front.now + length more.now ≤ TEXT_BYTES }
+    requires many { INLINE_BYTES < length front.now + length more.now }
+    ensures ok { IfOk result (λ kept. kept_bytes kept ≡ front.now ++ more.now) }
+    ensures many { IfOk result AreManyIfShared }
+{
+    let mut joined = Vec::with_capacity(alloc, front.len() + more.len())?;
+    joined.extend_from_slice(front)?;
+    joined.extend_from_slice(more)?;
+    Ok(Kept::Shared(ArcSlice::from_vec(joined)?))
 }
 
 impl Clone for Txt {
@@ -94,8 +198,10 @@ impl Clone for Txt {
     ghost is_infallible = { λ text. length text ≤ INLINE_BYTES };
 
     fn clone(&self) -> Result<Self, AllocError> {
-        let bytes = SmallVec::from_slice(*self.bytes.allocator(), self.bytes.as_slice())?;
-        Ok(Txt { bytes })
+        Ok(Txt {
+            alloc: self.alloc,
+            kept: self.kept.copy()?,
+        })
     }
 }
 
@@ -111,4 +217,36 @@ impl PartialEq for Txt {
 
 impl Eq for Txt {
     ghost laws = { nat_list_eq_equiv };
+}
+
+#[cfg(test)]
+mod tests {
+    use super::*;
+    use std::test::Fail;
+
+    /// How many texts share the bytes of this one, or 0 where they stand in place.
+    fn owners(text: &Txt) -> usize {
+        match &text.kept {
+            Kept::InPlace(_) => 0,
+            Kept::Shared(bytes) => ArcSlice::strong_count(bytes),
+        }
+    }
+
+    #[test]
+    fn the_copies_of_a_long_text_share_its_bytes(rt: HostRuntime) -> Result<(), Fail> {
+        let alloc = rt.alloc();
+        let bytes = vec![in alloc; b'x'; TEXT_BYTES - 1]?;
+        let mut text = Txt::from_bytes(alloc, &bytes)?;
+        if text.as_bytes().len() < TEXT_BYTES {
+            text.append(&Txt::short(alloc, "y"))?;
+        }
+        let copy = text.clone()?;
+        assert_eq!(rt; owners(&text), 2);
+        assert_eq!(rt; copy.as_bytes().len(), TEXT_BYTES);
+        let name = Txt::from_text(alloc, "a-name-of-23-bytes-has-")?;
+        let short = Txt::from_text(alloc, "a-name-of-22-bytes-has")?;
+        let copies = (name.clone()?, short.clone()?);
+        assert_eq!(rt; (owners(&copies.0), owners(&copies.1)), (2, 0));
+        Ok(())
+    }
 }

@@ -5,7 +5,7 @@ use Rattle.std.proofs.lemmas.List.Sums.{sum_by_push}
 use Rattle.std.proofs.lemmas.Grind.{flat_map-append}
 use Rattle.exec_value.specs.declared.outcome.Outcome.{Outcome}
 use Rattle.exec_value.specs.Sum.{total}
-use Rattle.exec_value.specs.Summary.{is_value, is_error, is_stopped, is_out_of_memory, is_bad_record, line_numbers, sum_of}
+use Rattle.outcome_lines.specs.Summary.{is_value, is_error, is_stopped, is_out_of_memory, is_bad_record, line_numbers, sum_of}
 use Rattle.exec_value.proofs.SumLemmas.{total-append}
 use Rattle.line_summary.specs.declared.summary.Summary.{Summary}
 use Rattle.line_summary.specs.Counting.{Summarizes, Counts}

@@ -3,7 +3,7 @@ use Rattle.std.proofs.Common.{◌≡◌, ℕ, ℤ, List, [], ◌∷◌, ◌++◌
 use Rattle.std.specs.Fmt.{signed_decimal}
 use Rattle.exec_value.specs.Bytes.{line_feed}
 use Rattle.exec_value.specs.declared.outcome.Outcome.{Outcome}
-use Rattle.exec_value.specs.Summary.{is_value, is_error, is_stopped, is_out_of_memory, is_bad_record, sum_of, summary_of}
+use Rattle.outcome_lines.specs.Summary.{is_value, is_error, is_stopped, is_out_of_memory, is_bad_record, sum_of, summary_of}
 use Rattle.line_summary.specs.declared.summary.Summary.{Summary}
 use Rattle.line_summary.specs.SummaryText.{text_of}
 use Rattle.line_summary.specs.Counting.{Summarizes}

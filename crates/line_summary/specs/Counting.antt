@@ -2,7 +2,7 @@
 use Rattle.std.specs.Prelude.{◌≡◌, ◌+◌, List, length, count_by, if◌then◌else◌}
 use Rattle.std.specs.Prelude.{◌+ℤ◌}
 use Rattle.exec_value.specs.Sum.{total}
-use Rattle.exec_value.specs.Summary.{is_value, is_error, is_stopped, is_out_of_memory, is_bad_record, line_numbers, sum_of}
+use Rattle.outcome_lines.specs.Summary.{is_value, is_error, is_stopped, is_out_of_memory, is_bad_record, line_numbers, sum_of}
 use Rattle.exec_value.specs.declared.outcome.Outcome.{Outcome}
 use Rattle.line_summary.specs.declared.summary.Summary.{Summary}
 

@@ -1,19 +1,19 @@
 //! The one line that stands in place of all others.
 ghost use Rattle.std.specs.Prelude.{List};
-ghost use Rattle.exec_value.specs.Summary.{summary_of};
-ghost use Rattle.exec_value.specs.Writing.{Puts};
+ghost use Rattle.outcome_lines.specs.Summary.{summary_of};
+ghost use Rattle.exec_io.specs.Writing.{Puts};
 ghost use Rattle.exec_value.specs.declared.outcome.Outcome.{Outcome};
 ghost use Rattle.line_summary.specs.Counting.{Summarizes};
-ghost use Rattle.line_summary.specs.SummaryText.{values_text, stopped_text, bad_text, text_of};
+ghost use Rattle.line_summary.specs.SummaryText.{two_counts, four_counts, six_counts, text_of};
 
-use crate::put::{put_bytes, put_number, put_signed};
+use crate::put::{put_number, put_signed};
 use crate::summary::Summary;
-use exec_io::{Failed, Sink};
+use exec_io::{Failed, Sink, put_bytes};
 
-/// Writes how many lines there are, and how many values.
-fn put_values<K: Sink>(summary: &Summary, sink: &mut K) -> Result<(), Failed>
-    ensures { Puts K.written K.outstanding K.faults sink.old sink.new result
-        (values_text summary.now) }
+/// Writes the first two counts: how many lines there are, and how many values.
+fn put_two_counts<K: Sink>(summary: &Summary, sink: &mut K) -> Result<(), Failed>
+    ensures { Puts (K.told sink.old) (K.told sink.new) result
+        (two_counts summary.now) }
 {
     put_bytes(b"records ", sink)?;
     put_number(summary.lines, sink)?;
@@ -21,24 +21,24 @@ fn put_values<K: Sink>(summary: &Summary, sink: &mut K) -> Result<(), Failed>
     put_number(summary.values, sink)
 }
 
-/// Writes these, and how many lines are errors or stopped.
-fn put_stopped<K: Sink>(summary: &Summary, sink: &mut K) -> Result<(), Failed>
-    ensures { Puts K.written K.outstanding K.faults sink.old sink.new result
-        (stopped_text summary.now) }
+/// Writes the first four: these, and how many lines are errors or stopped.
+fn put_four_counts<K: Sink>(summary: &Summary, sink: &mut K) -> Result<(), Failed>
+    ensures { Puts (K.told sink.old) (K.told sink.new) result
+        (four_counts summary.now) }
 {
-    put_values(summary, sink)?;
+    put_two_counts(summary, sink)?;
     put_bytes(b" errors ", sink)?;
     put_number(summary.errors, sink)?;
     put_bytes(b" stopped ", sink)?;
     put_number(summary.stopped, sink)
 }
 
-/// Writes these, and how many lines are out-of-memory or bad records.
-fn put_bad<K: Sink>(summary: &Summary, sink: &mut K) -> Result<(), Failed>
-    ensures { Puts K.written K.outstanding K.faults sink.old sink.new result
-        (bad_text summary.now) }
+/// Writes all six: these, and how many lines are out-of-memory or bad records.
+fn put_six_counts<K: Sink>(summary: &Summary, sink: &mut K) -> Result<(), Failed>
+    ensures { Puts (K.told sink.old) (K.told sink.new) result
+        (six_counts summary.now) }
 {
-    put_stopped(summary, sink)?;
+    put_four_counts(summary, sink)?;
     put_bytes(b" out-of-memory ", sink)?;
     put_number(summary.no_memory, sink)?;
     put_bytes(b" bad ", sink)?;
@@ -47,9 +47,9 @@ fn put_bad<K: Sink>(summary: &Summary, sink: &mut K) -> Result<(), Failed>
 
 /// Writes the whole line.
 fn put_text<K: Sink>(summary: &Summary, sink: &mut K) -> Result<(), Failed>
-    ensures { Puts K.written K.outstanding K.faults sink.old sink.new result (text_of summary.now) }
+    ensures { Puts (K.told sink.old) (K.told sink.new) result (text_of summary.now) }
 {
-    put_bad(summary, sink)?;
+    put_six_counts(summary, sink)?;
     put_bytes(b" sum ", sink)?;
     put_signed(summary.sum, sink)?;
     put_bytes(b"\n", sink)
@@ -61,7 +61,7 @@ fn put_text<K: Sink>(summary: &Summary, sink: &mut K) -> Result<(), Failed>
 /// appended.
 pub fn put_summary<K: Sink>(summary: &Summary, sink: &mut K) -> Result<(), Failed>
     ensures { (outcomes : List Outcome) → Summarizes summary.now outcomes →
-        Puts K.written K.outstanding K.faults sink.old sink.new result (summary_of outcomes) }
+        Puts (K.told sink.old) (K.told sink.new) result (summary_of outcomes) }
 {
     put_text(summary, sink)
 }

@@ -1,7 +1,7 @@
 //! Of which sort a line is.
 ghost use Rattle.std.specs.Prelude.{◌≡◌, ◌*◌};
 ghost use Rattle.exec_value.specs.Sum.{total, numbers_of, sum_of_data, IsWithin};
-ghost use Rattle.exec_value.specs.Summary as of;
+ghost use Rattle.outcome_lines.specs.Summary as of;
 ghost use Rattle.exec_value.specs.declared.limits.TheConstants.{DATA, NUMBERS};
 ghost use Rattle.exec_value.specs.declared.outcome.Outcome.{Outcome};
 

@@ -1,4 +1,3 @@
-use Rattle.std.proofs.Common.{◌≡◌}
 use Rattle.exec_job.proofs.OperandLemmas.{one-length, one-kind, not_int}
 use Rattle.exec_job.proofs.operands.only_int.Goals as goal
 

@@ -1,4 +1,4 @@
-use Rattle.std.proofs.Common.{◌≡◌, ◌+◌, ◌<◌, ◌≤◌, length, take, get_or, Err, ap, refl, sym, ◌∙◌, arith}
+use Rattle.std.proofs.Common.{◌+◌, ◌<◌, length, Err, ap, refl, sym, ◌∙◌, arith}
 use Rattle.std.specs.List.{flat_map}
 use Rattle.std.proofs.lemmas.List.Folds.{length-flat_map-take}
 use Rattle.exec_value.specs.declared.limits.TheConstants.{INLINE_BYTES}

@@ -1,5 +1,4 @@
 use Rattle.std.proofs.Common.{◌≡◌, ◌≢◌, List, [], ◌∷◌, length, ℕ, refl, sym, subst, ◌∙◌, arith, rules}
-use Rattle.io_views.specs.Sinks.{view_of}
 use Rattle.exec_status.specs.Sinks.{TellsAll, TellsFront}
 use Rattle.exec_status.specs.Noted.Concludes.{quiet, told, failed}
 use Rattle.exec_status.proofs.notes.conclude.Goals as goal
@@ -19,10 +18,10 @@ returns-then-is_empty-clause-concludes g c = quiet (sym c.note_of-note.ensures �
 
 pub returns-in-Ok-clause-concludes : goal.returns-in-Ok-clause-concludes
 returns-in-Ok-clause-concludes g c =
-    let view = view_of g.N.Sink.written g.N.Sink.outstanding g.N.Sink.faults in
+    let view = g.N.Sink.told in
     told (λ none. some_of c.note_of-note.result.now (search rules) (c.note_of-note.ensures ∙ none)) (subst (TellsAll (view c.args.notes.now) (view c.tell.new.sink)) c.note_of-note.ensures c.in-Ok.ensures.ok)
 
 pub returns-in-Err-clause-concludes : goal.returns-in-Err-clause-concludes
 returns-in-Err-clause-concludes g c =
-    let view = view_of g.N.Sink.written g.N.Sink.outstanding g.N.Sink.faults in
+    let view = g.N.Sink.told in
     failed (λ none. some_of c.note_of-note.result.now (search rules) (c.note_of-note.ensures ∙ none)) (subst (TellsFront (view c.args.notes.now) (view c.tell.new.sink)) c.note_of-note.ensures c.in-Err.ensures.err)

@@ -12,10 +12,10 @@ returns-in_err-read_numbers-in-Some-clause-bad c =
     let fault : c.in_err-read_numbers-in-Some.field-0.0 ≡ Bad = cc (p.1, p.2) in
     rw (← c.in-Some.ensures) (c.in_err-read_numbers-in-Some.ensures.bad (ap (λ e. Err e) fault))
 
-pub returns-in_ok-read_numbers-in-Some-clause-ok : goal.returns-in_ok-read_numbers-in-Some-clause-ok
+pub returns-in_ok-from_vec-in-Some-clause-ok : goal.returns-in_ok-from_vec-in-Some-clause-ok
 unfolding row_of
-returns-in_ok-read_numbers-in-Some-clause-ok c =
-    rw (← c.in-Some.ensures, c.from_vec.ensures) c.in_ok-read_numbers-in-Some.ensures.ok
+returns-in_ok-from_vec-in-Some-clause-ok c =
+    rw (← c.in-Some.ensures, c.in_ok-from_vec-in-Some.ensures) c.in_ok-read_numbers-in-Some.ensures.ok
 
 pub returns-in-None-clause-bad : goal.returns-in-None-clause-bad
 unfolding row_of

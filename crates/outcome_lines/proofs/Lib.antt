@@ -1,0 +1,4 @@
+pub mod CutLemmas
+pub mod EscapedLemmas
+pub mod LineLemmas
+pub mod OneToOneLemmas

@@ -1,0 +1,15 @@
+//! How outcomes are written as lines, and what a summary of them says.
+//!
+//! It stands on exec_value, whose outcomes it writes, and on exec_io, to whose sinks it writes them.
+//! `put_line` appends exactly the line of the definition, or fails with cause and appends a front of
+//! it. No call takes memory.
+#![tactic(auto)]
+
+mod law;
+mod line;
+mod put;
+#[cfg(test)]
+mod tests;
+
+pub use law::text_names_outcomes;
+pub use line::put_line;
