@@ -12,7 +12,7 @@ use Rattle.plan_rules.specs.declared.node.Node.{Node}
 use Rattle.plan_rules.specs.declared.node.Node.TheVariants.{Bulk, Part}
 use Rattle.plan_shape.specs.Children.{part_count, children_of, children_at}
 use Rattle.plan_shape.specs.Added.{number_of, parts_of, with_node}
-use Rattle.plan_shape.proofs.ListLemmas.{slice_get-append_left, slice_get-append_right}
+use Rattle.common_lemmas.proofs.Lists.{slice_get-append_left, slice_get-append_right}
 
 -- a node has no parts, or is a bulk
 pub bulk_or_none : (node : Node) →

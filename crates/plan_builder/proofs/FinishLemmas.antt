@@ -6,12 +6,12 @@ use Rattle.std.specs.List.{range_with_len}
 use Rattle.std.proofs.lemmas.Bool.{cases_lt, and_from, not-false, eqb-true, lt-ltb, ne_eqb, eq-eqb, cond-true, cond-false, false≢true}
 use Rattle.std.proofs.lemmas.Option.{slice_get-get_or}
 use Rattle.std.proofs.lemmas.List.FromFn.{length-map-range_with_len, get_or-map-range_with_len}
-use Rattle.life_rules.specs.declared.tree.TreeNode.{TreeNode}
-use Rattle.life_rules.specs.declared.tree.TheConstants.{MOST_NODES}
-use Rattle.life_rules.specs.Tree.{IsTree, IsFirstFault, is_node, has_place, is_root, has_source}
-use Rattle.life_rules.specs.Tree as tree
-use Rattle.life_rules.proofs.Tests.{either}
-use Rattle.node_tree.proofs.Walk.{known}
+use Rattle.node_tree.specs.declared.node.TreeNode.{TreeNode}
+use Rattle.node_tree.specs.declared.node.TheConstants.{MOST_NODES}
+use Rattle.node_tree.specs.Tree.{IsTree, IsFirstFault, is_node, has_place, is_root, has_source}
+use Rattle.node_tree.specs.Tree as tree
+use Rattle.common_lemmas.proofs.Bool.{either}
+use Rattle.common_lemmas.proofs.Options.{known}
 use Rattle.plan_rules.specs.declared.node.Node.{Node}
 use Rattle.plan_rules.specs.declared.node.Node.TheVariants.{WhenAll}
 use Rattle.plan_rules.specs.declared.settings.Settings.{Settings}
@@ -23,7 +23,7 @@ use Rattle.plan_shape.specs.Forest.{IsForest}
 use Rattle.plan_shape.specs.Finish.{passes, is_loose, is_too_large, is_too_new, is_misplaced, finish_fault}
 use Rattle.plan_shape.specs.Blueprint.{AreSettings, IsPlan}
 use Rattle.plan_shape.specs.PlanTree.{is_when_all, is_unstoppable, spawns, parent_in_tree, tree_node, receiver_node, tree_of}
-use Rattle.plan_shape.proofs.ListLemmas.{slice_get-append_left, slice_get-append_right}
+use Rattle.common_lemmas.proofs.Lists.{slice_get-append_left, slice_get-append_right}
 use Rattle.plan_shape.proofs.LeastLemmas.{none_passes}
 use Rattle.plan_builder.proofs.RefusalLemmas.{or_first, fault_if-None, map-None, free_within}
 use Rattle.plan_shape.proofs.ForestLaws.{parent_later}

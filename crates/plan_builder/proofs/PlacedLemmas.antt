@@ -5,7 +5,7 @@ use Rattle.std.specs.List.{list_any, range_with_len}
 use Rattle.std.proofs.lemmas.Bool.{cases_lt, or_left, eq-eqb}
 use Rattle.std.proofs.lemmas.Option.{slice_get_within}
 use Rattle.std.proofs.lemmas.List.Elements.{All-nil, All-head, All-tail, All-weaker}
-use Rattle.life_rules.specs.LifeSteps.{are_different}
+use Rattle.common_lemmas.specs.Lists.{are_different}
 use Rattle.plan_rules.specs.declared.node.Node.{Node}
 use Rattle.plan_rules.specs.declared.node.Node.TheVariants.{Bulk, Part}
 use Rattle.plan_shape.specs.declared.limits.TheConstants.{BULK_PARTS}

@@ -7,7 +7,7 @@ use Rattle.std.proofs.lemmas.List.{map-append}
 use Rattle.std.proofs.lemmas.Bool.{and_parts, or_parts, or_left, or_right, not-false, ltb-true, ltb-false, lt-ltb, le-ltb, cond-true, cond-false}
 use Rattle.std.proofs.lemmas.List.Sums.{fold-append}
 use Rattle.std.proofs.lemmas.List.Folds.{list_any-append}
-use Rattle.life_rules.proofs.Tests.{either}
+use Rattle.common_lemmas.proofs.Bool.{either}
 use Rattle.plan_rules.specs.declared.node.Node.{Node}
 use Rattle.plan_shape.specs.declared.fault.BuildFault.{BuildFault}
 use Rattle.plan_shape.specs.declared.fault.BuildFault.TheVariants.{TooManyChildren, UsedChild, TooManyNodes, TooDeep}

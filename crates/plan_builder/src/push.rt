@@ -1,31 +1,22 @@
-//! How a builder adds a node that it doesn't refuse.
-ghost use Rattle.std.specs.Prelude.{◌≡◌, ◌+◌, ◌≤◌, [], ◌∷◌, ◌++◌, None, vec_len, vec_capacity, true, OnOk};
+//! How a builder adds a node.
+ghost use Rattle.std.specs.Prelude.{◌≡◌, ◌+◌, ◌≤◌, ◌∷◌, [], ◌++◌, None, vec_len, vec_capacity, OnOk};
 ghost use Rattle.plan_shape.specs.Added.{parts_of};
 ghost use Rattle.plan_rules.specs.Children.{named_by};
-ghost use Rattle.plan_shape.specs.Children.{part_count};
-ghost use Rattle.plan_shape.specs.Conditions.{MeetsConditions, has_lawful_count};
+ghost use Rattle.plan_shape.specs.Conditions.{MeetsConditions};
 ghost use Rattle.plan_shape.specs.Depths.{depth_of, depth_over};
 ghost use Rattle.plan_shape.specs.Refusals.{Adds, fault_of};
+ghost use Rattle.plan_builder.specs.Adding.{Allows};
 
 use crate::builder::PlanBuilder;
+use crate::named::{has_lawful_count, named, part_count};
 use crate::position::{Position, append_positions};
 use crate::room::append;
 use plan_rules::{Node, NodeId};
-use plan_shape::{BULK_PARTS, BuildFault};
+use plan_shape::BuildFault;
 use std::alloc::AllocError;
 
 /// What a call of a builder answers: the number of the new node, or why there is none.
 pub type Built = Result<NodeId, BuildFault>;
-
-// How many parts a node has.
-fn part_count(node: &Node) -> u32
-    ensures { result ≡ part_count node.now }
-{
-    match node {
-        Node::Bulk { .. } => BULK_PARTS,
-        _ => 0,
-    }
-}
 
 // Makes room for so many more nodes and their positions.
 fn reserve(
@@ -55,15 +46,28 @@ fn append_node(nodes: &mut Vec<Node>, node: Node, number: NodeId, parts: u32)
 }
 
 impl PlanBuilder {
-    /// Adds a node that isn't refused. Its children are named in two lists, one after the other.
-    pub(crate) fn push(
-        &mut self,
-        front: &[NodeId],
-        back: &[NodeId],
-        node: Node,
-        depth: u32,
-    ) -> Built
-        requires named { named_by node ≡ front.now ++ back.now }
+    /// Adds a node, unless it is refused. The calls that are named for the nodes add theirs so.
+    pub fn add(&mut self, node: Node) -> Built
+        requires { MeetsConditions node }
+        ensures { Adds self.old self.new node result }
+    {
+        let depth = self.check_node(&node)?;
+        self.push(node, depth)
+    }
+
+    // The depth of a new node, or why it is refused.
+    fn check_node(&self, node: &Node) -> Result<u32, BuildFault>
+        ensures { Allows self.now node.now result }
+    {
+        if !has_lawful_count(node) {
+            return Err(BuildFault::TooManyChildren);
+        }
+        let (front, back) = named(node);
+        self.check(front, back, part_count(node))
+    }
+
+    // Adds a node that isn't refused.
+    fn push(&mut self, node: Node, depth: u32) -> Built
         requires conditions { MeetsConditions node }
         requires allowed { fault_of self.old node ≡ None }
         requires depth { depth ≡ depth_over (depth_of self.old) (named_by node) }
@@ -72,19 +76,9 @@ impl PlanBuilder {
         let parts = part_count(&node);
         reserve(&mut self.nodes, &mut self.positions, parts as usize + 1)?;
         let number = self.nodes.len() as u32 + parts;
+        let (front, back) = named(&node);
         append_positions(&mut self.positions, front, back, number, parts, depth);
         append_node(&mut self.nodes, node, number, parts);
         Ok(number)
-    }
-
-    /// Adds a node whose children are these, unless it is refused.
-    pub(crate) fn add(&mut self, children: &[NodeId], node: Node) -> Built
-        requires named { named_by node ≡ children.now }
-        requires conditions { MeetsConditions node }
-        requires count { has_lawful_count node ≡ true }
-        ensures { Adds self.old self.new node result }
-    {
-        let depth = self.check(children, &[], part_count(&node))?;
-        self.push(children, &[], node, depth)
     }
 }

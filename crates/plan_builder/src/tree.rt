@@ -5,7 +5,7 @@ ghost use Rattle.plan_shape.specs.Parents.{parent_of};
 ghost use Rattle.plan_shape.specs.PlanTree.{is_unstoppable, is_when_all, parent_in_tree, spawns, tree_node, tree_of};
 
 use crate::builder::PlanBuilder;
-use life_rules::TreeNode;
+use node_tree::TreeNode;
 use plan_rules::{Node, NodeId};
 use std::alloc::AllocError;
 

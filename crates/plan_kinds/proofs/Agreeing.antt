@@ -27,9 +27,10 @@ agreed (Some first) (Some second) values agree none have =
 agreed None (Some second) values agree none have = let wrong = none refl in cc
 agreed joint None values agree none have = absurd have
 
-or-none : (shape other : Shape) → option_or shape other ≡ None → (shape ≡ None) × (other ≡ None)
-or-none None other e = (refl, e)
-or-none (Some kinds) other e = cc
+-- the first of two that isn't never, where there is none
+pub both-none : (shape other : Shape) → option_or shape other ≡ None → (shape ≡ None) × (other ≡ None)
+both-none None other e = (refl, e)
+both-none (Some kinds) other e = cc
 
 -- the joint shape is the first one's, where that isn't never
 pub front-common : (shape : Shape) (shapes : List Shape) (values : List Datum) → HasShape values shape →
@@ -44,16 +45,16 @@ second-common shape other values agree have =
     let joint : Shape = common (shape ∷ other ∷ []) in
     let behind = (and_parts (agrees joint shape) (agrees joint other && true) agree).1 in
     agreed joint other values (and_parts (agrees joint other) true behind).0
-    (λ e. (or-none other None (or-none shape (option_or other None) e).1).0) have
+    (λ e. (both-none other None (both-none shape (option_or other None) e).1).0) have
 
 module _ (below : Signatures) (b : Shape) where
   -- the joint shape is never a value only where no shape is one
   none-at : (xs : List ℕ) (i : ℕ) → i < length xs → common (values_at below xs b) ≡ None →
       value_at below (slice_index xs i) b ≡ None
   none-at [] i within e = absurd (omega arith)
-  none-at (x ∷ xs) zero within e = (or-none (value_at below x b) (common (values_at below xs b)) e).0
+  none-at (x ∷ xs) zero within e = (both-none (value_at below x b) (common (values_at below xs b)) e).0
   none-at (x ∷ xs) (suc i) within e =
-      none-at xs i (omega arith) (or-none (value_at below x b) (common (values_at below xs b)) e).1
+      none-at xs i (omega arith) (both-none (value_at below x b) (common (values_at below xs b)) e).1
 
   agrees-at : (joint : Shape) (xs : List ℕ) (i : ℕ) → i < length xs →
       IsTrue (list_all (agrees joint) (values_at below xs b)) →
@@ -84,7 +85,7 @@ module _ (below : Signatures) (b : Shape) where
       agreed joint (value_at below (slice_index xs i) b) values
       (agrees-at joint xs i within
       (and_parts (agrees joint shape) (list_all (agrees joint) (values_at below xs b)) agree).1)
-      (λ e. none-at xs i within (or-none shape (common (values_at below xs b)) e).1) have
+      (λ e. none-at xs i within (both-none shape (common (values_at below xs b)) e).1) have
 
   -- a flag that one has, some have
   pub any-at : (test : Sig → Bool) (xs : List ℕ) (i : ℕ) → i < length xs →

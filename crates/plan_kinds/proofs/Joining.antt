@@ -98,7 +98,7 @@ module _ (below : Signatures) (a : Shape) where
       ]
 
 -- one list after another, and then nothing more
-appended-none : (shape : Shape) → appended shape (Some []) ≡ shape
+pub appended-none : (shape : Shape) → appended shape (Some []) ≡ shape
 appended-none (Some kinds) = ap Some (append-nil kinds)
 appended-none None = refl
 

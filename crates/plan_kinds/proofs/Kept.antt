@@ -26,7 +26,7 @@ use Rattle.plan_kinds.proofs.Signed.{sig-past, signed-by-case}
 use Rattle.plan_kinds.proofs.Cases.{Keeps, case-keeps}
 
 -- a node that is no part runs with any data of the shape
-plain-arguments : (o : Option Node) → IsNoPart o → (a : Shape) (values : List Datum) → HasShape values a →
+pub plain-arguments : (o : Option Node) → IsNoPart o → (a : Shape) (values : List Datum) → HasShape values a →
     AreArguments o a values
 plain-arguments (Some (Part bulk part)) plain a values have = absurd plain
 plain-arguments o plain a values have = have

@@ -9,3 +9,6 @@ pub mod Lets
 pub mod Joining
 pub mod Cases
 pub mod Kept
+pub mod Placing
+pub mod Plans
+pub mod OneShape

@@ -8,3 +8,4 @@ pub mod Signatures
 pub mod Reached
 pub mod Built
 pub mod Laws
+pub mod PlanLaws

@@ -1,5 +1,6 @@
-//! What holds of kinds, for every job, list of nodes, arguments and stop state.
+//! What holds of kinds: for every job, list of nodes, arguments and stop state, and in every plan.
 ghost use Rattle.plan_kinds.specs.Laws.{JobsKeepKinds, SignedByCase, KindsKept};
+ghost use Rattle.plan_kinds.specs.PlanLaws.{PlansAreBuilt, NodesRunUnderOneShape};
 
 /// For data of kinds that it takes, a job gives data of the kinds that are said of it, or an error
 /// where it may fail.
@@ -16,4 +17,14 @@ pub fn signed_by_case()
 /// runs under completes as its signature says, whatever the stop state.
 pub fn kinds_kept()
     ensures { KindsKept }
+{}
+
+/// The nodes of a plan are as these laws ask, so that kinds are kept where they match.
+pub fn plans_are_built()
+    ensures { PlansAreBuilt }
+{}
+
+/// Each node of a plan runs under arguments of exactly one shape, so it has exactly one signature.
+pub fn nodes_run_under_one_shape()
+    ensures { NodesRunUnderOneShape }
 {}

@@ -8,10 +8,10 @@ use Rattle.serde_json.specs.Data.{Data}
 use Rattle.plan_rules.specs.declared.settings.Settings.{Settings}
 use Rattle.plan_shape.specs.declared.fault.BuildFault.{BuildFault}
 use Rattle.plan_shape.specs.Blueprint.{Blueprint}
-use Rattle.plan_text.specs.declared.reading.Faults.{Faults}
-use Rattle.plan_text.specs.declared.reading.Reading.{Reading}
-use Rattle.plan_text.specs.declared.reading.Reading.TheVariants.{Good, Bad}
-use Rattle.plan_text.specs.Reading.{any_fault, both}
+use Rattle.plan_parts.specs.declared.reading.Faults.{Faults}
+use Rattle.plan_parts.specs.declared.reading.Reading.{Reading}
+use Rattle.plan_parts.specs.declared.reading.Reading.TheVariants.{Good, Bad}
+use Rattle.plan_parts.specs.Reading.{any_fault, both}
 use Rattle.plan_reader.specs.declared.found.Found.{Found}
 use Rattle.plan_reader.specs.declared.fault.PlanFault.{PlanFault}
 use Rattle.plan_reader.specs.declared.fault.PlanFault.TheVariants.{TooLong, NotJson, Form, UnknownName, Limit, Kinds, Excluded, NoMemory}

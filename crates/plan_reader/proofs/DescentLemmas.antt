@@ -4,9 +4,9 @@ use Rattle.std.specs.Prelude.{codes}
 use Rattle.serde_json.specs.Data.{Data}
 use Rattle.plan_rules.specs.Children.{named_by}
 use Rattle.plan_rules.specs.declared.node.Node.{Node}
-use Rattle.plan_text.specs.declared.reading.Reading.{Reading}
-use Rattle.plan_text.specs.declared.reading.Reading.TheVariants.{Good, Bad}
-use Rattle.plan_text.specs.Reading.{IfGood}
+use Rattle.plan_parts.specs.declared.reading.Reading.{Reading}
+use Rattle.plan_parts.specs.declared.reading.Reading.TheVariants.{Good, Bad}
+use Rattle.plan_parts.specs.Reading.{IfGood}
 use Rattle.plan_reader.specs.NodeParts.{adaptor_node, leaf_node, let_node}
 use Rattle.plan_reader.specs.Roots.{AreRoots, IsTidy}
 use Rattle.plan_reader.specs.Walked.{Listed, Walked, check_keys, child_at, last, list_at, walk}

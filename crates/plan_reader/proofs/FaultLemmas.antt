@@ -13,19 +13,19 @@ use Rattle.exec_value.specs.declared.data.Datum.TheVariants.{Int, Text, Row}
 use Rattle.exec_value.specs.declared.limits.TheConstants.{DATA, NUMBERS, ERROR_NAME_BYTES}
 use Rattle.exec_job.specs.declared.job.Job.TheVariants as job
 use Rattle.plan_shape.specs.Conditions.{is_within}
-use Rattle.plan_text.specs.declared.reading.Faults.{Faults}
-use Rattle.plan_text.specs.declared.reading.Reading.{Reading}
-use Rattle.plan_text.specs.declared.reading.Reading.TheVariants.{Good, Bad}
-use Rattle.plan_text.specs.declared.reading.TheConstants.{FORM_FAULT, NAME_FAULT, LIMIT_FAULT}
-use Rattle.plan_text.specs.declared.job_word.JobWord.{JobWord}
-use Rattle.plan_text.specs.declared.job_word.JobWord.TheVariants.{Plain, Arithmetic, Within, Fail, Append, Give, At, ValueOr}
-use Rattle.plan_text.specs.declared.scalar.TheConstants.{MOST_PLACE}
-use Rattle.plan_text.specs.Reading.{any_fault, blamed, both, known, mapped, paired}
-use Rattle.plan_text.specs.Objects.{has_unknown_key, integer_of, number_at, number_of, text_at}
-use Rattle.plan_text.specs.Scalars.{count_at, count_read, name_at, name_of, txt_of}
-use Rattle.plan_text.specs.Constants.{constant_of, constants_at, constants_from, constants_of, numbers_from, row_of, text_datum, with_constant, with_number}
-use Rattle.plan_text.specs.JobWords.{job_keys, job_named}
-use Rattle.plan_text.specs.Jobs.{arithmetic_job, default_of, default_text, job_at, job_of, job_parts, known_job, within_job}
+use Rattle.plan_parts.specs.declared.reading.Faults.{Faults}
+use Rattle.plan_parts.specs.declared.reading.Reading.{Reading}
+use Rattle.plan_parts.specs.declared.reading.Reading.TheVariants.{Good, Bad}
+use Rattle.plan_parts.specs.declared.reading.TheConstants.{FORM_FAULT, NAME_FAULT, LIMIT_FAULT}
+use Rattle.plan_parts.specs.declared.job_word.JobWord.{JobWord}
+use Rattle.plan_parts.specs.declared.job_word.JobWord.TheVariants.{Plain, Arithmetic, Within, Fail, Append, Give, At, ValueOr}
+use Rattle.plan_parts.specs.declared.scalar.TheConstants.{MOST_PLACE}
+use Rattle.plan_parts.specs.Reading.{any_fault, blamed, both, known, mapped, paired}
+use Rattle.plan_parts.specs.Objects.{has_unknown_key, integer_of, number_at, number_of, text_at}
+use Rattle.plan_parts.specs.Scalars.{count_at, count_read, name_at, name_of, txt_of}
+use Rattle.plan_parts.specs.Constants.{constant_of, constants_at, constants_from, constants_of, numbers_from, row_of, text_datum, with_constant, with_number}
+use Rattle.plan_parts.specs.JobWords.{job_keys, job_named}
+use Rattle.plan_parts.specs.Jobs.{arithmetic_job, default_of, default_text, job_at, job_of, job_parts, known_job, within_job}
 
 any-bits : (a b c d e f : Bool) → (d || e || f) ≡ true → ((a || d) || (b || e) || (c || f)) ≡ true
 any-bits true b c d e f h = refl

@@ -7,8 +7,8 @@ use Rattle.plan_shape.specs.Blueprint.{Blueprint}
 use Rattle.plan_shape.specs.Finish.{finish_fault}
 use Rattle.plan_shape.specs.Refusals.{Answers}
 use Rattle.plan_builder.specs.Finishing.{Finishes}
-use Rattle.plan_text.specs.declared.reading.Reading.TheVariants.{Good}
-use Rattle.plan_text.specs.Reading.{any_fault}
+use Rattle.plan_parts.specs.declared.reading.Reading.TheVariants.{Good}
+use Rattle.plan_parts.specs.Reading.{any_fault}
 use Rattle.plan_reader.specs.Limits.{plan_limit}
 use Rattle.plan_reader.specs.Roots.{HasOneRoot}
 use Rattle.plan_reader.specs.Walked.{Walked, last}

@@ -6,8 +6,8 @@ use Rattle.std.specs.List.{list_any, range_with_len}
 use Rattle.std.proofs.lemmas.Bool.{cases_lt, cases_eq, eq-eqb, eqb-true, false_from_ne_true, false≢true, le-ltb, lt-ltb, ne_eqb, or_from, or_parts, cond-true, cond-false}
 use Rattle.std.proofs.lemmas.List.Elements.{All-head, All-tail}
 use Rattle.std.proofs.lemmas.List.Sums.{sum_by-append, sum_by-cons}
-use Rattle.life_rules.proofs.Tests.{either}
-use Rattle.node_tree.proofs.Walk.{known}
+use Rattle.common_lemmas.proofs.Bool.{either}
+use Rattle.common_lemmas.proofs.Options.{known}
 use Rattle.plan_rules.specs.Children.{named_by}
 use Rattle.plan_rules.specs.declared.node.Node.{Node}
 use Rattle.plan_shape.specs.Added.{number_of, with_node}

@@ -9,9 +9,9 @@ use Rattle.serde_json.specs.Data.{Data, null, boolean, number, string, array, ob
 use Rattle.serde_json.specs.Find.{get, get_member, as_array}
 use Rattle.serde_json.specs.Read.{read}
 use Rattle.serde_json.proofs.Nesting.{depth-read}
-use Rattle.plan_text.specs.Jobs.{job_at}
-use Rattle.plan_text.specs.Objects.{text_at}
-use Rattle.plan_text.specs.declared.reading.TheConstants.{FORM_FAULT}
+use Rattle.plan_parts.specs.Jobs.{job_at}
+use Rattle.plan_parts.specs.Objects.{text_at}
+use Rattle.plan_parts.specs.declared.reading.TheConstants.{FORM_FAULT}
 use Rattle.plan_reader.specs.NodeParts.{adaptor_node}
 use Rattle.plan_reader.specs.NodeWords.{node_keys, node_named}
 use Rattle.plan_reader.specs.Levels.{LevelsSuffice}

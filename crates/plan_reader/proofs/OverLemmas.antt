@@ -12,13 +12,13 @@ use Rattle.plan_rules.specs.declared.node.Node.TheVariants as node
 use Rattle.plan_shape.specs.Finish.{is_of_version_2}
 use Rattle.plan_shape.specs.declared.limits.TheConstants.{MOST_TURNS}
 use Rattle.exec_job.specs.declared.job.Job.{Job}
-use Rattle.plan_text.specs.declared.reading.Reading.{Reading}
-use Rattle.plan_text.specs.declared.reading.Reading.TheVariants.{Good, Bad}
-use Rattle.plan_text.specs.Constants.{constants_at}
-use Rattle.plan_text.specs.Jobs.{job_at}
-use Rattle.plan_text.specs.Named.{named}
-use Rattle.plan_text.specs.Reading.{IfGood, mapped}
-use Rattle.plan_text.specs.Scalars.{count_at, name_at}
+use Rattle.plan_parts.specs.declared.reading.Reading.{Reading}
+use Rattle.plan_parts.specs.declared.reading.Reading.TheVariants.{Good, Bad}
+use Rattle.plan_parts.specs.Constants.{constants_at}
+use Rattle.plan_parts.specs.Jobs.{job_at}
+use Rattle.plan_parts.specs.Named.{named}
+use Rattle.plan_parts.specs.Reading.{IfGood, mapped}
+use Rattle.plan_parts.specs.Scalars.{count_at, name_at}
 use Rattle.plan_reader.specs.NodeParts.{adaptor_node, context_at, context_named, leaf_node, let_node, of_at, of_named, picking, query_at, query_named}
 use Rattle.plan_reader.specs.NodeWords.{adaptor_named, early_node_named, leaf_named, let_named, node_named, other_node_named}
 use Rattle.plan_reader.specs.declared.node_word.Adaptor.{Adaptor as AdaptorWord}

@@ -3,7 +3,7 @@ use Rattle.std.proofs.Common.{◌≡◌, ◌<◌, ℕ, Bool, true, false, not, [
 use Rattle.std.specs.Prelude.{◌&&◌, ◌==◌, codes, nat_eq}
 use Rattle.std.specs.Option.{option_map, option_or}
 use Rattle.std.proofs.lemmas.Bool.{eq-eqb, eqb-true, false≢true}
-use Rattle.life_rules.proofs.Tests.{either}
+use Rattle.common_lemmas.proofs.Bool.{either}
 use Rattle.serde_json.specs.Data.{Data}
 use Rattle.plan_rules.specs.declared.settings.Settings.{Settings}
 use Rattle.plan_shape.specs.declared.fault.BuildFault.{BuildFault}
@@ -14,9 +14,9 @@ use Rattle.plan_shape.specs.Parents.{is_free}
 use Rattle.plan_shape.specs.Refusals.{fault_if}
 use Rattle.plan_shape.proofs.LeastLemmas.{least-None}
 use Rattle.plan_builder.proofs.ForestLemmas.{or_false}
-use Rattle.plan_text.specs.declared.reading.Reading.{Reading}
-use Rattle.plan_text.specs.declared.reading.Reading.TheVariants.{Good, Bad}
-use Rattle.plan_text.specs.Reading.{IfGood, any_fault}
+use Rattle.plan_parts.specs.declared.reading.Reading.{Reading}
+use Rattle.plan_parts.specs.declared.reading.Reading.TheVariants.{Good, Bad}
+use Rattle.plan_parts.specs.Reading.{IfGood, any_fault}
 use Rattle.plan_reader.specs.Limits.{plan_limit}
 use Rattle.plan_reader.specs.Plans.{is_first_version, known_settings, walked_of}
 use Rattle.plan_reader.specs.Roots.{HasOneRoot, IsTidy}

@@ -11,13 +11,13 @@ use Rattle.exec_job.specs.declared.job.Job.TheVariants.{Neg}
 use Rattle.plan_rules.specs.declared.node.Node.{Node}
 use Rattle.plan_rules.specs.declared.node.Node.TheVariants as node
 use Rattle.plan_shape.specs.declared.fault.BuildFault.{BuildFault}
-use Rattle.plan_text.specs.declared.reading.Faults.{Faults}
-use Rattle.plan_text.specs.declared.reading.Reading.{Reading}
-use Rattle.plan_text.specs.declared.reading.Reading.TheVariants.{Good, Bad}
-use Rattle.plan_text.specs.declared.reading.TheConstants.{FORM_FAULT, LIMIT_FAULT, NAME_FAULT}
-use Rattle.plan_text.specs.Jobs.{job_at}
-use Rattle.plan_text.specs.Objects.{has_unknown_key, text_at}
-use Rattle.plan_text.specs.Reading.{any_fault}
+use Rattle.plan_parts.specs.declared.reading.Faults.{Faults}
+use Rattle.plan_parts.specs.declared.reading.Reading.{Reading}
+use Rattle.plan_parts.specs.declared.reading.Reading.TheVariants.{Good, Bad}
+use Rattle.plan_parts.specs.declared.reading.TheConstants.{FORM_FAULT, LIMIT_FAULT, NAME_FAULT}
+use Rattle.plan_parts.specs.Jobs.{job_at}
+use Rattle.plan_parts.specs.Objects.{has_unknown_key, text_at}
+use Rattle.plan_parts.specs.Reading.{any_fault}
 use Rattle.plan_reader.specs.Limits.{node_limit}
 use Rattle.plan_reader.specs.NodeParts.{adaptor_node, leaf_node, let_node}
 use Rattle.plan_reader.specs.NodeWords.{node_keys, node_named}

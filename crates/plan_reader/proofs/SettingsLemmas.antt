@@ -8,17 +8,17 @@ use Rattle.serde_json.specs.Find.{get}
 use Rattle.exec_value.specs.declared.kinds.Kind.{Kind}
 use Rattle.exec_value.specs.declared.kinds.Kind.TheVariants as kind
 use Rattle.std.specs.Str.{bytes_eq}
-use Rattle.life_rules.specs.declared.scope.ScopeKind.{ScopeKind}
+use Rattle.node_tree.specs.declared.scope_kind.ScopeKind.{ScopeKind}
 use Rattle.plan_rules.specs.declared.settings.Settings.{Settings}
 use Rattle.plan_shape.specs.declared.limits.TheConstants.{MOST_STOP_AFTER}
 use Rattle.plan_shape.specs.Blueprint.{AreSettings, IsRecordKind}
 use Rattle.plan_shape.specs.Conditions.{is_within}
-use Rattle.plan_text.specs.declared.reading.Reading.{Reading}
-use Rattle.plan_text.specs.declared.reading.Reading.TheVariants.{Good, Bad}
-use Rattle.plan_text.specs.declared.reading.TheConstants.{NAME_FAULT, FORM_FAULT, LIMIT_FAULT}
-use Rattle.plan_text.specs.Reading.{IfGood, known, mapped, paired, blamed}
-use Rattle.plan_text.specs.Objects.{has_unknown_key, integer_of, number_at, number_of, text_at}
-use Rattle.plan_text.specs.Scalars.{count_read}
+use Rattle.plan_parts.specs.declared.reading.Reading.{Reading}
+use Rattle.plan_parts.specs.declared.reading.Reading.TheVariants.{Good, Bad}
+use Rattle.plan_parts.specs.declared.reading.TheConstants.{NAME_FAULT, FORM_FAULT, LIMIT_FAULT}
+use Rattle.plan_parts.specs.Reading.{IfGood, known, mapped, paired, blamed}
+use Rattle.plan_parts.specs.Objects.{has_unknown_key, integer_of, number_at, number_of, text_at}
+use Rattle.plan_parts.specs.Scalars.{count_read}
 use Rattle.plan_reader.specs.Plans.{input_at, input_of, is_first_version, is_one, known_settings, on_error_at, plan_keys, scope_at, settings_of, stop_at, stop_of, version_read, with_rules}
 
 IfGood-mapped : {A B : Type 0} (f : A → B) (P : A → Type 0) (Q : B → Type 0) (r : Reading A)

@@ -13,10 +13,10 @@ use Rattle.plan_shape.specs.Conditions.{has_lawful_count}
 use Rattle.plan_shape.specs.Depths.{depth_of, depth_over}
 use Rattle.plan_shape.specs.Added.{with_node}
 use Rattle.plan_shape.specs.Refusals.{Adds, Answers, fault_if, fault_of, used_child}
-use Rattle.plan_text.specs.declared.reading.Faults.{Faults}
-use Rattle.plan_text.specs.declared.reading.TheConstants.{FORM_FAULT, LIMIT_FAULT}
-use Rattle.plan_text.specs.Reading.{both, any_fault}
-use Rattle.plan_text.specs.Objects.{text_at}
+use Rattle.plan_parts.specs.declared.reading.Faults.{Faults}
+use Rattle.plan_parts.specs.declared.reading.TheConstants.{FORM_FAULT, LIMIT_FAULT}
+use Rattle.plan_parts.specs.Reading.{both, any_fault}
+use Rattle.plan_parts.specs.Objects.{text_at}
 use Rattle.plan_reader.specs.Limits.{node_limit}
 use Rattle.plan_reader.specs.NodeWords.{node_named, node_keys}
 use Rattle.plan_reader.specs.Roots.{AreRoots}

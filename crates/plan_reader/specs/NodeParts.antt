@@ -5,22 +5,22 @@ use Rattle.serde_json.specs.Data.{Data}
 use Rattle.exec_value.specs.declared.kinds.Kind.{Kind}
 use Rattle.exec_value.specs.declared.kinds.Kind.TheVariants as kind
 use Rattle.exec_job.specs.declared.job.Job.{Job}
-use Rattle.life_rules.specs.declared.event.Context.{Context}
-use Rattle.life_rules.specs.declared.event.Context.TheVariants as context
+use Rattle.node_tree.specs.declared.context.Context.{Context}
+use Rattle.node_tree.specs.declared.context.Context.TheVariants as context
 use Rattle.plan_rules.specs.declared.node.Query.{Query}
 use Rattle.plan_rules.specs.declared.node.Query.TheVariants as query
 use Rattle.plan_rules.specs.declared.node.Node.{Node}
 use Rattle.plan_rules.specs.declared.node.Node.TheVariants as node
 use Rattle.plan_shape.specs.declared.limits.TheConstants.{MOST_TURNS}
-use Rattle.plan_text.specs.declared.reading.Reading.{Reading}
-use Rattle.plan_text.specs.declared.reading.Reading.TheVariants.{Good, Bad}
-use Rattle.plan_text.specs.declared.reading.TheConstants.{FORM_FAULT}
-use Rattle.plan_text.specs.Named.{named}
-use Rattle.plan_text.specs.Reading.{known, mapped}
-use Rattle.plan_text.specs.Objects.{text_at}
-use Rattle.plan_text.specs.Scalars.{count_at, name_at}
-use Rattle.plan_text.specs.Constants.{constants_at}
-use Rattle.plan_text.specs.Jobs.{job_at}
+use Rattle.plan_parts.specs.declared.reading.Reading.{Reading}
+use Rattle.plan_parts.specs.declared.reading.Reading.TheVariants.{Good, Bad}
+use Rattle.plan_parts.specs.declared.reading.TheConstants.{FORM_FAULT}
+use Rattle.plan_parts.specs.Named.{named}
+use Rattle.plan_parts.specs.Reading.{known, mapped}
+use Rattle.plan_parts.specs.Objects.{text_at}
+use Rattle.plan_parts.specs.Scalars.{count_at, name_at}
+use Rattle.plan_parts.specs.Constants.{constants_at}
+use Rattle.plan_parts.specs.Jobs.{job_at}
 use Rattle.plan_reader.specs.declared.node_word.Leaf.{Leaf as LeafWord}
 use Rattle.plan_reader.specs.declared.node_word.Leaf.TheVariants.{Input, Just, JustError, JustStopped, Schedule, Delay, ReadEnv}
 use Rattle.plan_reader.specs.declared.node_word.Adaptor.{Adaptor as AdaptorWord}

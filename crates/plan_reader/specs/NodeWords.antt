@@ -1,7 +1,7 @@
 -- The names of the nodes, and the keys that each has.
 use Rattle.std.specs.Prelude.{ℕ, Bool, List, [], ◌∷◌, Option, None, option_map, codes, if◌then◌else◌}
 use Rattle.std.specs.Option.{option_or}
-use Rattle.plan_text.specs.Named.{named}
+use Rattle.plan_parts.specs.Named.{named}
 use Rattle.plan_reader.specs.declared.node_word.Leaf.{Leaf as LeafWord}
 use Rattle.plan_reader.specs.declared.node_word.Leaf.TheVariants.{Input, Just, JustError, JustStopped, Schedule, Delay, ReadEnv}
 use Rattle.plan_reader.specs.declared.node_word.Adaptor.{Adaptor as AdaptorWord}

@@ -8,19 +8,19 @@ use Rattle.serde_json.specs.Find.{get, as_str}
 use Rattle.serde_json.specs.Read.{read}
 use Rattle.exec_value.specs.declared.kinds.Kind.{Kind}
 use Rattle.exec_value.specs.declared.kinds.Kind.TheVariants as kind
-use Rattle.life_rules.specs.declared.scope.ScopeKind.{ScopeKind}
-use Rattle.life_rules.specs.declared.scope.ScopeKind.TheVariants.{Simple, Counting}
+use Rattle.node_tree.specs.declared.scope_kind.ScopeKind.{ScopeKind}
+use Rattle.node_tree.specs.declared.scope_kind.ScopeKind.TheVariants.{Simple, Counting}
 use Rattle.plan_rules.specs.declared.settings.Settings.{Settings}
 use Rattle.plan_shape.specs.declared.fault.BuildFault.{BuildFault}
 use Rattle.plan_shape.specs.declared.limits.TheConstants.{MOST_STOP_AFTER}
-use Rattle.plan_text.specs.declared.reading.Faults.{Faults}
-use Rattle.plan_text.specs.declared.reading.Reading.{Reading}
-use Rattle.plan_text.specs.declared.reading.Reading.TheVariants.{Good, Bad}
-use Rattle.plan_text.specs.declared.reading.TheConstants.{FORM_FAULT, NAME_FAULT}
-use Rattle.plan_text.specs.Named.{named}
-use Rattle.plan_text.specs.Reading.{both, any_fault, known, mapped, paired}
-use Rattle.plan_text.specs.Objects.{number_of, integer_of, number_at, text_at, with_keys}
-use Rattle.plan_text.specs.Scalars.{count_read}
+use Rattle.plan_parts.specs.declared.reading.Faults.{Faults}
+use Rattle.plan_parts.specs.declared.reading.Reading.{Reading}
+use Rattle.plan_parts.specs.declared.reading.Reading.TheVariants.{Good, Bad}
+use Rattle.plan_parts.specs.declared.reading.TheConstants.{FORM_FAULT, NAME_FAULT}
+use Rattle.plan_parts.specs.Named.{named}
+use Rattle.plan_parts.specs.Reading.{both, any_fault, known, mapped, paired}
+use Rattle.plan_parts.specs.Objects.{number_of, integer_of, number_at, text_at, with_keys}
+use Rattle.plan_parts.specs.Scalars.{count_read}
 use Rattle.plan_reader.specs.Limits.{plan_limit}
 use Rattle.plan_reader.specs.Walked.{Walked, at_start, child_at, walk}
 use Rattle.plan_reader.specs.declared.found.Found.{Found}

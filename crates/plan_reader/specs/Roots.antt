@@ -6,7 +6,7 @@ use Rattle.plan_rules.specs.declared.settings.Settings.{Settings}
 use Rattle.plan_shape.specs.Finish.{finish_fault, is_of_version_2, passes}
 use Rattle.plan_shape.specs.Parents.{is_child}
 use Rattle.plan_shape.specs.Refusals.{used_child}
-use Rattle.plan_text.specs.Reading.{any_fault}
+use Rattle.plan_parts.specs.Reading.{any_fault}
 use Rattle.plan_reader.specs.Limits.{plan_limit}
 use Rattle.plan_reader.specs.Walked.{Walked, last}
 

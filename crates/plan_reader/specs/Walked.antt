@@ -10,13 +10,13 @@ use Rattle.plan_rules.specs.declared.node.Node.{Node}
 use Rattle.plan_rules.specs.declared.node.Node.TheVariants as node
 use Rattle.plan_shape.specs.declared.fault.BuildFault.{BuildFault}
 use Rattle.plan_shape.specs.Added.{with_node}
-use Rattle.plan_text.specs.declared.reading.Faults.{Faults}
-use Rattle.plan_text.specs.declared.reading.Reading.{Reading}
-use Rattle.plan_text.specs.declared.reading.Reading.TheVariants.{Good, Bad}
-use Rattle.plan_text.specs.declared.reading.TheConstants.{NO_FAULT, FORM_FAULT, NAME_FAULT, LIMIT_FAULT}
-use Rattle.plan_text.specs.Reading.{both, any_fault}
-use Rattle.plan_text.specs.Objects.{has_unknown_key, text_at}
-use Rattle.plan_text.specs.Jobs.{job_at}
+use Rattle.plan_parts.specs.declared.reading.Faults.{Faults}
+use Rattle.plan_parts.specs.declared.reading.Reading.{Reading}
+use Rattle.plan_parts.specs.declared.reading.Reading.TheVariants.{Good, Bad}
+use Rattle.plan_parts.specs.declared.reading.TheConstants.{NO_FAULT, FORM_FAULT, NAME_FAULT, LIMIT_FAULT}
+use Rattle.plan_parts.specs.Reading.{both, any_fault}
+use Rattle.plan_parts.specs.Objects.{has_unknown_key, text_at}
+use Rattle.plan_parts.specs.Jobs.{job_at}
 use Rattle.plan_reader.specs.Limits.{node_limit}
 use Rattle.plan_reader.specs.NodeWords.{node_named, node_keys}
 use Rattle.plan_reader.specs.NodeParts.{leaf_node, adaptor_node, let_node}

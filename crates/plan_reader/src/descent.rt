@@ -7,9 +7,9 @@ ghost use Rattle.plan_reader.specs.Walked.{child_at, each, list_at, none_listed,
 use crate::node_parts::{adaptor_node, leaf_node, let_node};
 use crate::node_word::{Adaptor, Let, NodeWord, node_keys, node_named};
 use crate::walk::Walk;
-use life_rules::NodeList;
+use node_tree::NodeList;
+use plan_parts::{FORM_FAULT, LIMIT_FAULT, NAME_FAULT, job_at, text_at};
 use plan_rules::{Node, NodeId};
-use plan_text::{FORM_FAULT, LIMIT_FAULT, NAME_FAULT, job_at, text_at};
 use serde_json::Value;
 use std::alloc::{AllocError, Global};
 
@@ -58,7 +58,7 @@ impl Walk {
         match word {
             NodeWord::Leaf(leaf) => {
                 let reading = leaf_node(alloc, leaf, value)?;
-                self.take(alloc, reading)
+                self.take(reading)
             }
             NodeWord::Adaptor(adaptor) => self.adaptor(alloc, adaptor, value, levels),
             NodeWord::Let(binding) => self.binding(alloc, binding, value, levels),
@@ -84,7 +84,7 @@ impl Walk {
     {
         self.child(alloc, value, "child", levels)?;
         let reading = adaptor_node(alloc, adaptor, value, self.last())?;
-        self.take(alloc, reading)
+        self.take(reading)
     }
 
     /// The same of a node over one child and bodies.
@@ -104,9 +104,9 @@ impl Walk {
         self.child(alloc, value, "child", levels)?;
         let child = self.last();
         let numbers = self.list(alloc, value, "bodies", levels)?;
-        let bodies = NodeList::from_slice(alloc, &numbers)?;
+        let bodies = NodeList::from_vec(numbers);
         let reading = let_node(alloc, binding, value, child, bodies)?;
-        self.take(alloc, reading)
+        self.take(reading)
     }
 
     /// The same of a bulk.
@@ -120,7 +120,7 @@ impl Walk {
         self.child(alloc, value, "child", levels)?;
         let child = self.last();
         let reading = job_at(alloc, value, "job")?;
-        self.take_bulk(alloc, child, reading)
+        self.take_bulk(child, reading)
     }
 
     /// The same of a `when_all`.
@@ -132,8 +132,8 @@ impl Walk {
             (self.new ≡ parts (walk levels) NodeWord.WhenAll (view value.now) self.old) }
     {
         let numbers = self.list(alloc, value, "children", levels)?;
-        let children = NodeList::from_slice(alloc, &numbers)?;
-        self.make(alloc, Node::WhenAll { children })
+        let children = NodeList::from_vec(numbers);
+        self.make(Node::WhenAll { children })
     }
 
     /// The same of an `ahead`.
@@ -148,7 +148,7 @@ impl Walk {
         let first = self.last();
         self.child(alloc, value, "second", levels)?;
         let second = self.last();
-        self.make(alloc, Node::Ahead { first, second })
+        self.make(Node::Ahead { first, second })
     }
 
     /// The same over the node at a key.

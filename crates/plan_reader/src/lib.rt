@@ -11,15 +11,14 @@
 //! `Limit` comes for a limit or a misplaced `ahead` and for nothing else, and no bound on the nesting
 //! stands beside that of JSON (`levels_suffice`). Want of memory is told as such.
 //!
-//! It stands on `plan_text`, which reads the small parts of a file, on `plan_builder`, which numbers
+//! It stands on `plan_parts`, which reads the small parts of a file, on `plan_builder`, which numbers
 //! the nodes, and on `sig_check`, which checks their kinds.
 #![tactic(auto)]
 
-mod add;
 mod descent;
 mod fault;
 mod found;
-mod levels;
+mod law;
 mod node_parts;
 mod node_word;
 mod plan;
@@ -30,5 +29,5 @@ mod tests;
 mod walk;
 
 pub use fault::PlanFault;
-pub use levels::levels_suffice;
+pub use law::{levels_suffice, limits};
 pub use read::{MOST_PLAN_BYTES, read_plan};

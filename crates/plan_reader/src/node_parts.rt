@@ -4,17 +4,17 @@ ghost use Rattle.serde_json.specs.View.{view};
 ghost use Rattle.plan_rules.specs.declared.node.Node.{Node};
 ghost use Rattle.plan_rules.specs.Images.{has_maybe};
 ghost use Rattle.plan_shape.specs.Conditions.{MeetsConditions};
-ghost use Rattle.plan_text.specs.Reading.{IfGood};
+ghost use Rattle.plan_parts.specs.Reading.{IfGood};
 ghost use Rattle.plan_reader.specs.NodeParts.{adaptor_node, context_at, leaf_node, let_node, of_at, of_named, context_named, query_named, query_at};
 
 use crate::node_word::{Adaptor, Leaf, Let};
 use exec_value::Kind;
-use life_rules::NodeList;
-use plan_rules::{Context, Node, NodeId, Query};
-use plan_shape::MOST_TURNS;
-use plan_text::{
+use node_tree::NodeList;
+use plan_parts::{
     FORM_FAULT, NAME_FAULT, Reading, constants_at, count_at, job_at, name_at, text_at,
 };
+use plan_rules::{Context, Node, NodeId, Query};
+use plan_shape::MOST_TURNS;
 use serde_json::Value;
 use std::alloc::{AllocError, Global};
 
@@ -33,7 +33,7 @@ pub(crate) fn leaf_node(
             Reading::Good(values) => Ok(Reading::Good(Node::Just(values))),
             Reading::Bad(faults) => Ok(Reading::Bad(faults)),
         },
-        Leaf::JustError => match name_at(alloc, value, "error") {
+        Leaf::JustError => match name_at(alloc, value, "error")? {
             Reading::Good(error) => Ok(Reading::Good(Node::JustError(error))),
             Reading::Bad(faults) => Ok(Reading::Bad(faults)),
         },
@@ -88,7 +88,7 @@ pub(crate) fn adaptor_node(
             Reading::Good(of) => Ok(Reading::Good(Node::StoppedAsOptional { child, of })),
             Reading::Bad(faults) => Ok(Reading::Bad(faults)),
         },
-        Adaptor::StoppedAsError => match name_at(alloc, value, "error") {
+        Adaptor::StoppedAsError => match name_at(alloc, value, "error")? {
             Reading::Good(error) => Ok(Reading::Good(Node::StoppedAsError { child, error })),
             Reading::Bad(faults) => Ok(Reading::Bad(faults)),
         },

@@ -2,7 +2,7 @@
 ghost use Rattle.std.specs.Prelude.{◌≡◌, ◌≢◌, Ok, Err, IfOk, IfErr, OnOk, map};
 ghost use Rattle.serde_json.specs.View.{view};
 ghost use Rattle.plan_shape.specs.Blueprint.{AreSettings};
-ghost use Rattle.plan_text.specs.Reading.{IfGood};
+ghost use Rattle.plan_parts.specs.Reading.{IfGood};
 ghost use Rattle.plan_reader.specs.Plans.{first_fault, joined, known_settings, plan_keys, plan_of, walked_of};
 ghost use Rattle.plan_reader.specs.Roots.{HasOneRoot};
 
@@ -10,8 +10,8 @@ use crate::fault::PlanFault;
 use crate::found::Found;
 use crate::settings::{is_first_version, settings_of};
 use crate::walk::Walk;
+use plan_parts::{Faults, Reading, with_keys};
 use plan_rules::Settings;
-use plan_text::{Faults, Reading, with_keys};
 use serde_json::Value;
 use std::alloc::{AllocError, Global};
 

@@ -10,7 +10,7 @@ ghost use Rattle.plan_reader.specs.PlanFile.{IsAccepted, IsFaultOf, IsPlanOf, Is
 use crate::fault::PlanFault;
 use crate::found::Found;
 use crate::plan::plan_of;
-use life_rules::ScopeKind;
+use node_tree::ScopeKind;
 use plan_rules::Settings;
 use plan_shape::Plan;
 use serde_json::Value;

@@ -1,14 +1,14 @@
 //! The settings of a plan file.
 ghost use Rattle.std.specs.Prelude.{◌≡◌, codes};
 ghost use Rattle.serde_json.specs.View.{view};
-ghost use Rattle.plan_text.specs.Objects.{number_at};
+ghost use Rattle.plan_parts.specs.Objects.{number_at};
 ghost use Rattle.plan_reader.specs.Plans.{input_at, input_of, is_first_version, on_error_at, on_error_of, scope_at, scope_of, settings_of, stop_at, stop_of, version_of, version_read, with_rules};
 
 use exec_value::Kind;
-use life_rules::ScopeKind;
+use node_tree::ScopeKind;
+use plan_parts::{FORM_FAULT, NAME_FAULT, Reading, count_of, number_at, text_at};
 use plan_rules::Settings;
 use plan_shape::MOST_STOP_AFTER;
-use plan_text::{FORM_FAULT, NAME_FAULT, Reading, count_of, number_at, text_at};
 use serde_json::Value;
 
 /// The settings.

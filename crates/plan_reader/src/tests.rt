@@ -1,102 +1,52 @@
-//! Plan files in small, each test named by what it shows.
-mod form;
-mod json;
-mod kinds;
-mod limits;
-mod numbering;
-mod refusals;
-mod sizes;
-mod versions;
+//! A plan that is read, and the numbers that its nodes get. What is refused, and why, the program's
+//! own cases tell (tests/cases/plan_files.json).
+use crate::read_plan;
+use plan_rules::{Context, Node, Query};
+use std::test::Fail;
 
-use crate::{PlanFault, read_plan};
-use std::alloc::{AllocError, Global};
-
-/// The shortest plans have these keys beside their root.
-const INTS: &str = r#""version":1,"input":"int""#;
-
-/// A `then` that adds one to the record.
-const ADD_ONE: &str =
-    r#"{"version":1,"input":"int","root":{"do":"then","child":{"do":"input"},"job":{"job":"add","n":1}}}"#;
-
-/// Why a text is no plan.
-fn fault_of(alloc: Global, text: &str) -> Option<PlanFault> {
-    read_plan(alloc, text.as_bytes()).err()
+#[test]
+fn a_plan_is_read_with_its_settings(rt: HostRuntime) -> Result<(), Fail> {
+    let text = r#"{"version":1,"input":"int","stop_after":7,"root":{"do":"input"}}"#;
+    let plan = read_plan(rt.alloc(), text.as_bytes())?;
+    assert_eq!(rt; plan.size(), 1);
+    assert_eq!(rt; plan.settings().stop_after, Some(7));
+    Ok(())
 }
 
-/// A plan file with these keys beside its root.
-fn plan_text(alloc: Global, keys: &str, root: &str) -> Result<String, AllocError> {
-    let mut text = String::from_str(alloc, "{")?;
-    text.push_str(keys)?;
-    text.push_str(r#","root":"#)?;
-    text.push_str(root)?;
-    text.push_str("}")?;
-    Ok(text)
-}
-
-/// Why a file with these keys beside its root is no plan.
-fn fault_with(alloc: Global, keys: &str, root: &str) -> Result<Option<PlanFault>, AllocError> {
-    let text = plan_text(alloc, keys, root)?;
-    Ok(fault_of(alloc, text.as_str()))
-}
-
-/// A text so many times over, between two others.
-fn repeated(
-    alloc: Global,
-    times: u32,
-    before: &str,
-    middle: &str,
-    after: &str,
-) -> Result<String, AllocError> {
-    let mut text = String::new(alloc);
-    for _ in 0..times {
-        text.push_str(before)?;
-    }
-    text.push_str(middle)?;
-    for _ in 0..times {
-        text.push_str(after)?;
-    }
-    Ok(text)
-}
-
-/// A list of one text so many times over and of a last one, between two texts.
-fn listed(
-    alloc: Global,
-    front: &str,
-    times: u32,
-    each: &str,
-    last: &str,
-    back: &str,
-) -> Result<String, AllocError> {
-    let mut text = String::from_str(alloc, front)?;
-    for _ in 0..times {
-        text.push_str(each)?;
-        text.push_str(",")?;
-    }
-    text.push_str(last)?;
-    text.push_str(back)?;
-    Ok(text)
-}
-
-/// So many `then` with `neg` over an input.
-fn chain(alloc: Global, thens: u32) -> Result<String, AllocError> {
-    repeated(
-        alloc,
-        thens,
-        r#"{"do":"then","job":{"job":"neg"},"child":"#,
-        r#"{"do":"input"}"#,
-        "}",
-    )
-}
-
-/// A `when_all` of so many such chains, and of a last child.
-fn chains(alloc: Global, count: u32, thens: u32, last: &str) -> Result<String, AllocError> {
-    let child = chain(alloc, thens)?;
-    listed(
-        alloc,
-        r#"{"do":"when_all","children":["#,
-        count,
-        child.as_str(),
-        last,
-        "]}",
-    )
+// A first child comes before a second, a let's child before its bodies, and the eight parts of a bulk
+// just before it, whatever the order of the keys.
+#[test]
+fn children_have_their_numbers_before_their_parent(rt: HostRuntime) -> Result<(), Fail> {
+    let text = r#"{"version":2,"input":"int","root":{"do":"ahead",
+        "second":{"do":"let_value","pick":{"job":"pass"},"bodies":[
+            {"do":"unstoppable","child":{"do":"just","values":[[2]]}},
+            {"do":"bulk","job":{"job":"neg"},"child":{"do":"just","values":[[1]]}}],
+            "child":{"do":"read_env","query":"stop"}},
+        "first":{"do":"starts_on","on":"loop","child":{"do":"input"}}}}"#;
+    let plan = read_plan(rt.alloc(), text.as_bytes())?;
+    assert_eq!(rt; plan.size(), 17);
+    assert!(rt;
+        matches!(
+            plan.node(1),
+            Node::StartsOn {
+                on: Context::Loop,
+                child: 0
+            }
+        )
+    );
+    assert!(rt; matches!(plan.node(2), Node::ReadEnv(Query::Stop)));
+    assert!(rt; matches!(plan.node(4), Node::Unstoppable { child: 3 }));
+    assert!(rt; matches!(plan.node(6), Node::Part { bulk: 14, part: 0 }));
+    assert!(rt; matches!(plan.node(14), Node::Bulk { child: 5, .. }));
+    assert!(rt; matches!(plan.node(15), Node::LetValue { child: 2, .. }));
+    assert!(rt;
+        matches!(
+            plan.node(16),
+            Node::Ahead {
+                first: 1,
+                second: 15
+            }
+        )
+    );
+    Ok(())
 }

@@ -2,25 +2,24 @@
 //!
 //! It goes on behind a fault, so that each kind of fault is found wherever it stands, and makes no
 //! node from the first fault on.
-ghost use Rattle.std.specs.Prelude.{◌≡◌, ◌≢◌, ◌↔◌, [], ◌∷◌, Ok, Err, IfOk, IfErr, OnOk, map};
+ghost use Rattle.std.specs.Prelude.{◌≡◌, ◌≢◌, ◌↔◌, [], ◌∷◌, Ok, Err, IsTrue, IfOk, IfErr, OnOk, map};
 ghost use Rattle.serde_json.specs.View.{view};
 ghost use Rattle.plan_shape.specs.Blueprint.{AreSettings};
 ghost use Rattle.plan_shape.specs.Conditions.{MeetsConditions};
 ghost use Rattle.plan_rules.specs.Children.{named_by};
 ghost use Rattle.plan_rules.specs.declared.node.Node.{Node};
-ghost use Rattle.plan_text.specs.Reading.{IfGood};
+ghost use Rattle.plan_parts.specs.Reading.{IfGood};
 ghost use Rattle.plan_reader.specs.Plans.{joined};
 ghost use Rattle.plan_reader.specs.Roots.{AreRoots, HasOneRoot};
 ghost use Rattle.plan_reader.specs.Walked.{at_start, blame, check_keys, last, make, take, take_bulk};
 
-use crate::add::{add, is_memory};
 use crate::fault::PlanFault;
 use crate::found::Found;
 use crate::plan::first_fault;
 use exec_job::Job;
 use plan_builder::{BuildFault, PlanBuilder};
+use plan_parts::{Faults, LIMIT_FAULT, NAME_FAULT, NO_FAULT, Reading, has_unknown_key};
 use plan_rules::{Node, NodeId, Settings};
-use plan_text::{Faults, LIMIT_FAULT, NAME_FAULT, NO_FAULT, Reading, has_unknown_key};
 use serde_json::Value;
 use std::alloc::{AllocError, Global};
 use std::marker::Model;
@@ -112,7 +111,7 @@ impl Walk {
     }
 
     /// Makes a node, where nothing is wrong.
-    pub(crate) fn make(&mut self, alloc: Global, node: Node) -> Result<(), AllocError>
+    pub(crate) fn make(&mut self, node: Node) -> Result<(), AllocError>
         requires conditions { MeetsConditions node }
         requires roots { AreRoots self.old (named_by node) }
         ensures { OnOk result (self.new ≡ make node self.old) }
@@ -121,7 +120,7 @@ impl Walk {
             drop(node);
             return Ok(());
         }
-        match add(alloc, &mut self.builder, node)? {
+        match self.builder.add(node) {
             Ok(number) => {
                 self.last = number;
                 Ok(())
@@ -137,13 +136,13 @@ impl Walk {
     }
 
     /// Makes the node that was read.
-    pub(crate) fn take(&mut self, alloc: Global, reading: Reading<Node>) -> Result<(), AllocError>
+    pub(crate) fn take(&mut self, reading: Reading<Node>) -> Result<(), AllocError>
         requires conditions { IfGood reading MeetsConditions }
         requires roots { IfGood reading (λ node. AreRoots self.old (named_by node)) }
         ensures { OnOk result (self.new ≡ take reading self.old) }
     {
         match reading {
-            Reading::Good(node) => self.make(alloc, node),
+            Reading::Good(node) => self.make(node),
             Reading::Bad(faults) => {
                 self.blame(faults);
                 Ok(())
@@ -154,7 +153,6 @@ impl Walk {
     /// Makes a bulk over a child.
     pub(crate) fn take_bulk(
         &mut self,
-        alloc: Global,
         child: NodeId,
         reading: Reading<Job>,
     ) -> Result<(), AllocError>
@@ -162,7 +160,7 @@ impl Walk {
         ensures { OnOk result (self.new ≡ take_bulk child reading self.old) }
     {
         match reading {
-            Reading::Good(job) => self.make_bulk(alloc, child, job),
+            Reading::Good(job) => self.make_bulk(child, job),
             Reading::Bad(faults) => {
                 self.blame(faults);
                 Ok(())
@@ -171,16 +169,16 @@ impl Walk {
     }
 
     /// Makes a bulk with this job over a child.
-    fn make_bulk(&mut self, alloc: Global, child: NodeId, job: Job) -> Result<(), AllocError>
+    fn make_bulk(&mut self, child: NodeId, job: Job) -> Result<(), AllocError>
         requires { AreRoots self.old (child ∷ []) }
         ensures { OnOk result (self.new ≡ take_bulk child (Reading.Good job) self.old) }
     {
         if job.is_element() {
-            self.make(alloc, Node::Bulk { child, job })
+            self.make(Node::Bulk { child, job })
         } else {
             self.elements = false;
             let job = Job::Neg;
-            self.make(alloc, Node::Bulk { child, job })
+            self.make(Node::Bulk { child, job })
         }
     }
 
@@ -192,6 +190,13 @@ impl Walk {
             self.blame(NAME_FAULT);
         }
     }
+}
+
+/// Whether there was no memory.
+fn is_memory(fault: BuildFault) -> bool
+    ensures { IsTrue result ↔ (fault ≡ BuildFault.NoMemory) }
+{
+    matches!(fault, BuildFault::NoMemory)
 }
 
 /// How a builder's refusal of a plan is answered.

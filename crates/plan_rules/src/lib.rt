@@ -1,6 +1,6 @@
 //! What a sender expression means: its nodes, the completions that it allows, and plain evaluation.
 //!
-//! It stands on `exec_value`, `exec_job` and `life_rules`. The definitions are in specs/: `Allowed`
+//! It stands on `exec_value`, `exec_job` and `node_tree`. The definitions are in specs/: `Allowed`
 //! says which completions a node may have under which stop state, `settle_of` which one plain
 //! evaluation gives, and `Calm` where it gives the only one. The crates above build plans, prove the
 //! laws of these definitions and evaluate by them.
@@ -10,7 +10,7 @@ mod node;
 mod settings;
 mod stop;
 
-pub use life_rules::Context;
 pub use node::{Node, NodeId, Query};
+pub use node_tree::Context;
 pub use settings::Settings;
 pub use stop::StopState;

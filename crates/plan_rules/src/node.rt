@@ -1,7 +1,7 @@
 //! The nodes of a sender expression.
 use exec_job::Job;
 use exec_value::{Data, Kind, Txt};
-use life_rules::{Context, NodeList};
+use node_tree::{Context, NodeList};
 
 /// The number of a node. Children have smaller numbers than their parent.
 pub type NodeId = u32;

@@ -1,6 +1,6 @@
 //! What a plan says beside its nodes.
 use exec_value::Kind;
-use life_rules::ScopeKind;
+use node_tree::ScopeKind;
 
 /// The settings of a plan.
 #[derive(Clone, Copy, Debug)]

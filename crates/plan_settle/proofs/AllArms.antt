@@ -1,6 +1,6 @@
 -- How a `when_all` and an `ahead` settle once their children have.
-use Rattle.std.specs.Prelude.{Some, Result, Ok, Err, IsErr, slice_get, map}
-use Rattle.std.proofs.Common.{◌≡◌, ℕ, ◌+◌, ◌<◌, ◌≤◌, false, List, length, take, get_or, refl, sym, ap, ◌∙◌, subst, arith}
+use Rattle.std.specs.Prelude.{Some, Result, Ok, Err, OnOk, slice_get, map}
+use Rattle.std.proofs.Common.{◌≡◌, ℕ, ◌+◌, ◌<◌, ◌≤◌, false, List, length, take, get_or, refl, sym, ap, ◌∙◌, subst, inl, inr, arith}
 use Rattle.std.specs.declared.alloc.AllocError.{AllocError}
 use Rattle.std.proofs.lemmas.List.{take_all}
 use Rattle.exec_value.specs.declared.limits.TheConstants.{DATA, INLINE_DATA}
@@ -8,7 +8,8 @@ use Rattle.exec_value.specs.declared.data.Datum.{Datum}
 use Rattle.exec_value.specs.declared.outcome.Completion.{Completion}
 use Rattle.exec_value.specs.declared.outcome.Completion.TheVariants.{Value, Error, Stopped, NoMemory}
 use Rattle.plan_rules.specs.declared.node.Node.TheVariants.{WhenAll, Ahead}
-use Rattle.plan_rules.specs.Settle.{unless_asked, and_then, all_of, settle_of}
+use Rattle.plan_rules.specs.Images.{value_data}
+use Rattle.plan_rules.specs.Settle.{unless_asked, and_then, all_of, ahead_of, settle_of}
 use Rattle.plan_laws.proofs.Memory.{HasMemory}
 use Rattle.plan_laws.proofs.Evaluation.{settled-memory}
 use Rattle.plan_laws.proofs.Readings.{settled-by-case}
@@ -19,9 +20,9 @@ use Rattle.plan_settle.specs.Joined.{HasMoreThan, Tells}
 use Rattle.plan_settle.specs.Makes.{CompletesInPlace}
 use Rattle.plan_settle.specs.Runs.{RunsWith, IsRunnable}
 use Rattle.plan_settle.specs.Settles.{Settles, settled_by, settled_case}
-use Rattle.plan_facts.proofs.Plans.{plans-built}
-use Rattle.plan_settle.proofs.Arms.{case-in_place}
-use Rattle.plan_settle.proofs.Together.{all_of-take, all-room}
+use Rattle.plan_kinds.proofs.Plans.{plans-built}
+use Rattle.plan_settle.proofs.Arms.{case-place}
+use Rattle.plan_settle.proofs.Together.{value-data, all_of-take, all-room}
 
 has-memory : (c : Completion) → (c ≡ NoMemory → ⊥) → HasMemory c
 has-memory (Value values) memory = tt
@@ -84,11 +85,8 @@ module _ (run : Evaluation) {n : ℕ} {args : List Datum} {children : List ℕ}
     told-case = subst (Tells front) (all-case i past) told
 
     pub all-settles : (done : Completion) → front ≡ Ok done →
-        Settles run.plan.now (settled_case run (WhenAll children) args) (Ok done)
-    all-settles done is = record {
-      exact = subst TellsCase is told-case;
-      small = λ small. refl;
-    }
+        Settles run (settled_case run (WhenAll children) args) done (Ok tt)
+    all-settles done is = record { exact = subst TellsCase is told-case; small = λ small. tt }
 
     pub all-limit : (why : NoRoom) → front ≡ Err why → why ≡ Limit → ⊥
     all-limit why is limit =
@@ -97,21 +95,29 @@ module _ (run : Evaluation) {n : ℕ} {args : List Datum} {children : List ℕ}
         (is ∙ ap Err limit) told-case)
         (λ values value. all-room run runnable runs at values (by-case ∙ value))
 
-    pub all-no_memory : (why : NoRoom) → front ≡ Err why → why ≡ Memory → (e : AllocError) →
-        Settles run.plan.now (settled_case run (WhenAll children) args) (Err e)
-    all-no_memory why is memory e = record {
+    pub all-no_memory : (why : NoRoom) → front ≡ Err why → why ≡ Memory → (made : Completion)
+        (e : AllocError) → Settles run (settled_case run (WhenAll children) args) made (Err e)
+    all-no_memory why is memory made e = record {
       exact = tt;
-      small = λ small. absurd (no-more INLINE_DATA (settled_case run (WhenAll children) args)
-          (subst TellsCase
-          (is ∙ ap Err memory) told-case)
-          (few-in_place (settled_case run (WhenAll children) args)
-          (case-in_place run runnable runs at refl small)));
+      small = λ small. elim (case-place run runnable runs at refl small) [
+        | inl place ↦ absurd (no-more INLINE_DATA (settled_case run (WhenAll children) args)
+            (subst TellsCase (is ∙ ap Err memory) told-case)
+            (few-in_place (settled_case run (WhenAll children) args) place))
+        | inr long ↦ long
+      ];
     }
 
--- no small plan has an `ahead`
-pub ahead-no_memory : (run : Evaluation) (n : ℕ) {k j : ℕ} →
-    slice_get run.plan.now.nodes n ≡ Some (Ahead k j) → (c : Completion)
-    (result : Result Completion AllocError) → IsErr result → Settles run.plan.now c result
-ahead-no_memory run n {k} {j} at c (Ok done) err = cc
-ahead-no_memory run n {k} {j} at c (Err e) err =
-    record { exact = tt; small = λ small. absurd (small.nodes_are n (Ahead k j) at) }
+-- an `ahead` whose second child has a value settles to its first's completion before it; no small plan has one
+pub ahead-settles : (run : Evaluation) (n : ℕ) (args : List Datum) {k j : ℕ} →
+    slice_get run.plan.now.nodes n ≡ Some (Ahead k j) → {front other made : Completion} {values : List Datum}
+    {result : Result (Unit {0}) AllocError} → front ≡ settled_by run k args → other ≡ settled_by run j args →
+    value_data other ≡ Some values → OnOk result (made ≡ ahead_of front (Value values)) →
+    Settles run (settled_case run (Ahead k j) args) made result
+ahead-settles run n args {k} {j} at {front} {other} {made} {values} {result} first second is exact =
+    let same : ahead_of front (Value values) ≡ settled_case run (Ahead k j) args =
+    ap (λ c. ahead_of c (Value values)) first
+    ∙ ap (ahead_of (settled_by run k args)) (sym (value-data other values is) ∙ second) in
+    record {
+      exact = subst (λ c. OnOk result (made ≡ c)) same exact;
+      small = λ small. absurd (small.nodes_are n (Ahead k j) at);
+    }

@@ -1,10 +1,12 @@
--- What a small plan settles to stands in place.
-use Rattle.std.specs.Prelude.{IsTrue, Some, None, Ok, Err}
-use Rattle.std.proofs.Common.{ℕ, Bool, List, [], ◌∷◌, sym, subst, arith}
-use Rattle.std.proofs.lemmas.Bool.{and_parts}
+-- What a small plan settles to stands in place, or is an error with a long name.
+use Rattle.std.specs.Prelude.{IsTrue, IsOk, OnErr, Some, None, Result, Ok, Err}
+use Rattle.std.proofs.Common.{◌≡◌, ◌⊎◌, ℕ, ◌<◌, Bool, List, [], ◌∷◌, length, refl, sym, subst, inl, inr, arith}
+use Rattle.std.specs.declared.alloc.AllocError.{AllocError}
+use Rattle.std.proofs.lemmas.Bool.{and_parts, cases_lt}
 use Rattle.std.proofs.lemmas.List.Elements.{All-nil, All-cons}
 use Rattle.exec_value.specs.Kinds.{HaveKinds}
 use Rattle.exec_value.specs.Place.{IsInPlace, AreInPlace}
+use Rattle.exec_value.specs.declared.limits.TheConstants.{INLINE_BYTES}
 use Rattle.exec_value.specs.declared.kinds.Kind.{Kind}
 use Rattle.exec_value.specs.declared.kinds.Kind.TheVariants.{Int as IntKind}
 use Rattle.exec_value.specs.declared.data.Datum.{Datum}
@@ -24,12 +26,9 @@ use Rattle.plan_kinds.specs.declared.sig.Sig.{Sig}
 use Rattle.plan_kinds.proofs.Jobs.{jobs-keep_kinds, one-int}
 use Rattle.plan_shape.specs.Blueprint.{Blueprint}
 use Rattle.plan_settle.specs.Makes.{CompletesInPlace}
-use Rattle.plan_settle.specs.Runs.{RunsWith, IsRunnable}
-use Rattle.plan_shape.specs.Conditions.{IsLawfulJob}
+use Rattle.plan_settle.specs.Runs.{RunsWith, IsRunnable, SettlesLong}
 use Rattle.plan_settle.specs.Small.{IsSmallShape, IsSmall}
 use Rattle.plan_settle.proofs.Runs.{settles-in_kind}
-use Rattle.plan_settle.proofs.Short.{ShortAnswer, job-short}
-use Rattle.plan_settle.proofs.ShortErrors.{IsShort, settled-short}
 
 pub none-in_place : AreInPlace []
 none-in_place = record { few = omega arith; each = All-nil IsInPlace }
@@ -48,33 +47,59 @@ shape-in_place (Some (IntKind ∷ [])) small values have =
     let one = one-int values have in subst AreInPlace (sym one.1) (one-in_place (Int one.0) tt)
 shape-in_place shape small values have = absurd small
 
-completion-in_place : (sig : Sig) → IsSmallShape sig.value → (c : Completion) → Fits sig c → IsShort c →
-    CompletesInPlace c
-completion-in_place sig small (Value values) fits short = shape-in_place sig.value small values fits
-completion-in_place sig small (Error name) fits short = short
-completion-in_place sig small Stopped fits short = tt
-completion-in_place sig small NoMemory fits short = tt
+-- a completion of a small signature does, or is an error with a long name
+completion-place : (sig : Sig) → IsSmallShape sig.value → (c : Completion) → Fits sig c →
+    CompletesInPlace c ⊎ ((name : List ℕ) × (c ≡ Error name) × (INLINE_BYTES < length name))
+completion-place sig small (Value values) fits = inl (shape-in_place sig.value small values fits)
+completion-place sig small (Error name) fits = elim (cases_lt INLINE_BYTES (length name)) [
+  | inl long ↦ inr (name, refl, long)
+  | inr short ↦ inl short
+]
+completion-place sig small Stopped fits = inl tt
+completion-place sig small NoMemory fits = inl tt
 
-pub settled-in_place : (plan : Blueprint) → IsRunnable plan → IsSmall plan → (n : ℕ) (args : List Datum)
+pub settled-place : (plan : Blueprint) → IsRunnable plan → IsSmall plan → (n : ℕ) (args : List Datum)
     (runs : RunsWith plan n args) (r : ℕ) (asked : Bool) →
-    CompletesInPlace (settle_of plan.nodes n args r asked)
-settled-in_place plan runnable small n args runs r asked =
-    completion-in_place (sig_of plan.nodes n runs.shape) (small.values n runs.shape runs.reached)
-    (settle_of plan.nodes n args r asked) (settles-in_kind plan runnable n args runs r asked)
-    (settled-short plan runnable.plan_is small n args r asked)
+    CompletesInPlace (settle_of plan.nodes n args r asked) ⊎ SettlesLong plan r
+settled-place plan runnable small n args runs r asked =
+    elim (completion-place (sig_of plan.nodes n runs.shape) (small.values n runs.shape runs.reached)
+    (settle_of plan.nodes n args r asked) (settles-in_kind plan runnable n args runs r asked)) [
+      | inl place ↦ inl place
+      | inr e ↦ inr (record {
+        node = n;
+        args = args;
+        asked = asked;
+        name = e.0;
+        runs = runs;
+        settles = e.1;
+        long = e.2;
+      })
+    ]
 
 -- a pick's answer is one int, or an error
-answer-in_place : (shape : Shape) (fails : Bool) → IsTrue (never_or is_int shape) → (answer : Answer) →
-    AnswerFits shape fails answer → ShortAnswer answer → EndsInPlace answer
-answer-in_place None fails int (Ok values) fits short = absurd fits
-answer-in_place (Some (IntKind ∷ [])) fails int (Ok values) fits short =
-    shape-in_place (Some (IntKind ∷ [])) tt values fits
-answer-in_place shape fails int (Err name) fits short = short
-answer-in_place shape fails int (Ok values) fits short = cc
+answer-place : (shape : Shape) (fails : Bool) → IsTrue (never_or is_int shape) → (answer : Answer) →
+    AnswerFits shape fails answer →
+    EndsInPlace answer ⊎ ((name : List ℕ) × (answer ≡ Err name) × (INLINE_BYTES < length name))
+answer-place None fails int (Ok values) fits = absurd fits
+answer-place (Some (IntKind ∷ [])) fails int (Ok values) fits =
+    inl (shape-in_place (Some (IntKind ∷ [])) tt values fits)
+answer-place shape fails int (Err name) fits = elim (cases_lt INLINE_BYTES (length name)) [
+  | inl long ↦ inr (name, refl, long)
+  | inr short ↦ inl short
+]
+answer-place shape fails int (Ok values) fits = cc
 
-pub pick-in_place : (pick : Job) → IsLawfulJob pick → (kinds : List Kind) → IsTrue (picks pick kinds) →
-    (values : List Datum) → HaveKinds values kinds → EndsInPlace (apply_of pick values)
-pick-in_place pick named kinds match values have =
+pub pick-place : (pick : Job) (kinds : List Kind) → IsTrue (picks pick kinds) →
+    (values : List Datum) → HaveKinds values kinds →
+    EndsInPlace (apply_of pick values)
+    ⊎ ((name : List ℕ) × (apply_of pick values ≡ Err name) × (INLINE_BYTES < length name))
+pick-place pick kinds match values have =
     let parts = and_parts (takes pick kinds) (never_or is_int (gives pick kinds)) match in
-    answer-in_place (gives pick kinds) (may_fail pick) parts.1 (apply_of pick values)
-    (jobs-keep_kinds pick values kinds have parts.0) (job-short pick named values)
+    answer-place (gives pick kinds) (may_fail pick) parts.1 (apply_of pick values)
+    (jobs-keep_kinds pick values kinds have parts.0)
+
+-- a call that wants no memory in the one case wants it in the other alone
+pub wants-where : {A P Q : Type 0} (result : Result A AllocError) → (P → IsOk result) → P ⊎ Q → OnErr result Q
+wants-where (Ok made) fine cases = tt
+wants-where (Err e) fine (inl p) = let ok = fine p in cc
+wants-where (Err e) fine (inr q) = q

@@ -1,6 +1,6 @@
 -- No operand is wrong: a job takes what its node's child completes with.
-use Rattle.std.specs.Prelude.{IsTrue, IfSome, IfOk, Option, Some, None, Result, ok_or, slice_get}
-use Rattle.std.proofs.Common.{◌≡◌, ℕ, Bool, List, [], ◌∷◌, refl, sym, ap, ◌∙◌, subst}
+use Rattle.std.specs.Prelude.{IsTrue, IfSome, Option, Some, None, Err, slice_get}
+use Rattle.std.proofs.Common.{◌≡◌, ◌⊎◌, ℕ, ◌<◌, Bool, List, [], ◌∷◌, length, refl, sym, ap, ◌∙◌, subst, inl, inr}
 use Rattle.std.proofs.lemmas.Bool.{and_parts}
 use Rattle.exec_value.specs.Kinds.{HaveKinds}
 use Rattle.exec_value.specs.declared.kinds.Kind.{Kind}
@@ -9,23 +9,29 @@ use Rattle.exec_value.specs.declared.data.Datum.{Datum}
 use Rattle.exec_value.specs.declared.data.Datum.TheVariants.{Text}
 use Rattle.exec_value.specs.declared.outcome.Completion.{Completion}
 use Rattle.exec_value.specs.declared.outcome.Completion.TheVariants.{Value, Error, Stopped}
-use Rattle.exec_job.specs.Apply.{TakesData}
+use Rattle.exec_value.specs.Place.{AreInPlace}
+use Rattle.exec_value.specs.declared.limits.TheConstants.{INLINE_BYTES}
+use Rattle.exec_job.specs.Answer.{EndsInPlace}
+use Rattle.exec_job.specs.Apply.{TakesData, apply_of}
 use Rattle.exec_job.specs.Takes.{is_int, takes}
 use Rattle.exec_job.specs.declared.job.Job.{Job}
 use Rattle.plan_rules.specs.declared.node.Node.{Node}
 use Rattle.plan_rules.specs.declared.node.Node.TheVariants.{Then, UponError, UponStopped, LetValue, LetError, LetStopped}
 use Rattle.plan_rules.specs.Images.{value_data, error_data, stopped_data}
+use Rattle.plan_rules.specs.Settle.{lets_of, picked_of}
+use Rattle.plan_laws.proofs.Readings.{settled-by-case}
 use Rattle.plan_kinds.specs.Shapes.{Shape, HasShape, never_or}
 use Rattle.plan_kinds.specs.Gives.{gives, picks}
 use Rattle.plan_kinds.specs.Signatures.{sig_of, Fits}
 use Rattle.plan_kinds.specs.declared.sig.Sig.{Sig}
 use Rattle.plan_shape.specs.Blueprint.{Blueprint}
 use Rattle.plan_settle.specs.declared.evaluation.Evaluation.{Evaluation}
-use Rattle.plan_settle.specs.Runs.{RunsWith, IsRunnable, MayPick}
-use Rattle.plan_settle.specs.Settles.{settled_by}
+use Rattle.plan_kinds.proofs.Plans.{plans-built}
+use Rattle.plan_settle.specs.Makes.{CompletesInPlace}
+use Rattle.plan_settle.specs.Runs.{RunsWith, IsRunnable, MayPick, SettlesLong}
+use Rattle.plan_settle.specs.Settles.{settled_by, settled_case}
 use Rattle.plan_settle.proofs.Runs.{first, built, matched, child-fits, runs-child, before-body, bodies-run}
-use Rattle.plan_settle.proofs.ShortErrors.{IsShort, settled-short}
-use Rattle.plan_settle.proofs.InPlace.{none-in_place, one-in_place, shape-in_place, pick-in_place}
+use Rattle.plan_settle.proofs.InPlace.{none-in_place, one-in_place, shape-in_place, settled-place, pick-place}
 
 shape-taken : (job : Job) (shape : Shape) (values : List Datum) → IsTrue (never_or (takes job) shape) →
     HasShape values shape → TakesData job values
@@ -55,25 +61,26 @@ have-kinds test (Some kinds) values passes have = (kinds, have, passes)
 
 -- what holds of the data that a completion has on a channel
 value-channel : (d : Completion) (P : List Datum → Type 0) →
-    ((values : List Datum) → d ≡ Value values → P values) → IfOk (ok_or (value_data d) d) P
+    ((values : List Datum) → d ≡ Value values → P values) → IfSome (value_data d) P
 value-channel (Value values) P each = each values refl
 value-channel d P each = tt
 
 error-channel : (d : Completion) (P : List Datum → Type 0) →
-    ((name : List ℕ) → d ≡ Error name → P (Text name ∷ [])) → IfOk (ok_or (error_data d) d) P
+    ((name : List ℕ) → d ≡ Error name → P (Text name ∷ [])) → IfSome (error_data d) P
 error-channel (Error name) P each = each name refl
 error-channel d P each = tt
 
-stopped-channel : (d : Completion) (P : List Datum → Type 0) → P [] → IfOk (ok_or (stopped_data d) d) P
-stopped-channel Stopped P none = none
+stopped-channel : (d : Completion) (P : List Datum → Type 0) → (d ≡ Stopped → P []) →
+    IfSome (stopped_data d) P
+stopped-channel Stopped P none = none refl
 stopped-channel d P none = tt
 
-split-may : (channel : Completion → Option (List Datum)) (settled done : Completion)
-    (split : Result (List Datum) Completion) (P : List Datum → Type 0) → done ≡ settled →
-    split ≡ ok_or (channel done) done → IfOk (ok_or (channel settled) settled) P → IfOk split P
-split-may channel settled done split P same is may =
-    subst (λ (x : Result (List Datum) Completion). IfOk x P)
-    (sym (is ∙ ap (λ d. ok_or (channel d) d) same)) may
+-- what was taken from a channel is what the settled completion has there
+taken-may : (channel : Completion → Option (List Datum)) (settled done : Completion)
+    (taken : Option (List Datum)) (P : List Datum → Type 0) → done ≡ settled → taken ≡ channel done →
+    IfSome (channel settled) P → IfSome taken P
+taken-may channel settled done taken P same is may =
+    subst (λ (x : Option (List Datum)). IfSome x P) (sym (is ∙ ap channel same)) may
 
 module _ (run : Evaluation) {n : ℕ} {args : List Datum} (runnable : IsRunnable run.plan.now)
     (runs : RunsWith run.plan.now n args) where
@@ -102,9 +109,31 @@ module _ (run : Evaluation) {n : ℕ} {args : List Datum} (runnable : IsRunnable
       stopped-taken job done
       (and_parts (takes job []) _ (matched plan runnable n args runs (UponStopped k job) at)).0
 
+  let_by-case : (node : Node) → slice_get run.plan.now.nodes n ≡ Some node →
+      settled_by run n args ≡ settled_case run node args
+  let_by-case node at =
+      settled-by-case plan.nodes (plans-built plan runnable.plan_is).ordered n node at args run.number run.asked
+
+  -- a pick's answer stands in place, or the let settles to the long error that it is
+  picks-place : (pick : Job) (values : List Datum) → AreInPlace values →
+      EndsInPlace (apply_of pick values)
+      ⊎ ((name : List ℕ) × (apply_of pick values ≡ Err name) × (INLINE_BYTES < length name)) →
+      ((name : List ℕ) → apply_of pick values ≡ Err name → settled_by run n args ≡ Error name) →
+      (AreInPlace values × EndsInPlace (apply_of pick values)) ⊎ SettlesLong run.plan.now run.number
+  picks-place pick values place (inl ends) fails = inl (place, ends)
+  picks-place pick values place (inr e) fails = inr (record {
+    node = n;
+    args = args;
+    asked = run.asked;
+    name = e.0;
+    runs = runs;
+    settles = fails e.0 e.1;
+    long = e.2;
+  })
+
   let_value-picks : (k : ℕ) (pick : Job) (bodies : List ℕ) →
       slice_get run.plan.now.nodes n ≡ Some (LetValue k pick bodies) → (values : List Datum) →
-      settled_by run k args ≡ Value values → MayPick run.plan.now n pick bodies values
+      settled_by run k args ≡ Value values → MayPick run n pick bodies values
   let_value-picks k pick bodies at values is =
       let node : Node = LetValue k pick bodies in
       let shape = (sig_of plan.nodes k runs.shape).value in
@@ -117,19 +146,21 @@ module _ (run : Evaluation) {n : ℕ} {args : List Datum} (runnable : IsRunnable
         takes = (found.0, found.1, taking.0);
         some = (built plan runnable n args runs node at).whole n node at;
         before = before-body plan runnable n args runs node at;
-        run = bodies-run plan runnable n args runs node at values have;
-        in_place = λ small. (
-          shape-in_place shape
-              (small.values k runs.shape
-              (runs-child plan runnable n args runs node at k (first k [])).reached)
-              values have,
-          pick-in_place pick (runnable.plan_is.forest.each n node at).made found.0 found.2 values found.1,
-        );
+        bodies_run = bodies-run plan runnable n args runs node at values have;
+        in_place = λ small.
+            let place = shape-in_place shape
+            (small.values k runs.shape (runs-child plan runnable n args runs node at k (first k [])).reached)
+            values have in
+            picks-place pick values place (pick-place pick found.0 found.2 values found.1)
+            (λ name fails.
+            let_by-case node at
+            ∙ ap (λ d. lets_of value_data pick bodies (λ m b. settled_by run m b) d) is
+            ∙ ap (λ answer. picked_of answer bodies (λ m. settled_by run m values)) fails);
       }
 
   let_error-picks : (k : ℕ) (pick : Job) (bodies : List ℕ) →
       slice_get run.plan.now.nodes n ≡ Some (LetError k pick bodies) → (name : List ℕ) →
-      settled_by run k args ≡ Error name → MayPick run.plan.now n pick bodies (Text name ∷ [])
+      settled_by run k args ≡ Error name → MayPick run n pick bodies (Text name ∷ [])
   let_error-picks k pick bodies at name is =
       let node : Node = LetError k pick bodies in
       let kinds : List Kind = TextKind ∷ [] in
@@ -140,17 +171,26 @@ module _ (run : Evaluation) {n : ℕ} {args : List Datum} (runnable : IsRunnable
         takes = (kinds, have, taking.0);
         some = (built plan runnable n args runs node at).whole n node at;
         before = before-body plan runnable n args runs node at;
-        run = bodies-run plan runnable n args runs node at (Text name ∷ []) have;
-        in_place = λ small. (
-          one-in_place (Text name)
-              (subst IsShort is (settled-short plan runnable.plan_is small k args run.number run.asked)),
-          pick-in_place pick (runnable.plan_is.forest.each n node at).made kinds picking.0 (Text name ∷ []) have,
-        );
+        bodies_run = bodies-run plan runnable n args runs node at (Text name ∷ []) have;
+        in_place = λ small.
+            elim (settled-place plan runnable small k args
+            (runs-child plan runnable n args runs node at k (first k [])) run.number run.asked) [
+              | inl place ↦
+                  picks-place pick (Text name ∷ [])
+                  (one-in_place (Text name) (subst CompletesInPlace is place))
+                  (pick-place pick kinds picking.0 (Text name ∷ []) have)
+                  (λ own fails.
+                  let_by-case node at
+                  ∙ ap (λ d. lets_of error_data pick bodies (λ m b. settled_by run m b) d) is
+                  ∙ ap (λ answer. picked_of answer bodies (λ m. settled_by run m (Text name ∷ []))) fails)
+              | inr long ↦ inr long
+            ];
       }
 
   let_stopped-picks : (k : ℕ) (pick : Job) (bodies : List ℕ) →
-      slice_get run.plan.now.nodes n ≡ Some (LetStopped k pick bodies) → MayPick run.plan.now n pick bodies []
-  let_stopped-picks k pick bodies at =
+      slice_get run.plan.now.nodes n ≡ Some (LetStopped k pick bodies) → settled_by run k args ≡ Stopped →
+      MayPick run n pick bodies []
+  let_stopped-picks k pick bodies at is =
       let node : Node = LetStopped k pick bodies in
       let kinds : List Kind = [] in
       let picking = and_parts (picks pick kinds) _ (matched plan runnable n args runs node at) in
@@ -159,37 +199,39 @@ module _ (run : Evaluation) {n : ℕ} {args : List Datum} (runnable : IsRunnable
         takes = (kinds, tt, taking.0);
         some = (built plan runnable n args runs node at).whole n node at;
         before = before-body plan runnable n args runs node at;
-        run = bodies-run plan runnable n args runs node at [] tt;
-        in_place = λ small. (
-          none-in_place,
-          pick-in_place pick (runnable.plan_is.forest.each n node at).made kinds picking.0 [] tt,
-        );
+        bodies_run = bodies-run plan runnable n args runs node at [] tt;
+        in_place = λ small.
+            picks-place pick [] none-in_place (pick-place pick kinds picking.0 [] tt)
+            (λ name fails.
+            let_by-case node at
+            ∙ ap (λ d. lets_of stopped_data pick bodies (λ m b. settled_by run m b) d) is
+            ∙ ap (λ answer. picked_of answer bodies (λ m. settled_by run m [])) fails);
       }
 
   -- the pick of a let, where its child completes with done, takes what that has on the let's channel
   pub let_value-may : {k : ℕ} {pick : Job} {bodies : List ℕ} {done : Completion}
-      {split : Result (List Datum) Completion} →
+      {taken : Option (List Datum)} →
       slice_get run.plan.now.nodes n ≡ Some (LetValue k pick bodies) → done ≡ settled_by run k args →
-      split ≡ ok_or (value_data done) done → IfOk split (MayPick run.plan.now n pick bodies)
-  let_value-may {k} {pick} {bodies} {done} {split} at same is =
-      split-may value_data (settled_by run k args) done split (MayPick plan n pick bodies) same is
-      (value-channel (settled_by run k args) (MayPick plan n pick bodies)
+      taken ≡ value_data done → IfSome taken (MayPick run n pick bodies)
+  let_value-may {k} {pick} {bodies} {done} {taken} at same is =
+      taken-may value_data (settled_by run k args) done taken (MayPick run n pick bodies) same is
+      (value-channel (settled_by run k args) (MayPick run n pick bodies)
       (let_value-picks k pick bodies at))
 
   pub let_error-may : {k : ℕ} {pick : Job} {bodies : List ℕ} {done : Completion}
-      {split : Result (List Datum) Completion} →
+      {taken : Option (List Datum)} →
       slice_get run.plan.now.nodes n ≡ Some (LetError k pick bodies) → done ≡ settled_by run k args →
-      split ≡ ok_or (error_data done) done → IfOk split (MayPick run.plan.now n pick bodies)
-  let_error-may {k} {pick} {bodies} {done} {split} at same is =
-      split-may error_data (settled_by run k args) done split (MayPick plan n pick bodies) same is
-      (error-channel (settled_by run k args) (MayPick plan n pick bodies)
+      taken ≡ error_data done → IfSome taken (MayPick run n pick bodies)
+  let_error-may {k} {pick} {bodies} {done} {taken} at same is =
+      taken-may error_data (settled_by run k args) done taken (MayPick run n pick bodies) same is
+      (error-channel (settled_by run k args) (MayPick run n pick bodies)
       (let_error-picks k pick bodies at))
 
   pub let_stopped-may : {k : ℕ} {pick : Job} {bodies : List ℕ} {done : Completion}
-      {split : Result (List Datum) Completion} →
+      {taken : Option (List Datum)} →
       slice_get run.plan.now.nodes n ≡ Some (LetStopped k pick bodies) → done ≡ settled_by run k args →
-      split ≡ ok_or (stopped_data done) done → IfOk split (MayPick run.plan.now n pick bodies)
-  let_stopped-may {k} {pick} {bodies} {done} {split} at same is =
-      split-may stopped_data (settled_by run k args) done split (MayPick plan n pick bodies) same is
-      (stopped-channel (settled_by run k args) (MayPick plan n pick bodies)
+      taken ≡ stopped_data done → IfSome taken (MayPick run n pick bodies)
+  let_stopped-may {k} {pick} {bodies} {done} {taken} at same is =
+      taken-may stopped_data (settled_by run k args) done taken (MayPick run n pick bodies) same is
+      (stopped-channel (settled_by run k args) (MayPick run n pick bodies)
       (let_stopped-picks k pick bodies at))

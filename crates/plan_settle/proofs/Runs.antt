@@ -15,10 +15,10 @@ use Rattle.plan_kinds.specs.Signatures.{own_sigs, sig_of, matches, Fits}
 use Rattle.plan_kinds.specs.Reached.{Reaches}
 use Rattle.plan_kinds.specs.Built.{IsNoPart, IsBuilt, AreArguments}
 use Rattle.plan_kinds.proofs.Running.{run-of, bodies-of}
-use Rattle.plan_kinds.proofs.Kept.{kinds-kept}
+use Rattle.plan_kinds.proofs.Kept.{plain-arguments, kinds-kept}
 use Rattle.plan_shape.specs.Blueprint.{Blueprint}
 use Rattle.plan_settle.specs.Runs.{RunsWith, IsRunnable}
-use Rattle.plan_facts.proofs.Plans.{plans-built}
+use Rattle.plan_kinds.proofs.Plans.{plans-built}
 
 -- the first of a list, and the second of two
 pub first : (k : ℕ) (xs : List ℕ) → Contains (k ∷ xs) k
@@ -26,12 +26,6 @@ first k xs = (0, omega arith, refl)
 
 pub second : (k j : ℕ) → Contains (k ∷ j ∷ []) j
 second k j = (1, omega arith, refl)
-
--- a node that is no part runs with any data of its shape
-plain-arguments : (o : Option Node) → IsNoPart o → (a : Shape) (values : List Datum) → HasShape values a →
-    AreArguments o a values
-plain-arguments (Some (Part bulk part)) plain a values have = absurd plain
-plain-arguments o plain a values have = have
 
 -- a node that runs settles as its signature says
 pub settles-in_kind : (plan : Blueprint) → IsRunnable plan → (n : ℕ) (args : List Datum)

@@ -1,13 +1,11 @@
--- In a small plan each error has a short name.
-use Rattle.std.specs.Prelude.{ℤ, pos, negsuc, nat_lt, nat_le, IsTrue, Option, Some, None, Result, Ok, Err, if◌then◌else◌}
-use Rattle.std.specs.List.{list_all, flat_map}
+-- Where a job's own name is short, each error that it answers is.
+use Rattle.std.specs.Prelude.{ℤ, pos, negsuc, nat_le, Option, Some, None, Result, Ok, Err, if◌then◌else◌}
+use Rattle.std.specs.List.{flat_map}
 use Rattle.std.specs.Fmt.{signed_decimal}
-use Rattle.std.proofs.Common.{ℕ, ◌≤◌, Bool, true, false, ◌&&◌, List, [], ◌∷◌, ◌++◌, length, arith}
-use Rattle.std.proofs.lemmas.Bool.{and_parts, leb-true}
-use Rattle.exec_value.specs.ErrorName.{is_error_name, is_name_byte}
+use Rattle.std.proofs.Common.{ℕ, ◌≤◌, Bool, true, false, List, [], ◌∷◌, ◌++◌, length, arith}
 use Rattle.exec_value.specs.Number.{int_of}
 use Rattle.exec_value.specs.Sum.{sum_of_data}
-use Rattle.exec_value.specs.declared.limits.TheConstants.{INLINE_BYTES, ERROR_NAME_BYTES, NUMBERS, TEXT_BYTES}
+use Rattle.exec_value.specs.declared.limits.TheConstants.{INLINE_BYTES, NUMBERS, TEXT_BYTES}
 use Rattle.exec_value.specs.declared.data.Datum.{Datum}
 use Rattle.exec_value.specs.declared.data.Datum.TheVariants.{Int, Text}
 use Rattle.exec_job.specs.Answer.{Answer, int_answer, parsed, text_answer}
@@ -17,14 +15,11 @@ use Rattle.exec_job.specs.declared.fault.JobFault.{JobFault}
 use Rattle.exec_job.specs.declared.fault.JobFault.TheVariants.{Overflow, ZeroDivisor, OutOfRange}
 use Rattle.exec_job.specs.declared.job.Job.{Job}
 use Rattle.exec_job.specs.declared.job.Job.TheVariants.{Add, Sub, Mul, Div, Neg, Within, Index, Fail, Iota, Sum, Append, Join, Length, Parse, Show, Give, At, IntOr, TextOr, Pass}
-use Rattle.plan_shape.specs.Conditions.{IsLawfulJob}
+use Rattle.plan_settle.specs.Small.{name_of_job}
 
-pub name-short : (name : List ℕ) → IsTrue (is_error_name name) → length name ≤ INLINE_BYTES
-name-short name is =
-    let parts = and_parts (nat_lt 0 (length name) && nat_le (length name) ERROR_NAME_BYTES)
-    (list_all is_name_byte name) is in
-    leb-true (length name) ERROR_NAME_BYTES
-    (and_parts (nat_lt 0 (length name)) (nat_le (length name) ERROR_NAME_BYTES) parts.0).1
+-- the name of the error that a job gives of its own is short
+abbrev pub IsShortJob : Job → Type 0
+IsShortJob job = length (name_of_job job) ≤ INLINE_BYTES
 
 -- the name of an error that is answered is short
 abbrev pub ShortAnswer : Answer → Type 0
@@ -70,7 +65,7 @@ parsed-short None = omega arith
 element-short : (job : Job) (values : List Datum) → ShortAnswer (element_of job values)
 element-short job = int-short (λ x. int_answer (at_index job 0 x)) (λ x. fault-short (at_index job 0 x))
 
-pub job-short : (job : Job) → IsLawfulJob job → (values : List Datum) → ShortAnswer (apply_of job values)
+pub job-short : (job : Job) → IsShortJob job → (values : List Datum) → ShortAnswer (apply_of job values)
 job-short (Add n) named values = element-short (Add n) values
 job-short (Sub n) named values = element-short (Sub n) values
 job-short (Mul n) named values = element-short (Mul n) values
@@ -78,7 +73,7 @@ job-short (Div n) named values = element-short (Div n) values
 job-short Neg named values = element-short Neg values
 job-short (Within lo hi) named values = element-short (Within lo hi) values
 job-short Index named values = element-short Index values
-job-short (Fail name) named values = name-short name named
+job-short (Fail name) named values = named
 job-short Iota named values = int-short iota iota-short values
 job-short Sum named values = fault-short (fitting (sum_of_data values))
 job-short (Append text) named values =

@@ -1,7 +1,8 @@
--- What a small plan settles to has no long error.
-use Rattle.std.specs.Prelude.{ℤ, All, map, Option, Some, None, Result, Ok, Err, slice_get}
-use Rattle.std.proofs.Common.{◌≡◌, ℕ, zero, suc, ◌<◌, ◌≤◌, Bool, true, false, List, [], ◌∷◌, length, sym, ap, subst, inl, inr, arith}
+-- What a small plan settles to has no long error, where the plan says none.
+use Rattle.std.specs.Prelude.{ℤ, All, map, Option, Some, None, Result, Ok, Err, IsOk, OnErr, slice_get}
+use Rattle.std.proofs.Common.{◌≡◌, ℕ, zero, suc, ◌<◌, ◌≤◌, Bool, true, false, List, [], ◌∷◌, length, refl, sym, ap, subst, inl, inr, arith}
 use Rattle.std.proofs.lemmas.Option.{slice_get_cases}
+use Rattle.std.specs.declared.alloc.AllocError.{AllocError}
 use Rattle.exec_value.specs.declared.limits.TheConstants.{INLINE_BYTES}
 use Rattle.exec_value.specs.declared.data.Datum.{Datum}
 use Rattle.exec_value.specs.declared.data.Datum.TheVariants.{Int}
@@ -21,11 +22,10 @@ use Rattle.plan_laws.proofs.Tables.{node-past}
 use Rattle.plan_laws.proofs.Children.{HasZero, below-zero, head-of, tail-of, body-of}
 use Rattle.plan_laws.proofs.Readings.{settled-by-case}
 use Rattle.plan_shape.specs.Blueprint.{Blueprint, IsPlan}
-use Rattle.plan_shape.specs.Forest.{IsMade}
-use Rattle.plan_shape.specs.Conditions.{IsLawfulJob}
-use Rattle.plan_settle.specs.Small.{IsSmallNode, IsSmall}
-use Rattle.plan_facts.proofs.Plans.{plans-built}
-use Rattle.plan_settle.proofs.Short.{ShortAnswer, name-short, job-short}
+use Rattle.plan_settle.specs.Small.{IsSmallNode, IsSmall, HasShortNames, own_name}
+use Rattle.plan_settle.specs.Runs.{SettlesLong}
+use Rattle.plan_kinds.proofs.Plans.{plans-built}
+use Rattle.plan_settle.proofs.Short.{ShortAnswer, IsShortJob, job-short}
 
 -- an error's name is short
 abbrev pub IsShort : Completion → Type 0
@@ -36,7 +36,7 @@ ending-short : (answer : Result (List Datum) (List ℕ)) → ShortAnswer answer 
 ending-short (Ok values) short = tt
 ending-short (Err name) short = short
 
-applied-short : (job : Job) → IsLawfulJob job → (values : Option (List Datum)) (c : Completion) → IsShort c →
+applied-short : (job : Job) → IsShortJob job → (values : Option (List Datum)) (c : Completion) → IsShort c →
     IsShort (applied job values c)
 applied-short job named None c short = short
 applied-short job named (Some values) c short =
@@ -67,7 +67,7 @@ picked-short : (answer : Result (List Datum) (List ℕ)) → ShortAnswer answer 
 picked-short (Ok (Int k ∷ [])) short bodies body each = each k
 picked-short answer short bodies body each = ending-short answer short
 
-let-short : (values : Option (List Datum)) (pick : Job) → IsLawfulJob pick → (bodies : List ℕ)
+let-short : (values : Option (List Datum)) (pick : Job) → IsShortJob pick → (bodies : List ℕ)
     (body : ℕ → List Datum → Completion) → ((k : ℤ) (b : List Datum) → IsShort (body (body_at bodies k) b)) →
     (d : Completion) → IsShort d → IsShort (let_of values pick bodies body d)
 let-short None pick named bodies body each d short = short
@@ -89,21 +89,9 @@ all-short These f each (x ∷ xs) all =
     then-short (f x) (all_of (map f xs)) (each x (head-of These x xs all))
     (all-short These f each xs (tail-of These x xs all))
 
--- the errors that a node names itself, or by its job, are short
-abbrev NamesShort : Node → Type 0
-NamesShort (JustError name) = length name ≤ INLINE_BYTES
-NamesShort (StoppedAsError child name) = length name ≤ INLINE_BYTES
-NamesShort (Then child job) = IsLawfulJob job
-NamesShort (UponError child job) = IsLawfulJob job
-NamesShort (UponStopped child job) = IsLawfulJob job
-NamesShort (LetValue child pick bodies) = IsLawfulJob pick
-NamesShort (LetError child pick bodies) = IsLawfulJob pick
-NamesShort (LetStopped child pick bodies) = IsLawfulJob pick
-NamesShort node = Unit {0}
-
 module _ (These : ℕ → Type 0) (zeroth : HasZero These) (below : Settled)
     (each : (k : ℕ) → These k → (a : List Datum) (asked : Bool) → IsShort (below k a asked)) where
-  lets-short : (channel : Completion → Option (List Datum)) (x : ℕ) (pick : Job) → IsLawfulJob pick →
+  lets-short : (channel : Completion → Option (List Datum)) (x : ℕ) (pick : Job) → IsShortJob pick →
       (xs : List ℕ) → All These (x ∷ xs) → (a : List Datum) (asked : Bool) →
       IsShort (lets_of channel pick xs (λ n b. below n b asked) (below x a asked))
   lets-short channel x pick named xs all a asked =
@@ -111,7 +99,7 @@ module _ (These : ℕ → Type 0) (zeroth : HasZero These) (below : Settled)
       (λ k b. each (body_at xs k) (body-of These zeroth x xs all k) b asked) (below x a asked)
       (each x (head-of These x xs all) a asked)
 
-  case-short : (nodes : List Node) (r : ℕ) (node : Node) → IsSmallNode node → NamesShort node →
+  case-short : (nodes : List Node) (r : ℕ) (node : Node) → IsSmallNode node → length (own_name node) ≤ INLINE_BYTES →
       All These (named_by node) → (a : List Datum) (asked : Bool) →
       IsShort (settle_case nodes r node below a asked)
   case-short nodes r (JustError name) small named all a asked = named
@@ -150,30 +138,19 @@ module _ (These : ℕ → Type 0) (zeroth : HasZero These) (below : Settled)
   case-short nodes r (Ahead x y) small named all a asked = absurd small
   case-short nodes r _ small named all a asked = tt
 
-named-short : (nodes : List Node) (n : ℕ) (node : Node) → IsMade nodes n node → NamesShort node
-named-short nodes n (JustError name) made = name-short name made
-named-short nodes n (StoppedAsError child name) made = name-short name made
-named-short nodes n (Then child job) made = made
-named-short nodes n (UponError child job) made = made
-named-short nodes n (UponStopped child job) made = made
-named-short nodes n (LetValue child pick bodies) made = made
-named-short nodes n (LetError child pick bodies) made = made
-named-short nodes n (LetStopped child pick bodies) made = made
-named-short nodes n node made = tt
-
-short-below : (plan : Blueprint) → IsPlan plan → IsSmall plan → (m n : ℕ) → n < m → (a : List Datum) (r : ℕ)
+short-below : (plan : Blueprint) → IsPlan plan → IsSmall plan → HasShortNames plan → (m n : ℕ) → n < m → (a : List Datum) (r : ℕ)
     (asked : Bool) → IsShort (settle_of plan.nodes n a r asked)
-short-below plan is small zero n before a r asked = absurd (omega arith)
-short-below plan is small (suc m) n before a r asked = elim ((slice_get_cases plan.nodes n).1) [
+short-below plan is small short zero n before a r asked = absurd (omega arith)
+short-below plan is small short (suc m) n before a r asked = elim ((slice_get_cases plan.nodes n).1) [
   | inl x ↦
       let node : Node = x.0 in
       let at : slice_get plan.nodes n ≡ Some node = x.2 in
       let ordered = (plans-built plan is).ordered in
       subst IsShort (sym (settled-by-case plan.nodes ordered n node at a r asked))
       (case-short (λ k. k < n) (below-zero n) (λ k b s. settle_of plan.nodes k b r s)
-      (λ k smaller b s. short-below plan is small m k (omega arith) b r s)
+      (λ k smaller b s. short-below plan is small short m k (omega arith) b r s)
       plan.nodes r node (small.nodes_are n node at)
-      (named-short plan.nodes n node (is.forest.each n node at).made) (ordered n node at) a asked)
+      (short n node at) (ordered n node at) a asked)
   | inr x ↦
       let past : settle_of plan.nodes n a r asked ≡ Stopped =
       ap (λ (f : List Datum → Bool → Completion). f a asked)
@@ -181,6 +158,15 @@ short-below plan is small (suc m) n before a r asked = elim ((slice_get_cases pl
       subst IsShort (sym past) tt
 ]
 
-pub settled-short : (plan : Blueprint) → IsPlan plan → IsSmall plan → (n : ℕ) (a : List Datum) (r : ℕ)
-    (asked : Bool) → IsShort (settle_of plan.nodes n a r asked)
-settled-short plan is small n = short-below plan is small (suc n) n (omega arith)
+settled-short : (plan : Blueprint) → IsPlan plan → IsSmall plan → HasShortNames plan → (n : ℕ)
+    (a : List Datum) (r : ℕ) (asked : Bool) → IsShort (settle_of plan.nodes n a r asked)
+settled-short plan is small short n = short-below plan is small short (suc n) n (omega arith)
+
+-- such a plan never wants memory
+pub no-memory_wanted : {A : Type 0} (plan : Blueprint) → IsPlan plan → IsSmall plan → HasShortNames plan →
+    (r : ℕ) (result : Result A AllocError) → OnErr result (SettlesLong plan r) → IsOk result
+no-memory_wanted plan is small short r (Ok made) long = refl
+no-memory_wanted plan is small short r (Err e) long =
+    let fits : length long.name ≤ INLINE_BYTES =
+    subst IsShort long.settles (settled-short plan is small short long.node long.args r long.asked) in
+    absurd (omega (arith, fits, long.long))

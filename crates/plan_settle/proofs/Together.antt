@@ -1,17 +1,19 @@
 -- How the children of a `when_all` are joined one by one, and that there is room for joined data.
-use Rattle.std.specs.Prelude.{Contains, IsTrue, Some, None, map, slice_get}
+use Rattle.std.specs.Prelude.{Contains, IsTrue, IfSome, Some, None, map, slice_get}
 use Rattle.std.proofs.Common.{◌≡◌, ℕ, ◌+◌, ◌<◌, ◌≤◌, Bool, true, List, [], ◌∷◌, ◌++◌, length, take, get_or, refl, sym, ap, ◌∙◌, subst, arith, length-append}
 use Rattle.std.proofs.lemmas.Bool.{cond-true, leb-true}
+use Rattle.std.proofs.lemmas.Option.{same_Some}
 use Rattle.std.proofs.lemmas.List.{append_assoc, append-nil, map-append, take_more}
-use Rattle.std.proofs.lemmas.Slice.Zip.{AllZip-long}
-use Rattle.exec_value.specs.Kinds.{HasKind, HaveKinds}
+use Rattle.exec_value.specs.Kinds.{HaveKinds}
 use Rattle.exec_value.specs.declared.limits.TheConstants.{DATA}
 use Rattle.exec_value.specs.declared.kinds.Kind.{Kind}
 use Rattle.exec_value.specs.declared.data.Datum.{Datum}
 use Rattle.exec_value.specs.declared.outcome.Completion.{Completion}
 use Rattle.exec_value.specs.declared.outcome.Completion.TheVariants.{Value, Error, Stopped, NoMemory}
+use Rattle.exec_job.proofs.OperandLemmas.{kinds-length}
 use Rattle.plan_rules.specs.declared.node.Node.{Node}
 use Rattle.plan_rules.specs.declared.node.Node.TheVariants.{WhenAll, Ahead}
+use Rattle.plan_rules.specs.Images.{value_data}
 use Rattle.plan_rules.specs.Settle.{and_then, all_of}
 use Rattle.plan_laws.proofs.Memory.{HasMemory}
 use Rattle.plan_kinds.specs.Shapes.{Shape, HasShape, joined, never_or, is_few}
@@ -79,14 +81,11 @@ all_of-take f xs i d within memory =
     ∙ ap all_of (map-append f (take i xs) (get_or xs i d ∷ []))
     ∙ all_of-more (map f (take i xs)) (f (get_or xs i d)) memory
 
-kinds-long : (values : List Datum) (kinds : List Kind) → HaveKinds values kinds → length values ≡ length kinds
-kinds-long values kinds have = sym (AllZip-long HasKind values kinds have)
-
 few-value : (shape : Shape) (values : List Datum) → IsTrue (never_or is_few shape) → HasShape values shape →
     length values ≤ DATA
 few-value None values few have = absurd have
 few-value (Some kinds) values few have =
-    let most = leb-true (length kinds) DATA few in omega (arith, most, kinds-long values kinds have)
+    let most = leb-true (length kinds) DATA few in omega (arith, most, kinds-length values kinds have)
 
 few-pair : (a b : Shape) (front values : List Datum) → IsTrue (never_or is_few (joined (a ∷ b ∷ []))) →
     HasShape front a → HasShape values b → length front + length values ≤ DATA
@@ -99,9 +98,22 @@ few-pair (Some ks) (Some js) front values few have behind =
       most,
       length-append ks (js ++ []),
       length-append js [],
-      kinds-long front ks have,
-      kinds-long values js behind,
+      kinds-length front ks have,
+      kinds-length values js behind,
     )
+
+-- a completion that has these data as its value
+pub value-data : (c : Completion) (values : List Datum) → value_data c ≡ Some values → c ≡ Value values
+value-data (Value front) values is = ap (λ (l : List Datum). Value l) (same_Some front values is)
+value-data (Error name) values is = cc
+value-data Stopped values is = cc
+value-data NoMemory values is = cc
+
+value-fits : (c : Completion) (values : List Datum) →
+    ((front : List Datum) → c ≡ Value front → length front + length values ≤ DATA) →
+    IfSome (value_data c) (λ front. length front + length values ≤ DATA)
+value-fits (Value front) values each = each front refl
+value-fits c values each = tt
 
 module _ (run : Evaluation) {n : ℕ} {args : List Datum} (runnable : IsRunnable run.plan.now)
     (runs : RunsWith run.plan.now n args) where
@@ -116,13 +128,22 @@ module _ (run : Evaluation) {n : ℕ} {args : List Datum} (runnable : IsRunnable
       (child-fits run.plan.now runnable n args runs node at k among run.number run.asked)
 
   -- an `ahead` has room for both values
-  pub ahead-room : {k j : ℕ} → slice_get run.plan.now.nodes n ≡ Some (Ahead k j) →
-      {front values : List Datum} → settled_by run k args ≡ Value front → settled_by run j args ≡ Value values →
-      length front + length values ≤ DATA
-  ahead-room {k} {j} at {front} {values} one other =
+  ahead-room : {k j : ℕ} → slice_get run.plan.now.nodes n ≡ Some (Ahead k j) →
+      (front values : List Datum) → settled_by run k args ≡ Value front →
+      value_data (settled_by run j args) ≡ Some values → length front + length values ≤ DATA
+  ahead-room {k} {j} at front values one other =
       few-pair (sig_of nodes k runs.shape).value (sig_of nodes j runs.shape).value front values
       (matched run.plan.now runnable n args runs (Ahead k j) at)
-      (child-shape at (first k (j ∷ [])) one) (child-shape at (second k j) other)
+      (child-shape at (first k (j ∷ [])) one)
+      (child-shape at (second k j) (value-data (settled_by run j args) values other))
+
+  pub ahead-fits : {k j : ℕ} → slice_get run.plan.now.nodes n ≡ Some (Ahead k j) → {done other : Completion}
+      {values : List Datum} → done ≡ settled_by run k args → other ≡ settled_by run j args →
+      value_data other ≡ Some values →
+      IfSome (value_data done) (λ front. length front + length values ≤ DATA)
+  ahead-fits {k} {j} at {done} {other} {values} one two is =
+      value-fits done values (λ front value. ahead-room at front values (sym one ∙ value)
+      (ap value_data (sym two) ∙ is))
 
   -- a `when_all` has room for all values
   pub all-room : {children : List ℕ} → slice_get run.plan.now.nodes n ≡ Some (WhenAll children) →

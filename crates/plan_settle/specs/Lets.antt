@@ -1,15 +1,14 @@
 -- What a let makes of what its child has on the let's channel.
-use Rattle.std.specs.Prelude.{⊤, ℕ, List, [], ◌∷◌, Option, Some, None, Result, Ok, Err}
+use Rattle.std.specs.Prelude.{⊤, ℕ, List, [], ◌∷◌, Option, Some, None}
 use Rattle.exec_value.specs.declared.data.Datum.{Datum}
 use Rattle.exec_value.specs.declared.data.Datum.TheVariants.{Int}
 use Rattle.exec_value.specs.declared.outcome.Completion.{Completion}
 use Rattle.exec_value.specs.declared.outcome.Completion.TheVariants.{Value}
-use Rattle.exec_job.specs.Apply.{apply_of}
 use Rattle.exec_job.specs.declared.job.Job.{Job}
 use Rattle.plan_rules.specs.declared.node.Node.{Node}
 use Rattle.plan_rules.specs.declared.node.Node.TheVariants.{LetValue, LetError, LetStopped}
 use Rattle.plan_rules.specs.Allowed.{body_at}
-use Rattle.plan_rules.specs.Settle.{picked_of}
+use Rattle.plan_rules.specs.Settle.{let_of}
 use Rattle.plan_settle.specs.declared.evaluation.Evaluation.{Evaluation}
 use Rattle.plan_settle.specs.Settles.{settled_by}
 
@@ -24,8 +23,8 @@ abbrev pub picked_body : Completion → List ℕ → Option ℕ
 picked_body (Value (Int k ∷ [])) bodies = Some (body_at bodies k)
 picked_body c bodies = None
 
--- the data pick a body, which settles under them; a completion that has none there passes
-abbrev pub settled_let : Evaluation → Job → List ℕ → Result (List Datum) Completion → Completion
-settled_let run pick bodies (Ok values) =
-    picked_of (apply_of pick values) bodies (λ n. settled_by run n values)
-settled_let run pick bodies (Err done) = done
+-- data that were taken from the let's channel pick a body, which settles under them; where there were
+-- none, the child's completion passes
+abbrev pub settled_let : Evaluation → Job → List ℕ → Option (List Datum) → Completion → Completion
+settled_let run pick bodies taken done =
+    let_of taken pick bodies (λ n values. settled_by run n values) done

@@ -1,5 +1,5 @@
 -- Calls that make one completion.
-use Rattle.std.specs.Prelude.{◌≡◌, ◌≤◌, ⊤, length, Result, IsOk, IfOk}
+use Rattle.std.specs.Prelude.{◌≡◌, ◌≤◌, ⊤, length, Result, IsOk, OnOk}
 use Rattle.std.specs.declared.alloc.AllocError.{AllocError}
 use Rattle.exec_value.specs.Place.{AreInPlace}
 use Rattle.exec_value.specs.declared.limits.TheConstants.{INLINE_BYTES}
@@ -14,6 +14,6 @@ CompletesInPlace Stopped = ⊤
 CompletesInPlace NoMemory = ⊤
 
 -- a call makes this completion, and finds no memory only where that doesn't stand in place
-pub record Makes (c : Completion) (result : Result Completion AllocError) : Type 0 where
-  pub exact : IfOk result (λ made. made ≡ c)
+pub record Makes (c made : Completion) (result : Result (Unit {0}) AllocError) : Type 0 where
+  pub exact : OnOk result (made ≡ c)
   pub in_place : CompletesInPlace c → IsOk result

@@ -1,13 +1,17 @@
 -- With which arguments the nodes of a plan run.
-use Rattle.std.specs.Prelude.{ℕ, ◌<◌, List, length, slice_get, All}
+use Rattle.std.specs.Prelude.{◌≡◌, ◌⊎◌, ℕ, ◌<◌, Bool, List, length, slice_get, All}
 use Rattle.exec_value.specs.Place.{AreInPlace}
 use Rattle.exec_value.specs.declared.data.Datum.{Datum}
+use Rattle.exec_value.specs.declared.limits.TheConstants.{INLINE_BYTES}
+use Rattle.exec_value.specs.declared.outcome.Completion.TheVariants.{Error}
 use Rattle.exec_job.specs.Apply.{TakesData, apply_of, EndsInPlace}
 use Rattle.exec_job.specs.declared.job.Job.{Job}
+use Rattle.plan_rules.specs.Settle.{settle_of}
 use Rattle.plan_kinds.specs.Shapes.{Shape, HasShape}
 use Rattle.plan_kinds.specs.Reached.{Reaches, KindsMatch}
 use Rattle.plan_kinds.specs.Built.{IsNoPart}
 use Rattle.plan_shape.specs.Blueprint.{Blueprint, IsPlan}
+use Rattle.plan_settle.specs.declared.evaluation.Evaluation.{Evaluation}
 use Rattle.plan_settle.specs.Small.{IsSmall}
 
 -- a plan can be evaluated: its kinds match, so that no operand is wrong
@@ -23,11 +27,24 @@ pub record RunsWith (plan : Blueprint) (n : ℕ) (args : List Datum) : Type 0 wh
   pub within : n < length plan.nodes
   pub no_part : IsNoPart (slice_get plan.nodes n)
 
+-- some node of the plan runs so that it settles, for the record of this number, to an error whose name
+-- doesn't stand in place: a node's own name, which is copied then
+pub record SettlesLong (plan : Blueprint) (number : ℕ) : Type 0 where
+  pub node : ℕ
+  pub args : List Datum
+  pub asked : Bool
+  pub name : List ℕ
+  pub runs : RunsWith plan node args
+  pub settles : settle_of plan.nodes node args number asked ≡ Error name
+  pub long : INLINE_BYTES < length name
+
 -- the pick of the let n takes these values, and each body, of which there is one, may run with them
-pub record MayPick (plan : Blueprint) (n : ℕ) (pick : Job) (bodies : List ℕ) (values : List Datum) :
+pub record MayPick (run : Evaluation) (n : ℕ) (pick : Job) (bodies : List ℕ) (values : List Datum) :
     Type 0 where
   pub takes : TakesData pick values
   pub some : 0 < length bodies
   pub before : All (λ k. k < n) bodies
-  pub run : All (λ k. RunsWith plan k values) bodies
-  pub in_place : IsSmall plan → AreInPlace values × EndsInPlace (apply_of pick values)
+  pub bodies_run : All (λ k. RunsWith run.plan.now k values) bodies
+  -- in a small plan neither wants memory, unless a name is long
+  pub in_place : IsSmall run.plan.now →
+      (AreInPlace values × EndsInPlace (apply_of pick values)) ⊎ SettlesLong run.plan.now run.number

@@ -1,19 +1,20 @@
 -- What an evaluation answers.
-use Rattle.std.specs.Prelude.{◌≡◌, ℕ, List, Result, IsOk, IfOk}
+use Rattle.std.specs.Prelude.{◌≡◌, ℕ, List, Result, OnOk, OnErr}
 use Rattle.std.specs.declared.alloc.AllocError.{AllocError}
 use Rattle.exec_value.specs.declared.data.Datum.{Datum}
 use Rattle.exec_value.specs.declared.outcome.Completion.{Completion}
 use Rattle.plan_rules.specs.declared.node.Node.{Node}
 use Rattle.plan_rules.specs.Settle.{settle_case, settle_of}
-use Rattle.plan_shape.specs.Blueprint.{Blueprint}
 use Rattle.plan_settle.specs.declared.evaluation.Evaluation.{Evaluation}
 use Rattle.plan_settle.specs.Small.{IsSmall}
+use Rattle.plan_settle.specs.Runs.{SettlesLong}
 
--- an evaluation answers this completion, and want of memory only where the plan isn't small
-pub record Settles (plan : Blueprint) (c : Completion) (result : Result Completion AllocError) :
+-- an evaluation puts this completion in its place; a small plan answers want of memory only where a
+-- node of it settles to an error with a long name
+pub record Settles (run : Evaluation) (c made : Completion) (result : Result (Unit {0}) AllocError) :
     Type 0 where
-  pub exact : IfOk result (λ done. done ≡ c)
-  pub small : IsSmall plan → IsOk result
+  pub exact : OnOk result (made ≡ c)
+  pub small : IsSmall run.plan.now → OnErr result (SettlesLong run.plan.now run.number)
 
 -- what node n settles to, and what a node settles to by its case
 abbrev pub settled_by : Evaluation → ℕ → List Datum → Completion

@@ -1,8 +1,11 @@
--- Small plans, whose evaluation never finds too little memory.
-use Rattle.std.specs.Prelude.{◌≡◌, ⊤, ℕ, [], ◌∷◌, slice_get, Some, None}
+-- Small plans, whose evaluation wants memory for long names of errors alone.
+use Rattle.std.specs.Prelude.{◌≡◌, ◌≤◌, ⊤, ℕ, List, [], ◌∷◌, length, slice_get, Some, None}
 use Rattle.exec_value.specs.declared.kinds.Kind.TheVariants.{Int}
+use Rattle.exec_value.specs.declared.limits.TheConstants.{INLINE_BYTES}
+use Rattle.exec_job.specs.declared.job.Job.{Job}
+use Rattle.exec_job.specs.declared.job.Job.TheVariants.{Fail}
 use Rattle.plan_rules.specs.declared.node.Node.{Node}
-use Rattle.plan_rules.specs.declared.node.Node.TheVariants.{Bulk, Part, Ahead}
+use Rattle.plan_rules.specs.declared.node.Node.TheVariants.{JustError, Then, UponError, UponStopped, LetValue, LetError, LetStopped, StoppedAsError, Bulk, Part, Ahead}
 use Rattle.plan_kinds.specs.Shapes.{Shape}
 use Rattle.plan_kinds.specs.Signatures.{sig_of}
 use Rattle.plan_kinds.specs.Reached.{Reaches}
@@ -29,3 +32,25 @@ pub record IsSmall (plan : Blueprint) : Type 0 where
   pub nodes_are : (n : ℕ) (node : Node) → slice_get plan.nodes n ≡ Some node → IsSmallNode node
   pub values : (n : ℕ) (a : Shape) → Reaches plan.nodes plan.settings.input n a →
       IsSmallShape (sig_of plan.nodes n a).value
+
+-- the name of the error that a job gives of its own; the empty one where it has none
+abbrev pub name_of_job : Job → List ℕ
+name_of_job (Fail name) = name
+name_of_job job = []
+
+-- the same of a node
+abbrev pub own_name : Node → List ℕ
+own_name (JustError name) = name
+own_name (StoppedAsError child name) = name
+own_name (Then child job) = name_of_job job
+own_name (UponError child job) = name_of_job job
+own_name (UponStopped child job) = name_of_job job
+own_name (LetValue child pick bodies) = name_of_job pick
+own_name (LetError child pick bodies) = name_of_job pick
+own_name (LetStopped child pick bodies) = name_of_job pick
+own_name node = []
+
+-- each error name that the plan says stands in place, so that a copy of it wants no memory
+abbrev pub HasShortNames : Blueprint → Type 0
+HasShortNames plan =
+    (n : ℕ) (node : Node) → slice_get plan.nodes n ≡ Some node → length (own_name node) ≤ INLINE_BYTES

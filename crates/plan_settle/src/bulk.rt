@@ -1,5 +1,5 @@
 //! A job on each element of a row ([exec.bulk]).
-ghost use Rattle.std.specs.Prelude.{◌≡◌, ◌≤◌, ◌++◌, length, codes, IsTrue, IfOk};
+ghost use Rattle.std.specs.Prelude.{◌≡◌, ◌≤◌, ◌++◌, length, codes, IsTrue, IfOk, OnOk};
 ghost use Rattle.exec_value.specs.declared.limits.TheConstants.{NUMBERS};
 ghost use Rattle.exec_job.specs.Fault.{name_of};
 ghost use Rattle.exec_job.specs.Takes.{is_element};
@@ -11,25 +11,19 @@ use itoa::Buffer;
 use std::alloc::{AllocError, Global};
 
 /// One row becomes what the job makes of its elements.
-pub(crate) fn bulk(alloc: Global, job: &Job, done: Completion) -> Result<Completion, AllocError>
+pub(crate) fn bulk(alloc: Global, job: &Job, done: &mut Completion) -> Result<(), AllocError>
     requires { IsTrue (is_element job.now) }
-    ensures { IfOk result (λ c. c ≡ bulk_of job.now done) }
+    ensures { OnOk result (done.new ≡ bulk_of job.now done.old) }
 {
-    match done {
-        Completion::Value(values) => bulk_value(alloc, job, values),
-        other => Ok(other),
-    }
-}
-
-/// The same of a value.
-fn bulk_value(alloc: Global, job: &Job, values: Data) -> Result<Completion, AllocError>
-    requires { IsTrue (is_element job.now) }
-    ensures { IfOk result (λ c. c ≡ bulk_of job.now (Completion.Value values)) }
-{
-    match values.as_slice() {
-        [Datum::Row(row)] => each(alloc, job, row.as_slice()),
-        _ => Ok(Completion::Value(values)),
-    }
+    let made = match done {
+        Completion::Value(values) => match values.as_slice() {
+            [Datum::Row(row)] => each(alloc, job, row.as_slice())?,
+            _ => return Ok(()),
+        },
+        _ => return Ok(()),
+    };
+    *done = made;
+    Ok(())
 }
 
 /// The row of what the job makes of each number at its index, or the error of the first that fails.
@@ -45,7 +39,7 @@ fn each(alloc: Global, job: &Job, numbers: &[i64]) -> Result<Completion, AllocEr
             Err(fault) => return Ok(Completion::Error(error_at(alloc, fault, index as u32)?)),
         }
     }
-    let row = Datum::Row(Nums::from_vec(made));
+    let row = Datum::Row(Nums::from_vec(made)?);
     Ok(Completion::Value(Data::one(alloc, row)))
 }
 

@@ -1,36 +1,44 @@
-//! The data that a completion has on one of its channels ([exec.recv]).
-ghost use Rattle.std.specs.Prelude.{◌≡◌, ok_or};
+//! The data that a completion has on one of its channels ([exec.recv]), taken out of it. A completion
+//! that has none there stays as it is.
+ghost use Rattle.std.specs.Prelude.{◌≡◌, IfNone};
 ghost use Rattle.plan_rules.specs.Images.{error_data, stopped_data, value_data};
 
-use exec_value::{Completion, Data, Datum};
+use exec_value::{Completion, Data, Datum, Txt};
 use std::alloc::Global;
+use std::mem;
 
-/// The data of a value, or a completion that is none.
-pub(crate) fn value_data(done: Completion) -> Result<Data, Completion>
-    ensures { result ≡ ok_or (value_data done) done }
+/// The data of a value.
+pub(crate) fn take_value(alloc: Global, done: &mut Completion) -> Option<Data>
+    ensures taken { result ≡ value_data done.old }
+    ensures stays { IfNone result (done.new ≡ done.old) }
 {
     match done {
-        Completion::Value(values) => Ok(values),
-        other => Err(other),
+        Completion::Value(values) => Some(mem::replace(values, Data::empty(alloc))),
+        _ => None,
     }
 }
 
-/// The name of an error as data, or a completion that is none.
-pub(crate) fn error_data(alloc: Global, done: Completion) -> Result<Data, Completion>
-    ensures { result ≡ ok_or (error_data done) done }
+/// The name of an error, as data.
+pub(crate) fn take_error(alloc: Global, done: &mut Completion) -> Option<Data>
+    ensures taken { result ≡ error_data done.old }
+    ensures stays { IfNone result (done.new ≡ done.old) }
 {
     match done {
-        Completion::Error(name) => Ok(Data::one(alloc, Datum::Text(name))),
-        other => Err(other),
+        Completion::Error(name) => {
+            let name = mem::replace(name, Txt::empty(alloc));
+            Some(Data::one(alloc, Datum::Text(name)))
+        }
+        _ => None,
     }
 }
 
-/// No data for stopped, or a completion that isn't stopped.
-pub(crate) fn stopped_data(alloc: Global, done: Completion) -> Result<Data, Completion>
-    ensures { result ≡ ok_or (stopped_data done) done }
+/// No data for stopped.
+pub(crate) fn take_stopped(alloc: Global, done: &mut Completion) -> Option<Data>
+    ensures taken { result ≡ stopped_data done.old }
+    ensures stays { IfNone result (done.new ≡ done.old) }
 {
     match done {
-        Completion::Stopped => Ok(Data::empty(alloc)),
-        other => Err(other),
+        Completion::Stopped => Some(Data::empty(alloc)),
+        _ => None,
     }
 }

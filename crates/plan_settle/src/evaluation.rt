@@ -1,19 +1,19 @@
-//! How a node is evaluated, by its kind.
-ghost use Rattle.std.specs.Prelude.{◌≡◌, [], Some, IfOk, false, slice_get};
-ghost use Rattle.exec_job.specs.Apply.{apply_of};
-ghost use Rattle.plan_rules.specs.Settle.{picked_of, unless_asked};
+//! How a node is evaluated, by its kind: each call puts the node's completion in the place that it is
+//! given, where no completion is moved on the way up.
+ghost use Rattle.std.specs.Prelude.{◌≡◌, Some, IfSome, false, slice_get};
+ghost use Rattle.plan_rules.specs.Settle.{let_of, unless_asked};
 ghost use Rattle.plan_rules.specs.declared.node.Node.{Node};
 ghost use Rattle.plan_settle.specs.Runs.{IsRunnable, MayPick, RunsWith};
 
 use crate::adaptor::{optional, stopped_error, then, upon_error, upon_stopped};
 use crate::bulk::bulk;
-use crate::channel::{error_data, stopped_data, value_data};
-use crate::join::{NoRoom, and_then, append};
-use crate::leaf::{error, shown, value};
-use crate::pick::picked;
-use exec_job::{Job, apply};
-use exec_value::{Completion, Data, copy_data};
-use life_rules::NodeList;
+use crate::channel::{take_error, take_stopped, take_value};
+use crate::join::{NoRoom, join_child, no_children, put_behind, put_together};
+use crate::leaf::{error, shown, stopped, turned, value};
+use crate::pick::pick_body;
+use exec_job::Job;
+use exec_value::{Completion, Data};
+use node_tree::NodeList;
 use plan_rules::{Node, NodeId};
 use plan_shape::Plan;
 use std::alloc::{AllocError, Global};
@@ -35,60 +35,83 @@ impl Evaluation<'_> {
 
     /// The completion of a node that runs with these arguments.
     #[cycle(settle)]
-    pub(crate) fn settle(&self, at: NodeId, args: &Data) -> Result<Completion, AllocError>
+    pub(crate) fn settle(
+        &self,
+        at: NodeId,
+        args: &Data,
+        done: &mut Completion,
+    ) -> Result<(), AllocError>
         requires runnable { IsRunnable self.now.plan.now }
         requires runs { RunsWith self.now.plan.now at args.now }
-        ensures { Settles self.now.plan.now (settled_by self.now at args.now) result }
+        ensures { Settles self.now (settled_by self.now at args.now) done.new result }
     {
-        self.settle_one(at, self.plan.node(at), args)
+        self.settle_one(at, self.plan.node(at), args, done)
     }
 
-    /// The same of this node.
+    /// The same of this node. Each arm is a call or two, so that nothing large stands in its frame.
     #[cycle(settle)]
-    fn settle_one(&self, at: NodeId, node: &Node, args: &Data) -> Result<Completion, AllocError>
+    fn settle_one(
+        &self,
+        at: NodeId,
+        node: &Node,
+        args: &Data,
+        done: &mut Completion,
+    ) -> Result<(), AllocError>
         requires runnable { IsRunnable self.now.plan.now }
         requires runs { RunsWith self.now.plan.now at args.now }
         requires node_is { slice_get self.now.plan.now.nodes at ≡ Some node.now }
-        ensures { Settles self.now.plan.now (settled_case self.now node.now args.now) result }
+        ensures { Settles self.now (settled_case self.now node.now args.now) done.new result }
     {
         let alloc = self.alloc;
         match node {
-            Node::Input => value(alloc, args),
-            Node::Just(values) => value(alloc, values),
-            Node::JustError(name) => error(name),
-            Node::JustStopped => Ok(Completion::Stopped),
-            Node::Schedule(_) | Node::Delay(_) => Ok(self.turned()),
-            Node::ReadEnv(query) => Ok(shown(alloc, *query, self.number, self.asked)),
-            Node::Then { child, job } => then(alloc, job, self.settle(*child, args)?),
-            Node::UponError { child, job } => upon_error(alloc, job, self.settle(*child, args)?),
+            Node::Input => value(alloc, args, done),
+            Node::Just(values) => value(alloc, values, done),
+            Node::JustError(name) => error(name, done),
+            Node::JustStopped => {
+                stopped(done);
+                Ok(())
+            }
+            Node::Schedule(_) | Node::Delay(_) => {
+                turned(alloc, self.asked, done);
+                Ok(())
+            }
+            Node::ReadEnv(query) => {
+                shown(alloc, *query, self.number, self.asked, done);
+                Ok(())
+            }
+            Node::Then { child, job } => {
+                self.settle(*child, args, done)?;
+                then(alloc, job, done)
+            }
+            Node::UponError { child, job } => {
+                self.settle(*child, args, done)?;
+                upon_error(alloc, job, done)
+            }
             Node::UponStopped { child, job } => {
-                upon_stopped(alloc, job, self.settle(*child, args)?)
+                self.settle(*child, args, done)?;
+                upon_stopped(alloc, job, done)
             }
             Node::LetValue { .. } | Node::LetError { .. } | Node::LetStopped { .. } => {
-                self.settle_let(at, node, args)
+                self.settle_let(at, node, args, done)
             }
-            Node::StartsOn { child, .. } => self.settle_hop(*child, args),
-            Node::ContinuesOn { child, .. } => self.settle_hop(*child, args),
-            Node::StoppedAsOptional { child, .. } => optional(alloc, self.settle(*child, args)?),
+            Node::StartsOn { child, .. } => self.settle_hop(*child, args, done),
+            Node::ContinuesOn { child, .. } => self.settle_hop(*child, args, done),
+            Node::StoppedAsOptional { child, .. } => {
+                self.settle(*child, args, done)?;
+                optional(alloc, done)
+            }
             Node::StoppedAsError { child, error } => {
-                stopped_error(error, self.settle(*child, args)?)
+                self.settle(*child, args, done)?;
+                stopped_error(error, done)
             }
-            Node::Bulk { child, job } => bulk(alloc, job, self.settle(*child, args)?),
-            Node::WhenAll { children } => self.settle_all(at, children, args),
+            Node::Bulk { child, job } => {
+                self.settle(*child, args, done)?;
+                bulk(alloc, job, done)
+            }
+            Node::WhenAll { children } => self.settle_all(at, children, args, done),
             Node::Part { .. } => unreachable!(),
-            Node::Unstoppable { child } => self.unasked().settle(*child, args),
-            Node::Ahead { first, second } => self.settle_ahead(at, *first, *second, args),
-        }
-    }
-
-    /// What a node completes with that a context takes up: no data, unless a stop was asked.
-    fn turned(&self) -> Completion
-        ensures { result ≡ unless_asked self.now.asked (Completion.Value []) }
-    {
-        if self.asked {
-            Completion::Stopped
-        } else {
-            Completion::Value(Data::empty(self.alloc))
+            Node::Unstoppable { child } => self.unasked().settle(*child, args, done),
+            Node::Ahead { first, second } => self.settle_ahead(at, *first, *second, args, done),
         }
     }
 
@@ -106,27 +129,39 @@ impl Evaluation<'_> {
 
     /// What a hop completes with: as its child, unless a stop was asked.
     #[cycle(settle)]
-    fn settle_hop(&self, child: NodeId, args: &Data) -> Result<Completion, AllocError>
+    fn settle_hop(
+        &self,
+        child: NodeId,
+        args: &Data,
+        done: &mut Completion,
+    ) -> Result<(), AllocError>
         requires runnable { IsRunnable self.now.plan.now }
         requires runs { RunsWith self.now.plan.now child args.now }
-        ensures { Settles self.now.plan.now
-            (unless_asked self.now.asked (settled_by self.now child args.now)) result }
+        ensures { Settles self.now
+            (unless_asked self.now.asked (settled_by self.now child args.now)) done.new result }
     {
         if self.asked {
-            Ok(Completion::Stopped)
+            stopped(done);
+            Ok(())
         } else {
-            self.settle(child, args)
+            self.settle(child, args, done)
         }
     }
 
     /// What this let completes with.
     #[cycle(settle)]
-    fn settle_let(&self, at: NodeId, node: &Node, args: &Data) -> Result<Completion, AllocError>
+    fn settle_let(
+        &self,
+        at: NodeId,
+        node: &Node,
+        args: &Data,
+        done: &mut Completion,
+    ) -> Result<(), AllocError>
         requires runnable { IsRunnable self.now.plan.now }
         requires runs { RunsWith self.now.plan.now at args.now }
         requires node_is { slice_get self.now.plan.now.nodes at ≡ Some node.now }
         requires is_let { IsLet node.now }
-        ensures { Settles self.now.plan.now (settled_case self.now node.now args.now) result }
+        ensures { Settles self.now (settled_case self.now node.now args.now) done.new result }
     {
         match node {
             Node::LetValue {
@@ -134,52 +169,54 @@ impl Evaluation<'_> {
                 pick,
                 bodies,
             } => {
-                let channel = value_data(self.settle(*child, args)?);
-                self.settle_body(at, pick, bodies, channel)
+                self.settle(*child, args, done)?;
+                let values = take_value(self.alloc, done);
+                self.settle_body(at, pick, bodies, values, done)
             }
             Node::LetError {
                 child,
                 pick,
                 bodies,
             } => {
-                let channel = error_data(self.alloc, self.settle(*child, args)?);
-                self.settle_body(at, pick, bodies, channel)
+                self.settle(*child, args, done)?;
+                let name = take_error(self.alloc, done);
+                self.settle_body(at, pick, bodies, name, done)
             }
             Node::LetStopped {
                 child,
                 pick,
                 bodies,
             } => {
-                let channel = stopped_data(self.alloc, self.settle(*child, args)?);
-                self.settle_body(at, pick, bodies, channel)
+                self.settle(*child, args, done)?;
+                let none = take_stopped(self.alloc, done);
+                self.settle_body(at, pick, bodies, none, done)
             }
             _ => unreachable!(),
         }
     }
 
-    /// What the let of this number completes with, whose child has these data on its channel, or
-    /// another completion, which passes.
+    /// What the let of this number completes with, where these data were taken from its channel. Where
+    /// there were none, its child's completion passes.
     #[cycle(settle)]
     fn settle_body(
         &self,
         at: NodeId,
         pick: &Job,
         bodies: &NodeList,
-        channel: Result<Data, Completion>,
-    ) -> Result<Completion, AllocError>
+        taken: Option<Data>,
+        done: &mut Completion,
+    ) -> Result<(), AllocError>
         requires runnable { IsRunnable self.now.plan.now }
-        requires picks { IfOk channel (MayPick self.now.plan.now at pick.now bodies.now) }
-        ensures { Settles self.now.plan.now
-            (settled_let self.now pick.now bodies.now channel) result }
+        requires picks { IfSome taken (MayPick self.now at pick.now bodies.now) }
+        ensures { Settles self.now
+            (settled_let self.now pick.now bodies.now taken done.old) done.new result }
     {
-        let values = match channel {
-            Ok(values) => values,
-            Err(other) => return Ok(other),
+        let Some(values) = taken else {
+            return Ok(());
         };
-        let answer = apply(self.alloc, pick, copy_data(self.alloc, &values)?)?;
-        match picked(&answer, bodies.as_slice()) {
-            Some(body) => self.settle(body, &values),
-            None => Ok(answer),
+        match pick_body(self.alloc, pick, &values, bodies.as_slice(), done)? {
+            Some(body) => self.settle(body, &values, done),
+            None => Ok(()),
         }
     }
 
@@ -190,26 +227,27 @@ impl Evaluation<'_> {
         at: NodeId,
         children: &NodeList,
         args: &Data,
-    ) -> Result<Completion, AllocError>
+        done: &mut Completion,
+    ) -> Result<(), AllocError>
         requires runnable { IsRunnable self.now.plan.now }
         requires runs { RunsWith self.now.plan.now at args.now }
         requires node_is { slice_get self.now.plan.now.nodes at ≡ Some (Node.WhenAll children.now) }
-        ensures { Settles self.now.plan.now
-            (settled_case self.now (Node.WhenAll children.now) args.now) result }
+        ensures { Settles self.now
+            (settled_case self.now (Node.WhenAll children.now) args.now) done.new result }
     {
         if self.asked {
-            return Ok(Completion::Stopped);
+            stopped(done);
+            return Ok(());
         }
-        let mut together = Ok(Completion::Value(Data::empty(self.alloc)));
+        let mut together = no_children(self.alloc);
         for child in children.as_slice() {
-            together = and_then(together, self.settle(*child, args)?);
+            self.settle(*child, args, done)?;
+            join_child(&mut together, done);
         }
-        match together {
-            Ok(done) => Ok(done),
-            Err(no_room) => match no_room {
-                NoRoom::Memory => Err(AllocError),
-                NoRoom::Limit => unreachable!(),
-            },
+        match put_together(together, done) {
+            Ok(()) => Ok(()),
+            Err(NoRoom::Memory) => Err(AllocError),
+            Err(NoRoom::Limit) => unreachable!(),
         }
     }
 
@@ -221,20 +259,21 @@ impl Evaluation<'_> {
         first: NodeId,
         second: NodeId,
         args: &Data,
-    ) -> Result<Completion, AllocError>
+        done: &mut Completion,
+    ) -> Result<(), AllocError>
         requires runnable { IsRunnable self.now.plan.now }
         requires runs { RunsWith self.now.plan.now at args.now }
         requires node_is { slice_get self.now.plan.now.nodes at ≡ Some (Node.Ahead first second) }
-        ensures { Settles self.now.plan.now
-            (settled_case self.now (Node.Ahead first second) args.now) result }
+        ensures { Settles self.now
+            (settled_case self.now (Node.Ahead first second) args.now) done.new result }
     {
-        let values = match self.settle(second, args)? {
-            Completion::Value(values) => values,
-            failed => return Ok(failed),
-        };
-        match self.settle(first, args)? {
-            Completion::Value(front) => Ok(Completion::Value(append(front, values)?)),
-            failed => Ok(failed),
+        self.settle(second, args, done)?;
+        match take_value(self.alloc, done) {
+            None => Ok(()),
+            Some(values) => {
+                self.settle(first, args, done)?;
+                put_behind(values, done)
+            }
         }
     }
 }

@@ -1,7 +1,7 @@
 //! What nodes without a child complete with.
-ghost use Rattle.std.specs.Prelude.{◌≡◌};
+ghost use Rattle.std.specs.Prelude.{◌≡◌, []};
 ghost use Rattle.exec_value.specs.declared.outcome.Completion.{Completion};
-ghost use Rattle.plan_rules.specs.Settle.{shown_of};
+ghost use Rattle.plan_rules.specs.Settle.{shown_of, unless_asked};
 ghost use Rattle.plan_settle.specs.Makes.{Makes};
 
 use exec_value::{Completion, Data, Datum, Txt, copy_data};
@@ -9,26 +9,46 @@ use plan_rules::Query;
 use std::alloc::{AllocError, Global};
 
 /// The value of these data ([exec.just]).
-pub(crate) fn value(alloc: Global, values: &Data) -> Result<Completion, AllocError>
-    ensures { Makes (Completion.Value values.now) result }
+pub(crate) fn value(alloc: Global, values: &Data, done: &mut Completion) -> Result<(), AllocError>
+    ensures { Makes (Completion.Value values.now) done.new result }
 {
-    Ok(Completion::Value(copy_data(alloc, values)?))
+    *done = Completion::Value(copy_data(alloc, values)?);
+    Ok(())
 }
 
 /// The error of this name.
-pub(crate) fn error(name: &Txt) -> Result<Completion, AllocError>
-    ensures { Makes (Completion.Error name.now) result }
+pub(crate) fn error(name: &Txt, done: &mut Completion) -> Result<(), AllocError>
+    ensures { Makes (Completion.Error name.now) done.new result }
 {
-    Ok(Completion::Error(name.clone()?))
+    *done = Completion::Error(name.clone()?);
+    Ok(())
+}
+
+/// Stopped.
+pub(crate) fn stopped(done: &mut Completion)
+    ensures { done.new ≡ Completion.Stopped }
+{
+    *done = Completion::Stopped;
+}
+
+/// What a node completes with that a context takes up: no data, unless a stop was asked.
+pub(crate) fn turned(alloc: Global, asked: bool, done: &mut Completion)
+    ensures { done.new ≡ unless_asked asked (Completion.Value []) }
+{
+    if asked {
+        *done = Completion::Stopped;
+    } else {
+        *done = Completion::Value(Data::empty(alloc));
+    }
 }
 
 /// What the environment shows of a record of this number ([exec.read.env]).
-pub(crate) fn shown(alloc: Global, query: Query, number: u32, asked: bool) -> Completion
-    ensures { result ≡ shown_of query number asked }
+pub(crate) fn shown(alloc: Global, query: Query, number: u32, asked: bool, done: &mut Completion)
+    ensures { done.new ≡ shown_of query number asked }
 {
     let shown = match query {
         Query::Stop => i64::from(asked),
         Query::Record => i64::from(number),
     };
-    Completion::Value(Data::one(alloc, Datum::Int(shown)))
+    *done = Completion::Value(Data::one(alloc, Datum::Int(shown)));
 }

@@ -1,13 +1,38 @@
 //! Which body of a let runs ([exec.let]).
-ghost use Rattle.std.specs.Prelude.{◌≡◌, ◌<◌, length};
+ghost use Rattle.std.specs.Prelude.{◌≡◌, ◌<◌, length, IsOk, IfOk, OnOk};
+ghost use Rattle.exec_value.specs.Place.{AreInPlace};
+ghost use Rattle.exec_job.specs.Answer.{ending, EndsInPlace};
+ghost use Rattle.exec_job.specs.Apply.{TakesData, apply_of};
 ghost use Rattle.plan_rules.specs.Allowed.{body_at};
 ghost use Rattle.plan_settle.specs.Lets.{picked_body};
 
-use exec_value::{Completion, Datum};
+use exec_job::{Job, apply};
+use exec_value::{Completion, Data, Datum, copy_data};
 use plan_rules::NodeId;
+use std::alloc::{AllocError, Global};
+
+/// The body that the pick names for these values. The pick's answer is put in the let's place, where
+/// it stays if it names none.
+pub(crate) fn pick_body(
+    alloc: Global,
+    pick: &Job,
+    values: &Data,
+    bodies: &[NodeId],
+    done: &mut Completion,
+) -> Result<Option<NodeId>, AllocError>
+    requires takes { TakesData pick.now values.now }
+    requires some { 0 < length bodies.now }
+    ensures answer { OnOk result (done.new ≡ ending (apply_of pick.now values.now)) }
+    ensures body { IfOk result (λ body. body ≡ picked_body done.new bodies.now) }
+    ensures in_place { AreInPlace values.now → EndsInPlace (apply_of pick.now values.now)
+        → IsOk result }
+{
+    *done = apply(alloc, pick, copy_data(alloc, values)?)?;
+    Ok(picked(done, bodies))
+}
 
 /// The body that a pick's answer names, where that is one int.
-pub(crate) fn picked(answer: &Completion, bodies: &[NodeId]) -> Option<NodeId>
+fn picked(answer: &Completion, bodies: &[NodeId]) -> Option<NodeId>
     requires { 0 < length bodies.now }
     ensures { result ≡ picked_body answer.now bodies.now }
 {

@@ -1,10 +1,11 @@
 //! The plain evaluation of a whole plan.
-ghost use Rattle.std.specs.Prelude.{◌≡◌, [], ◌∷◌, true, false, IfOk, IsOk};
+ghost use Rattle.std.specs.Prelude.{◌≡◌, [], ◌∷◌, true, false, IfOk, IsOk, OnErr};
 ghost use Rattle.exec_value.specs.Kinds.{HasKind};
 ghost use Rattle.exec_value.specs.Place.{IsInPlace};
 ghost use Rattle.plan_kinds.specs.Reached.{KindsMatch};
 ghost use Rattle.plan_settle.specs.Root.{settled_root};
-ghost use Rattle.plan_settle.specs.Small.{IsSmall};
+ghost use Rattle.plan_settle.specs.Small.{HasShortNames, IsSmall};
+ghost use Rattle.plan_settle.specs.Runs.{SettlesLong};
 
 use crate::evaluation::Evaluation;
 use exec_value::{Completion, Data, Datum};
@@ -15,7 +16,8 @@ use std::alloc::{AllocError, Global};
 /// is ever requested: by plain evaluation on one thread, the children of a `when_all` in order.
 ///
 /// It is one of the completions that the plan allows, and the only one where the record is calm.
-/// The only error is want of memory, which a small plan never answers.
+/// The only error is want of memory. A small plan answers it only where a node completes by an error
+/// whose name doesn't stand in place, which is the name that a node of the plan says.
 pub fn settle(
     alloc: Global,
     plan: &Plan,
@@ -25,7 +27,8 @@ pub fn settle(
     requires kinds { KindsMatch plan.now.nodes plan.now.settings.input }
     requires datum_kind { HasKind datum.now plan.now.settings.input }
     ensures exact { IfOk result (λ done. done ≡ settled_root plan.now datum.now number false) }
-    ensures small { IsSmall plan.now → IsOk result }
+    ensures small { IsSmall plan.now → OnErr result (SettlesLong plan.now number) }
+    ensures in_place { IsSmall plan.now → HasShortNames plan.now → IsOk result }
 {
     evaluate(alloc, plan, number, datum, false)
 }
@@ -43,7 +46,8 @@ pub fn settle_asked(
     requires kinds { KindsMatch plan.now.nodes plan.now.settings.input }
     requires datum_kind { HasKind datum.now plan.now.settings.input }
     ensures exact { IfOk result (λ done. done ≡ settled_root plan.now datum.now number true) }
-    ensures small { IsSmall plan.now → IsOk result }
+    ensures small { IsSmall plan.now → OnErr result (SettlesLong plan.now number) }
+    ensures in_place { IsSmall plan.now → HasShortNames plan.now → IsOk result }
 {
     evaluate(alloc, plan, number, datum, true)
 }
@@ -59,7 +63,8 @@ fn evaluate(
     requires kinds { KindsMatch plan.now.nodes plan.now.settings.input }
     requires datum_kind { HasKind datum.now plan.now.settings.input }
     ensures exact { IfOk result (λ done. done ≡ settled_root plan.now datum.now number asked) }
-    ensures small { IsSmall plan.now → IsOk result }
+    ensures small { IsSmall plan.now → OnErr result (SettlesLong plan.now number) }
+    ensures in_place { IsSmall plan.now → HasShortNames plan.now → IsOk result }
 {
     let args = arguments(alloc, datum)?;
     let root = plan.size() - 1;
@@ -69,7 +74,9 @@ fn evaluate(
         number,
         asked,
     };
-    run.settle(root, &args)
+    let mut done = Completion::Stopped;
+    run.settle(root, &args, &mut done)?;
+    Ok(done)
 }
 
 /// The arguments of the root: the record's datum alone.

@@ -1,7 +1,7 @@
 -- The way up from a node: a parent has a greater number, so enough steps come to the root.
 use Rattle.std.proofs.Common.{◌≡◌, ℕ, zero, suc, ◌+◌, ◌≤◌, List, [], ◌∷◌, length, Some, None, refl, sym, ap, ◌∙◌, arith}
 use Rattle.std.specs.Option.{option_map_or}
-use Rattle.node_tree.proofs.Walk.{known}
+use Rattle.common_lemmas.proofs.Options.{known}
 use Rattle.plan_rules.specs.declared.node.Node.{Node}
 use Rattle.plan_shape.specs.Parents.{parent_of}
 use Rattle.plan_shape.specs.Ancestors.{way_up, ancestors}

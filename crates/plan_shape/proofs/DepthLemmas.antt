@@ -8,7 +8,8 @@ use Rattle.plan_rules.specs.declared.node.Node.{Node}
 use Rattle.plan_rules.specs.Tables.{table, choose}
 use Rattle.plan_shape.specs.Children.{children_of, children_at}
 use Rattle.plan_shape.specs.Depths.{depth_over, depth_of}
-use Rattle.plan_shape.proofs.ListLemmas.{map-same, slice_get-append_left}
+use Rattle.common_lemmas.proofs.Lists.{slice_get-append_left}
+use Rattle.plan_shape.proofs.ListLemmas.{map-same}
 
 -- what a table has at n was made from what it has before n
 pub table-at : {A : Type 0} (dull : A) (step : ℕ → (ℕ → A) → A) (m n : ℕ) → n < m →

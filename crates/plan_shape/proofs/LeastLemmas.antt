@@ -4,8 +4,8 @@ use Rattle.std.specs.Prelude.{MatchOption}
 use Rattle.std.specs.Option.{option_or}
 use Rattle.std.proofs.lemmas.Bool.{cases_eq, cond-true, cond-false}
 use Rattle.std.proofs.lemmas.Option.{same_Some}
-use Rattle.life_rules.proofs.Tests.{either}
-use Rattle.node_tree.proofs.Walk.{known}
+use Rattle.common_lemmas.proofs.Bool.{either}
+use Rattle.common_lemmas.proofs.Options.{known}
 use Rattle.plan_shape.specs.Least.{least}
 
 -- n is the least number below m that passes

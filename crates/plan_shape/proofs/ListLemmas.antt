@@ -1,6 +1,6 @@
 -- Lists of nodes and of numbers.
-use Rattle.std.proofs.Common.{◌≡◌, ℕ, zero, suc, ◌+◌, ◌<◌, ◌≤◌, Bool, true, false, not, cond, List, [], ◌∷◌, ◌++◌, length, map, Some, None, refl, sym, ap, ◌∙◌, zero-add, arith}
-use Rattle.std.specs.Prelude.{nat_eq, ◌==◌, All, slice_get, find, count_by}
+use Rattle.std.proofs.Common.{◌≡◌, ℕ, zero, suc, ◌+◌, ◌<◌, ◌≤◌, Bool, true, false, not, cond, List, [], ◌∷◌, ◌++◌, length, map, Some, None, refl, sym, ap, ◌∙◌, arith}
+use Rattle.std.specs.Prelude.{nat_eq, ◌==◌, All, find, count_by}
 use Rattle.std.specs.List.{list_any, range_with_len}
 use Rattle.std.proofs.lemmas.List.Folds.{list_any-append}
 use Rattle.std.proofs.lemmas.Bool.{and_from, and_parts, not-true, or_from, or_parts, or_left, or_right, not_from_false, cond-true, cond-false, eq-eqb, eqb-true, ne_eqb, false≢true}
@@ -8,21 +8,8 @@ use Rattle.std.proofs.lemmas.Cmp.{nat_eq_equiv}
 use Rattle.std.proofs.lemmas.List.Sums.{sum_by-cons}
 use Rattle.std.proofs.lemmas.List.Elements.{All-nil, All-cons, All-head, All-tail, All-contains}
 use Rattle.std.proofs.lemmas.Map.Views.{All-from_any, Contains-from_any}
-use Rattle.life_rules.specs.LifeSteps.{are_different}
-use Rattle.life_rules.proofs.Tests.{either}
-
-pub slice_get-append_left : {X : Type 0} (xs ys : List X) (k : ℕ) → k < length xs →
-    slice_get (xs ++ ys) k ≡ slice_get xs k
-slice_get-append_left [] ys k l = absurd (omega arith)
-slice_get-append_left (x ∷ xs) ys zero l = refl
-slice_get-append_left (x ∷ xs) ys (suc k) l = slice_get-append_left xs ys k (omega arith)
-
-pub slice_get-append_right : {X : Type 0} (xs ys : List X) (k : ℕ) →
-    slice_get (xs ++ ys) (length xs + k) ≡ slice_get ys k
-slice_get-append_right [] ys k = ap (slice_get ys) (zero-add k)
-slice_get-append_right (x ∷ xs) ys k =
-    let e : suc (length xs) + k ≡ suc (length xs + k) = omega arith in
-    ap (slice_get (x ∷ xs ++ ys)) e ∙ slice_get-append_right xs ys k
+use Rattle.common_lemmas.specs.Lists.{are_different}
+use Rattle.common_lemmas.proofs.Bool.{either}
 
 -- a search that finds nothing
 pub find-None : {X : Type 0} (p : X → Bool) (xs : List X) → find p xs ≡ None → All (λ x. p x ≡ false) xs

@@ -1,7 +1,7 @@
 -- What holds of the nodes that a builder holds: they are a forest, children before their parent.
 use Rattle.std.specs.Prelude.{◌≡◌, ℕ, ◌+◌, ◌-◌, ◌<◌, ◌≤◌, List, length, slice_get, Some, IsTrue, All}
 use Rattle.exec_job.specs.declared.job.Job.{Job}
-use Rattle.life_rules.specs.LifeSteps.{are_different}
+use Rattle.common_lemmas.specs.Lists.{are_different}
 use Rattle.plan_rules.specs.declared.node.Node.{Node}
 use Rattle.plan_rules.specs.declared.node.Node.TheVariants.{Bulk, Part}
 use Rattle.plan_shape.specs.declared.limits.TheConstants.{MOST_PLAN_NODES, MOST_DEPTH, BULK_PARTS}

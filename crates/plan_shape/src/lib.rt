@@ -6,10 +6,12 @@
 #![tactic(auto)]
 
 mod fault;
+mod law;
 mod limits;
 mod plan;
 
 pub use fault::BuildFault;
+pub use law::limits_of_plans;
 pub use limits::{
     BULK_PARTS, FEWEST_CHILDREN, MOST_BODIES, MOST_CHILDREN, MOST_DEPTH, MOST_FIRST_VERSION_NODES,
     MOST_PLAN_NODES, MOST_STOP_AFTER, MOST_TURNS,

@@ -16,13 +16,13 @@ use Rattle.exec_value.specs.declared.data.Datum.TheVariants.{Int, Text, Row}
 use Rattle.exec_job.specs.declared.job.Job.{Job}
 use Rattle.exec_job.specs.declared.job.Job.TheVariants.{Add, Sub, Mul, Div, Neg, Within, Index, Fail, Iota, Sum, Append, Join, Length, Parse, Show, Give, At, IntOr, TextOr, Pass}
 use Rattle.plan_shape.specs.Conditions.{IsLawfulJob, is_within}
-use Rattle.plan_text.specs.declared.reading.Reading.TheVariants.{Good, Bad}
-use Rattle.plan_text.specs.declared.reading.TheConstants.{LIMIT_FAULT}
-use Rattle.plan_text.specs.Reading.{mapped}
-use Rattle.plan_text.specs.Objects.{integer_of, number_of}
-use Rattle.plan_text.specs.Scalars.{count_read, name_of, txt_of}
-use Rattle.plan_text.specs.Constants.{constant_of, constants_from, constants_of, numbers_from, with_constant, with_number}
-use Rattle.plan_text.specs.Jobs.{job_of}
+use Rattle.plan_parts.specs.declared.reading.Reading.TheVariants.{Good, Bad}
+use Rattle.plan_parts.specs.declared.reading.TheConstants.{LIMIT_FAULT}
+use Rattle.plan_parts.specs.Reading.{mapped}
+use Rattle.plan_parts.specs.Objects.{integer_of, number_of}
+use Rattle.plan_parts.specs.Scalars.{count_read, name_of, txt_of}
+use Rattle.plan_parts.specs.Constants.{constant_of, constants_from, constants_of, numbers_from, with_constant, with_number}
+use Rattle.plan_parts.specs.Jobs.{job_of}
 use Rattle.plan_writer.specs.Held.{IsLong, IsHeldDatum, AreHeld, IsHeldJob}
 use Rattle.plan_writer.specs.Values.{constant_data, integer_data}
 use Rattle.plan_writer.specs.Jobs.{job_data}

@@ -9,8 +9,8 @@ use Rattle.exec_value.specs.declared.kinds.Kind.TheVariants as kind
 use Rattle.exec_job.specs.Takes.{is_element}
 use Rattle.exec_job.specs.declared.job.Job.{Job}
 use Rattle.exec_job.specs.declared.job.Job.TheVariants as job
-use Rattle.life_rules.specs.declared.event.Context.{Context}
-use Rattle.life_rules.specs.declared.event.Context.TheVariants as context
+use Rattle.node_tree.specs.declared.context.Context.{Context}
+use Rattle.node_tree.specs.declared.context.Context.TheVariants as context
 use Rattle.plan_rules.specs.declared.node.Query.{Query}
 use Rattle.plan_rules.specs.declared.node.Query.TheVariants as query
 use Rattle.plan_rules.specs.declared.node.Node.{Node}
@@ -19,10 +19,10 @@ use Rattle.plan_rules.specs.Images.{has_maybe}
 use Rattle.plan_shape.specs.declared.limits.TheConstants.{MOST_TURNS}
 use Rattle.plan_shape.specs.Conditions.{IsLawfulJob, MeetsConditions}
 use Rattle.plan_shape.specs.Finish.{is_of_version_2}
-use Rattle.plan_text.specs.declared.reading.Reading.{Reading}
-use Rattle.plan_text.specs.declared.reading.Reading.TheVariants.{Good}
-use Rattle.plan_text.specs.Reading.{known, mapped}
-use Rattle.plan_text.specs.Jobs.{job_of}
+use Rattle.plan_parts.specs.declared.reading.Reading.{Reading}
+use Rattle.plan_parts.specs.declared.reading.Reading.TheVariants.{Good}
+use Rattle.plan_parts.specs.Reading.{known, mapped}
+use Rattle.plan_parts.specs.Jobs.{job_of}
 use Rattle.plan_reader.specs.declared.node_word.Let.{Let as LetWord}
 use Rattle.plan_reader.specs.declared.node_word.Let.TheVariants as binding
 use Rattle.plan_reader.specs.NodeParts.{context_named, of_named, picking, query_named}

@@ -19,8 +19,8 @@ use Rattle.plan_shape.specs.Least.{least}
 use Rattle.plan_shape.specs.Refusals.{fault_if}
 use Rattle.plan_shape.proofs.ForestLaws.{shallow_at}
 use Rattle.plan_shape.proofs.LeastLemmas.{least-None}
-use Rattle.plan_text.specs.declared.reading.Reading.TheVariants.{Good}
-use Rattle.plan_text.specs.declared.reading.TheConstants.{NO_FAULT}
+use Rattle.plan_parts.specs.declared.reading.Reading.TheVariants.{Good}
+use Rattle.plan_parts.specs.declared.reading.TheConstants.{NO_FAULT}
 use Rattle.plan_reader.specs.declared.fault.PlanFault.TheVariants.{TooLong, NotJson}
 use Rattle.plan_reader.specs.declared.plan.TheConstants.{MOST_LEVELS}
 use Rattle.plan_reader.specs.declared.read.TheConstants.{MOST_PLAN_BYTES}

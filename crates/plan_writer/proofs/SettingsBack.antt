@@ -5,16 +5,16 @@ use Rattle.std.proofs.lemmas.Bool.{and_parts, leb-true}
 use Rattle.serde_json.specs.Data.{Data, number, unsigned, object}
 use Rattle.exec_value.specs.declared.kinds.Kind.{Kind}
 use Rattle.exec_value.specs.declared.kinds.Kind.TheVariants as kind
-use Rattle.life_rules.specs.declared.scope.ScopeKind.{ScopeKind}
-use Rattle.life_rules.specs.declared.scope.ScopeKind.TheVariants.{Simple, Counting}
+use Rattle.node_tree.specs.declared.scope_kind.ScopeKind.{ScopeKind}
+use Rattle.node_tree.specs.declared.scope_kind.ScopeKind.TheVariants.{Simple, Counting}
 use Rattle.plan_rules.specs.declared.settings.Settings.{Settings}
 use Rattle.plan_shape.specs.declared.limits.TheConstants.{MOST_STOP_AFTER}
 use Rattle.plan_shape.specs.Blueprint.{AreSettings, IsRecordKind}
 use Rattle.plan_shape.specs.Conditions.{is_within}
-use Rattle.plan_text.specs.declared.reading.Reading.{Reading}
-use Rattle.plan_text.specs.declared.reading.Reading.TheVariants.{Good}
-use Rattle.plan_text.specs.Reading.{mapped, paired}
-use Rattle.plan_text.specs.Objects.{integer_of, number_of}
+use Rattle.plan_parts.specs.declared.reading.Reading.{Reading}
+use Rattle.plan_parts.specs.declared.reading.Reading.TheVariants.{Good}
+use Rattle.plan_parts.specs.Reading.{mapped, paired}
+use Rattle.plan_parts.specs.Objects.{integer_of, number_of}
 use Rattle.plan_reader.specs.Plans.{input_of, is_first_version, known_settings, on_error_of, scope_of, settings_of, stop_of, version_read, with_rules}
 use Rattle.plan_writer.specs.Canonical.{on_error_name, plan_members, scope_name}
 use Rattle.plan_writer.specs.Nodes.{kind_name}

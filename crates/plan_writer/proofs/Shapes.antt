@@ -15,8 +15,8 @@ use Rattle.plan_shape.specs.Conditions.{MeetsConditions}
 use Rattle.plan_shape.specs.Forest.{IsMade}
 use Rattle.plan_shape.proofs.ForestLaws.{node_at}
 use Rattle.plan_shape.proofs.ListLemmas.{map-same}
-use Rattle.plan_facts.proofs.Placing.{no-member}
-use Rattle.plan_facts.proofs.Plans.{plans-built}
+use Rattle.plan_kinds.proofs.Placing.{no-member}
+use Rattle.plan_kinds.proofs.Plans.{plans-built}
 use Rattle.plan_writer.specs.declared.below.Below.{Below}
 use Rattle.plan_writer.specs.declared.below.Below.TheVariants as below
 use Rattle.plan_writer.specs.Nodes.{below_of, children_named, list_data, listed, node_data, node_object, own_members, with_children}

@@ -10,7 +10,7 @@ use Rattle.std.proofs.lemmas.List.FromFn.{length-range_with_len}
 use Rattle.std.proofs.lemmas.Option.{same_Some, slice_get_within}
 use Rattle.serde_json.specs.Data.{Items}
 use Rattle.serde_json.specs.View.{items_of}
-use Rattle.life_rules.proofs.Tests.{either}
+use Rattle.common_lemmas.proofs.Bool.{either}
 use Rattle.plan_rules.specs.declared.node.Node.{Node}
 use Rattle.plan_rules.specs.Children.{named_by}
 use Rattle.plan_shape.specs.Blueprint.{Blueprint, IsPlan}

@@ -4,8 +4,8 @@ use Rattle.serde_json.specs.Data.{Data, null, number, unsigned, string, array, o
 use Rattle.serde_json.specs.View.{items_of}
 use Rattle.exec_value.specs.declared.kinds.Kind.{Kind}
 use Rattle.exec_value.specs.declared.kinds.Kind.TheVariants.{Int, Text, Row, MaybeInt, MaybeText}
-use Rattle.life_rules.specs.declared.event.Context.{Context}
-use Rattle.life_rules.specs.declared.event.Context.TheVariants.{Loop, Pool}
+use Rattle.node_tree.specs.declared.context.Context.{Context}
+use Rattle.node_tree.specs.declared.context.Context.TheVariants.{Loop, Pool}
 use Rattle.plan_rules.specs.declared.node.Query.{Query}
 use Rattle.plan_rules.specs.declared.node.Query.TheVariants.{Stop, Record}
 use Rattle.plan_rules.specs.declared.node.Node.{Node}

@@ -5,7 +5,7 @@ use Rattle.serde_json.specs.Data.{depth}
 use Rattle.serde_json.specs.Written.{has_float}
 use Rattle.plan_shape.specs.Blueprint.{Blueprint}
 use Rattle.plan_shape.specs.Depths.{depth_of}
-use Rattle.plan_text.specs.declared.reading.TheConstants.{NO_FAULT}
+use Rattle.plan_parts.specs.declared.reading.TheConstants.{NO_FAULT}
 use Rattle.plan_reader.specs.Walked.{Walked, walk}
 use Rattle.plan_writer.specs.Nodes.{node_data}
 use Rattle.plan_writer.specs.Order.{file_order}

@@ -3,7 +3,7 @@
 //!     Plan --plan_value--> serde_json::Value --to_vec--> bytes --plan_reader::read_plan--> Plan
 //!
 //! It stands on `plan_shape`, whose plans it writes, on `serde_json`, which writes the text, and on the
-//! definitions of `plan_text` and `plan_reader`, which say what the text is read as. The definitions in
+//! definitions of `plan_parts` and `plan_reader`, which say what the text is read as. The definitions in
 //! specs/ are the tables of the plan language, one row each.
 //!
 //! Any plan is written. It is read back where a file can say it (`IsFilePlan`): its kinds match, which

@@ -11,7 +11,7 @@ ghost use Rattle.plan_writer.specs.Canonical.{on_error_name, plan_data, plan_mem
 use crate::member::{Members, named, with};
 use crate::node::node_value;
 use crate::own::kind_name;
-use life_rules::ScopeKind;
+use node_tree::ScopeKind;
 use plan_rules::Settings;
 use plan_shape::Plan;
 use serde_json::Value;

@@ -20,8 +20,8 @@ use Rattle.plan_shape.specs.Blueprint.{Blueprint, IsPlan}
 use Rattle.sig_check.specs.declared.finding.Finding.{Finding}
 use Rattle.sig_check.specs.Checked.{AreSignatures}
 use Rattle.sig_check.specs.Findings.{finding_of, IsFound, IsUnder, Finds, FindsParts, FindsAll, is_mismatch, found_sigs}
-use Rattle.plan_facts.proofs.Placing.{run-named, body-named, no-member, before}
-use Rattle.plan_facts.proofs.OneShape.{some-shape}
+use Rattle.plan_kinds.proofs.Placing.{run-named, body-named, no-member, before}
+use Rattle.plan_kinds.proofs.OneShape.{some-shape}
 
 -- something was found of each part up to here
 abbrev pub PartsFound : List Node → List (Option Finding) → ℕ → Type 0

@@ -3,15 +3,13 @@ use Rattle.std.specs.Prelude.{is_some}
 use Rattle.std.specs.List.{list_all}
 use Rattle.std.specs.Option.{option_or}
 use Rattle.std.proofs.Common.{◌≡◌, ℕ, zero, suc, ◌+◌, ◌<◌, Bool, true, ◌&&◌, List, [], ◌∷◌, length, get_or, take, Some, None, refl, sym, ap, ◌∙◌, subst, arith, add-one}
-use Rattle.std.proofs.lemmas.List.{append_assoc, append-nil}
+use Rattle.std.proofs.lemmas.List.{append_assoc}
 use Rattle.std.proofs.lemmas.List.Folds.{list_all-map}
 use Rattle.plan_kinds.specs.declared.sig.Sig.{Sig}
 use Rattle.plan_kinds.specs.Shapes.{Shape, agrees, common, all_agree, appended, joined}
 use Rattle.plan_kinds.specs.Values.{shapes_of}
-
-appended-nothing : (shape : Shape) → appended shape (Some []) ≡ shape
-appended-nothing (Some kinds) = ap Some (append-nil kinds)
-appended-nothing None = refl
+use Rattle.plan_kinds.proofs.Agreeing.{both-none}
+use Rattle.plan_kinds.proofs.Joining.{appended-none}
 
 nothing-appended : (shape : Shape) → appended (Some []) shape ≡ shape
 nothing-appended (Some kinds) = refl
@@ -27,7 +25,7 @@ joined-suc : (sigs : List Sig) (i : ℕ) (sig : Sig) → i < length sigs → sig
     joined (shapes_of (take (suc i) sigs)) ≡ appended (joined (shapes_of (take i sigs))) sig.value
 joined-suc [] i sig within is = absurd (omega arith)
 joined-suc (x ∷ xs) zero sig within is =
-    appended-nothing x.value ∙ ap (λ (s : Sig). s.value) (sym is) ∙ sym (nothing-appended sig.value)
+    appended-none x.value ∙ ap (λ (s : Sig). s.value) (sym is) ∙ sym (nothing-appended sig.value)
 joined-suc (x ∷ xs) (suc i) sig within is =
     ap (appended x.value) (joined-suc xs i sig (omega arith) is)
     ∙ appended-assoc x.value (joined (shapes_of (take i xs))) sig.value
@@ -49,10 +47,6 @@ or-assoc : (x y z : Shape) → option_or x (option_or y z) ≡ option_or (option
 or-assoc (Some kinds) y z = refl
 or-assoc None y z = refl
 
-or-parts : (shape other : Shape) → option_or shape other ≡ None → (shape ≡ None) × (other ≡ None)
-or-parts None other e = (refl, e)
-or-parts (Some kinds) other e = cc
-
 -- the first that isn't never is the common one
 pub common-first : (sigs : List Sig) (i : ℕ) (sig : Sig) → i < length sigs → sig ≡ get_or sigs i sig →
     common (shapes_of (take i sigs)) ≡ None → is_some sig.value ≡ true → common (shapes_of sigs) ≡ sig.value
@@ -61,7 +55,7 @@ common-first (x ∷ xs) zero sig within is none some =
     let same : x.value ≡ sig.value = ap (λ (s : Sig). s.value) (sym is) in
     or-some x.value (common (shapes_of xs)) (ap is_some same ∙ some) ∙ same
 common-first (x ∷ xs) (suc i) sig within is none some =
-    let parts = or-parts x.value (common (shapes_of (take i xs))) none in
+    let parts = both-none x.value (common (shapes_of (take i xs))) none in
     ap (λ s. option_or s (common (shapes_of xs))) parts.0
     ∙ common-first xs i sig (omega arith) is parts.1 some
 

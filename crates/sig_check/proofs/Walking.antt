@@ -20,9 +20,9 @@ use Rattle.plan_shape.specs.Forest.{IsForest}
 use Rattle.plan_shape.specs.Blueprint.{Blueprint, IsPlan}
 use Rattle.sig_check.specs.declared.finding.Finding.{Finding}
 use Rattle.sig_check.specs.Findings.{finding_of, IsFound, AreRight, IsUnder, Finds}
-use Rattle.plan_facts.proofs.Placing.{run-named, body-named, named-cases, no-member, before}
-use Rattle.plan_facts.proofs.OneShape.{one-shape}
-use Rattle.plan_facts.proofs.Plans.{plans-built}
+use Rattle.plan_kinds.proofs.Placing.{run-named, body-named, named-cases, no-member, before}
+use Rattle.plan_kinds.proofs.OneShape.{one-shape}
+use Rattle.plan_kinds.proofs.Plans.{plans-built}
 
 -- an element after a write
 set-same : {X : Type 0} (xs : List X) (n : ℕ) (x : X) → n < length xs → slice_get (set xs n x) n ≡ Some x

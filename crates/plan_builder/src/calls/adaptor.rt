@@ -19,7 +19,7 @@ impl PlanBuilder {
         requires { IsLawfulJob job }
         ensures { Adds self.old self.new (Node.Then child job) result }
     {
-        self.add(&[child], Node::Then { child, job })
+        self.add(Node::Then { child, job })
     }
 
     /// `upon_error` ([exec.then]): the job is applied to an error's name.
@@ -27,7 +27,7 @@ impl PlanBuilder {
         requires { IsLawfulJob job }
         ensures { Adds self.old self.new (Node.UponError child job) result }
     {
-        self.add(&[child], Node::UponError { child, job })
+        self.add(Node::UponError { child, job })
     }
 
     /// `upon_stopped` ([exec.then]): the job is applied to no data.
@@ -35,21 +35,21 @@ impl PlanBuilder {
         requires { IsLawfulJob job }
         ensures { Adds self.old self.new (Node.UponStopped child job) result }
     {
-        self.add(&[child], Node::UponStopped { child, job })
+        self.add(Node::UponStopped { child, job })
     }
 
     /// `starts_on` ([exec.starts.on]).
     pub fn starts_on(&mut self, on: Context, child: NodeId) -> Built
         ensures { Adds self.old self.new (Node.StartsOn on child) result }
     {
-        self.add(&[child], Node::StartsOn { on, child })
+        self.add(Node::StartsOn { on, child })
     }
 
     /// `continues_on` ([exec.continues.on]).
     pub fn continues_on(&mut self, child: NodeId, on: Context) -> Built
         ensures { Adds self.old self.new (Node.ContinuesOn child on) result }
     {
-        self.add(&[child], Node::ContinuesOn { child, on })
+        self.add(Node::ContinuesOn { child, on })
     }
 
     /// `stopped_as_optional` ([exec.stopped.opt]) of a value that is an int or a text.
@@ -57,7 +57,7 @@ impl PlanBuilder {
         requires { IsTrue (has_maybe of) }
         ensures { Adds self.old self.new (Node.StoppedAsOptional child of) result }
     {
-        self.add(&[child], Node::StoppedAsOptional { child, of })
+        self.add(Node::StoppedAsOptional { child, of })
     }
 
     /// `stopped_as_error` ([exec.stopped.err]) with an error name.
@@ -65,7 +65,7 @@ impl PlanBuilder {
         requires { IsTrue (is_error_name error) }
         ensures { Adds self.old self.new (Node.StoppedAsError child error) result }
     {
-        self.add(&[child], Node::StoppedAsError { child, error })
+        self.add(Node::StoppedAsError { child, error })
     }
 
     /// `bulk` ([exec.bulk]) over the elements of one row, by an element job. Its eight parts get
@@ -74,14 +74,14 @@ impl PlanBuilder {
         requires { IsTrue (is_element job) }
         ensures { Adds self.old self.new (Node.Bulk child job) result }
     {
-        self.add(&[child], Node::Bulk { child, job })
+        self.add(Node::Bulk { child, job })
     }
 
     /// A sender whose child no stop request reaches. Only plans of version 2 have it.
     pub fn unstoppable(&mut self, child: NodeId) -> Built
         ensures { Adds self.old self.new (Node.Unstoppable child) result }
     {
-        self.add(&[child], Node::Unstoppable { child })
+        self.add(Node::Unstoppable { child })
     }
 
     /// Spawns the first sender in the scope (P3149, `spawn_future`), runs the second, and joins the
@@ -89,6 +89,6 @@ impl PlanBuilder {
     pub fn ahead(&mut self, first: NodeId, second: NodeId) -> Built
         ensures { Adds self.old self.new (Node.Ahead first second) result }
     {
-        self.add(&[first, second], Node::Ahead { first, second })
+        self.add(Node::Ahead { first, second })
     }
 }

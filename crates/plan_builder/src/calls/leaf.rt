@@ -16,7 +16,7 @@ impl PlanBuilder {
     pub fn input(&mut self) -> Built
         ensures { Adds self.old self.new Node.Input result }
     {
-        self.add(&[], Node::Input)
+        self.add(Node::Input)
     }
 
     /// `just` ([exec.just]) of ints, texts and rows.
@@ -24,7 +24,7 @@ impl PlanBuilder {
         requires { All IsConstant values }
         ensures { Adds self.old self.new (Node.Just values) result }
     {
-        self.add(&[], Node::Just(values))
+        self.add(Node::Just(values))
     }
 
     /// `just_error` ([exec.just]) of an error name.
@@ -32,21 +32,21 @@ impl PlanBuilder {
         requires { IsTrue (is_error_name error) }
         ensures { Adds self.old self.new (Node.JustError error) result }
     {
-        self.add(&[], Node::JustError(error))
+        self.add(Node::JustError(error))
     }
 
     /// `just_stopped` ([exec.just]).
     pub fn just_stopped(&mut self) -> Built
         ensures { Adds self.old self.new Node.JustStopped result }
     {
-        self.add(&[], Node::JustStopped)
+        self.add(Node::JustStopped)
     }
 
     /// `schedule` ([exec.schedule]) on a context.
     pub fn schedule(&mut self, on: Context) -> Built
         ensures { Adds self.old self.new (Node.Schedule on) result }
     {
-        self.add(&[], Node::Schedule(on))
+        self.add(Node::Schedule(on))
     }
 
     /// A sender that completes after so many turns of the run loop, at most 1,000,000.
@@ -54,13 +54,13 @@ impl PlanBuilder {
         requires { turns ≤ MOST_TURNS }
         ensures { Adds self.old self.new (Node.Delay turns) result }
     {
-        self.add(&[], Node::Delay(turns))
+        self.add(Node::Delay(turns))
     }
 
     /// `read_env` ([exec.read.env]).
     pub fn read_env(&mut self, query: Query) -> Built
         ensures { Adds self.old self.new (Node.ReadEnv query) result }
     {
-        self.add(&[], Node::ReadEnv(query))
+        self.add(Node::ReadEnv(query))
     }
 }

@@ -2,9 +2,9 @@ use Rattle.std.proofs.Common.{◌≡◌, ℕ, List, sym, ap, ◌∙◌, subst}
 use Rattle.serde_json.specs.View.{view}
 use Rattle.plan_rules.specs.declared.settings.Settings.{Settings}
 use Rattle.plan_shape.specs.Blueprint.{AreSettings}
-use Rattle.plan_text.specs.declared.reading.Reading.{Reading}
-use Rattle.plan_text.specs.Reading.{IfGood}
-use Rattle.plan_text.specs.Objects.{with_keys}
+use Rattle.plan_parts.specs.declared.reading.Reading.{Reading}
+use Rattle.plan_parts.specs.Reading.{IfGood}
+use Rattle.plan_parts.specs.Objects.{with_keys}
 use Rattle.plan_reader.specs.Plans.{known_settings, plan_keys}
 use Rattle.plan_reader.proofs.SettingsLemmas.{known_settings-are}
 use Rattle.plan_reader.proofs.plan.known_settings.Goals as goal

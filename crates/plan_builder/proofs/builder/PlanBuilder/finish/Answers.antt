@@ -1,5 +1,5 @@
 use Rattle.std.proofs.Common.{◌≡◌, None, Err, sym, ap, subst, ◌∙◌}
-use Rattle.life_rules.specs.Tree.{IsFirstFault}
+use Rattle.node_tree.specs.Tree.{IsFirstFault}
 use Rattle.node_tree.specs.declared.tree.TreeFault.TheVariants.{Shape}
 use Rattle.plan_shape.specs.Forest.{IsForest}
 use Rattle.plan_shape.specs.Finish.{finish_fault}

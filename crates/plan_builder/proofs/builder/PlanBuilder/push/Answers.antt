@@ -30,20 +30,20 @@ as_many nodes now old len same as_long is = let e = ap length same in omega arit
 pub append_positions-requires-clause-front : goal.append_positions-requires-clause-front
 append_positions-requires-clause-front c =
     let now = c.args.self.now in
-    longer c.args.front.now (length now) (vec_len c.reserve.new.positions)
+    longer c.named.result.0.now (length now) (vec_len c.reserve.new.positions)
     (as_many c.self.inside.nodes.items now c.self.inside.positions.items _ c.self.view_is c.self.invariant.as_long
     (omega (arith, c.reserve.new.positions.ok.0, ap length c.in_ok-reserve.ensures.positions)))
-    (front_within now c.args.front.now c.args.back.now
-    (unused_children now c.args.node c.args.front.now c.args.back.now c.requires.allowed c.requires.named))
+    (front_within now c.named.result.0.now c.named.result.1.now
+    (unused_children now c.args.node c.named.result.0.now c.named.result.1.now c.requires.allowed c.named.ensures))
 
 pub append_positions-requires-clause-back : goal.append_positions-requires-clause-back
 append_positions-requires-clause-back c =
     let now = c.args.self.now in
-    longer c.args.back.now (length now) (vec_len c.reserve.new.positions)
+    longer c.named.result.1.now (length now) (vec_len c.reserve.new.positions)
     (as_many c.self.inside.nodes.items now c.self.inside.positions.items _ c.self.view_is c.self.invariant.as_long
     (omega (arith, c.reserve.new.positions.ok.0, ap length c.in_ok-reserve.ensures.positions)))
-    (back_within now c.args.front.now c.args.back.now
-    (unused_children now c.args.node c.args.front.now c.args.back.now c.requires.allowed c.requires.named))
+    (back_within now c.named.result.0.now c.named.result.1.now
+    (unused_children now c.args.node c.named.result.0.now c.named.result.1.now c.requires.allowed c.named.ensures))
 
 pub invariant_of-self-2 : goal.invariant_of-self-2
 invariant_of-self-2 c =
@@ -61,11 +61,11 @@ invariant_of-self-2 c =
     ∙ ap (λ ns. ns ++ (parts_of (c.len.result + parts) parts ++ node ∷ [])) c.in_ok-reserve.ensures.nodes
     ∙ ap (λ b. nodes ++ (parts_of b parts ++ node ∷ [])) number
     ∙ ap (λ k. nodes ++ (parts_of (number_of nodes node) k ++ node ∷ [])) count in
-    let from_old : Gains old new (c.args.front.now ++ c.args.back.now) (c.len.result + parts) parts depth =
-    subst (λ ps. Gains ps new (c.args.front.now ++ c.args.back.now) (c.len.result + parts) parts depth)
+    let from_old : Gains old new (c.named.result.0.now ++ c.named.result.1.now) (c.len.result + parts) parts depth =
+    subst (λ ps. Gains ps new (c.named.result.0.now ++ c.named.result.1.now) (c.len.result + parts) parts depth)
     c.in_ok-reserve.ensures.positions c.append_positions.ensures in
     let by_name : Gains old new (named_by node) (c.len.result + parts) parts depth =
-    subst (λ cs. Gains old new cs (c.len.result + parts) parts depth) (sym c.requires.named) from_old in
+    subst (λ cs. Gains old new cs (c.len.result + parts) parts depth) (sym c.named.ensures) from_old in
     let by_number : Gains old new (named_by node) (number_of nodes node) parts depth =
     subst (λ n. Gains old new (named_by node) n parts depth) number by_name in
     let tables : Tables nodes node old new depth = record {

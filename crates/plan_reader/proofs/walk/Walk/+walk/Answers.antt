@@ -59,9 +59,9 @@ binding-list-requires t c = (
 
 pub binding-take-requires-clause-roots : goal.binding-take-requires-clause-roots
 binding-take-requires-clause-roots t c =
-    let numbers = c.in_ok-bodies.ensures ∙ c.deref.ensures.value ∙ c.in_ok-numbers.ensures.numbers in
+    let numbers = c.from_vec-bodies.ensures ∙ c.in_ok-numbers.ensures.numbers in
     let-roots c.args.levels c.args.binding (view c.args.value.now) c.args.self.now c.child.new.self c.list.new.self
-    c.last-child.result c.in_ok-bodies.bodies c.in_ok-reading.reading c.requires c.in_ok-child.ensures
+    c.last-child.result c.from_vec-bodies.result c.in_ok-reading.reading c.requires c.in_ok-child.ensures
     c.last-child.ensures c.in_ok-numbers.ensures.walked numbers c.in_ok-reading.ensures.value
 
 pub bulk-take_bulk-requires : goal.bulk-take_bulk-requires
@@ -72,8 +72,8 @@ bulk-take_bulk-requires t c =
 pub when_all-make-requires-clause-roots : goal.when_all-make-requires-clause-roots
 when_all-make-requires-clause-roots t c =
     list-roots c.args.levels (codes "children") (view c.args.value.now) c.args.self.now c.list.new.self
-    c.in_ok-children.children c.requires c.in_ok-numbers.ensures.walked
-    (c.in_ok-children.ensures ∙ c.deref.ensures.value ∙ c.in_ok-numbers.ensures.numbers)
+    c.from_vec-children.result c.requires c.in_ok-numbers.ensures.walked
+    (c.from_vec-children.ensures ∙ c.in_ok-numbers.ensures.numbers)
 
 pub ahead-child-requires-2 : goal.ahead-child-requires-2
 ahead-child-requires-2 t c = (

@@ -1,6 +1,6 @@
 use Rattle.std.proofs.Common.{◌≡◌, false, Ok, Err, refl, sym, ap, ◌∙◌, subst, arith}
-use Rattle.plan_text.specs.declared.reading.Reading.TheVariants.{Good}
-use Rattle.plan_text.specs.Reading.{any_fault}
+use Rattle.plan_parts.specs.declared.reading.Reading.TheVariants.{Good}
+use Rattle.plan_parts.specs.Reading.{any_fault}
 use Rattle.plan_reader.specs.Roots.{HasOneRoot}
 use Rattle.plan_reader.specs.Walked.{Walked}
 use Rattle.plan_reader.specs.Plans.{joined}

@@ -1,6 +1,6 @@
 use Rattle.std.proofs.Common.{◌≡◌, true, false, sym, ap, ◌∙◌, subst, arith}
 use Rattle.std.proofs.lemmas.Bool.{false≢true}
-use Rattle.plan_text.specs.Reading.{any_fault}
+use Rattle.plan_parts.specs.Reading.{any_fault}
 use Rattle.plan_rules.specs.Children.{named_by}
 use Rattle.plan_reader.specs.Roots.{AreRoots}
 use Rattle.plan_reader.specs.Walked.{Walked, make}
@@ -19,8 +19,8 @@ returns-in-Ok c =
     let is : any_fault c.self.inside.faults ≡ false = grind arith in
     let Q : Walked → Type 0 = λ w. AreRoots w (named_by c.args.node) in
     let roots = subst Q (sym c.self.view_is) c.requires.roots in
-    make-added c.args.node (the_view c.self.inside) c.add.new.builder c.in_ok-number.field-0 c.in-Ok.number
-    is roots c.in_ok-number.ensures.adds c.in-Ok.is
+    make-added c.args.node (the_view c.self.inside) c.add.new.self c.add.result c.in-Ok.number
+    is roots c.add.ensures c.in-Ok.is
     ∙ ap (make c.args.node) c.self.view_is
 
 pub returns-else-is_memory : goal.returns-else-is_memory
@@ -28,8 +28,8 @@ returns-else-is_memory c =
     let is : any_fault c.self.inside.faults ≡ false = grind arith in
     let Q : Walked → Type 0 = λ w. AreRoots w (named_by c.args.node) in
     let roots = subst Q (sym c.self.view_is) c.requires.roots in
-    make-refused c.args.node (the_view c.self.inside) c.add.new.builder c.in_ok-number.field-0 c.in-Err.fault
+    make-refused c.args.node (the_view c.self.inside) c.add.new.self c.add.result c.in-Err.fault
     c.both-self-inside.result
-    is roots c.in_ok-number.ensures.adds c.in-Err.is (λ memory. false≢true (c.if-is_memory.ensures.1 memory))
+    is roots c.add.ensures c.in-Err.is (λ memory. false≢true (c.if-is_memory.ensures.1 memory))
     c.both-self-inside.ensures
     ∙ ap (make c.args.node) c.self.view_is

@@ -1,24 +1,24 @@
 use Rattle.std.specs.Prelude.{Contains, Some}
 use Rattle.std.proofs.Common.{◌<◌, ◌≤◌, [], ◌∷◌, length, get_or, refl, sym, ap, ◌∙◌, subst, arith}
 use Rattle.std.proofs.lemmas.List.Elements.{All-contains_itself}
-use Rattle.plan_rules.specs.Images.{then_of, upon_error_of, upon_stopped_of, as_optional, as_error}
+use Rattle.plan_rules.specs.Images.{value_data, error_data, stopped_data, then_of, upon_error_of, upon_stopped_of, as_optional, as_error}
 use Rattle.plan_rules.specs.Bulks.{bulk_of}
 use Rattle.exec_job.specs.Apply.{apply_of, ending}
 use Rattle.plan_settle.specs.Lets.{picked_body}
 use Rattle.plan_settle.specs.Runs.{IsRunnable, RunsWith}
-use Rattle.plan_settle.specs.Settles.{settled_by}
+use Rattle.plan_settle.specs.Settles.{settled_by, settled_case}
 use Rattle.plan_settle.proofs.Runs.{first, second}
 use Rattle.plan_settle.proofs.Operands.{then-taken, upon_error-taken, let_value-may, let_error-may, let_stopped-may}
-use Rattle.plan_settle.proofs.Together.{ahead-room}
-use Rattle.plan_settle.proofs.Arms.{child-runs, case-settles, made-settles, bulk-settles, let_value-settles}
-use Rattle.plan_settle.proofs.LetArms.{body-settles, pick-settles}
-use Rattle.plan_settle.proofs.AllArms.{all-more, all-settles, all-limit, all-no_memory, ahead-no_memory}
+use Rattle.plan_settle.proofs.Together.{ahead-fits}
+use Rattle.plan_settle.proofs.Arms.{child-runs, case-settles, made-settles, bulk-settles, let-settles}
+use Rattle.plan_settle.proofs.LetArms.{body-settles}
+use Rattle.plan_settle.proofs.AllArms.{all-more, all-settles, all-limit, all-no_memory, ahead-settles}
 use Rattle.plan_settle.proofs.evaluation.Evaluation.+settle.Goals as goal
 
 pub settle-returns : goal.settle-returns
 settle-returns t c =
     case-settles c.args.self.now c.requires.runnable c.requires.runs c.node.ensures refl
-    c.settle_one.result c.settle_one.ensures
+    _ c.settle_one.result c.settle_one.ensures
 
 pub settle_one-settle-requires : goal.settle_one-settle-requires
 settle_one-settle-requires t c =
@@ -117,7 +117,7 @@ settle_let-settle_body-requires t c = (
     c.requires.runnable,
     let_value-may c.args.self.now c.requires.runnable c.requires.runs
         (c.requires.node_is ∙ ap Some c.in-LetValue.is)
-        c.in_ok-settle-in-LetValue.ensures.exact c.value_data-channel.ensures,
+        c.in_ok-settle-in-LetValue.ensures.exact c.take_value-values.ensures.taken,
   ),
 )
 
@@ -128,7 +128,7 @@ settle_let-settle_body-requires-in-LetError t c = (
     c.requires.runnable,
     let_error-may c.args.self.now c.requires.runnable c.requires.runs
         (c.requires.node_is ∙ ap Some c.in-LetError.is)
-        c.in_ok-settle-in-LetError.ensures.exact c.error_data-channel.ensures,
+        c.in_ok-settle-in-LetError.ensures.exact c.take_error-name.ensures.taken,
   ),
 )
 
@@ -139,7 +139,7 @@ settle_let-settle_body-requires-in-LetStopped t c = (
     c.requires.runnable,
     let_stopped-may c.args.self.now c.requires.runnable c.requires.runs
         (c.requires.node_is ∙ ap Some c.in-LetStopped.is)
-        c.in_ok-settle-in-LetStopped.ensures.exact c.stopped_data-channel.ensures,
+        c.in_ok-settle-in-LetStopped.ensures.exact c.take_stopped-none.ensures.taken,
   ),
 )
 
@@ -197,27 +197,24 @@ settle_one-returns-in_ok-settle-in-Bulk t c =
 
 pub settle_let-returns-in_ok-settle-in-LetValue : goal.settle_let-returns-in_ok-settle-in-LetValue
 settle_let-returns-in_ok-settle-in-LetValue t c =
-    let_value-settles c.args.self.now c.args.args.now c.in-LetValue.is
-    c.in_ok-settle-in-LetValue.ensures.exact c.value_data-channel.ensures c.settle_body.ensures
+    let-settles c.args.self.now c.args.args.now c.in-LetValue.child c.in-LetValue.pick c.in-LetValue.bodies value_data
+    _ _ _ _ _ _ (ap (λ x. settled_case c.args.self.now x c.args.args.now) (sym c.in-LetValue.is))
+    c.in_ok-settle-in-LetValue.ensures.exact c.take_value-values.ensures.taken c.take_value-values.ensures.stays
+    c.settle_body.ensures
 
-pub settle_body-returns-in-Some : goal.settle_body-returns-in-Some
-settle_body-returns-in-Some t c =
-    let pick = c.args.pick.now in
-    let copied = ap (λ l. ending (apply_of pick l)) c.in_ok-copy_data.ensures.ok in
-    let answered = c.in_ok-answer.ensures.exact ∙ copied in
-    let bodies = ap (picked_body c.in_ok-answer.answer) (sym c.as_slice.ensures) in
-    let named = bodies ∙ sym c.picked.ensures ∙ c.in-Some.is in
-    body-settles c.args.self.now pick c.args.bodies.now c.in-Ok.is answered named
-    c.settle.result c.settle.ensures
+pub settle_let-returns-in_ok-settle-in-LetError : goal.settle_let-returns-in_ok-settle-in-LetError
+settle_let-returns-in_ok-settle-in-LetError t c =
+    let-settles c.args.self.now c.args.args.now c.in-LetError.child c.in-LetError.pick c.in-LetError.bodies error_data
+    _ _ _ _ _ _ (ap (λ x. settled_case c.args.self.now x c.args.args.now) (sym c.in-LetError.is))
+    c.in_ok-settle-in-LetError.ensures.exact c.take_error-name.ensures.taken c.take_error-name.ensures.stays
+    c.settle_body-in-LetError.ensures
 
-pub settle_body-returns : goal.settle_body-returns
-settle_body-returns t c =
-    let pick = c.args.pick.now in
-    let copied = ap (λ l. ending (apply_of pick l)) c.in_ok-copy_data.ensures.ok in
-    let answered = c.in_ok-answer.ensures.exact ∙ copied in
-    let bodies = ap (picked_body c.in_ok-answer.answer) (sym c.as_slice.ensures) in
-    let named = bodies ∙ sym c.picked.ensures ∙ c.in-None.is in
-    pick-settles c.args.self.now pick c.args.bodies.now c.in-Ok.is answered named
+pub settle_let-returns-in_ok-settle-in-LetStopped : goal.settle_let-returns-in_ok-settle-in-LetStopped
+settle_let-returns-in_ok-settle-in-LetStopped t c =
+    let-settles c.args.self.now c.args.args.now c.in-LetStopped.child c.in-LetStopped.pick c.in-LetStopped.bodies stopped_data
+    _ _ _ _ _ _ (ap (λ x. settled_case c.args.self.now x c.args.args.now) (sym c.in-LetStopped.is))
+    c.in_ok-settle-in-LetStopped.ensures.exact c.take_stopped-none.ensures.taken c.take_stopped-none.ensures.stays
+    c.settle_body-in-LetStopped.ensures
 
 pub settle_all-settle-requires : goal.settle_all-settle-requires
 settle_all-settle-requires t c =
@@ -237,30 +234,9 @@ settle_all-loop-child-preserved t c =
     let items = c.as_slice-child-items.ensures in
     all-more run c.requires.runnable c.requires.runs c.requires.node_is c.if-self.false index
     (subst (λ l. index < length l) items c.loop-child-test.true)
-    c.loop-child.together c.and_then-together.result c.in_ok-settle.field-0
+    c.loop-child.together c.join_child.new.together c.settle.new.done
     (c.in_ok-settle.ensures.exact ∙ ap (λ l. settled_by run (get_or l index 0) c.args.args.now) items)
-    c.loop-child.invariant c.and_then-together.ensures
-
-pub settle_all-unreachable-requires : goal.settle_all-unreachable-requires
-settle_all-unreachable-requires t c =
-    all-limit c.args.self.now c.requires.runnable c.requires.runs c.requires.node_is c.if-self.false
-    c.loop-child.child-index
-    (subst (λ l. length l ≤ c.loop-child.child-index) c.as_slice-child-items.ensures c.loop-child-test.false)
-    c.loop-child.together c.loop-child.invariant c.in-Err.no_room c.in-Err.is c.in-Limit.is
-
-pub settle_all-returns-in-Ok : goal.settle_all-returns-in-Ok
-settle_all-returns-in-Ok t c =
-    all-settles c.args.self.now c.requires.runnable c.requires.runs c.requires.node_is c.if-self.false
-    c.loop-child.child-index
-    (subst (λ l. length l ≤ c.loop-child.child-index) c.as_slice-child-items.ensures c.loop-child-test.false)
-    c.loop-child.together c.loop-child.invariant c.in-Ok.done c.in-Ok.is
-
-pub settle_all-returns-in-Memory : goal.settle_all-returns-in-Memory
-settle_all-returns-in-Memory t c =
-    all-no_memory c.args.self.now c.requires.runnable c.requires.runs c.requires.node_is c.if-self.false
-    c.loop-child.child-index
-    (subst (λ l. length l ≤ c.loop-child.child-index) c.as_slice-child-items.ensures c.loop-child-test.false)
-    c.loop-child.together c.loop-child.invariant c.in-Err.no_room c.in-Err.is c.in-Memory.is (record {})
+    c.loop-child.invariant c.join_child.ensures
 
 pub settle_ahead-settle-requires : goal.settle_ahead-settle-requires
 settle_ahead-settle-requires t c =
@@ -268,18 +244,48 @@ settle_ahead-settle-requires t c =
     c.args.second (second _ _) in
     (omega (arith, below.0, c.decreases), (c.requires.runnable, below.1))
 
-pub settle_ahead-settle-requires-2 : goal.settle_ahead-settle-requires-2
-settle_ahead-settle-requires-2 t c =
+pub settle_ahead-settle-requires-in-Some : goal.settle_ahead-settle-requires-in-Some
+settle_ahead-settle-requires-in-Some t c =
     let below = child-runs c.requires.runnable c.requires.runs c.requires.node_is refl
     c.args.first (first _ (c.args.second ∷ [])) in
     (omega (arith, below.0, c.decreases), (c.requires.runnable, below.1))
 
-pub settle_ahead-append-requires : goal.settle_ahead-append-requires
-settle_ahead-append-requires t c =
-    ahead-room c.args.self.now c.requires.runnable c.requires.runs c.requires.node_is
-    (sym c.in_ok-failed-2.ensures.exact ∙ c.in-Value-2.is) (sym c.in_ok-failed.ensures.exact ∙ c.in-Value.is)
+pub settle_ahead-put_behind-requires : goal.settle_ahead-put_behind-requires
+settle_ahead-put_behind-requires t c =
+    ahead-fits c.args.self.now c.requires.runnable c.requires.runs c.requires.node_is
+    c.in_ok-settle-in-Some.ensures.exact c.in_ok-settle.ensures.exact
+    (sym c.take_value.ensures.taken ∙ c.in-Some.is)
 
-pub settle_ahead-returns-in_err-append-in-Value-2 : goal.settle_ahead-returns-in_err-append-in-Value-2
-settle_ahead-returns-in_err-append-in-Value-2 t c =
-    ahead-no_memory c.args.self.now c.args.at c.requires.node_is _
-    c.from_residual-in_err-append-in-Value-2.result c.from_residual-in_err-append-in-Value-2.ensures.0
+pub settle_ahead-returns-in_ok-settle-in-Some : goal.settle_ahead-returns-in_ok-settle-in-Some
+settle_ahead-returns-in_ok-settle-in-Some t c =
+    ahead-settles c.args.self.now c.args.at c.args.args.now c.requires.node_is
+    c.in_ok-settle-in-Some.ensures.exact c.in_ok-settle.ensures.exact
+    (sym c.take_value.ensures.taken ∙ c.in-Some.is) c.put_behind.ensures
+
+pub settle_all-unreachable-requires : goal.settle_all-unreachable-requires
+settle_all-unreachable-requires t c =
+    all-limit c.args.self.now c.requires.runnable c.requires.runs c.requires.node_is c.if-self.false
+    c.loop-child.child-index
+    (subst (λ l. length l ≤ c.loop-child.child-index) c.as_slice-child-items.ensures c.loop-child-test.false)
+    c.loop-child.together c.loop-child.invariant _ c.in-Err-Limit.ensures.err c.in-Err-Limit.field-0-is
+
+pub settle_all-returns-in-Ok : goal.settle_all-returns-in-Ok
+settle_all-returns-in-Ok t c =
+    all-settles c.args.self.now c.requires.runnable c.requires.runs c.requires.node_is c.if-self.false
+    c.loop-child.child-index
+    (subst (λ l. length l ≤ c.loop-child.child-index) c.as_slice-child-items.ensures c.loop-child-test.false)
+    c.loop-child.together c.loop-child.invariant c.put_together.new.done c.in-Ok.ensures.ok
+
+pub settle_all-returns-in-Err-Memory : goal.settle_all-returns-in-Err-Memory
+settle_all-returns-in-Err-Memory t c =
+    all-no_memory c.args.self.now c.requires.runnable c.requires.runs c.requires.node_is c.if-self.false
+    c.loop-child.child-index
+    (subst (λ l. length l ≤ c.loop-child.child-index) c.as_slice-child-items.ensures c.loop-child-test.false)
+    c.loop-child.together c.loop-child.invariant _ c.in-Err-Memory.ensures.err c.in-Err-Memory.field-0-is _ (record {})
+
+pub settle_body-returns-in-Some-2 : goal.settle_body-returns-in-Some-2
+settle_body-returns-in-Some-2 t c =
+    let bodies = ap (picked_body c.pick_body.new.done) (sym c.as_slice.ensures) in
+    body-settles c.args.self.now c.args.pick.now c.args.bodies.now c.in-Some.is c.args.done.now
+    c.in_ok-body.ensures.answer (bodies ∙ sym c.in_ok-body.ensures.body ∙ c.in-Some-2.is)
+    c.settle.new.done c.settle.result c.settle.ensures

@@ -1,0 +1,12 @@
+use Rattle.std.proofs.Common.{arith}
+use Rattle.std.proofs.lemmas.Grind.{common_steps}
+use Rattle.serde_json.specs.View.{view}
+use Rattle.plan_parts.proofs.ConstantLemmas.{constants_more}
+use Rattle.plan_parts.proofs.constant.constants_of.Goals as goal
+
+pub values-preserved : goal.values-preserved
+values-preserved c = record {
+  so_far = grind (arith, common_steps);
+  constants = constants_more c.values.found c.in_ok-found.found c.in_ok-next.next (view c.value-item.result)
+      c.values.invariant.constants c.in_ok-next.ensures c.in_ok-found.ensures;
+}
