@@ -1,17 +1,21 @@
-//! Plain runs: the operations of a plan's records, each evaluated when it is started.
+//! Plain runs: the operations of a plan's records, each evaluated when its completion is asked for.
 //!
-//!     start --settle, or settle_asked where a stop was requested--> a block has its completion
-//!     collect --> the completion, and the block is free
+//!     start --> a block has the record's number and datum, and whether a stop was requested before
+//!     collect --settle, or settle_asked where one was--> the completion, and the block is free
+//!             \--no memory over a small plan--> not complete yet: the block is kept, and the next
+//!                                               collect evaluates it again
 //!
 //! It is the plain implementation of record_loop's seam: all work is done on the calling thread,
 //! and a turn does nothing. It keeps the seam's promise, that each completion is one that the plan
 //! allows its record, since plain evaluation gives such a one; and that a small plan of int records
-//! never wants memory. It stands on record_loop and plan_settle.
+//! never answers want of memory, whatever evaluation answers. It stands on record_loop and
+//! plan_settle, and on sig_check, whose signatures tell whether a plan is small.
 #![tactic(auto)]
 
-mod entry;
 mod evaluate;
 mod plain;
+mod small;
+mod started;
 #[cfg(test)]
 mod tests;
 

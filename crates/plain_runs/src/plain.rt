@@ -1,51 +1,70 @@
 //! The operations of a plan on the calling thread.
-ghost use Rattle.std.specs.Prelude.{◌≡◌, ◌<◌, ◌≤◌, ◌^◌, true, false, None, IfOk, IfErr, IsSome, MatchOption};
+ghost use Rattle.std.specs.Prelude.{◌≡◌, ◌<◌, ◌≤◌, ◌^◌, true, false, None, IfOk, replicate};
 ghost use Rattle.std.specs.Thread.{IsSync};
 ghost use Rattle.plan_kinds.specs.Reached.{KindsMatch};
-ghost use Rattle.plain_runs.specs.Entries.{work_of, AreFree, WantsMemory};
+ghost use Rattle.plan_settle.specs.Small.{IsSmall};
+ghost use Rattle.plain_runs.specs.PlainWork.{work_of, AreFree, WantsMemory};
 
-use crate::entry::{Entry, completion_of, is_free, put_entry, take_entry};
 use crate::evaluate::evaluate;
+use crate::small::is_small;
+use crate::started::{Started, at_block, free_block, is_free, put_block};
 use exec_value::{Completion, Datum};
 use plan_shape::Plan;
 use record_loop::Operations;
+use sig_check::check;
 use std::alloc::{AllocError, Global};
 use std::marker::Model;
 use std::sync::Wait;
 
-/// The operations of a plan's records, each evaluated when it is started.
+/// The operations of a plan's records, each evaluated when its completion is asked for.
 #[derive(Drop)]
 pub struct PlainRuns<'a> {
+    alloc: Global,
     plan: &'a Plan,
-    entries: Vec<Option<Entry>>,
+    /// Whether the plan is small, so that evaluating it wants no memory.
+    small: bool,
+    blocks: Vec<Option<Started>>,
     /// The block that the next operation takes.
     next: usize,
     requested: bool,
 }
 
 impl<'a> Model for PlainRuns<'a> {
-    ghost use Rattle.plain_runs.specs.Entries.{Plain, IsSound};
+    ghost use Rattle.plain_runs.specs.PlainWork.{Plain, IsSound};
 
     ghost Value = { Plain };
 
     ghost view = { λ s. record {
       plan = s.plan.now;
-      entries = s.entries.items;
+      blocks = s.blocks.items;
       requested = s.requested;
     } };
 
-    ghost invariant = { λ s. IsSound s.plan.now s.entries.items s.next };
+    ghost invariant = { λ s. IsSound s.plan.now s.blocks.items s.next s.small };
 }
 
 /// So many free blocks.
-fn free_blocks(alloc: Global, blocks: usize) -> Result<Vec<Option<Entry>>, AllocError>
+fn free_blocks(alloc: Global, blocks: usize) -> Result<Vec<Option<Started>>, AllocError>
     ensures { IfOk result (AreFree blocks) }
 {
-    let mut entries = Vec::with_capacity(alloc, blocks)?;
-    'fill: while entries.len() < blocks {
-        entries.push(None)?;
+    let mut free = Vec::with_capacity(alloc, blocks)?;
+    'fill: while free.len() < blocks {
+        free.push(None)?;
     }
-    Ok(entries)
+    Ok(free)
+}
+
+/// Whether the plan is small, by the signatures of its nodes. Its kinds match, so a check of them
+/// fails for want of memory alone.
+fn find_small(alloc: Global, plan: &Plan) -> Result<bool, AllocError>
+    requires { KindsMatch plan.now.nodes plan.now.settings.input }
+    ensures small { IfOk result (λ small. small ≡ true → IsSmall plan.now) }
+    ensures wants { IfOk result (λ small. small ≡ false → ¬ IsSmall plan.now) }
+{
+    match check(alloc, plan) {
+        Ok(sigs) => Ok(is_small(plan, &sigs)),
+        Err(_) => Err(AllocError),
+    }
 }
 
 impl<'a> PlainRuns<'a> {
@@ -57,10 +76,13 @@ impl<'a> PlainRuns<'a> {
         requires kinds { KindsMatch plan.now.nodes plan.now.settings.input }
         ensures plan { IfOk result (λ runs. runs.plan ≡ plan.now) }
         ensures idle { IfOk result (λ runs. runs.requested ≡ false) }
+        ensures blocks { IfOk result (λ runs. runs.blocks ≡ replicate blocks None) }
     {
         Ok(PlainRuns {
+            alloc,
             plan,
-            entries: free_blocks(alloc, blocks)?,
+            small: find_small(alloc, plan)?,
+            blocks: free_blocks(alloc, blocks)?,
             next: 0,
             requested: false,
         })
@@ -80,27 +102,28 @@ impl<'a> Operations for PlainRuns<'a> {
         datum: Datum,
     ) -> Result<u32, Datum> {
         let block = self.next;
-        if !is_free(&self.entries, block) {
+        if !is_free(&self.blocks, block) {
             return Err(datum);
         }
         let asked = self.requested;
-        let done = evaluate(alloc, self.plan, number, &datum, asked);
-        let entry = Entry {
+        let started = Started {
             number,
             datum,
             asked,
-            done,
         };
-        put_entry(&mut self.entries, block, entry);
-        self.next = (block + 1) % self.entries.len();
+        put_block(&mut self.blocks, block, started);
+        self.next = (block + 1) % self.blocks.len();
         Ok(block as u32)
     }
 
     fn turn<R: Wait + Sync>(&mut self, rt: &R, alloc: Global) {}
 
     fn collect<R: Wait + Sync>(&mut self, rt: &R, block: u32) -> Option<Completion> {
-        let entry = take_entry(&mut self.entries, block as usize)?;
-        Some(completion_of(entry))
+        let at = block as usize;
+        let started = at_block(&self.blocks, at)?;
+        let done = evaluate(self.alloc, self.plan, self.small, started)?;
+        free_block(&mut self.blocks, at);
+        Some(done)
     }
 
     fn request<R: Wait + Sync>(&mut self, rt: &R) {

@@ -1,22 +1,18 @@
-//! Worked examples of runs over records, each evaluated when it is started.
-
-mod faults;
-mod generated;
-mod lines;
-mod stops;
-
+//! Runs over records: what no file of cases can show of them.
 ghost use Rattle.std.specs.Thread.{IsSync};
 ghost use Rattle.plan_shape.specs.Blueprint.{AreSettings};
+ghost use Rattle.plain_runs.specs.PlainWork.{work_of, WantsMemory};
 
 use super::*;
 use exec_io::{MemSink, MemSource};
 use exec_job::Job;
-use exec_value::Kind;
-use life_rules::ScopeKind;
-use plan_builder::{BuildFault, Context, NodeId, PlanBuilder};
+use exec_value::{Completion, Datum, Kind};
+use node_tree::ScopeKind;
+use plan_builder::{BuildFault, Context, PlanBuilder};
 use plan_rules::Settings;
 use plan_shape::Plan;
-use record_loop::{Closing, Form, run_records};
+use record_lines::End;
+use record_loop::{Ending, Form, Operations, run_records};
 use run_rules::may_run;
 use sig_check::check;
 use std::alloc::Global;
@@ -25,53 +21,16 @@ use std::sync::Wait;
 use std::test::Fail;
 
 /// Int records, and no stop.
-pub const CALM: Settings = Settings {
+const CALM: Settings = Settings {
     version: 2,
     input: Kind::Int,
     scope: ScopeKind::Counting,
     stop_after: None,
     on_error_stop: false,
 };
-
-/// A stop after the second record.
-pub const AFTER_2: Settings = Settings {
-    version: 2,
-    input: Kind::Int,
-    scope: ScopeKind::Counting,
-    stop_after: Some(2),
-    on_error_stop: false,
-};
-
-/// A stop after the third.
-pub const AFTER_3: Settings = Settings {
-    version: 2,
-    input: Kind::Int,
-    scope: ScopeKind::Counting,
-    stop_after: Some(3),
-    on_error_stop: false,
-};
-
-/// A stop after the first line that is an error.
-pub const ON_ERROR: Settings = Settings {
-    version: 2,
-    input: Kind::Int,
-    scope: ScopeKind::Counting,
-    stop_after: None,
-    on_error_stop: true,
-};
-
-/// The record's number itself, from the pool.
-pub fn passing(alloc: Global, settings: Settings) -> Result<Plan, BuildFault>
-    requires { AreSettings settings }
-{
-    let mut builder = PlanBuilder::new(alloc);
-    let input = builder.input()?;
-    let root = builder.starts_on(Context::Pool, input)?;
-    builder.finish(root, settings)
-}
 
 /// One more than the record, from the pool.
-pub fn adding(alloc: Global, settings: Settings) -> Result<Plan, BuildFault>
+fn adding(alloc: Global, settings: Settings) -> Result<Plan, BuildFault>
     requires { AreSettings settings }
 {
     let mut builder = PlanBuilder::new(alloc);
@@ -81,68 +40,133 @@ pub fn adding(alloc: Global, settings: Settings) -> Result<Plan, BuildFault>
     builder.finish(root, settings)
 }
 
-/// What a run left.
+/// Operations that go on by turns: one is started, and collected, only where a turn came before.
 #[derive(Drop)]
-pub struct Ran {
-    pub closing: Closing,
-    pub out: MemSink,
+struct InTurns<'a> {
+    runs: PlainRuns<'a>,
+    turned: bool,
 }
 
-/// How a run goes about it.
-#[derive(Clone, Copy)]
-pub struct Way {
-    pub window: usize,
-    pub form: Form,
-}
+impl<'a> Operations for InTurns<'a> {
+    ghost state = { λ s. work_of s.runs };
 
-/// Lines, with a window of so many records.
-pub fn with_lines(window: usize) -> Way {
-    Way {
-        window,
-        form: Form::Lines,
+    ghost WantsMemory = { WantsMemory };
+
+    fn start<R: Wait + Sync>(
+        &mut self,
+        rt: &R,
+        alloc: Global,
+        number: u32,
+        datum: Datum,
+    ) -> Result<u32, Datum> {
+        if !self.turned {
+            return Err(datum);
+        }
+        self.turned = false;
+        self.runs.start(rt, alloc, number, datum)
+    }
+
+    fn turn<R: Wait + Sync>(&mut self, rt: &R, alloc: Global) {
+        self.turned = true;
+        self.runs.turn(rt, alloc)
+    }
+
+    fn collect<R: Wait + Sync>(&mut self, rt: &R, block: u32) -> Option<Completion> {
+        if !self.turned {
+            return None;
+        }
+        self.turned = false;
+        self.runs.collect(rt, block)
+    }
+
+    fn request<R: Wait + Sync>(&mut self, rt: &R) {
+        self.runs.request(rt)
     }
 }
 
-/// A run of a plan over a source and a sink.
-pub fn run_with<R: Wait + Abort + Sync>(
+/// What a run left.
+#[derive(Drop)]
+struct Ran {
+    ending: Ending,
+    out: MemSink,
+}
+
+/// A run of `adding` in turns, with a window of 2, over a source of these bytes and a sink.
+fn run<R: Wait + Abort + Sync>(
     rt: &R,
     alloc: Global,
-    plan: &Plan,
-    way: Way,
     mut records: MemSource,
     mut out: MemSink,
 ) -> Result<Ran, Fail>
     requires { IsSync R.row }
 {
-    check(alloc, plan)?;
+    let plan = adding(alloc, CALM)?;
+    check(alloc, &plan)?;
     let settings = *plan.settings();
     assert!(rt; may_run(&settings));
-    assert!(rt; way.window > 0 && way.window <= 256);
-    let mut runs = PlainRuns::open(alloc, plan, way.window)?;
-    let closing = run_records(
+    let mut operations = InTurns {
+        runs: PlainRuns::open(alloc, &plan, 2)?,
+        turned: false,
+    };
+    let ending = run_records(
         rt,
         alloc,
         settings,
-        way.window,
-        way.form,
-        &mut runs,
+        2,
+        Form::Lines,
+        &mut operations,
         &mut records,
         &mut out,
     )?;
-    Ok(Ran { closing, out })
+    Ok(Ran { ending, out })
 }
 
-/// A run of a plan over these bytes, where nothing fails.
-pub fn run<R: Wait + Abort + Sync>(
-    rt: &R,
-    alloc: Global,
-    plan: &Plan,
-    way: Way,
-    records: &[u8],
-) -> Result<Ran, Fail>
-    requires { IsSync R.row }
-{
-    let source = MemSource::new(records.to_vec(alloc)?, Vec::new(alloc));
-    let sink = MemSink::new(alloc, 4096, Vec::new(alloc));
-    run_with(rt, alloc, plan, way, source, sink)
+#[test]
+fn operations_that_need_turns_are_waited_for(rt: HostRuntime) -> Result<(), Fail> {
+    let alloc = rt.alloc();
+    let source = MemSource::new(b"5\n-1\n7\n".to_vec(alloc)?, Vec::new(alloc));
+    let ran = run(
+        &rt,
+        alloc,
+        source,
+        MemSink::new(alloc, 4096, Vec::new(alloc)),
+    )?;
+    assert_eq!(rt;
+        ran.out.bytes(),
+        b"1 value 6\n2 value 0\n3 value 8\n".as_slice()
+    );
+    assert_eq!(rt; ran.ending.end(), End::Ended);
+    Ok(())
+}
+
+#[test]
+fn lines_whose_line_feed_was_read_are_written_at_a_fault(rt: HostRuntime) -> Result<(), Fail> {
+    let alloc = rt.alloc();
+    let source = MemSource::new(b"5\n-1\n7".to_vec(alloc)?, vec![in alloc; 2u64]?);
+    let ran = run(
+        &rt,
+        alloc,
+        source,
+        MemSink::new(alloc, 4096, Vec::new(alloc)),
+    )?;
+    assert_eq!(rt; ran.out.bytes(), b"1 value 6\n2 value 0\n".as_slice());
+    assert_eq!(rt; ran.ending.end(), End::Fault);
+    assert!(rt; !ran.ending.is_lost());
+    Ok(())
+}
+
+#[test]
+fn after_a_lost_write_no_record_is_begun(rt: HostRuntime) -> Result<(), Fail> {
+    let alloc = rt.alloc();
+    let source = MemSource::new(b"5\n-1\n7\n8\n9\n".to_vec(alloc)?, Vec::new(alloc));
+    let ran = run(
+        &rt,
+        alloc,
+        source,
+        MemSink::new(alloc, 1, vec![in alloc; 3u64]?),
+    )?;
+    assert_eq!(rt; ran.out.bytes(), b"1 ".as_slice());
+    assert!(rt; ran.ending.is_lost());
+    assert_eq!(rt; ran.ending.summary().lines(), 2);
+    Ok(())
 }

@@ -12,14 +12,14 @@ use Rattle.record_lines.specs.Lines.{text_of}
 use Rattle.run_rules.specs.Lawful.{Terms, datum_of}
 use Rattle.run_rules.specs.Moments.{Moment, is_asked, IsCaused, IsTimely}
 use Rattle.run_rules.specs.StopStates.{rules_of}
-use Rattle.record_loop.specs.Beginning.{BeginsSlot, BeginsText}
+use Rattle.record_loop.specs.Slots.{BeginsSlot, BeginsText}
 use Rattle.record_loop.specs.declared.in_flight.InFlight.{InFlight}
 use Rattle.record_loop.specs.declared.printer.Printer.{Printer}
 use Rattle.record_loop.specs.declared.slot.Slot.{Slot}
 use Rattle.record_loop.specs.declared.slot.Slot.TheVariants.{Running, Bad, NoMemory}
 use Rattle.record_loop.specs.Flights.{read_of}
 use Rattle.record_loop.specs.Printing.{Printed}
-use Rattle.io_views.specs.Sinks.{SinkView}
+use Rattle.exec_io.specs.Views.{SinkView}
 use Rattle.record_loop.specs.Standing.{Opening, terms_at, IsBegun, StandsFor, StandForAll, Standing, Counted}
 use Rattle.record_loop.specs.Works.{Begun, Work, Keeps}
 use Rattle.record_loop.proofs.SlotLaws.{StandForAll-kept, StandForAll-push}

@@ -11,25 +11,29 @@ use Rattle.record_lines.specs.declared.line_end.LineEnd.{LineEnd}
 use Rattle.record_lines.specs.Lines.{whole_lines, rest_of, without_cr}
 use Rattle.record_lines.specs.Records.{records_of, last_line, IsBeyond}
 use Rattle.record_lines.specs.Cutters.{Held, StandsAfter, HasLine, EndsStream}
-use Rattle.record_lines.proofs.RecordLaws.{IsBeyond-none}
 use Rattle.run_rules.specs.Lawful.{Lawful}
 use Rattle.run_rules.specs.Moments.{IsCaused, Licensed}
 use Rattle.run_rules.proofs.LicenseLaws.{Lawful-from_licensed}
 use Rattle.run_rules.proofs.PlanLaws.{plan-covers}
 use Rattle.record_loop.specs.Cutting.{IsCutting}
-use Rattle.record_loop.specs.declared.closing.Closing.{Closing}
+use Rattle.record_loop.specs.declared.ending.Ending.{Ending}
 use Rattle.record_loop.specs.declared.in_flight.InFlight.{InFlight}
 use Rattle.record_loop.specs.declared.session.Session.{Session}
 use Rattle.record_loop.specs.Flights.{read_of}
 use Rattle.record_loop.specs.Printing.{Printed, Finished}
 use Rattle.record_loop.specs.Ran.{Answered, Ran}
-use Rattle.record_loop.specs.Reading.{Place, on, point_of, HasRoom, IsTaking, TakenAt, PassesLimit, Halts, HasHalted, Reads, AllTaken}
-use Rattle.io_views.specs.Sinks.{SinkView}
-use Rattle.io_views.specs.Sources.{SourceView}
-use Rattle.record_loop.specs.Standing.{Opening, terms_at, Point, at, Standing, StandsAt}
+use Rattle.record_loop.specs.Reading.{SessionState, on, HasRoom, TakenAt, IsThrough, Halts, HasHalted, Reads, AllTaken}
+use Rattle.exec_io.specs.Views.{SinkView}
+use Rattle.exec_io.specs.Views.{SourceView}
+use Rattle.record_loop.specs.Standing.{Opening, terms_at, RunState, at, Standing, StandsAt}
 use Rattle.record_loop.specs.Works.{Work}
 use Rattle.record_loop.proofs.StandingLaws.{read-lines, waiting-length}
-use Rattle.record_loop.proofs.ReadingLaws.{taken-count, stands-as}
+use Rattle.record_loop.proofs.ReadingLaws.{taken-count, taken-within, stands-as}
+
+-- a write that isn't lost in the end wasn't lost before
+pub not-lost : (before after : Bool) → (before ≡ true → after ≡ true) → after ≡ false → before ≡ false
+not-lost true after stays kept = let lost : after ≡ true = stays refl in cc
+not-lost false after stays kept = refl
 
 module _ {Wants : Blueprint → Type 0} {opening : Opening} {lines : List (List ℕ)} {work : Work} {now : SinkView} {flight : InFlight} (standing : Standing Wants opening (length lines) lines work now flight) (none : flight.slots.items ≡ []) where
   -- all records have a line
@@ -46,32 +50,32 @@ module _ {Wants : Blueprint → Type 0} {opening : Opening} {lines : List (List 
       (subst (λ (n : ℕ). IsCaused (terms_at Wants opening).rules opening.window n standing.outcomes standing.moment) few standing.caused)
       (subst (λ (xs : List (List ℕ)). Licensed (terms_at Wants opening) standing.moment xs standing.outcomes) (sym all-front) standing.licensed)
 
--- within the limits no byte passes one
-within-limits : (bytes : List ℕ) → length bytes ≤ MOST_BYTES → HasRoom bytes → IsBeyond bytes → ⊥
-within-limits bytes size room = IsBeyond-none bytes size room
-
 module _ {Wants : Blueprint → Type 0} {opening : Opening} {source left : Option (List ℕ)} where
   -- the reading stopped at a fault or a limit, and nothing is left to take
   pub AllTaken-stopped : (end : End) {work : Work} {sink : SinkView} {session : Session} → end ≢ Ended → Halts Wants opening end source left (on work sink session) → AllTaken Wants opening end source left (at work sink session.flight)
   AllTaken-stopped Ended other halts = absurd (other refl)
-  AllTaken-stopped Fault {session = session} other halts = record {
-    bytes = halts.bytes;
+  AllTaken-stopped Fault other halts = record {
+    bytes = halts.stops.front;
+    rest = halts.stops.rest;
     reads = record {
-      consumed = halts.consumed;
+      consumed = subst (Consumes source left) halts.stops.split halts.consumed;
       at_end = λ is. cc;
       beyond = λ is. cc;
-      within = λ _. within-limits halts.bytes (omega (arith, session.few_bytes, halts.stops.taken)) halts.stops.room;
+      within = λ _. halts.stops.within;
     };
+    all = halts.stops.all;
     standing = halts.stops.standing;
   }
   AllTaken-stopped Limit other halts = record {
     bytes = halts.bytes;
+    rest = [];
     reads = record {
-      consumed = halts.consumed;
+      consumed = subst (Consumes source left) (sym (append-nil halts.bytes)) halts.consumed;
       at_end = λ is. cc;
       beyond = λ _. halts.stops.beyond;
       within = λ not. absurd (not refl);
     };
+    all = λ _. refl;
     standing = halts.stops.standing;
   }
 
@@ -79,21 +83,23 @@ module _ {Wants : Blueprint → Type 0} {opening : Opening} {source left : Optio
   pub AllTaken-ended : {before after : Work} {now later : SinkView} {session : Session} (end : End) (flight : InFlight) → end ≡ Ended → (halts : Halts Wants opening end source left (on before now session))
       → (StandsAfter session.cutter halts.bytes → StandsAt Wants opening (whole_lines halts.bytes) (at before now session.flight) → StandsAt Wants opening (records_of halts.bytes Ended) (at after later flight))
       → AllTaken Wants opening end source left (at after later flight)
-  AllTaken-ended {session = session} Ended flight is halts takes = record {
+  AllTaken-ended Ended flight is halts takes = record {
     bytes = halts.bytes;
+    rest = [];
     reads = record {
-      consumed = halts.consumed;
+      consumed = subst (Consumes source left) (sym (append-nil halts.bytes)) halts.consumed;
       at_end = halts.at_end;
       beyond = λ is. cc;
-      within = λ _. within-limits halts.bytes (omega (arith, session.few_bytes, halts.stops.taken)) halts.stops.room;
+      within = λ _. taken-within halts.stops.taken;
     };
-    standing = takes halts.stops.stands halts.stops.standing;
+    all = λ _. refl;
+    standing = takes halts.stops.taken.stands halts.stops.taken.standing;
   }
   AllTaken-ended Fault flight is halts takes = cc
   AllTaken-ended Limit flight is halts takes = cc
 
 -- a last line comes after fewer than the most records
-pub last-few : {Wants : Blueprint → Type 0} {opening : Opening} {bytes : List ℕ} (place : Place) (new : Held) (end : LineEnd) → TakenAt Wants opening bytes place → EndsStream new bytes end → read_of place.session.flight < MOST_RECORDS
+pub last-few : {Wants : Blueprint → Type 0} {opening : Opening} {bytes : List ℕ} (place : SessionState) (new : Held) (end : LineEnd) → TakenAt Wants opening bytes place → EndsStream new bytes end → read_of place.session.flight < MOST_RECORDS
 unfolding last_line
 last-few {bytes = bytes} place new end taken ends = by taken.room
   where
@@ -108,14 +114,17 @@ last-few {bytes = bytes} place new end taken ends = by taken.room
     by (inr full) = absurd (omega (arith, longer, none full.1))
 
 -- what was printed of all records, and how the run ended
-pub Ran-closes : {Wants : Blueprint → Type 0} {opening : Opening} {work : Work} {now later : SinkView} {flight : InFlight} (end : End) (before after : SourceView) (closing : Closing)
+pub Ran-closes : {Wants : Blueprint → Type 0} {opening : Opening} {work : Work} {now later : SinkView} {flight : InFlight} (end : End) (before after : SourceView) (ending : Ending)
     → (taken : AllTaken Wants opening end before.left after.left (at work now flight)) → flight.slots.items ≡ []
-    → ((outcomes : _) → Printed opening.form opening.sink now flight.printer outcomes → Finished opening.form opening.sink later closing.summary closing.lost outcomes)
-    → closing.end ≡ end → (end ≡ Fault → closing.lost ≡ false → Rose before.faults after.faults) → Ran Wants opening before after later closing
-Ran-closes {Wants = Wants} {opening = opening} {later = later} end before after closing taken none closes is cause = record {
+    → (flight.printer.lost ≡ true → ending.lost ≡ true)
+    → ((outcomes : _) → Printed opening.form opening.sink now flight.printer outcomes → Finished opening.form opening.sink later ending.summary ending.lost outcomes)
+    → ending.end ≡ end → (end ≡ Fault → ending.lost ≡ false → Rose before.faults after.faults) → Ran Wants opening before after later ending
+Ran-closes {Wants = Wants} {opening = opening} {later = later} {flight = flight} end before after ending taken none stays closes is cause = record {
   bytes = taken.bytes;
-  reads = subst (λ (e : End). Reads before.left after.left e taken.bytes) (sym is) taken.reads;
-  answered = subst (λ (e : End). Answered Wants opening (records_of taken.bytes e) later closing) (sym is) (record {
+  rest = taken.rest;
+  reads = subst (λ (e : End). Reads before.left after.left e taken.bytes taken.rest) (sym is) taken.reads;
+  all = λ kept. taken.all (not-lost flight.printer.lost ending.lost stays kept);
+  answered = subst (λ (e : End). Answered Wants opening (records_of taken.bytes e) later ending) (sym is) (record {
     outcomes = taken.standing.outcomes;
     lawful = all-lawful taken.standing none;
     finished = closes taken.standing.outcomes taken.standing.printed;
@@ -123,17 +132,19 @@ Ran-closes {Wants = Wants} {opening = opening} {later = later} end before after 
   cause = λ fault kept. cause (sym is ∙ fault) kept;
 }
 
--- a session whose input ended has taken the bytes
-pub halted-taken : {Wants : Blueprint → Type 0} {place : Place} (end : End) → end ≡ Ended → HasHalted Wants end place → IsTaking Wants place
-halted-taken Ended is halted = record { opening = halted.opening; bytes = halted.halts.bytes; taken = halted.halts.stops }
-halted-taken Fault is halted = absurd (let e : Fault ≡ Ended = is in cc)
-halted-taken Limit is halted = absurd (let e : Limit ≡ Ended = is in cc)
+-- a session whose input ended has taken the bytes, and written all
+pub halted-through : {Wants : Blueprint → Type 0} {work : Work} {session : Session} (end : End) → end ≡ Ended → (halted : HasHalted Wants end work session) → IsThrough Wants halted.opening halted.halts.bytes (on work halted.sink session)
+halted-through Ended is halted = halted.halts.stops
+halted-through Fault is halted = absurd (let e : Fault ≡ Ended = is in cc)
+halted-through Limit is halted = absurd (let e : Limit ≡ Ended = is in cc)
 
 -- all records are written
-pub AllTaken-stays : {Wants : Blueprint → Type 0} {opening : Opening} {end : End} {source left : Option (List ℕ)} {old new : Point} → ((lines : List (List ℕ)) → StandsAt Wants opening lines old → StandsAt Wants opening lines new) → AllTaken Wants opening end source left old → AllTaken Wants opening end source left new
-AllTaken-stays {end = end} stays taken = record { bytes = taken.bytes; reads = taken.reads; standing = stays (records_of taken.bytes end) taken.standing }
-
--- a write that isn't lost in the end wasn't lost before
-pub not-lost : (before after : Bool) → (before ≡ true → after ≡ true) → after ≡ false → before ≡ false
-not-lost true after stays kept = let lost : after ≡ true = stays refl in cc
-not-lost false after stays kept = refl
+pub AllTaken-stays : {Wants : Blueprint → Type 0} {opening : Opening} {end : End} {source left : Option (List ℕ)} {old new : RunState} → ((lines : List (List ℕ)) → StandsAt Wants opening lines old → StandsAt Wants opening lines new)
+    → (old.flight.printer.lost ≡ true → new.flight.printer.lost ≡ true) → AllTaken Wants opening end source left old → AllTaken Wants opening end source left new
+AllTaken-stays {end = end} {old = old} {new = new} stays lost taken = record {
+  bytes = taken.bytes;
+  rest = taken.rest;
+  reads = taken.reads;
+  all = λ kept. taken.all (not-lost old.flight.printer.lost new.flight.printer.lost lost kept);
+  standing = stays (records_of taken.bytes end) taken.standing;
+}

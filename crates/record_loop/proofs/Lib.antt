@@ -3,6 +3,7 @@ pub mod ClosingLaws
 pub mod GeneratedLaws
 pub mod OpeningLaws
 pub mod PrintingLaws
+pub mod ReadStartLaws
 pub mod ReadingLaws
 pub mod SlotLaws
 pub mod StandingLaws

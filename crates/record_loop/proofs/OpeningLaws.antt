@@ -9,7 +9,7 @@ use Rattle.record_loop.specs.declared.printer.Form.{Form}
 use Rattle.record_loop.specs.declared.session.Session.{Session}
 use Rattle.record_loop.specs.Flights.{IsFresh, read_of}
 use Rattle.record_loop.specs.Reading.{on, TakenAt}
-use Rattle.io_views.specs.Sinks.{SinkView}
+use Rattle.exec_io.specs.Views.{SinkView}
 use Rattle.record_loop.specs.Standing.{opening_of, at, StandsAt}
 use Rattle.record_loop.specs.Works.{Work}
 use Rattle.record_loop.proofs.StandingLaws.{Standing-fresh}

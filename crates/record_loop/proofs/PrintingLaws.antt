@@ -5,17 +5,17 @@ use Rattle.exec_io.specs.Causes.{Rose, HasCause}
 use Rattle.exec_io.specs.Sinks.{Appends}
 use Rattle.exec_io.proofs.SinkLemmas.{Appends-nil, Appends-trans}
 use Rattle.exec_value.specs.declared.outcome.Outcome.{Outcome}
-use Rattle.exec_value.specs.Line.{line_of, text_from}
-use Rattle.exec_value.specs.Summary.{summary_of}
-use Rattle.exec_value.specs.Writing.{AppendsFront, Puts}
-use Rattle.exec_value.proofs.PutsLemmas.{AppendsFront-none, AppendsFront-cut, AppendsFront-then}
+use Rattle.outcome_lines.specs.Line.{line_of, text_from}
+use Rattle.outcome_lines.specs.Summary.{summary_of}
+use Rattle.exec_io.specs.Writing.{AppendsFront, Puts}
+use Rattle.exec_io.proofs.PutsLemmas.{AppendsFront-none, AppendsFront-cut, AppendsFront-then}
 use Rattle.line_summary.specs.Counting.{Summarizes}
 use Rattle.record_loop.specs.declared.printer.Form.{Form}
 use Rattle.record_loop.specs.declared.printer.Form.TheVariants.{Lines, Summary}
 use Rattle.record_loop.specs.declared.printer.Printer.{Printer}
-use Rattle.io_views.specs.Sinks.{SinkView, view_of}
+use Rattle.exec_io.specs.Views.{SinkView}
 use Rattle.record_loop.specs.Printing.{Wrote, text_so_far, text_of, Printed, Finished}
-use Rattle.io_views.specs.Untouched.{IsHandedOn}
+use Rattle.exec_io.specs.Untouched.{IsHandedOn}
 
 -- a test has one answer
 pub differ : {b : Bool} → b ≡ true → b ≡ false → ⊥
@@ -78,58 +78,57 @@ Wrote-hands {text = text} {start = start} later (Err e) wrote same handed cause 
   later = omega (arith, wrote.later, cause.later);
 }
 
-module _ {K : Type 0} {written : K → Option (List ℕ)} {outstanding : K → Option ℕ} {faults : K → ℕ} where
-  -- more is written
-  Wrote-puts : {text more : List ℕ} {start : SinkView} {s t : K} {due : Bool} {r : Result (Unit {0}) Failed} → Wrote text start (view_of written outstanding faults s) due false → Puts written outstanding faults s t r more → Wrote (text ++ more) start (view_of written outstanding faults t) true (is_err r)
-  Wrote-puts {text = text} {more = more} {start = start} {s = s} {t = t} {r = Ok v} wrote puts = record {
-    part = AppendsFront-then (wrote.whole refl) puts.part;
-    whole = λ _. Appends-trans (wrote.whole refl) puts.ok;
-    handed_on = λ _ settled. cc;
-    cause = λ is. cc;
-    still = λ _. puts.cause.still ∙ wrote.still refl;
-    later = omega (arith, wrote.later, puts.cause.later);
-  }
-  Wrote-puts {text = text} {more = more} {start = start} {s = s} {t = t} {r = Err e} wrote puts = record {
-    part = AppendsFront-then (wrote.whole refl) puts.part;
-    whole = λ is. cc;
-    handed_on = λ is. cc;
-    cause = λ _. omega (arith, puts.cause.failed, wrote.later);
-    still = λ is. cc;
-    later = omega (arith, wrote.later, puts.cause.later);
-  }
+-- more is written
+Wrote-puts : {text more : List ℕ} {start : SinkView} {s t : SinkView} {due : Bool} {r : Result (Unit {0}) Failed} → Wrote text start s due false → Puts s t r more → Wrote (text ++ more) start t true (is_err r)
+Wrote-puts {text = text} {more = more} {start = start} {s = s} {t = t} {r = Ok v} wrote puts = record {
+  part = AppendsFront-then (wrote.whole refl) puts.part;
+  whole = λ _. Appends-trans (wrote.whole refl) puts.ok;
+  handed_on = λ _ settled. cc;
+  cause = λ is. cc;
+  still = λ _. puts.cause.still ∙ wrote.still refl;
+  later = omega (arith, wrote.later, puts.cause.later);
+}
+Wrote-puts {text = text} {more = more} {start = start} {s = s} {t = t} {r = Err e} wrote puts = record {
+  part = AppendsFront-then (wrote.whole refl) puts.part;
+  whole = λ is. cc;
+  handed_on = λ is. cc;
+  cause = λ _. omega (arith, puts.cause.failed, wrote.later);
+  still = λ is. cc;
+  later = omega (arith, wrote.later, puts.cause.later);
+}
 
-  -- the line of the next outcome is written
-  pub Printed-line : {form : Form} {start : SinkView} {s t : K} {old new : Printer} {outcomes : List Outcome} {r : Result (Unit {0}) Failed} (outcome : Outcome) (number : ℕ)
-      → Printed form start (view_of written outstanding faults s) old outcomes → Summarizes new.summary (outcomes ++ outcome ∷ [])
-      → old.form ≡ Lines → old.lost ≡ false → number ≡ old.summary.lines + 1
-      → Puts written outstanding faults s t r (line_of number outcome) → new.form ≡ old.form → new.due ≡ true → new.lost ≡ is_err r
-      → Printed form start (view_of written outstanding faults t) new (outcomes ++ outcome ∷ [])
-  Printed-line {form = Summary} outcome number printed counts lines kept count puts same due lost = absurd (let e : Summary ≡ Lines = sym printed.form_is ∙ lines in cc)
-  Printed-line {form = Lines} {start = start} {s = s} {t = t} {old = old} {new = new} {outcomes = outcomes} {r = r} outcome number printed counts lines kept count puts same due lost =
-      let more : text_from 1 (outcomes ++ outcome ∷ []) ≡ text_from 1 outcomes ++ line_of number outcome = next_line outcomes outcome number (omega (arith, count, printed.counted.lines)) in
-      let was : Wrote (text_from 1 outcomes) start (view_of written outstanding faults s) old.due false = subst (Wrote (text_from 1 outcomes) start (view_of written outstanding faults s) old.due) kept printed.wrote in
-      let wrote = Wrote-puts was puts in
-      let P : List ℕ → Type 0 = λ text. Wrote text start (view_of written outstanding faults t) true (is_err r) in
-      let Q : Bool → Type 0 = λ d. Wrote (text_from 1 (outcomes ++ outcome ∷ [])) start (view_of written outstanding faults t) d (is_err r) in
-      let R : Bool → Type 0 = λ l. Wrote (text_from 1 (outcomes ++ outcome ∷ [])) start (view_of written outstanding faults t) new.due l in
-      record {
-        form_is = same ∙ printed.form_is;
-        counted = counts;
-        wrote = subst R (sym lost) (subst Q (sym due) (subst P (sym more) wrote));
-      }
+-- the line of the next outcome is written
+pub Printed-line : {form : Form} {start : SinkView} {s t : SinkView} {old new : Printer} {outcomes : List Outcome} {r : Result (Unit {0}) Failed} (outcome : Outcome) (number : ℕ)
+    → Printed form start s old outcomes → Summarizes new.summary (outcomes ++ outcome ∷ [])
+    → old.form ≡ Lines → old.lost ≡ false → number ≡ old.summary.lines + 1
+    → Puts s t r (line_of number outcome) → new.form ≡ old.form → new.due ≡ true → new.lost ≡ is_err r
+    → Printed form start t new (outcomes ++ outcome ∷ [])
+Printed-line {form = Summary} outcome number printed counts lines kept count puts same due lost = absurd (let e : Summary ≡ Lines = sym printed.form_is ∙ lines in cc)
+Printed-line {form = Lines} {start = start} {s = s} {t = t} {old = old} {new = new} {outcomes = outcomes} {r = r} outcome number printed counts lines kept count puts same due lost =
+    let more : text_from 1 (outcomes ++ outcome ∷ []) ≡ text_from 1 outcomes ++ line_of number outcome = next_line outcomes outcome number (omega (arith, count, printed.counted.lines)) in
+    let was : Wrote (text_from 1 outcomes) start s old.due false = subst (Wrote (text_from 1 outcomes) start s old.due) kept printed.wrote in
+    let wrote = Wrote-puts was puts in
+    let P : List ℕ → Type 0 = λ text. Wrote text start t true (is_err r) in
+    let Q : Bool → Type 0 = λ d. Wrote (text_from 1 (outcomes ++ outcome ∷ [])) start t d (is_err r) in
+    let R : Bool → Type 0 = λ l. Wrote (text_from 1 (outcomes ++ outcome ∷ [])) start t new.due l in
+    record {
+      form_is = same ∙ printed.form_is;
+      counted = counts;
+      wrote = subst R (sym lost) (subst Q (sym due) (subst P (sym more) wrote));
+    }
 
-  -- the summary of the outcomes is written
-  pub Printed-summary : {form : Form} {start : SinkView} {s t : K} {old : Printer} {outcomes : List Outcome} {due lost : Bool} {r : Result (Unit {0}) Failed}
-      → Printed form start (view_of written outstanding faults s) old outcomes → old.form ≡ Summary → old.lost ≡ false
-      → Puts written outstanding faults s t r (summary_of outcomes) → due ≡ true → lost ≡ is_err r
-      → Wrote (text_of form outcomes) start (view_of written outstanding faults t) due lost
-  Printed-summary {form = Lines} printed summary kept puts due lost = absurd (let e : Lines ≡ Summary = sym printed.form_is ∙ summary in cc)
-  Printed-summary {form = Summary} {start = start} {s = s} {t = t} {old = old} {outcomes = outcomes} {due = d} {lost = l} {r = r} printed summary kept puts due lost =
-      let was : Wrote [] start (view_of written outstanding faults s) old.due false = subst (Wrote [] start (view_of written outstanding faults s) old.due) kept printed.wrote in
-      let wrote : Wrote (summary_of outcomes) start (view_of written outstanding faults t) true (is_err r) = Wrote-puts was puts in
-      let Q : Bool → Type 0 = λ d. Wrote (summary_of outcomes) start (view_of written outstanding faults t) d (is_err r) in
-      let R : Bool → Type 0 = λ l. Wrote (summary_of outcomes) start (view_of written outstanding faults t) d l in
-      subst R (sym lost) (subst Q (sym due) wrote)
+-- the summary of the outcomes is written
+pub Printed-summary : {form : Form} {start : SinkView} {s t : SinkView} {old : Printer} {outcomes : List Outcome} {due lost : Bool} {r : Result (Unit {0}) Failed}
+    → Printed form start s old outcomes → old.form ≡ Summary → old.lost ≡ false
+    → Puts s t r (summary_of outcomes) → due ≡ true → lost ≡ is_err r
+    → Wrote (text_of form outcomes) start t due lost
+Printed-summary {form = Lines} printed summary kept puts due lost = absurd (let e : Lines ≡ Summary = sym printed.form_is ∙ summary in cc)
+Printed-summary {form = Summary} {start = start} {s = s} {t = t} {old = old} {outcomes = outcomes} {due = d} {lost = l} {r = r} printed summary kept puts due lost =
+    let was : Wrote [] start s old.due false = subst (Wrote [] start s old.due) kept printed.wrote in
+    let wrote : Wrote (summary_of outcomes) start t true (is_err r) = Wrote-puts was puts in
+    let Q : Bool → Type 0 = λ d. Wrote (summary_of outcomes) start t d (is_err r) in
+    let R : Bool → Type 0 = λ l. Wrote (summary_of outcomes) start t d l in
+    subst R (sym lost) (subst Q (sym due) wrote)
 
 -- nothing is left to write: the lines stand there, or a write was lost
 pub Printed-rest : {form : Form} {start now : SinkView} {old : Printer} {outcomes : List Outcome} → Printed form start now old outcomes → (old.lost ≡ true) ⊎ (old.form ≡ Lines) → Wrote (text_of form outcomes) start now old.due old.lost

@@ -15,7 +15,7 @@ use Rattle.run_rules.specs.StopStates.{state_between}
 use Rattle.run_rules.proofs.LicenseLaws.{late-license}
 use Rattle.record_loop.specs.declared.slot.Slot.{Slot}
 use Rattle.record_loop.specs.declared.slot.Slot.TheVariants.{Running, Bad, NoMemory}
-use Rattle.record_loop.specs.Settling.{HasOperation, Settles}
+use Rattle.record_loop.specs.Slots.{HasOperation, Settles}
 use Rattle.record_loop.specs.Standing.{IsBegun, StandsFor, StandForAll}
 use Rattle.record_loop.specs.Works.{Begun, Work, Keeps, Collects, MayComplete, seen_state}
 

@@ -3,8 +3,8 @@ use Rattle.std.proofs.Common.{◌≡◌, ◌≢◌, ◌⊎◌, ℕ, ◌+◌, ◌
 use Rattle.std.specs.Prelude.{is_some, option_and_then}
 use Rattle.exec_value.specs.declared.kinds.Kind.{Kind}
 use Rattle.exec_value.specs.declared.outcome.Outcome.{Outcome}
-use Rattle.exec_value.specs.Summary.{is_error}
-use Rattle.life_rules.specs.declared.scope.ScopeKind.TheVariants.{Counting}
+use Rattle.outcome_lines.specs.Summary.{is_error}
+use Rattle.node_tree.specs.declared.scope_kind.ScopeKind.TheVariants.{Counting}
 use Rattle.plan_rules.specs.declared.settings.Settings.{Settings}
 use Rattle.plan_shape.specs.Blueprint.{Blueprint}
 use Rattle.record_lines.specs.Lines.{text_of}
@@ -14,15 +14,15 @@ use Rattle.run_rules.specs.PlanTerms.{terms_of, MayRun, has_stop_rule}
 use Rattle.run_rules.specs.StopStates.{StopRules, rules_of}
 use Rattle.run_rules.proofs.LicenseLaws.{Licensed-nil, Licensed-more, Licensed-asks}
 use Rattle.run_rules.proofs.MomentLaws.{quiet-nil, quiet-read, timely-read, timely-more, quiet-write, timely-write, timely-written}
-use Rattle.record_loop.specs.Beginning.{BeginsSlot, BeginsText}
+use Rattle.record_loop.specs.Slots.{BeginsSlot, BeginsText}
 use Rattle.record_loop.specs.Flights.{IsFresh, read_of}
 use Rattle.record_loop.specs.declared.in_flight.InFlight.{InFlight}
 use Rattle.record_loop.specs.declared.printer.Printer.{Printer}
 use Rattle.record_loop.specs.declared.slot.Slot.{Slot}
 use Rattle.record_loop.specs.declared.slot.Slot.TheVariants.{Running, Bad, NoMemory}
 use Rattle.record_loop.specs.Printing.{Printed}
-use Rattle.record_loop.specs.Settling.{HasOperation, Settles}
-use Rattle.io_views.specs.Sinks.{SinkView}
+use Rattle.record_loop.specs.Slots.{HasOperation, Settles}
+use Rattle.exec_io.specs.Views.{SinkView}
 use Rattle.record_loop.specs.Standing.{Opening, terms_at, IsBegun, StandsFor, StandForAll, Standing, Counted}
 use Rattle.record_loop.specs.Works.{Begun, Work, Keeps, Begins, Requests}
 use Rattle.record_loop.proofs.SlotLaws.{StandForAll-length, StandForAll-kept, StandsFor-kept, StandForAll-asks, StandForAll-push, StandsFor-operation, MayEnd-settles, Settles-plan, StandForAll-settles}

@@ -39,6 +39,7 @@ pub Collects-after : {Wants : Blueprint → Type 0} {old mid new : Work} {block 
 Collects-after {Wants = Wants} {old = old} {mid = mid} {block = block} {completion = completion} first collects = record {
   plan = collects.plan ∙ first.plan;
   requested = collects.requested ∙ first.requested;
+  free = collects.free;
   others = λ b begun apart is. collects.others b begun apart (first.blocks b begun is);
   ends = λ begun is. same first.plan first.requested begun (collects.ends begun (first.blocks block begun is));
 }

@@ -2,7 +2,7 @@
 use Rattle.std.proofs.Common.{◌≡◌, ◌≢◌, ◌⊎◌, ℕ, ◌+◌, ◌-◌, ◌<◌, ◌≤◌, Bool, true, false, List, [], ◌∷◌, ◌++◌, length, drop, Option, Some, None, slice_get, refl, sym, ap, ◌∙◌, subst, inl, inr, append_assoc, length-append, arith}
 use Rattle.std.specs.Prelude.{is_some}
 use Rattle.exec_value.specs.declared.outcome.Outcome.{Outcome}
-use Rattle.exec_value.specs.Summary.{is_error}
+use Rattle.outcome_lines.specs.Summary.{is_error}
 use Rattle.plan_rules.specs.declared.settings.Settings.{Settings}
 use Rattle.plan_shape.specs.Blueprint.{Blueprint}
 use Rattle.run_rules.specs.Lawful.{Terms, MayEnd}
@@ -13,8 +13,8 @@ use Rattle.run_rules.proofs.MomentLaws.{quiet-write, timely-write, timely-writte
 use Rattle.record_loop.specs.declared.in_flight.InFlight.{InFlight}
 use Rattle.record_loop.specs.declared.slot.Slot.{Slot}
 use Rattle.record_loop.specs.Printing.{Printed}
-use Rattle.record_loop.specs.Settling.{HasOperation, Settles}
-use Rattle.io_views.specs.Sinks.{SinkView}
+use Rattle.record_loop.specs.Slots.{HasOperation, Settles}
+use Rattle.exec_io.specs.Views.{SinkView}
 use Rattle.record_loop.specs.Standing.{Opening, terms_at, StandsFor, StandForAll, Standing}
 use Rattle.record_loop.specs.Works.{Work, Requests}
 use Rattle.record_loop.proofs.SlotLaws.{StandForAll-kept, StandForAll-asks, StandsFor-operation, MayEnd-settles, Settles-plan, StandForAll-settles}

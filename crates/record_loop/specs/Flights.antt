@@ -1,11 +1,11 @@
 -- The records in flight.
 use Rattle.std.specs.Prelude.{◌≡◌, ℕ, ◌+◌, true, false, [], length}
-use Rattle.life_rules.specs.declared.scope.ScopeKind.TheVariants.{Counting}
+use Rattle.node_tree.specs.declared.scope_kind.ScopeKind.TheVariants.{Counting}
 use Rattle.plan_rules.specs.declared.settings.Settings.{Settings}
 use Rattle.record_loop.specs.declared.in_flight.InFlight.{InFlight}
 use Rattle.record_loop.specs.declared.printer.Form.{Form}
 use Rattle.record_loop.specs.Printing.{Printed}
-use Rattle.io_views.specs.Sinks.{SinkView}
+use Rattle.exec_io.specs.Views.{SinkView}
 use Rattle.record_loop.specs.Works.{Work}
 use Rattle.run_rules.specs.PlanTerms.{has_stop_rule}
 

@@ -1,11 +1,12 @@
-pub mod Beginning
 pub mod Beginnings
+pub mod CaughtUp
 pub mod Cutting
 pub mod Flights
 pub mod Generated
 pub mod Printing
 pub mod Ran
+pub mod ReadStarts
 pub mod Reading
-pub mod Settling
+pub mod Slots
 pub mod Standing
 pub mod Works

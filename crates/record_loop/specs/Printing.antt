@@ -2,17 +2,17 @@
 use Rattle.std.specs.Prelude.{◌≡◌, ℕ, ◌≤◌, Bool, true, false, List, []}
 use Rattle.exec_io.specs.Causes.{Rose}
 use Rattle.exec_io.specs.Sinks.{Appends}
-use Rattle.exec_value.specs.Line.{text_from}
-use Rattle.exec_value.specs.Summary.{summary_of}
-use Rattle.exec_value.specs.Writing.{AppendsFront}
+use Rattle.outcome_lines.specs.Line.{text_from}
+use Rattle.outcome_lines.specs.Summary.{summary_of}
+use Rattle.exec_io.specs.Writing.{AppendsFront}
 use Rattle.exec_value.specs.declared.outcome.Outcome.{Outcome}
 use Rattle.line_summary.specs.Counting.{Summarizes}
 use Rattle.line_summary.specs.declared.summary.Summary.{Summary as SummaryCounts}
 use Rattle.record_loop.specs.declared.printer.Form.{Form}
 use Rattle.record_loop.specs.declared.printer.Form.TheVariants.{Lines, Summary}
 use Rattle.record_loop.specs.declared.printer.Printer.{Printer}
-use Rattle.io_views.specs.Sinks.{SinkView}
-use Rattle.io_views.specs.Untouched.{IsHandedOn}
+use Rattle.exec_io.specs.Views.{SinkView}
+use Rattle.exec_io.specs.Untouched.{IsHandedOn}
 
 -- Since the start this text was written, or a front of it where a write was lost. Where nothing is
 -- due, what was written is handed on.

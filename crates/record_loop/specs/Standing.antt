@@ -8,7 +8,7 @@ use Rattle.record_loop.specs.declared.printer.Form.{Form}
 use Rattle.record_loop.specs.declared.slot.Slot.{Slot}
 use Rattle.record_loop.specs.declared.slot.Slot.TheVariants.{Running, Bad, NoMemory}
 use Rattle.record_loop.specs.Printing.{Printed}
-use Rattle.io_views.specs.Sinks.{SinkView}
+use Rattle.exec_io.specs.Views.{SinkView}
 use Rattle.record_loop.specs.Works.{Begun, Work}
 use Rattle.run_rules.specs.Lawful.{Terms, datum_of}
 use Rattle.run_rules.specs.Moments.{Moment, is_asked, IsCaused, Licensed}
@@ -85,43 +85,65 @@ pub record Counted (WantsMemory : Blueprint → Type 0) (opening : Opening) (lin
   pub early : (moment : Moment) → standing.moment ≡ Some moment → moment.first ≤ length lines + 1
 
 -- What a call sees of a run: the operations, the sink, and the records in flight.
-pub record Point : Type 0 where
+pub record RunState : Type 0 where
   pub work : Work
   pub sink : SinkView
   pub flight : InFlight
 
-abbrev pub at : Work → SinkView → InFlight → Point
+abbrev pub at : Work → SinkView → InFlight → RunState
 at work sink flight = record { work = work; sink = sink; flight = flight }
 
 -- The run stands so, with all records of these lines in it.
-abbrev pub StandsAt : (Blueprint → Type 0) → Opening → List (List ℕ) → Point → Type 0
-StandsAt WantsMemory opening lines point =
-    Standing WantsMemory opening (length lines) lines point.work point.sink point.flight
+abbrev pub StandsAt : (Blueprint → Type 0) → Opening → List (List ℕ) → RunState → Type 0
+StandsAt WantsMemory opening lines run =
+    Standing WantsMemory opening (length lines) lines run.work run.sink run.flight
 
 -- The run stands so, and the next record is counted.
-abbrev pub CountsAt : (Blueprint → Type 0) → Opening → List (List ℕ) → Point → Type 0
-CountsAt WantsMemory opening lines point =
-    Counted WantsMemory opening lines point.work point.sink point.flight
+abbrev pub CountsAt : (Blueprint → Type 0) → Opening → List (List ℕ) → RunState → Type 0
+CountsAt WantsMemory opening lines run =
+    Counted WantsMemory opening lines run.work run.sink run.flight
 
 -- A run goes on.
-pub record IsGoing (WantsMemory : Blueprint → Type 0) (point : Point) : Type 0 where
+pub record IsGoing (WantsMemory : Blueprint → Type 0) (run : RunState) : Type 0 where
   pub opening : Opening
   pub lines : List (List ℕ)
-  pub standing : StandsAt WantsMemory opening lines point
+  pub standing : StandsAt WantsMemory opening lines run
+
+-- A run goes on, over some sink.
+pub record MayTake (WantsMemory : Blueprint → Type 0) (work : Work) (flight : InFlight) : Type 0 where
+  pub sink : SinkView
+  pub going : IsGoing WantsMemory (at work sink flight)
 
 -- A run has read no record.
-pub record StandsEmpty (WantsMemory : Blueprint → Type 0) (point : Point) : Type 0 where
+pub record StandsEmpty (WantsMemory : Blueprint → Type 0) (run : RunState) : Type 0 where
   pub opening : Opening
-  pub standing : StandsAt WantsMemory opening [] point
+  pub standing : StandsAt WantsMemory opening [] run
 
 -- A run that stands so before a call stands so afterwards, with the same records.
-abbrev pub Stays : (Blueprint → Type 0) → Point → Point → Type 0
+abbrev pub Stays : (Blueprint → Type 0) → RunState → RunState → Type 0
 Stays WantsMemory old new =
     (opening : Opening) (lines : List (List ℕ)) → StandsAt WantsMemory opening lines old
     → StandsAt WantsMemory opening lines new
 
--- It stands so with the record of a line more, whose text this is.
-abbrev pub Takes : (Blueprint → Type 0) → (List ℕ → Type 0) → Point → Point → Type 0
+-- It stands so, with the next record counted.
+abbrev pub CountsNext : (Blueprint → Type 0) → RunState → RunState → Type 0
+CountsNext WantsMemory old new =
+    (opening : Opening) (lines : List (List ℕ)) → StandsAt WantsMemory opening lines old
+    → CountsAt WantsMemory opening lines new
+
+-- The counted record, of a line with this text, is in flight.
+abbrev pub BeginsNext : (Blueprint → Type 0) → (List ℕ → Type 0) → RunState → RunState → Type 0
+BeginsNext WantsMemory IsText old new =
+    (opening : Opening) (lines : List (List ℕ)) (line : List ℕ) → IsText line
+    → CountsAt WantsMemory opening lines old → StandsAt WantsMemory opening (lines ++ line ∷ []) new
+
+-- The run stands so with the record of a line more, whose text this is.
+abbrev pub Takes : (Blueprint → Type 0) → (List ℕ → Type 0) → RunState → RunState → Type 0
 Takes WantsMemory IsText old new =
     (opening : Opening) (lines : List (List ℕ)) (line : List ℕ) → IsText line
     → StandsAt WantsMemory opening lines old → StandsAt WantsMemory opening (lines ++ line ∷ []) new
+
+-- A run that has read no record stands afterwards with the records of these lines.
+abbrev pub TakesFirst : (Blueprint → Type 0) → List (List ℕ) → RunState → RunState → Type 0
+TakesFirst WantsMemory lines old new =
+    (opening : Opening) → StandsAt WantsMemory opening [] old → StandsAt WantsMemory opening lines new

@@ -1,5 +1,5 @@
 -- What the layer below shows of the operations that it runs.
-use Rattle.std.specs.Prelude.{◌≡◌, ◌≢◌, ◌⊎◌, ℕ, Bool, true, false, Option, Some}
+use Rattle.std.specs.Prelude.{◌≡◌, ◌≢◌, ◌⊎◌, ℕ, Bool, true, false, Option, None, Some}
 use Rattle.exec_value.specs.declared.data.Datum.{Datum}
 use Rattle.exec_value.specs.declared.outcome.Completion.{Completion}
 use Rattle.exec_value.specs.declared.outcome.Completion.TheVariants.{NoMemory}
@@ -58,11 +58,13 @@ MayComplete WantsMemory work begun completion =
     ⊎ AllowsRecord work.plan begun.number begun.datum (seen_state begun.asked work.requested)
     completion
 
--- The operation of a block is collected, with this completion. The others are kept.
+-- The operation of a block is collected, with this completion, and the block is free. The others are
+-- kept.
 pub record Collects (WantsMemory : Blueprint → Type 0) (old new : Work) (block : ℕ)
     (completion : Completion) : Type 0 where
   pub plan : new.plan ≡ old.plan
   pub requested : new.requested ≡ old.requested
+  pub free : new.block block ≡ None
   pub others : (b : ℕ) (begun : Begun) → b ≢ block → old.block b ≡ Some begun
       → new.block b ≡ Some begun
   pub ends : (begun : Begun) → old.block block ≡ Some begun

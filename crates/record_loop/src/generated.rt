@@ -6,12 +6,11 @@ ghost use Rattle.record_lines.specs.declared.limits.TheConstants.{MOST_RECORDS};
 ghost use Rattle.record_loop.specs.Flights.{read_of};
 ghost use Rattle.record_loop.specs.Generated.{generated, shown_as, generated_lines};
 ghost use Rattle.record_loop.specs.Ran.{Answered};
-ghost use Rattle.io_views.specs.Sinks.{view_of};
-ghost use Rattle.record_loop.specs.Standing.{at, opening_of, Opening, StandsAt, StandsEmpty};
+ghost use Rattle.record_loop.specs.Standing.{at, opening_of, TakesFirst, StandsEmpty};
 ghost use Rattle.record_loop.specs.declared.printer.Form.{Form};
 ghost use Rattle.run_rules.specs.PlanTerms.{MayRun};
 
-use crate::closing::Closing;
+use crate::ending::Ending;
 use crate::in_flight::InFlight;
 use crate::operations::Operations;
 use crate::printer::Form;
@@ -72,18 +71,15 @@ fn take_all<R: Wait + Sync, O: Operations, K: Sink>(
     requires few { count ≤ MOST_RECORDS }
     requires none { read_of flight.old ≡ 0 }
     requires new { StandsEmpty O.WantsMemory
-        (at (O.state operations.old) (view_of K.written K.outstanding K.faults out.old)
-        flight.old) }
-    ensures takes { (opening : Opening) → StandsAt O.WantsMemory opening []
-        (at (O.state operations.old) (view_of K.written K.outstanding K.faults out.old)
-        flight.old) →
-        StandsAt O.WantsMemory opening (generated_lines kind count)
-        (at (O.state operations.new) (view_of K.written K.outstanding K.faults out.new)
-        flight.new) }
+        (at (O.state operations.old) (K.told out.old) flight.old) }
+    ensures takes { TakesFirst O.WantsMemory (generated_lines kind count)
+        (at (O.state operations.old) (K.told out.old) flight.old)
+        (at (O.state operations.new) (K.told out.new) flight.new) }
 {
     for before in 0..count {
         show(kind, generated(before + 1), line);
-        flight.take(rt, alloc, Some(line.as_slice()), operations, out);
+        flight.make_room(rt, alloc, operations, out);
+        flight.take(rt, alloc, Some(line.as_slice()), operations);
     }
 }
 
@@ -99,22 +95,18 @@ pub fn run_generated<R: Wait + Sync, O: Operations, K: Sink>(
     count: u32,
     operations: &mut O,
     out: &mut K,
-) -> Result<Closing, AllocError>
+) -> Result<Ending, AllocError>
     requires sync { IsSync R.row }
     requires some { 0 < window }
     requires few { count ≤ MOST_RECORDS }
     requires settings_are { settings ≡ (O.state operations.old).plan.settings }
     requires idle { (O.state operations.old).requested ≡ false }
     requires may_run { MayRun settings }
-    ensures untouched { OnErr result (
-        view_of K.written K.outstanding K.faults out.new
-        ≡ view_of K.written K.outstanding K.faults out.old) }
-    ensures end { IfOk result (λ closing. closing.end ≡ End.Ended) }
+    ensures untouched { OnErr result (K.told out.new ≡ K.told out.old) }
+    ensures end { IfOk result (λ ending. ending.end ≡ End.Ended) }
     ensures ran { IfOk result (Answered O.WantsMemory
-        (opening_of (O.state operations.old) window Form.Summary
-        (view_of K.written K.outstanding K.faults out.old))
-        (generated_lines settings.input count)
-        (view_of K.written K.outstanding K.faults out.new)) }
+        (opening_of (O.state operations.old) window Form.Summary (K.told out.old))
+        (generated_lines settings.input count) (K.told out.new)) }
 {
     let mut line = Vec::with_capacity(alloc, LINE)?;
     let mut flight = InFlight::open(alloc, window, settings, Form::Summary)?;

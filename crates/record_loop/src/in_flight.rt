@@ -2,19 +2,17 @@
 ghost use Rattle.std.specs.Prelude.{◌≡◌, ◌<◌, ◌≤◌, ◌+◌, ◌-◌, true, false, [], ◌∷◌, ◌++◌, length, ℕ, List, IfOk, Some};
 ghost use Rattle.std.specs.Option.{option_copied};
 ghost use Rattle.std.specs.Thread.{IsSync};
-ghost use Rattle.life_rules.specs.declared.scope.ScopeKind.{ScopeKind};
+ghost use Rattle.node_tree.specs.declared.scope_kind.ScopeKind.{ScopeKind};
 ghost use Rattle.record_lines.specs.Lines.{text_of};
 ghost use Rattle.record_lines.specs.declared.limits.TheConstants.{MOST_RECORDS};
-ghost use Rattle.io_views.specs.Sinks.{SinkView, view_of};
-ghost use Rattle.exec_value.specs.Summary.{is_error};
+ghost use Rattle.exec_io.specs.Views.{SinkView};
+ghost use Rattle.outcome_lines.specs.Summary.{is_error};
 ghost use Rattle.record_loop.specs.Works.{Requests};
 
-use crate::begin::begin;
-use crate::closing::Closing;
-use crate::collect::outcome_of;
+use crate::ending::Ending;
 use crate::operations::Operations;
 use crate::printer::{Form, Printer};
-use crate::slot::Slot;
+use crate::slot::{Slot, begin, outcome_of};
 use circular_buffer::HeapCircularBuffer;
 use exec_io::Sink;
 use exec_value::Outcome;
@@ -59,7 +57,7 @@ impl InFlight {
     ghost use Rattle.exec_value.specs.declared.outcome.Outcome.{Outcome};
     ghost use Rattle.record_loop.specs.declared.printer.Form.{Form};
     ghost use Rattle.record_loop.specs.declared.in_flight.InFlight.{InFlight};
-    ghost use Rattle.record_loop.specs.Standing.{at, IsGoing, Stays, Takes, CountsAt, StandsAt, Opening};
+    ghost use Rattle.record_loop.specs.Standing.{at, IsGoing, MayTake, Stays, CountsNext, BeginsNext, Takes};
     ghost use Rattle.record_loop.specs.Flights.{IsFresh, read_of, Requested, MayAsk};
     ghost use Rattle.record_loop.specs.Printing.{Wrote, Printed, Finished};
 
@@ -116,9 +114,9 @@ impl InFlight {
         ensures slots { self.new.slots ≡ self.old.slots }
         ensures printer { self.new.printer ≡ self.old.printer }
         ensures settings { self.new.settings ≡ self.old.settings }
-        ensures counts { (opening : Opening) (lines : List (List ℕ)) (sink : SinkView) →
-            StandsAt O.WantsMemory opening lines (at (O.state operations.old) sink self.old) →
-            CountsAt O.WantsMemory opening lines (at (O.state operations.new) sink self.new) }
+        ensures counts { (sink : SinkView) → CountsNext O.WantsMemory
+            (at (O.state operations.old) sink self.old)
+            (at (O.state operations.new) sink self.new) }
     {
         let number = self.read() as u32 + 1;
         if !is_due(self.settings.stop_after, number) {
@@ -138,55 +136,26 @@ impl InFlight {
     )
         requires sync { IsSync R.row }
         requires going { IsGoing O.WantsMemory
-            (at (O.state operations.old) (view_of K.written K.outstanding K.faults out.old)
-            self.old) }
+            (at (O.state operations.old) (K.told out.old) self.old) }
         ensures slots { length self.new.slots.items ≡ length self.old.slots.items - 1 }
         ensures stays_lost { self.old.printer.lost ≡ true → self.new.printer.lost ≡ true }
         ensures capacity { self.new.slots.capacity ≡ self.old.slots.capacity }
         ensures read { read_of self.new ≡ read_of self.old }
         ensures stays { Stays O.WantsMemory
-            (at (O.state operations.old) (view_of K.written K.outstanding K.faults out.old)
-            self.old)
-            (at (O.state operations.new) (view_of K.written K.outstanding K.faults out.new)
-            self.new) }
+            (at (O.state operations.old) (K.told out.old) self.old)
+            (at (O.state operations.new) (K.told out.new) self.new) }
     {
         let Some(slot) = self.slots.pop_front() else {
             return;
         };
         let outcome = outcome_of(rt, alloc, slot, operations);
         self.printer.print(&outcome, out);
-        if !is_failure(self.settings.on_error_stop, &outcome) {
+        let failed = is_failure(self.settings.on_error_stop, &outcome);
+        drop(outcome);
+        if !failed {
             return;
         }
         self.request(rt, operations);
-    }
-
-    /// Writes the first record in flight, where the window is full.
-    fn make_room<R: Wait + Sync, O: Operations, K: Sink>(
-        &mut self,
-        rt: &R,
-        alloc: Global,
-        operations: &mut O,
-        out: &mut K,
-    )
-        requires sync { IsSync R.row }
-        requires going { IsGoing O.WantsMemory
-            (at (O.state operations.old) (view_of K.written K.outstanding K.faults out.old)
-            self.old) }
-        ensures room { length self.new.slots.items < self.new.slots.capacity }
-        ensures stays_lost { self.old.printer.lost ≡ true → self.new.printer.lost ≡ true }
-        ensures capacity { self.new.slots.capacity ≡ self.old.slots.capacity }
-        ensures read { read_of self.new ≡ read_of self.old }
-        ensures stays { Stays O.WantsMemory
-            (at (O.state operations.old) (view_of K.written K.outstanding K.faults out.old)
-            self.old)
-            (at (O.state operations.new) (view_of K.written K.outstanding K.faults out.new)
-            self.new) }
-    {
-        if self.slots.len() < self.slots.capacity() {
-            return;
-        }
-        self.write_next(rt, alloc, operations, out);
     }
 
     /// Begins the next record, which was counted and whose line has this text, and puts it in
@@ -205,10 +174,9 @@ impl InFlight {
         ensures capacity { self.new.slots.capacity ≡ self.old.slots.capacity }
         ensures printer { self.new.printer ≡ self.old.printer }
         ensures read { read_of self.new ≡ read_of self.old + 1 }
-        ensures begun { (opening : Opening) (lines : List (List ℕ)) (line : List ℕ)
-            (sink : SinkView) → option_copied text.entry ≡ text_of line →
-            CountsAt O.WantsMemory opening lines (at (O.state operations.old) sink self.old) →
-            StandsAt O.WantsMemory opening (lines ++ line ∷ [])
+        ensures begun { (sink : SinkView) → BeginsNext O.WantsMemory
+            (λ line. option_copied text.entry ≡ text_of line)
+            (at (O.state operations.old) sink self.old)
             (at (O.state operations.new) sink self.new) }
     {
         let number = self.read() as u32 + 1;
@@ -216,31 +184,48 @@ impl InFlight {
         let _ = self.slots.try_push_back(slot);
     }
 
-    /// Takes the next record, whose line has this text: where the window is full, the first record
-    /// in flight is written before.
-    pub fn take<R: Wait + Sync, O: Operations, K: Sink>(
+    /// Writes the first record in flight, where the window is full.
+    pub fn make_room<R: Wait + Sync, O: Operations, K: Sink>(
         &mut self,
         rt: &R,
         alloc: Global,
-        text: Option<&[u8]>,
         operations: &mut O,
         out: &mut K,
     )
         requires sync { IsSync R.row }
         requires going { IsGoing O.WantsMemory
-            (at (O.state operations.old) (view_of K.written K.outstanding K.faults out.old)
-            self.old) }
-        requires few { read_of self.old < MOST_RECORDS }
-        ensures capacity { self.new.slots.capacity ≡ self.old.slots.capacity }
-        ensures read { read_of self.new ≡ read_of self.old + 1 }
-        ensures stays_lost { self.old.printer.lost ≡ true → self.new.printer.lost ≡ true }
-        ensures takes { Takes O.WantsMemory (λ line. option_copied text.entry ≡ text_of line)
-            (at (O.state operations.old) (view_of K.written K.outstanding K.faults out.old)
-            self.old)
-            (at (O.state operations.new) (view_of K.written K.outstanding K.faults out.new)
-            self.new) }
+            (at (O.state operations.old) (K.told out.old) self.old) }
+        ensures room { length self.new.slots.items < self.new.slots.capacity }
+        ensures read { read_of self.new ≡ read_of self.old }
+        ensures stays { Stays O.WantsMemory
+            (at (O.state operations.old) (K.told out.old) self.old)
+            (at (O.state operations.new) (K.told out.new) self.new) }
     {
-        self.make_room(rt, alloc, operations, out);
+        if self.slots.len() < self.slots.capacity() {
+            return;
+        }
+        self.write_next(rt, alloc, operations, out);
+    }
+
+    /// Takes the next record, whose line has this text. There is room for it.
+    pub fn take<R: Wait + Sync, O: Operations>(
+        &mut self,
+        rt: &R,
+        alloc: Global,
+        text: Option<&[u8]>,
+        operations: &mut O,
+    )
+        requires sync { IsSync R.row }
+        requires going { MayTake O.WantsMemory (O.state operations.old) self.old }
+        requires room { length self.old.slots.items < self.old.slots.capacity }
+        requires few { read_of self.old < MOST_RECORDS }
+        ensures printer { self.new.printer ≡ self.old.printer }
+        ensures read { read_of self.new ≡ read_of self.old + 1 }
+        ensures takes { (sink : SinkView) → Takes O.WantsMemory
+            (λ line. option_copied text.entry ≡ text_of line)
+            (at (O.state operations.old) sink self.old)
+            (at (O.state operations.new) sink self.new) }
+    {
         self.count(rt, operations);
         self.begin_next(rt, alloc, text, operations);
     }
@@ -255,17 +240,12 @@ impl InFlight {
     )
         requires sync { IsSync R.row }
         requires going { IsGoing O.WantsMemory
-            (at (O.state operations.old) (view_of K.written K.outstanding K.faults out.old)
-            self.old) }
+            (at (O.state operations.old) (K.told out.old) self.old) }
         ensures none { self.new.slots.items ≡ [] }
         ensures stays_lost { self.old.printer.lost ≡ true → self.new.printer.lost ≡ true }
-        ensures capacity { self.new.slots.capacity ≡ self.old.slots.capacity }
-        ensures read { read_of self.new ≡ read_of self.old }
         ensures stays { Stays O.WantsMemory
-            (at (O.state operations.old) (view_of K.written K.outstanding K.faults out.old)
-            self.old)
-            (at (O.state operations.new) (view_of K.written K.outstanding K.faults out.new)
-            self.new) }
+            (at (O.state operations.old) (K.told out.old) self.old)
+            (at (O.state operations.new) (K.told out.new) self.new) }
     {
         'flight: while !self.slots.is_empty() {
             self.write_next(rt, alloc, operations, out);
@@ -287,9 +267,9 @@ impl InFlight {
         ensures form { self.new.printer.form ≡ self.old.printer.form }
         ensures summary { self.new.printer.summary ≡ self.old.printer.summary }
         ensures wrote { (text : List ℕ) (start : SinkView) →
-            Wrote text start (view_of K.written K.outstanding K.faults out.old)
+            Wrote text start (K.told out.old)
             self.old.printer.due self.old.printer.lost →
-            Wrote text start (view_of K.written K.outstanding K.faults out.new)
+            Wrote text start (K.told out.new)
             self.new.printer.due self.new.printer.lost }
         ensures settled { self.new.printer.lost ≡ false → self.new.printer.due ≡ false }
     {
@@ -298,13 +278,13 @@ impl InFlight {
 
     /// Writes what is left to write once no record is in flight, and says how the run ended, whose
     /// reading ended so.
-    pub fn close<K: Sink>(self, end: End, out: &mut K) -> Closing
+    pub fn close<K: Sink>(self, end: End, out: &mut K) -> Ending
         ensures end { result.end ≡ end }
         ensures stays_lost { self.printer.lost ≡ true → result.lost ≡ true }
         ensures closed { (form : Form) (start : SinkView) (outcomes : List Outcome) →
-            Printed form start (view_of K.written K.outstanding K.faults out.old) self.printer
+            Printed form start (K.told out.old) self.printer
             outcomes →
-            Finished form start (view_of K.written K.outstanding K.faults out.new)
+            Finished form start (K.told out.new)
             result.summary result.lost outcomes }
     {
         let InFlight {
@@ -314,6 +294,6 @@ impl InFlight {
             requested: _,
         } = self;
         printer.close(out);
-        Closing::new(end, printer.is_lost(), printer.summary())
+        Ending::new(end, printer.is_lost(), printer.summary())
     }
 }

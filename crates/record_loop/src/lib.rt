@@ -19,19 +19,19 @@
 //! for all of them. It stands on run_rules, record_lines and line_summary.
 #![tactic(auto)]
 
-mod begin;
-mod closing;
-mod collect;
+mod ending;
 mod generated;
 mod in_flight;
 mod operations;
 mod printer;
+mod record_source;
 mod run;
 mod session;
 mod slot;
 
-pub use closing::Closing;
+pub use ending::Ending;
 pub use generated::run_generated;
 pub use operations::Operations;
 pub use printer::Form;
+pub use record_source::RecordSource;
 pub use run::run_records;

@@ -2,7 +2,7 @@
 ghost use Rattle.std.specs.Prelude.{◌≡◌, IfOk, IfErr, MatchOption, IsSome};
 ghost use Rattle.std.specs.Thread.{IsSync};
 ghost use Rattle.exec_value.specs.Kinds.{HasKind};
-ghost use Rattle.life_rules.specs.declared.scope.ScopeKind.{ScopeKind};
+ghost use Rattle.node_tree.specs.declared.scope_kind.ScopeKind.{ScopeKind};
 ghost use Rattle.plan_shape.specs.Blueprint.{Blueprint};
 ghost use Rattle.record_loop.specs.Works.{Work, Keeps, Begins, Requests, Collects};
 

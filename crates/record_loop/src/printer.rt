@@ -1,11 +1,12 @@
 //! Outcomes to out: a line for each, or one line for all.
 ghost use Rattle.std.specs.Prelude.{◌≡◌, ◌<◌, ◌+◌, ◌-◌, ◌^◌, [], ◌∷◌, ◌++◌, ℕ, List, false, true};
 ghost use Rattle.exec_value.specs.declared.outcome.Outcome.{Outcome};
-ghost use Rattle.io_views.specs.Sinks.{SinkView, view_of};
+ghost use Rattle.exec_io.specs.Views.{SinkView};
 
 use exec_io::Sink;
-use exec_value::{Outcome, put_line};
+use exec_value::Outcome;
 use line_summary::{Summary, put_summary};
+use outcome_lines::put_line;
 
 /// What is written of the outcomes.
 #[derive(Clone, Copy, Debug, PartialEq, Eq)]
@@ -86,9 +87,9 @@ impl Printer {
         ensures lines { self.new.summary.lines ≡ self.old.summary.lines + 1 }
         ensures stays_lost { self.old.lost ≡ true → self.new.lost ≡ true }
         ensures prints { (form : Form) (start : SinkView) (outcomes : List Outcome) →
-            Printed form start (view_of K.written K.outstanding K.faults out.old) self.old
+            Printed form start (K.told out.old) self.old
             outcomes →
-            Printed form start (view_of K.written K.outstanding K.faults out.new) self.new
+            Printed form start (K.told out.new) self.new
             (outcomes ++ outcome.now ∷ []) }
     {
         self.summary.count(outcome);
@@ -109,9 +110,9 @@ impl Printer {
         ensures form { self.new.form ≡ self.old.form }
         ensures summary { self.new.summary ≡ self.old.summary }
         ensures wrote { (text : List ℕ) (start : SinkView) →
-            Wrote text start (view_of K.written K.outstanding K.faults out.old)
+            Wrote text start (K.told out.old)
             self.old.due self.old.lost →
-            Wrote text start (view_of K.written K.outstanding K.faults out.new)
+            Wrote text start (K.told out.new)
             self.new.due self.new.lost }
         ensures settled { self.new.lost ≡ false → self.new.due ≡ false }
         ensures stays_lost { self.old.lost ≡ true → self.new.lost ≡ true }
@@ -132,10 +133,10 @@ impl Printer {
     fn put_rest<K: Sink>(&mut self, out: &mut K)
         ensures summary { self.new.summary ≡ self.old.summary }
         ensures wrote { (form : Form) (start : SinkView) (outcomes : List Outcome) →
-            Printed form start (view_of K.written K.outstanding K.faults out.old) self.old
+            Printed form start (K.told out.old) self.old
             outcomes →
             Wrote (text_of form outcomes) start
-            (view_of K.written K.outstanding K.faults out.new) self.new.due self.new.lost }
+            (K.told out.new) self.new.due self.new.lost }
         ensures stays_lost { self.old.lost ≡ true → self.new.lost ≡ true }
     {
         if self.lost {
@@ -153,9 +154,9 @@ impl Printer {
     /// Writes what is left to write once all outcomes are printed, and hands it on.
     pub fn close<K: Sink>(&mut self, out: &mut K)
         ensures closed { (form : Form) (start : SinkView) (outcomes : List Outcome) →
-            Printed form start (view_of K.written K.outstanding K.faults out.old) self.old
+            Printed form start (K.told out.old) self.old
             outcomes →
-            Finished form start (view_of K.written K.outstanding K.faults out.new)
+            Finished form start (K.told out.new)
             self.new.summary self.new.lost outcomes }
         ensures stays_lost { self.old.lost ≡ true → self.new.lost ≡ true }
     {

@@ -1,21 +1,22 @@
 //! A run over the records of a source.
 ghost use Rattle.std.specs.Prelude.{◌≡◌, ◌≢◌, ◌≤◌, ◌<◌, false, IfOk, OnErr, OnOk, ℕ, List, length};
 ghost use Rattle.std.specs.Thread.{IsSync};
+ghost use Rattle.record_loop.specs.CaughtUp.{HasCaughtUp};
 ghost use Rattle.record_loop.specs.Ran.{Ran};
-ghost use Rattle.io_views.specs.Sinks.{view_of};
-ghost use Rattle.io_views.specs.Sources.{source_view};
+ghost use Rattle.record_loop.specs.ReadStarts.{ReadsOnly};
 ghost use Rattle.record_loop.specs.Standing.{opening_of};
-ghost use Rattle.io_views.specs.Untouched.{IsUntouched};
+ghost use Rattle.exec_io.specs.Untouched.{IsUntouched};
 ghost use Rattle.record_loop.specs.Beginnings.{IsReady};
 ghost use Rattle.record_lines.specs.declared.ending.End.{End};
 ghost use Rattle.run_rules.specs.PlanTerms.{MayRun};
 
-use crate::closing::Closing;
+use crate::ending::Ending;
 use crate::in_flight::InFlight;
 use crate::operations::Operations;
 use crate::printer::Form;
+use crate::record_source::RecordSource;
 use crate::session::Session;
-use exec_io::{Sink, Source};
+use exec_io::Sink;
 use plan_rules::Settings;
 use std::alloc::{AllocError, Global};
 use std::sync::Wait;
@@ -42,9 +43,9 @@ fn open(
 /// Runs the records of a source, at most a window of them at once, and writes their outcomes.
 ///
 /// The records are read to their end, a fault or a limit. Before each read all records that were
-/// read are written, and handed on. Where there is no memory to begin with, nothing is read and
-/// nothing is written.
-pub fn run_records<R: Wait + Sync, O: Operations, S: Source, K: Sink>(
+/// read are written, and handed on. After a lost write nothing more is read or begun. Where there
+/// is no memory to begin with, nothing is read and nothing is written.
+pub fn run_records<R: Wait + Sync, O: Operations, S: RecordSource, K: Sink>(
     rt: &R,
     alloc: Global,
     settings: Settings,
@@ -53,24 +54,27 @@ pub fn run_records<R: Wait + Sync, O: Operations, S: Source, K: Sink>(
     operations: &mut O,
     records: &mut S,
     out: &mut K,
-) -> Result<Closing, AllocError>
+) -> Result<Ending, AllocError>
     requires sync { IsSync R.row }
     requires some { 0 < window }
     requires settings_are { settings ≡ (O.state operations.old).plan.settings }
     requires idle { (O.state operations.old).requested ≡ false }
     requires may_run { MayRun settings }
-    ensures later { S.faults records.old ≤ S.faults records.new }
     ensures untouched { OnErr result (IsUntouched
-        (source_view S.left S.faults records.old) (source_view S.left S.faults records.new)
-        (view_of K.written K.outstanding K.faults out.old)
-        (view_of K.written K.outstanding K.faults out.new)) }
-    ensures still { IfOk result (λ closing. closing.end ≢ End.Fault →
-        S.faults records.new ≡ S.faults records.old) }
+        (S.told records.old) (S.told records.new) (K.told out.old) (K.told out.new)) }
+    ensures unread { OnErr result (S.reads records.new ≡ S.reads records.old) }
+    ensures later { (S.told records.old).faults ≤ (S.told records.new).faults }
+    ensures still { IfOk result (λ ending. ending.end ≢ End.Fault →
+        (S.told records.new).faults ≡ (S.told records.old).faults) }
     ensures ran { IfOk result (Ran O.WantsMemory
-        (opening_of (O.state operations.old) window form
-        (view_of K.written K.outstanding K.faults out.old))
-        (source_view S.left S.faults records.old) (source_view S.left S.faults records.new)
-        (view_of K.written K.outstanding K.faults out.new)) }
+        (opening_of (O.state operations.old) window form (K.told out.old))
+        (S.told records.old) (S.told records.new) (K.told out.new)) }
+
+    // When a read began, all records whose line feed was read were written and handed on, and no
+    // write was lost.
+    ensures reads { OnOk result (ReadsOnly (HasCaughtUp
+        (opening_of (O.state operations.old) window form (K.told out.old))
+        (S.told records.old).left) (S.reads records.old) (S.reads records.new)) }
 {
     let (session, mut buffer) = open(alloc, window, settings, form)?;
     Ok(session.run(rt, alloc, &mut buffer, operations, records, out))

@@ -1,20 +1,18 @@
 //! Records from the bytes of a source.
-ghost use Rattle.std.specs.Prelude.{◌≢◌, ◌≡◌, ◌≤◌, ◌<◌, ◌+◌, [], ◌++◌, true, false, Option, None, Some, ℕ, List, length, IfOk};
-ghost use Rattle.std.specs.Io.{ReadsAtMost};
-ghost use Rattle.std.specs.Io.KnownBytes.{ReadConsumes};
+ghost use Rattle.std.specs.Prelude.{◌≢◌, ◌≡◌, ◌≤◌, ◌<◌, ◌+◌, [], true, false, None, Some, length, IfOk};
 ghost use Rattle.std.specs.Thread.{IsSync};
-ghost use Rattle.exec_io.specs.Causes.{Rose, HasCause};
+ghost use Rattle.exec_io.specs.Causes.{Rose};
+ghost use Rattle.exec_io.specs.Views.{SinkView};
 ghost use Rattle.record_lines.specs.declared.ending.End.{End};
 ghost use Rattle.record_lines.specs.declared.limits.TheConstants.{MOST_RECORDS, MOST_BYTES};
 ghost use Rattle.record_loop.specs.Flights.{read_of};
-ghost use Rattle.io_views.specs.Sinks.{view_of};
-ghost use Rattle.io_views.specs.Sources.{source_view};
 ghost use Rattle.record_loop.specs.Standing.{Opening};
 
-use crate::closing::Closing;
+use crate::ending::Ending;
 use crate::in_flight::InFlight;
 use crate::operations::Operations;
-use exec_io::{Failed, Sink, Source};
+use crate::record_source::RecordSource;
+use exec_io::Sink;
 use record_lines::{Cutter, End, MOST_BYTES, MOST_RECORDS};
 use std::alloc::{AllocError, Global};
 use std::sync::Wait;
@@ -41,9 +39,11 @@ pub struct Session {
 }
 
 impl Session {
-    ghost use Rattle.record_loop.specs.Reading.{on, TakenAt, IsTaking, Advances, TakesPiece, Going, Steps, Halts, HasHalted, AllTaken, StartsAt};
+    ghost use Rattle.record_loop.specs.Reading.{on, TakenAt, IsTaking, StaysTaking, TakesFront, TakesPiece, Going, ReadsOn, ReadsCaughtUp, HasHalted, TakesAll, StartsAt};
+    ghost use Rattle.record_loop.specs.CaughtUp.{HasCaughtUp};
     ghost use Rattle.record_loop.specs.Ran.{Ran};
-    ghost use Rattle.record_loop.specs.Standing.{at};
+    ghost use Rattle.record_loop.specs.ReadStarts.{ReadsOnly};
+    ghost use Rattle.record_loop.specs.Standing.{at, MayTake};
     ghost use Rattle.record_loop.specs.Cutting.{IsCutting};
 
     /// A session with these records in flight, of which there are none yet.
@@ -58,36 +58,32 @@ impl Session {
     }
 
     /// Takes the first line of a piece, or what it has of one, and takes the record that ends
-    /// there. It gives what is left of the piece.
-    fn take_line<'a, R: Wait + Sync, O: Operations, K: Sink>(
+    /// there, for which there is room. No write was lost. It gives what is left of the piece.
+    fn take_line<'a, R: Wait + Sync, O: Operations>(
         &mut self,
         rt: &R,
         alloc: Global,
         piece: &'a [u8],
         operations: &mut O,
-        out: &mut K,
     ) -> &'a [u8]
         requires sync { IsSync R.row }
+        requires kept { self.old.flight.printer.lost ≡ false }
         requires few { read_of self.old.flight < MOST_RECORDS }
+        requires room { length self.old.flight.slots.items < self.old.flight.slots.capacity }
         requires fits { self.old.taken + length piece.now ≤ MOST_BYTES }
         requires some { 0 < length piece.now }
-        requires going { IsTaking O.WantsMemory
-            (on (O.state operations.old) (view_of K.written K.outstanding K.faults out.old)
-            self.old) }
+        requires going { MayTake O.WantsMemory (O.state operations.old) self.old.flight }
         ensures taken { self.new.taken + length result.now ≡ self.old.taken + length piece.now }
         ensures shorter { length result.now < length piece.now }
-        ensures advances { (opening : Opening) (bytes : List ℕ) →
-            TakenAt O.WantsMemory opening bytes
-            (on (O.state operations.old) (view_of K.written K.outstanding K.faults out.old)
-            self.old) →
-            Advances O.WantsMemory opening bytes piece.now result.now
-            (on (O.state operations.new) (view_of K.written K.outstanding K.faults out.new)
-            self.new) }
+        ensures printer { self.new.flight.printer ≡ self.old.flight.printer }
+        ensures advances { (sink : SinkView) → TakesFront O.WantsMemory piece.now result.now
+            (on (O.state operations.old) sink self.old)
+            (on (O.state operations.new) sink self.new) }
     {
         match self.cutter.take(piece) {
             Some(end) => {
                 let text = self.cutter.text(&end);
-                self.flight.take(rt, alloc, text, operations, out);
+                self.flight.take(rt, alloc, text, operations);
                 self.taken += piece.len() - end.rest.len();
                 end.rest
             }
@@ -98,8 +94,30 @@ impl Session {
         }
     }
 
-    /// Takes the lines of a piece that is within the limit of bytes. `false` where a byte of it
-    /// stands after the most records, which is then left with what follows it.
+    /// Makes room for one more record.
+    fn make_room<R: Wait + Sync, O: Operations, K: Sink>(
+        &mut self,
+        rt: &R,
+        alloc: Global,
+        operations: &mut O,
+        out: &mut K,
+    )
+        requires sync { IsSync R.row }
+        requires going { IsTaking O.WantsMemory
+            (on (O.state operations.old) (K.told out.old) self.old) }
+        ensures room { length self.new.flight.slots.items < self.new.flight.slots.capacity }
+        ensures read { read_of self.new.flight ≡ read_of self.old.flight }
+        ensures taken { self.new.taken ≡ self.old.taken }
+        ensures stays { StaysTaking O.WantsMemory
+            (on (O.state operations.old) (K.told out.old) self.old)
+            (on (O.state operations.new) (K.told out.new) self.new) }
+    {
+        self.flight.make_room(rt, alloc, operations, out);
+    }
+
+    /// Takes the lines of a piece that is within the limit of bytes. `Some` says that nothing more
+    /// is read: where a byte of it stands after the most records, or a write was lost. The rest of
+    /// the piece is left then.
     fn take_lines<R: Wait + Sync, O: Operations, K: Sink>(
         &mut self,
         rt: &R,
@@ -107,33 +125,34 @@ impl Session {
         piece: &[u8],
         operations: &mut O,
         out: &mut K,
-    ) -> bool
+    ) -> Option<End>
         requires sync { IsSync R.row }
         requires fits { self.old.taken + length piece.now ≤ MOST_BYTES }
         requires going { IsTaking O.WantsMemory
-            (on (O.state operations.old) (view_of K.written K.outstanding K.faults out.old)
-            self.old) }
-        ensures taken { result ≡ true → self.new.taken ≡ self.old.taken + length piece.now }
-        ensures takes { (opening : Opening) (bytes : List ℕ) →
-            TakenAt O.WantsMemory opening bytes
-            (on (O.state operations.old) (view_of K.written K.outstanding K.faults out.old)
-            self.old) →
-            TakesPiece O.WantsMemory opening (bytes ++ piece.now)
-            (on (O.state operations.new) (view_of K.written K.outstanding K.faults out.new)
-            self.new)
-            result }
+            (on (O.state operations.old) (K.told out.old) self.old) }
+        ensures taken { result ≡ None → self.new.taken ≡ self.old.taken + length piece.now }
+        ensures lost { result ≡ Some End.Fault → self.new.flight.printer.lost ≡ true }
+        ensures takes { TakesPiece O.WantsMemory piece.now result
+            (on (O.state operations.old) (K.told out.old) self.old)
+            (on (O.state operations.new) (K.told out.new) self.new) }
     {
         let mut left = piece;
         while !left.is_empty() {
             if self.flight.read() == MOST_RECORDS {
-                return false;
+                return Some(End::Limit);
             }
-            left = self.take_line(rt, alloc, left, operations, out);
+            self.make_room(rt, alloc, operations, out);
+            let breaks_off = self.flight.is_lost();
+            if breaks_off {
+                return Some(End::Fault);
+            }
+            left = self.take_line(rt, alloc, left, operations);
         }
-        true
+        None
     }
 
-    /// Takes a piece. `false` where it passes a limit.
+    /// Takes a piece, as far as it is within the limit of bytes. `Some` says that nothing more is
+    /// read: where the piece passes a limit, or a write was lost.
     fn take_piece<R: Wait + Sync, O: Operations, K: Sink>(
         &mut self,
         rt: &R,
@@ -141,39 +160,22 @@ impl Session {
         piece: &[u8],
         operations: &mut O,
         out: &mut K,
-    ) -> bool
+    ) -> Option<End>
         requires sync { IsSync R.row }
         requires going { IsTaking O.WantsMemory
-            (on (O.state operations.old) (view_of K.written K.outstanding K.faults out.old)
-            self.old) }
-        ensures taken { result ≡ true → self.new.taken ≡ self.old.taken + length piece.now }
-        ensures takes { (opening : Opening) (bytes : List ℕ) →
-            TakenAt O.WantsMemory opening bytes
-            (on (O.state operations.old) (view_of K.written K.outstanding K.faults out.old)
-            self.old) →
-            TakesPiece O.WantsMemory opening (bytes ++ piece.now)
-            (on (O.state operations.new) (view_of K.written K.outstanding K.faults out.new)
-            self.new)
-            result }
+            (on (O.state operations.old) (K.told out.old) self.old) }
+        ensures taken { result ≡ None → self.new.taken ≡ self.old.taken + length piece.now }
+        ensures lost { result ≡ Some End.Fault → self.new.flight.printer.lost ≡ true }
+        ensures takes { TakesPiece O.WantsMemory piece.now result
+            (on (O.state operations.old) (K.told out.old) self.old)
+            (on (O.state operations.new) (K.told out.new) self.new) }
     {
         let room = MOST_BYTES - self.taken;
         if piece.len() <= room {
             return self.take_lines(rt, alloc, piece, operations, out);
         }
-        self.take_lines(rt, alloc, &piece[..room], operations, out);
-        false
-    }
-
-    /// Reads a next piece. Nothing is in flight then, and what was written is handed on.
-    fn read<S: Source>(&self, records: &mut S, buffer: &mut [u8]) -> Result<usize, Failed>
-        requires some { 0 < length buffer.old }
-        requires written { self.now.flight.slots.items ≡ [] }
-        requires handed_on { self.now.flight.printer.due ≡ false }
-        ensures bound { ReadsAtMost result buffer.new }
-        ensures bytes { ReadConsumes (S.left records.old) (S.left records.new) result buffer.new }
-        ensures cause { HasCause (S.faults records.old) (S.faults records.new) result }
-    {
-        records.read(buffer)
+        let within = self.take_lines(rt, alloc, &piece[..room], operations, out);
+        Some(within.unwrap_or(End::Limit))
     }
 
     /// Writes all records in flight, and hands on what was written.
@@ -186,19 +188,14 @@ impl Session {
     )
         requires sync { IsSync R.row }
         requires going { IsTaking O.WantsMemory
-            (on (O.state operations.old) (view_of K.written K.outstanding K.faults out.old)
-            self.old) }
+            (on (O.state operations.old) (K.told out.old) self.old) }
         ensures taken { self.new.taken ≡ self.old.taken }
         ensures none { self.new.flight.slots.items ≡ [] }
         ensures settled { self.new.flight.printer.lost ≡ false
             → self.new.flight.printer.due ≡ false }
-        ensures stays { (opening : Opening) (bytes : List ℕ) →
-            TakenAt O.WantsMemory opening bytes
-            (on (O.state operations.old) (view_of K.written K.outstanding K.faults out.old)
-            self.old) →
-            TakenAt O.WantsMemory opening bytes
-            (on (O.state operations.new) (view_of K.written K.outstanding K.faults out.new)
-            self.new) }
+        ensures stays { StaysTaking O.WantsMemory
+            (on (O.state operations.old) (K.told out.old) self.old)
+            (on (O.state operations.new) (K.told out.new) self.new) }
     {
         self.flight.write_all(rt, alloc, operations, out);
         self.flight.hand_on(out);
@@ -206,7 +203,7 @@ impl Session {
 
     /// Writes what is in flight, reads a piece and takes it. `Some` says that nothing more is read:
     /// after a lost write and after a fault the end is `Fault`.
-    fn step<R: Wait + Sync, O: Operations, S: Source, K: Sink>(
+    fn step<R: Wait + Sync, O: Operations, S: RecordSource, K: Sink>(
         &mut self,
         rt: &R,
         alloc: Global,
@@ -218,40 +215,38 @@ impl Session {
         requires sync { IsSync R.row }
         requires some { 0 < length buffer.old }
         requires going { IsTaking O.WantsMemory
-            (on (O.state operations.old) (view_of K.written K.outstanding K.faults out.old)
-            self.old) }
+            (on (O.state operations.old) (K.told out.old) self.old) }
         ensures longer { result ≡ None → self.old.taken < self.new.taken }
-        ensures later { S.faults records.old ≤ S.faults records.new }
+        ensures later { (S.told records.old).faults ≤ (S.told records.new).faults }
         ensures cause { result ≡ Some End.Fault → self.new.flight.printer.lost ≡ false →
-            Rose (S.faults records.old) (S.faults records.new) }
-        ensures still { result ≢ Some End.Fault → S.faults records.new ≡ S.faults records.old }
-        ensures steps { (opening : Opening) (source : Option (List ℕ)) →
-            Going O.WantsMemory opening source (S.left records.old)
-            (on (O.state operations.old) (view_of K.written K.outstanding K.faults out.old)
-            self.old) →
-            Steps O.WantsMemory opening result source (S.left records.new)
-            (on (O.state operations.new) (view_of K.written K.outstanding K.faults out.new)
-            self.new) }
+            Rose (S.told records.old).faults (S.told records.new).faults }
+        ensures still { result ≢ Some End.Fault
+            → (S.told records.new).faults ≡ (S.told records.old).faults }
+        ensures reads { ReadsCaughtUp O.WantsMemory (S.told records.old).left
+            (on (O.state operations.old) (K.told out.old) self.old)
+            (S.reads records.old) (S.reads records.new) }
+        ensures goes { ReadsOn O.WantsMemory result
+            (S.told records.old).left (S.told records.new).left
+            (on (O.state operations.old) (K.told out.old) self.old)
+            (on (O.state operations.new) (K.told out.new) self.new) }
     {
         self.settle(rt, alloc, operations, out);
-        if self.flight.is_lost() {
+        let lost = self.flight.is_lost();
+        if lost {
             return Some(End::Fault);
         }
-        let Ok(count) = self.read(records, buffer) else {
+        let answer = records.read_beside(buffer, out);
+        let Ok(count) = answer else {
             return Some(End::Fault);
         };
         if count == 0 {
             return Some(End::Ended);
         }
-        if self.take_piece(rt, alloc, &buffer[..count], operations, out) {
-            None
-        } else {
-            Some(End::Limit)
-        }
+        self.take_piece(rt, alloc, &buffer[..count], operations, out)
     }
 
     /// Reads and takes pieces until nothing more is read.
-    fn read_all<R: Wait + Sync, O: Operations, S: Source, K: Sink>(
+    fn read_all<R: Wait + Sync, O: Operations, S: RecordSource, K: Sink>(
         &mut self,
         rt: &R,
         alloc: Global,
@@ -263,19 +258,19 @@ impl Session {
         requires sync { IsSync R.row }
         requires some { 0 < length buffer.old }
         requires going { IsTaking O.WantsMemory
-            (on (O.state operations.old) (view_of K.written K.outstanding K.faults out.old)
-            self.old) }
-        ensures later { S.faults records.old ≤ S.faults records.new }
+            (on (O.state operations.old) (K.told out.old) self.old) }
+        ensures later { (S.told records.old).faults ≤ (S.told records.new).faults }
         ensures cause { result ≡ End.Fault → self.new.flight.printer.lost ≡ false →
-            Rose (S.faults records.old) (S.faults records.new) }
-        ensures still { result ≢ End.Fault → S.faults records.new ≡ S.faults records.old }
-        ensures halts { (opening : Opening) (source : Option (List ℕ)) →
-            Going O.WantsMemory opening source (S.left records.old)
-            (on (O.state operations.old) (view_of K.written K.outstanding K.faults out.old)
-            self.old) →
-            Halts O.WantsMemory opening result source (S.left records.new)
-            (on (O.state operations.new) (view_of K.written K.outstanding K.faults out.new)
-            self.new) }
+            Rose (S.told records.old).faults (S.told records.new).faults }
+        ensures still { result ≢ End.Fault
+            → (S.told records.new).faults ≡ (S.told records.old).faults }
+        ensures reads { ReadsCaughtUp O.WantsMemory (S.told records.old).left
+            (on (O.state operations.old) (K.told out.old) self.old)
+            (S.reads records.old) (S.reads records.new) }
+        ensures halts { ReadsOn O.WantsMemory (Some result)
+            (S.told records.old).left (S.told records.new).left
+            (on (O.state operations.old) (K.told out.old) self.old)
+            (on (O.state operations.new) (K.told out.new) self.new) }
     {
         'pieces: loop {
             if let Some(end) = self.step(rt, alloc, buffer, operations, records, out) {
@@ -285,25 +280,20 @@ impl Session {
     }
 
     /// Takes what the end leaves to take: where the input ended, the record of a last line that no
-    /// line feed ended. It gives the records in flight.
-    fn take_rest<R: Wait + Sync, O: Operations, K: Sink>(
+    /// line feed ended, for which there is room, since all others are written. It gives the records
+    /// in flight.
+    fn take_rest<R: Wait + Sync, O: Operations>(
         self,
         rt: &R,
         alloc: Global,
         end: End,
         operations: &mut O,
-        out: &mut K,
     ) -> InFlight
         requires sync { IsSync R.row }
-        requires halted { HasHalted O.WantsMemory end
-            (on (O.state operations.old) (view_of K.written K.outstanding K.faults out.old) self) }
-        ensures stays_lost { self.flight.printer.lost ≡ true → result.printer.lost ≡ true }
-        ensures all { (opening : Opening) (source left : Option (List ℕ)) →
-            Halts O.WantsMemory opening end source left
-            (on (O.state operations.old) (view_of K.written K.outstanding K.faults out.old) self) →
-            AllTaken O.WantsMemory opening end source left
-            (at (O.state operations.new) (view_of K.written K.outstanding K.faults out.new)
-            result) }
+        requires halted { HasHalted O.WantsMemory end (O.state operations.old) self }
+        ensures printer { result.printer ≡ self.flight.printer }
+        ensures all { (sink : SinkView) → TakesAll O.WantsMemory end
+            (on (O.state operations.old) sink self) (at (O.state operations.new) sink result) }
     {
         let Session {
             mut cutter,
@@ -316,12 +306,12 @@ impl Session {
         let Some(last) = cutter.finish() else {
             return flight;
         };
-        flight.take(rt, alloc, cutter.text(&last), operations, out);
+        flight.take(rt, alloc, cutter.text(&last), operations);
         flight
     }
 
     /// Reads all records and writes their outcomes, and says how this ended.
-    pub fn run<R: Wait + Sync, O: Operations, S: Source, K: Sink>(
+    pub fn run<R: Wait + Sync, O: Operations, S: RecordSource, K: Sink>(
         mut self,
         rt: &R,
         alloc: Global,
@@ -329,22 +319,25 @@ impl Session {
         operations: &mut O,
         records: &mut S,
         out: &mut K,
-    ) -> Closing
+    ) -> Ending
         requires sync { IsSync R.row }
         requires some { 0 < length buffer.old }
         requires new { StartsAt O.WantsMemory
-            (on (O.state operations.old) (view_of K.written K.outstanding K.faults out.old) self) }
-        ensures later { S.faults records.old ≤ S.faults records.new }
-        ensures still { result.end ≢ End.Fault → S.faults records.new ≡ S.faults records.old }
+            (on (O.state operations.old) (K.told out.old) self) }
+        ensures later { (S.told records.old).faults ≤ (S.told records.new).faults }
+        ensures still { result.end ≢ End.Fault
+            → (S.told records.new).faults ≡ (S.told records.old).faults }
+        ensures reads { (opening : Opening) →
+            TakenAt O.WantsMemory opening [] (on (O.state operations.old) (K.told out.old) self) →
+            ReadsOnly (HasCaughtUp opening (S.told records.old).left)
+            (S.reads records.old) (S.reads records.new) }
         ensures ran { (opening : Opening) →
-            TakenAt O.WantsMemory opening []
-            (on (O.state operations.old) (view_of K.written K.outstanding K.faults out.old) self) →
-            Ran O.WantsMemory opening
-            (source_view S.left S.faults records.old) (source_view S.left S.faults records.new)
-            (view_of K.written K.outstanding K.faults out.new) result }
+            TakenAt O.WantsMemory opening [] (on (O.state operations.old) (K.told out.old) self) →
+            Ran O.WantsMemory opening (S.told records.old) (S.told records.new)
+            (K.told out.new) result }
     {
         let end = self.read_all(rt, alloc, buffer, operations, records, out);
-        let mut flight = self.take_rest(rt, alloc, end, operations, out);
+        let mut flight = self.take_rest(rt, alloc, end, operations);
         flight.write_all(rt, alloc, operations, out);
         flight.close(end, out)
     }

@@ -2,7 +2,7 @@
 use Rattle.std.proofs.Common.{◌≡◌, ℕ, ◌+◌, Bool, true, false, List, [], ◌∷◌, ◌++◌, length, Option, Some, None, refl, sym, ap, ◌∙◌, arith, cond}
 use Rattle.std.specs.Prelude.{if◌then◌else◌}
 use Rattle.exec_value.specs.declared.outcome.Outcome.{Outcome}
-use Rattle.exec_value.specs.Summary.{is_error}
+use Rattle.outcome_lines.specs.Summary.{is_error}
 use Rattle.run_rules.specs.StopStates.{first_error}
 
 -- a first error stays the first

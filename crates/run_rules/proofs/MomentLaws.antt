@@ -2,7 +2,7 @@
 use Rattle.std.proofs.Common.{◌≡◌, ◌⊎◌, ℕ, ◌+◌, ◌<◌, ◌≤◌, Bool, true, false, List, [], ◌∷◌, ◌++◌, length, Option, Some, None, IfSome, refl, sym, ap, ◌∙◌, inl, inr, length-append, arith}
 use Rattle.std.proofs.lemmas.Bool.{cases_Bool}
 use Rattle.exec_value.specs.declared.outcome.Outcome.{Outcome}
-use Rattle.exec_value.specs.Summary.{is_error}
+use Rattle.outcome_lines.specs.Summary.{is_error}
 use Rattle.run_rules.specs.StopStates.{StopRules, first_error}
 use Rattle.run_rules.specs.Moments.{Moment, IsQuiet, IsDue, IsTimely, IsCaused}
 use Rattle.run_rules.proofs.FirstError.{first_error-stays, first_error-none, first_error-found}

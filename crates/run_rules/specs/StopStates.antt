@@ -2,7 +2,7 @@
 -- make the request.
 use Rattle.std.specs.Prelude.{ℕ, ◌+◌, Bool, true, false, List, [], ◌∷◌, length, nat_lt, nat_le, Option, Some, None, if◌then◌else◌}
 use Rattle.exec_value.specs.declared.outcome.Outcome.{Outcome}
-use Rattle.exec_value.specs.Summary.{is_error}
+use Rattle.outcome_lines.specs.Summary.{is_error}
 use Rattle.plan_rules.specs.declared.settings.Settings.{Settings}
 use Rattle.plan_rules.specs.declared.stop.StopState.{StopState}
 use Rattle.plan_rules.specs.declared.stop.StopState.TheVariants.{Never, May, Stands}

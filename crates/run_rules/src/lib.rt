@@ -11,8 +11,10 @@
 //! lawful. It stands on plan_shape and on the laws of plan_laws.
 #![tactic(auto)]
 
+mod law;
 mod settings;
 mod window;
 
+pub use law::limits_are;
 pub use settings::may_run;
 pub use window::{MOST_WITH_AHEAD, at_once};

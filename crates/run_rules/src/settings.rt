@@ -1,9 +1,9 @@
 //! Whether a plan of these settings may be run.
 ghost use Rattle.std.specs.Prelude.{◌≡◌, ◌<◌, true, IfSome};
-ghost use Rattle.life_rules.specs.declared.scope.ScopeKind.{ScopeKind};
+ghost use Rattle.node_tree.specs.declared.scope_kind.ScopeKind.{ScopeKind};
 ghost use Rattle.run_rules.specs.PlanTerms.{MayRun, has_stop_rule};
 
-use life_rules::ScopeKind;
+use node_tree::ScopeKind;
 use plan_rules::Settings;
 
 /// Whether a rule of the settings requests a stop.

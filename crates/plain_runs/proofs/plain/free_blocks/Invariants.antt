@@ -1,11 +1,11 @@
-use Rattle.std.proofs.Common.{◌≡◌, ◌≤◌, ◌-◌, ℕ, length, get_or, None}
+use Rattle.std.proofs.Common.{◌≡◌, ◌≤◌, ◌-◌, length, replicate, None}
 use Rattle.plain_runs.proofs.plain.free_blocks.Given as goal
 
 abbrev pub invariant-fill : goal.invariant-fill
 invariant-fill l = record {
-  count : length l.entries.items ≤ l.blocks;
-  free : (b : ℕ) → get_or l.entries.items b None ≡ None;
+  count : length l.free.items ≤ l.blocks;
+  are : l.free.items ≡ replicate (length l.free.items) None;
 }
 
 abbrev pub decreases-fill : goal.decreases-fill
-decreases-fill l = l.blocks - length l.entries.items
+decreases-fill l = l.blocks - length l.free.items

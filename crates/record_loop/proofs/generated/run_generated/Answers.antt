@@ -2,7 +2,6 @@ use Rattle.std.proofs.Common.{ap, subst}
 use Rattle.plan_rules.specs.declared.settings.Settings.{Settings}
 use Rattle.record_loop.specs.declared.printer.Form.TheVariants.{Summary}
 use Rattle.record_loop.specs.Generated.{generated_lines}
-use Rattle.io_views.specs.Sinks.{view_of}
 use Rattle.record_loop.specs.Standing.{opening_of}
 use Rattle.record_loop.proofs.OpeningLaws.{fresh-stands, fresh-none}
 use Rattle.record_loop.proofs.ClosingLaws.{all-lawful}
@@ -11,7 +10,7 @@ use Rattle.record_loop.proofs.generated.run_generated.Goals as goal
 pub take_all-requires-clause-new : goal.take_all-requires-clause-new
 take_all-requires-clause-new g c = λ κs lives.
     let work = g.O.Operations.state c.args.operations.now in
-    let sink = view_of g.K.Sink.written g.K.Sink.outstanding g.K.Sink.faults c.args.out.now in
+    let sink = g.K.Sink.told c.args.out.now in
     record {
       opening = opening_of work c.args.window Summary sink;
       standing = fresh-stands g.O.Operations.WantsMemory c.args.window c.args.settings Summary work sink _ c.in_ok-flight.ensures c.requires.settings_are c.requires.idle c.requires.may_run;
@@ -19,12 +18,12 @@ take_all-requires-clause-new g c = λ κs lives.
 
 pub take_all-requires-clause-none : goal.take_all-requires-clause-none
 take_all-requires-clause-none g c = λ κs lives.
-    fresh-none (view_of g.K.Sink.written g.K.Sink.outstanding g.K.Sink.faults c.args.out.now) c.in_ok-flight.ensures
+    fresh-none (g.K.Sink.told c.args.out.now) c.in_ok-flight.ensures
 
 pub write_all-requires-clause-going : goal.write_all-requires-clause-going
 write_all-requires-clause-going g c = λ κs lives.
     let work = g.O.Operations.state c.args.operations.now in
-    let sink = view_of g.K.Sink.written g.K.Sink.outstanding g.K.Sink.faults c.args.out.now in
+    let sink = g.K.Sink.told c.args.out.now in
     let opening = opening_of work c.args.window Summary sink in
     record {
       opening = opening;
@@ -35,7 +34,7 @@ write_all-requires-clause-going g c = λ κs lives.
 pub returns-clause-ran : goal.returns-clause-ran
 returns-clause-ran g c =
     let work = g.O.Operations.state c.args.operations.now in
-    let sink = view_of g.K.Sink.written g.K.Sink.outstanding g.K.Sink.faults c.args.out.now in
+    let sink = g.K.Sink.told c.args.out.now in
     let opening = opening_of work c.args.window Summary sink in
     let taken = c.take_all.ensures.takes opening (fresh-stands g.O.Operations.WantsMemory c.args.window c.args.settings Summary work sink _ c.in_ok-flight.ensures c.requires.settings_are c.requires.idle c.requires.may_run) in
     let standing = c.write_all.ensures.stays opening (generated_lines c.args.settings.input c.args.count) taken in

@@ -1,4 +1,3 @@
-use Rattle.io_views.specs.Sinks.{view_of}
 use Rattle.record_loop.specs.Standing.{opening_of}
 use Rattle.record_loop.proofs.OpeningLaws.{ready-taken}
 use Rattle.record_loop.proofs.run.run_records.Goals as goal
@@ -6,7 +5,7 @@ use Rattle.record_loop.proofs.run.run_records.Goals as goal
 pub run-requires-clause-new : goal.run-requires-clause-new
 run-requires-clause-new g c = λ κs lives.
     let work = g.O.Operations.state c.args.operations.now in
-    let sink = view_of g.K.Sink.written g.K.Sink.outstanding g.K.Sink.faults c.args.out.now in
+    let sink = g.K.Sink.told c.args.out.now in
     record {
       opening = opening_of work c.args.window c.args.form sink;
       taken = ready-taken g.O.Operations.WantsMemory c.args.window c.args.settings c.args.form work sink _ c.in_ok-session.ensures.session c.requires.settings_are c.requires.idle c.requires.may_run;
@@ -15,6 +14,13 @@ run-requires-clause-new g c = λ κs lives.
 pub returns-clause-ran : goal.returns-clause-ran
 returns-clause-ran g c =
     let work = g.O.Operations.state c.args.operations.now in
-    let sink = view_of g.K.Sink.written g.K.Sink.outstanding g.K.Sink.faults c.args.out.now in
+    let sink = g.K.Sink.told c.args.out.now in
     c.run.ensures.ran (opening_of work c.args.window c.args.form sink)
+    (ready-taken g.O.Operations.WantsMemory c.args.window c.args.settings c.args.form work sink _ c.in_ok-session.ensures.session c.requires.settings_are c.requires.idle c.requires.may_run)
+
+pub returns-clause-reads : goal.returns-clause-reads
+returns-clause-reads g c =
+    let work = g.O.Operations.state c.args.operations.now in
+    let sink = g.K.Sink.told c.args.out.now in
+    c.run.ensures.reads (opening_of work c.args.window c.args.form sink)
     (ready-taken g.O.Operations.WantsMemory c.args.window c.args.settings c.args.form work sink _ c.in_ok-session.ensures.session c.requires.settings_are c.requires.idle c.requires.may_run)

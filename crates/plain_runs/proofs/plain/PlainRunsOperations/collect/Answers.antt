@@ -1,20 +1,24 @@
-use Rattle.std.proofs.Common.{List, Option, None, Some, get_or, set, sym, ap, ◌∙◌, subst}
-use Rattle.plain_runs.specs.declared.entry.Entry.{Entry}
-use Rattle.plain_runs.specs.Entries.{Plain, IsSound}
-use Rattle.plain_runs.proofs.EntryLaws.{collects-at, sound-takes, within-some}
+use Rattle.std.specs.Option.{option_copied}
+use Rattle.std.proofs.Common.{◌≡◌, ◌<◌, List, Option, None, Some, length, get_or, set, sym, ap, ◌∙◌, subst}
+use Rattle.plain_runs.specs.declared.started.Started.{Started}
+use Rattle.plain_runs.specs.PlainWork.{Completes, Plain}
+use Rattle.plain_runs.proofs.BlockLaws.{collects-at, sound-frees, within-begun}
 use Rattle.plain_runs.proofs.plain.PlainRunsOperations.collect.Goals as goal
 
-pub invariant_of-self-2 : goal.invariant_of-self-2
-invariant_of-self-2 g c =
-    sound-takes c.self.inside.entries.items c.args.block c.take_entry.ensures.items c.self.invariant
-    (within-some c.self.inside.entries.items c.args.block c.in_ok-entry.entry (sym c.take_entry.ensures.value ∙ c.in_ok-entry.was))
+pub invariant_of-self : goal.invariant_of-self
+invariant_of-self g c =
+    sound-frees c.self.inside.blocks.items c.args.block c.free_block.ensures.items c.self.invariant
+    (subst (λ (p : Plain). c.args.block < length p.blocks) (sym c.self.view_is) (within-begun c.args.self.now c.args.block c.requires.begun))
 
 pub returns : goal.returns
 returns g c =
     let old = c.args.self.now in
-    let entries = ap (λ (p : Plain). p.entries) c.self.view_is in
-    collects-at old _ c.args.block c.self.inside.next c.in_ok-entry.entry c.completion_of.result
+    let blocks = ap (λ (p : Plain). p.blocks) c.self.view_is in
+    let lent : c.deref.result.now ≡ c.self.inside.blocks.items = cc in
+    let shown = ap (λ (bs : List (Option Started)). get_or bs c.args.block None) (sym blocks ∙ sym lent) in
+    collects-at old _ c.args.block c.self.inside.next c.self.inside.small c.in_ok-started.started.now c.in_ok-done.done
     (ap (λ (p : Plain). p.plan) c.self.view_is) (ap (λ (p : Plain). p.requested) c.self.view_is)
-    (c.take_entry.ensures.items ∙ ap (λ (es : List (Option Entry)). set es c.args.block None) entries) c.completion_of.ensures
-    (sym (ap (λ (es : List (Option Entry)). get_or es c.args.block None) entries) ∙ sym c.take_entry.ensures.value ∙ c.in_ok-entry.was)
-    (subst (λ (p : Plain). IsSound p.plan p.entries c.self.inside.next) c.self.view_is c.self.invariant)
+    (c.free_block.ensures.items ∙ ap (λ (bs : List (Option Started)). set bs c.args.block None) blocks)
+    (within-begun old c.args.block c.requires.begun)
+    (shown ∙ (sym c.at_block.ensures ∙ ap option_copied c.in_ok-started.was))
+    (subst (λ (p : Plain). Completes p.plan c.in_ok-started.started.now c.in_ok-done.done) c.self.view_is c.in_ok-done.ensures.completes)

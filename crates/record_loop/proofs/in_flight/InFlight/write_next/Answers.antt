@@ -1,9 +1,9 @@
-use Rattle.std.proofs.Common.{◌≡◌, ℕ, List, [], ◌∷◌, ◌++◌, drop, Option, None, Some, slice_get, refl, sym, ap, ◌∙◌, subst}
+use Rattle.std.proofs.Common.{◌≡◌, ℕ, List, [], ◌∷◌, ◌++◌, drop, length, Option, None, Some, slice_get, refl, sym, ap, ◌∙◌, subst, length-drop, arith}
+use Rattle.std.proofs.lemmas.Option.{slice_get_within}
 use Rattle.circular_buffer.specs.Buffer.{Buffer, buffer}
 use Rattle.record_loop.specs.declared.printer.Printer.{Printer}
 use Rattle.record_loop.specs.declared.slot.Slot.{Slot}
 use Rattle.record_loop.specs.Printing.{Printed}
-use Rattle.io_views.specs.Sinks.{view_of}
 use Rattle.record_loop.proofs.StandingLaws.{Standing-hands}
 use Rattle.record_loop.proofs.WritingLaws.{Standing-writes, Standing-fails}
 use Rattle.record_loop.proofs.in_flight.InFlight.write_next.Goals as goal
@@ -20,23 +20,41 @@ returns-in_default-clause-stays g c = λ opening lines standing.
     (c.pop_front.ensures.items ∙ ap (λ (items : List Slot). buffer items slots.capacity) (none-dropped slots.items (sym c.in_default.is ∙ c.pop_front.ensures.value)))
     refl refl standing
 
-pub returns-then-not-is_failure-clause-stays : goal.returns-then-not-is_failure-clause-stays
-returns-then-not-is_failure-clause-stays g c = λ opening lines standing.
+pub returns-then-not-failed-clause-stays : goal.returns-then-not-failed-clause-stays
+returns-then-not-failed-clause-stays g c = λ opening lines standing.
     let popped = c.pop_front.ensures.items in
     Standing-writes (g.O.Operations.state c.outcome_of-outcome.new.operations) _ _ c.in-Some.slot c.outcome_of-outcome.result standing
     (sym c.pop_front.ensures.value ∙ c.in-Some.is) c.outcome_of-outcome.ensures
     (λ outcomes. c.print.ensures.prints opening.form opening.sink outcomes)
     (ap (λ (b : Buffer Slot). b.items) popped) (ap (λ (b : Buffer Slot). b.capacity) popped) refl
-    (c.is_failure.ensures.no c.if-not-is_failure.true) refl
+    (c.is_failure-failed.ensures.no c.if-not-failed.true) refl
 
 pub returns-clause-stays : goal.returns-clause-stays
 returns-clause-stays g c = λ opening lines standing.
     let popped = c.pop_front.ensures.items in
     let requested = c.request.ensures.requested in
-    let failed = c.is_failure.ensures.yes c.if-not-is_failure.false in
-    let later = view_of g.K.Sink.written g.K.Sink.outstanding g.K.Sink.faults c.print.new.out in
+    let failed = c.is_failure-failed.ensures.yes c.if-not-failed.false in
+    let later = g.K.Sink.told c.print.new.out in
     Standing-fails (g.O.Operations.state c.outcome_of-outcome.new.operations) later c.request.new.self c.in-Some.slot c.outcome_of-outcome.result standing
     (sym c.pop_front.ensures.value ∙ c.in-Some.is) c.outcome_of-outcome.ensures
     (λ outcomes printed. subst (λ (p : Printer). Printed opening.form opening.sink later p (outcomes ++ c.outcome_of-outcome.result ∷ [])) (sym requested.printer) (c.print.ensures.prints opening.form opening.sink outcomes printed))
     (ap (λ (b : Buffer Slot). b.items) (requested.slots ∙ popped)) (ap (λ (b : Buffer Slot). b.capacity) (requested.slots ∙ popped)) requested.settings_are
     failed.0 failed.1 c.request.ensures.again c.request.ensures.first requested.requested
+
+-- one record in flight less, and one line more
+pub returns-clause-slots : goal.returns-clause-slots
+returns-clause-slots g c =
+    let items = c.args.self.now.slots.items in
+    omega (arith, ap (λ (b : Buffer Slot). length b.items) (c.request.ensures.requested.slots ∙ c.pop_front.ensures.items), length-drop 1 items)
+
+pub returns-clause-read : goal.returns-clause-read
+returns-clause-read g c =
+    let items = c.args.self.now.slots.items in
+    omega (
+      arith,
+      ap (λ (b : Buffer Slot). length b.items) (c.request.ensures.requested.slots ∙ c.pop_front.ensures.items),
+      length-drop 1 items,
+      slice_get_within items 0 c.in-Some.slot (sym c.pop_front.ensures.value ∙ c.in-Some.is),
+      ap (λ (p : Printer). p.summary.lines) c.request.ensures.requested.printer,
+      c.print.ensures.lines,
+    )

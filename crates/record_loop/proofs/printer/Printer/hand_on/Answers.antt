@@ -1,12 +1,12 @@
 use Rattle.std.proofs.Common.{◌≡◌, Bool, false, sym, ◌∙◌, subst}
 use Rattle.record_loop.specs.Printing.{Wrote}
-use Rattle.io_views.specs.Sinks.{SinkView, view_of}
+use Rattle.exec_io.specs.Views.{SinkView}
 use Rattle.record_loop.proofs.PrintingLaws.{Wrote-hands}
 use Rattle.record_loop.proofs.printer.Printer.hand_on.Goals as goal
 
 pub returns-then-is_err-clause-wrote : goal.returns-then-is_err-clause-wrote
 returns-then-is_err-clause-wrote g c = λ text start wrote.
-    let view = view_of g.K.Sink.written g.K.Sink.outstanding g.K.Sink.faults in
+    let view = g.K.Sink.told in
     let was : Wrote text start (view c.args.out.now) c.args.self.now.due false =
     subst (Wrote text start (view c.args.out.now) c.args.self.now.due) c.if-self.false wrote in
     subst (Wrote text start (view c.finish.new.self) false) (sym c.is_err.ensures.value ∙ c.if-is_err.true)
@@ -14,7 +14,7 @@ returns-then-is_err-clause-wrote g c = λ text start wrote.
 
 pub returns-else-is_err-clause-wrote : goal.returns-else-is_err-clause-wrote
 returns-else-is_err-clause-wrote g c = λ text start wrote.
-    let view = view_of g.K.Sink.written g.K.Sink.outstanding g.K.Sink.faults in
+    let view = g.K.Sink.told in
     let was : Wrote text start (view c.args.out.now) c.args.self.now.due false =
     subst (Wrote text start (view c.args.out.now) c.args.self.now.due) c.if-self.false wrote in
     subst (Wrote text start (view c.finish.new.self) false) (sym c.is_err.ensures.value ∙ c.if-is_err.false ∙ sym c.if-self.false)

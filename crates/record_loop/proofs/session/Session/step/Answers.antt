@@ -1,5 +1,7 @@
 use Rattle.std.proofs.Common.{refl, take, rules}
-use Rattle.record_loop.proofs.ReadingLaws.{Going-more, Going-stays, Halts-limit, Halts-fault, Halts-ended, Keeps-nil}
+use Rattle.record_loop.specs.ReadStarts.{start_of}
+use Rattle.record_loop.proofs.ReadStartLaws.{ReadsOnly-nil, ReadsOnly-one}
+use Rattle.record_loop.proofs.ReadingLaws.{Going-stays, Goes-piece, Halts-fault, Halts-ended, Keeps-nil, caught-up}
 use Rattle.record_loop.proofs.session.Session.step.Goals as goal
 
 pub take_piece-requires-clause-going : goal.take_piece-requires-clause-going
@@ -7,26 +9,43 @@ take_piece-requires-clause-going g c = λ κs lives.
     let going = c.requires.going in
     record { opening = going.opening; bytes = going.bytes; taken = c.settle.ensures.stays going.opening going.bytes going.taken }
 
-pub returns-then-take_piece-clause-steps : goal.returns-then-take_piece-clause-steps
-returns-then-take_piece-clause-steps g c = λ opening source going.
-    Going-more (take c.in-Ok.count c.read.new.buffer) c.in-Ok.ensures.bytes.0
-    (λ bytes taken. c.if-take_piece.ensures.takes opening bytes (c.settle.ensures.stays opening bytes taken)) going
+pub returns-clause-goes : goal.returns-clause-goes
+returns-clause-goes g c = λ opening source going.
+    Goes-piece g.O.Operations.WantsMemory opening c.take_piece.result source _ _ (take c.in-Ok.count c.read_beside-answer.new.buf) _ _ c.in-Ok.ensures.bytes.0
+    (λ bytes taken. c.take_piece.ensures.takes opening bytes (c.settle.ensures.stays opening bytes taken)) going
 
-pub returns-else-take_piece-clause-steps : goal.returns-else-take_piece-clause-steps
-returns-else-take_piece-clause-steps g c = λ opening source going.
-    Halts-limit (take c.in-Ok.count c.read.new.buffer) c.in-Ok.ensures.bytes.0
-    (λ bytes taken. c.if-take_piece.ensures.takes opening bytes (c.settle.ensures.stays opening bytes taken)) going
-
-pub returns-then-is_lost-clause-steps : goal.returns-then-is_lost-clause-steps
-returns-then-is_lost-clause-steps g c = λ opening source going.
-    let left = g.S.Source.left c.args.records.now in
+pub returns-then-lost-clause-goes : goal.returns-then-lost-clause-goes
+returns-then-lost-clause-goes g c = λ opening source going.
+    let left = (g.S.RecordSource.told c.args.records.now).left in
     Halts-fault left (Keeps-nil left) (Going-stays (c.settle.ensures.stays opening) going)
 
-pub returns-in_default-clause-steps : goal.returns-in_default-clause-steps
-returns-in_default-clause-steps g c = λ opening source going.
-    Halts-fault (g.S.Source.left c.read.new.records) c.in_default.ensures.bytes (Going-stays (c.settle.ensures.stays opening) going)
+pub returns-in_default-clause-goes : goal.returns-in_default-clause-goes
+returns-in_default-clause-goes g c = λ opening source going.
+    Halts-fault (g.S.RecordSource.told c.read_beside-answer.new.self).left c.in_default.ensures.bytes (Going-stays (c.settle.ensures.stays opening) going)
 
-pub returns-then-count-eq0-clause-steps : goal.returns-then-count-eq0-clause-steps
-returns-then-count-eq0-clause-steps g c = λ opening source going.
-    Halts-ended (g.S.Source.left c.read.new.records) c.in-Ok.count c.read.new.buffer c.if-count-eq0.true c.in-Ok.ensures.bytes.0
-    (c.in-Ok.ensures.bytes.1 c.if-count-eq0.true (search rules)) (Going-stays (c.settle.ensures.stays opening) going)
+pub returns-then-count-eq0-clause-goes : goal.returns-then-count-eq0-clause-goes
+returns-then-count-eq0-clause-goes g c = λ opening source going.
+    Halts-ended (g.S.RecordSource.told c.read_beside-answer.new.self).left c.in-Ok.count c.read_beside-answer.new.buf c.if-count-eq0.true c.in-Ok.ensures.bytes.0
+    (c.in-Ok.ensures.bytes.1 c.if-count-eq0.true (search rules)) c.settle.ensures.none (Going-stays (c.settle.ensures.stays opening) going)
+
+pub returns-clause-reads : goal.returns-clause-reads
+returns-clause-reads g c = λ opening source going.
+    let told = g.S.RecordSource.told c.args.records.now in
+    ReadsOnly-one (start_of told (g.K.Sink.told c.settle.new.out)) _ _ c.in-Ok.ensures.reads
+    (caught-up told (Going-stays (c.settle.ensures.stays opening) going) c.settle.ensures.none (search rules) (search rules))
+
+pub returns-then-count-eq0-clause-reads : goal.returns-then-count-eq0-clause-reads
+returns-then-count-eq0-clause-reads g c = λ opening source going.
+    let told = g.S.RecordSource.told c.args.records.now in
+    ReadsOnly-one (start_of told (g.K.Sink.told c.settle.new.out)) _ _ c.in-Ok.ensures.reads
+    (caught-up told (Going-stays (c.settle.ensures.stays opening) going) c.settle.ensures.none (search rules) (search rules))
+
+pub returns-in_default-clause-reads : goal.returns-in_default-clause-reads
+returns-in_default-clause-reads g c = λ opening source going.
+    let told = g.S.RecordSource.told c.args.records.now in
+    ReadsOnly-one (start_of told (g.K.Sink.told c.settle.new.out)) _ _ c.in_default.ensures.reads
+    (caught-up told (Going-stays (c.settle.ensures.stays opening) going) c.settle.ensures.none (search rules) (search rules))
+
+pub returns-then-lost-clause-reads : goal.returns-then-lost-clause-reads
+returns-then-lost-clause-reads g c = λ opening source going.
+    ReadsOnly-nil (g.S.RecordSource.reads c.args.records.now)

@@ -1,6 +1,6 @@
 use Rattle.std.proofs.Common.{◌≡◌}
 use Rattle.record_loop.specs.Works.{Keeps}
-use Rattle.record_loop.proofs.begin.start.Given as goal
+use Rattle.record_loop.proofs.slot.start.Given as goal
 
 abbrev pub invariant-loop : goal.invariant-loop
 invariant-loop g l = record {

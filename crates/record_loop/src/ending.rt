@@ -6,20 +6,20 @@ use record_lines::End;
 
 /// How a run over records ended.
 #[derive(Clone, Copy, Debug)]
-pub struct Closing {
+pub struct Ending {
     end: End,
     lost: bool,
     summary: Summary,
 }
 
-impl Closing {
-    ghost use Rattle.record_loop.specs.declared.closing.Closing.{Closing};
+impl Ending {
+    ghost use Rattle.record_loop.specs.declared.ending.Ending.{Ending};
 
-    /// The closing of these parts.
-    pub(crate) fn new(end: End, lost: bool, summary: Summary) -> Closing
+    /// The ending of these parts.
+    pub(crate) fn new(end: End, lost: bool, summary: Summary) -> Ending
         ensures { result ≡ record { end = end; lost = lost; summary = summary } }
     {
-        Closing { end, lost, summary }
+        Ending { end, lost, summary }
     }
 
     /// How the reading ended: after a lost write, by no fault of the source, it is `Fault` too.

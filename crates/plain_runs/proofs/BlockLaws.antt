@@ -1,0 +1,116 @@
+-- What becomes of the blocks of plain runs.
+use Rattle.std.proofs.Common.{◌≡◌, ◌≢◌, ◌⊎◌, ℕ, ◌^◌, ◌+◌, ◌<◌, ◌≤◌, Bool, true, false, List, [], ◌∷◌, ◌++◌, length, get_or, set, replicate, Option, Some, None, IsSome, refl, sym, ap, ◌∙◌, subst, inl, inr, length-append, arith}
+use Rattle.std.proofs.lemmas.Bool.{cases_eq, cases_lt}
+use Rattle.std.proofs.lemmas.Grind.{common_steps}
+use Rattle.std.proofs.lemmas.List.{get_or-set_same, get_or-set_other, get_or-replicate, get_or_past, length-replicate, replicate-append-replicate}
+use Rattle.std.proofs.Math.ListN.{length-set}
+use Rattle.std.specs.Option.{option_map}
+use Rattle.exec_value.specs.Kinds.{HasKind}
+use Rattle.exec_value.specs.declared.data.Datum.{Datum}
+use Rattle.exec_value.specs.declared.outcome.Completion.{Completion}
+use Rattle.plan_kinds.specs.Reached.{KindsMatch}
+use Rattle.plan_rules.specs.Settle.{stop_state}
+use Rattle.plan_settle.specs.Root.{settled_root}
+use Rattle.plan_settle.specs.Small.{IsSmall}
+use Rattle.plan_shape.specs.Blueprint.{Blueprint}
+use Rattle.run_rules.specs.PlanTerms.{AllowsRecord}
+use Rattle.run_rules.proofs.PlanLaws.{plan-covers, settled-allows}
+use Rattle.plain_runs.specs.declared.started.Started.{Started}
+use Rattle.plain_runs.specs.PlainWork.{Completes, WantsMemory, Plain, begun_of, work_of, IsSound}
+use Rattle.record_loop.specs.Works.{Begun, Work, Collects, MayComplete, seen_state}
+
+-- what is settled is allowed, under what the operation may have seen
+seen-allows : (plan : Blueprint) (number : ℕ) (datum : Datum) (asked requested : Bool) (done : Completion) → done ≡ settled_root plan datum number asked → AllowsRecord plan number datum (seen_state asked requested) done
+seen-allows plan number datum true requested done is = subst (AllowsRecord plan number datum (seen_state true requested)) (sym is) (settled-allows plan number datum true)
+seen-allows plan number datum false false done is = subst (AllowsRecord plan number datum (seen_state false false)) (sym is) (settled-allows plan number datum false)
+seen-allows plan number datum false true done is =
+    subst (AllowsRecord plan number datum (seen_state false true)) (sym is)
+    (plan-covers WantsMemory plan 0 number datum (stop_state false) (settled_root plan datum number false) (settled-allows plan number datum false))
+
+-- an operation completes as its evaluation did
+evaluated-may : (work : Work) (started : Started) (completion : Completion) → Completes work.plan started completion → MayComplete WantsMemory work (begun_of started) completion
+evaluated-may work started completion (inl settled) = inr (seen-allows work.plan started.number started.datum started.asked work.requested completion settled)
+evaluated-may work started completion (inr wants) = inl (wants.0, inr wants.1)
+
+-- the operation of a block is collected, and the block is free
+pub collects-at : (old new : Plain) (at next : ℕ) (small : Bool) (started : Started) (completion : Completion) → new.plan ≡ old.plan → new.requested ≡ old.requested → new.blocks ≡ set old.blocks at None → at < length old.blocks
+    → get_or old.blocks at None ≡ Some started → Completes old.plan started completion → Collects WantsMemory (work_of old) (work_of new) at completion
+collects-at old new at next small started completion plan requested blocks within is completes = record {
+  plan = plan;
+  requested = requested;
+  free = ap (option_map begun_of) (ap (λ (bs : List (Option Started)). get_or bs at None) blocks ∙ get_or-set_same old.blocks at None None within);
+  others = λ b begun apart has.
+      ap (λ (bs : List (Option Started)). option_map begun_of (get_or bs b None)) blocks ∙ ap (option_map begun_of) (get_or-set_other old.blocks at b None None apart) ∙ has;
+  ends = λ begun has.
+      let same : begun_of started ≡ begun = let e : Some (begun_of started) ≡ Some begun = sym (ap (option_map begun_of) is) ∙ has in cc in
+      subst (λ (x : Begun). MayComplete WantsMemory (work_of old) x completion) same (evaluated-may (work_of old) started completion completes);
+}
+
+-- the blocks are sound with what one of them has now
+sound-set : {plan : Blueprint} {next later : ℕ} {small : Bool} (blocks : List (Option Started)) (at : ℕ) (block : Option Started) → IsSound plan blocks next small → at < length blocks
+    → ((started : Started) → block ≡ Some started → HasKind started.datum plan.settings.input) → later < length blocks → IsSound plan (set blocks at block) later small
+sound-set {plan = plan} blocks at block sound within kind fits = record {
+  matching = sound.matching;
+  kinds = λ b other is. kinds b other is;
+  wants = sound.wants;
+  within = simp length-set fits;
+  few = simp length-set sound.few;
+}
+  where
+    kinds : (b : ℕ) (other : Started) → get_or (set blocks at block) b None ≡ Some other → HasKind other.datum plan.settings.input
+    kinds b other is = elim (cases_eq b at) [
+      | inl here ↦ kind other (sym (ap (λ k. get_or (set blocks at block) k None) here ∙ get_or-set_same blocks at block None within) ∙ is)
+      | inr there ↦ sound.kinds b other (sym (get_or-set_other blocks at b block None there) ∙ is)
+    ]
+
+-- an operation more
+pub sound-puts : {plan : Blueprint} {items : List (Option Started)} {next later : ℕ} {small : Bool} (blocks : List (Option Started)) (at : ℕ) (started : Started) → items ≡ set blocks at (Some started) → IsSound plan blocks next small → at < length blocks
+    → HasKind started.datum plan.settings.input → later < length blocks → IsSound plan items later small
+sound-puts {plan = plan} {later = later} {small = small} blocks at started is sound within kind fits =
+    subst (λ (bs : List (Option Started)). IsSound plan bs later small) (sym is)
+    (sound-set blocks at (Some started) sound within (λ other same. let e : started ≡ other = cc in subst (λ (x : Started). HasKind x.datum plan.settings.input) e kind) fits)
+
+-- and one less
+pub sound-frees : {plan : Blueprint} {items : List (Option Started)} {next : ℕ} {small : Bool} (blocks : List (Option Started)) (at : ℕ) → items ≡ set blocks at None → IsSound plan blocks next small → at < length blocks → IsSound plan items next small
+sound-frees {plan = plan} {next = next} {small = small} blocks at is sound within =
+    subst (λ (bs : List (Option Started)). IsSound plan bs next small) (sym is)
+    (sound-set blocks at None sound within (λ other same. cc) sound.within)
+
+-- a free block more
+pub free-more : {items : List (Option Started)} (free : List (Option Started)) → items ≡ free ++ None ∷ [] → free ≡ replicate (length free) None → items ≡ replicate (length items) None
+free-more free is are =
+    is ∙ ap (λ (bs : List (Option Started)). bs ++ None ∷ []) are ∙ replicate-append-replicate (length free) 1 None
+    ∙ ap (λ n. replicate n None) (sym (ap length is ∙ length-append free (None ∷ [])))
+
+-- free blocks have nothing
+free-none : (blocks b : ℕ) → get_or (replicate {A = Option Started} blocks None) b None ≡ None
+free-none blocks b = elim (cases_lt b blocks) [
+  | inl less ↦ get_or-replicate blocks b None None less
+  | inr more ↦ get_or_past (replicate blocks None) b None (simp length-replicate more)
+]
+
+-- and are sound
+pub sound-free : (plan : Blueprint) (blocks : ℕ) (small : Bool) (items : List (Option Started)) → items ≡ replicate blocks None → 0 < blocks → blocks ≤ 2 ^ 16 → KindsMatch plan.nodes plan.settings.input → (small ≡ false → ¬ IsSmall plan) → IsSound plan items 0 small
+sound-free plan blocks small items free some few kinds wants = record {
+  matching = kinds;
+  kinds = λ b started is. absurd (let e : None ≡ Some started = sym (ap (λ (bs : List (Option Started)). get_or bs b None) free ∙ free-none blocks b) ∙ is in cc);
+  wants = wants;
+  within = omega (arith, count, some);
+  few = omega (arith, count, few);
+}
+  where
+    count : length items ≡ blocks
+    count = ap length free ∙ length-replicate blocks None
+
+-- a block that is set leaves their number
+pub length-sets : {items : List (Option Started)} (blocks : List (Option Started)) (at : ℕ) (block : Option Started) → items ≡ set blocks at block → length items ≡ length blocks
+length-sets blocks at block is = ap length is ∙ simp length-set
+
+-- a block that has an operation is there
+pub within-begun : (plain : Plain) (at : ℕ) → IsSome ((work_of plain).block at) → at < length plain.blocks
+within-begun plain at begun = elim (cases_lt at (length plain.blocks)) [
+  | inl less ↦ less
+  | inr more ↦ absurd (
+      let none : IsSome (option_map begun_of None) = subst (λ (block : Option Started). IsSome (option_map begun_of block)) (get_or_past plain.blocks at None more) begun in cc
+      )
+]

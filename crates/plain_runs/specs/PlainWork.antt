@@ -1,0 +1,58 @@
+-- What the blocks of plain runs have.
+use Rattle.std.specs.Prelude.{◌≡◌, ◌⊎◌, ℕ, ◌<◌, ◌≤◌, ◌^◌, Bool, false, List, length, slice_index_or, replicate, Option, None, Some, Vec}
+use Rattle.std.specs.Option.{option_map}
+use Rattle.std.specs.declared.alloc.Global.{Global}
+use Rattle.exec_value.specs.Kinds.{HasKind}
+use Rattle.exec_value.specs.declared.outcome.Completion.{Completion}
+use Rattle.exec_value.specs.declared.outcome.Completion.TheVariants.{NoMemory}
+use Rattle.plan_kinds.specs.Reached.{KindsMatch}
+use Rattle.plan_settle.specs.Root.{settled_root}
+use Rattle.plan_settle.specs.Small.{IsSmall}
+use Rattle.plan_shape.specs.Blueprint.{Blueprint}
+use Rattle.plain_runs.specs.declared.started.Started.{Started}
+use Rattle.record_loop.specs.Works.{Begun, Work}
+
+-- A plan may want memory where it isn't small.
+abbrev pub WantsMemory : Blueprint → Type 0
+WantsMemory plan = ¬ IsSmall plan
+
+-- An operation completes with what the plan settles to, or with want of memory, where the plan may
+-- want it.
+abbrev pub Completes : Blueprint → Started → Completion → Type 0
+Completes plan started completion =
+    (completion ≡ settled_root plan started.datum started.number started.asked)
+    ⊎ ((completion ≡ NoMemory) × WantsMemory plan)
+
+-- The plan, what each block has, and whether a stop was requested.
+pub record Plain : Type 0 where
+  pub plan : Blueprint
+  pub blocks : List (Option Started)
+  pub requested : Bool
+
+-- What an operation was begun with.
+abbrev pub begun_of : Started → Begun
+begun_of started =
+    record { number = started.number; datum = started.datum; asked = started.asked }
+
+-- The operations of the blocks.
+abbrev pub work_of : Plain → Work
+work_of plain = record {
+  plan = plain.plan;
+  block = λ b. option_map begun_of (slice_index_or plain.blocks b None);
+  requested = plain.requested;
+}
+
+-- The kinds of the plan match, and each block has a datum of the input's kind. A plan that isn't
+-- noted as small isn't so, and the block that is next to be taken is there.
+pub record IsSound (plan : Blueprint) (blocks : List (Option Started)) (next : ℕ) (small : Bool)
+    : Type 0 where
+  pub matching : KindsMatch plan.nodes plan.settings.input
+  pub kinds : (b : ℕ) (started : Started) → slice_index_or blocks b None ≡ Some started
+      → HasKind started.datum plan.settings.input
+  pub wants : small ≡ false → ¬ IsSmall plan
+  pub within : next < length blocks
+  pub few : length blocks ≤ 2 ^ 16
+
+-- So many blocks, all of them free.
+abbrev pub AreFree : ℕ → Vec (Option Started) Global → Type 0
+AreFree blocks free = free.items ≡ replicate blocks None
