@@ -1,15 +1,14 @@
 -- How a run of a task closes, by what the loop over its records did.
-use Rattle.std.proofs.Common.{◌≡◌, ◌≢◌, ℕ, ◌≤◌, false, List, refl, sym, ap, ◌∙◌, subst, arith}
+use Rattle.std.proofs.Common.{◌≡◌, ◌≢◌, ℕ, ◌≤◌, false, List, [], refl, sym, ap, ◌∙◌, subst, arith}
 use Rattle.exec_io.specs.Causes.{Rose}
 use Rattle.exec_value.specs.declared.kinds.Kind.{Kind}
-use Rattle.io_views.specs.Sinks.{SinkView}
-use Rattle.io_views.specs.Sources.{SourceView}
-use Rattle.plain_runs.specs.Entries.{WantsMemory}
+use Rattle.exec_io.specs.Views.{SourceView, SinkView}
+use Rattle.plain_runs.specs.PlainWork.{WantsMemory}
 use Rattle.plan_shape.specs.Blueprint.{Blueprint}
 use Rattle.record_lines.specs.declared.ending.End.{End}
 use Rattle.record_lines.specs.declared.ending.End.TheVariants.{Ended, Fault}
 use Rattle.record_lines.specs.Records.{records_of}
-use Rattle.record_loop.specs.declared.closing.Closing.{Closing}
+use Rattle.record_loop.specs.declared.ending.Ending.{Ending}
 use Rattle.record_loop.specs.declared.printer.Form.{Form}
 use Rattle.record_loop.specs.declared.printer.Form.TheVariants.{Summary}
 use Rattle.record_loop.specs.Generated.{generated_lines}
@@ -33,36 +32,40 @@ module _ (plan : Blueprint) (task : Task) (p : Blueprint) (window : ℕ) (same :
   opened-as : (P : Blueprint → ℕ → Type 0) → P p window → P plan (window_of plan task.window)
   opened-as P holds = subst (λ (w : ℕ). P plan w) sized (subst (λ (q : Blueprint). P q window) same holds)
 
-  pub source-closes : {before after : SourceView} {old new : SinkView} (form : Form) (closing : Closing) → task.origin ≡ Source form
-      → Ran WantsMemory (begins p window form old) before after new closing → (closing.end ≢ Fault → after.faults ≡ before.faults) → before.faults ≤ after.faults
-      → Closes plan task before after old new closing
-  source-closes {before = before} {after = after} {old = old} {new = new} form closing is run still later =
-      let ran = opened-as (λ q w. Ran WantsMemory (begins q w form old) before after new closing) run in
-      let records = records_of ran.bytes closing.end in
+  pub source-closes : {before after : SourceView} {old new : SinkView} (form : Form) (ending : Ending) → task.origin ≡ Source form
+      → Ran WantsMemory (begins p window form old) before after new ending → (ending.end ≢ Fault → after.faults ≡ before.faults) → before.faults ≤ after.faults
+      → Closes plan task before after old new ending
+  source-closes {before = before} {after = after} {old = old} {new = new} form ending is run still later =
+      let ran = opened-as (λ q w. Ran WantsMemory (begins q w form old) before after new ending) run in
+      let records = records_of ran.bytes ending.end in
       record {
         outcomes = ran.answered.outcomes;
         records = records;
-        takes = subst (λ (o : Origin). Takes o plan.settings.input before after closing.end records) (sym is) (record { bytes = ran.bytes; reads = ran.reads; are = refl });
+        rest = ran.rest;
+        all = ran.all;
+        takes = subst (λ (o : Origin). Takes o plan.settings.input before after ending.end ran.rest records) (sym is) (record { bytes = ran.bytes; reads = ran.reads; are = refl });
         lawful = ran.answered.lawful;
-        finished = subst (λ (o : Origin). Finished (form_for o) old new closing.summary closing.lost ran.answered.outcomes) (sym is) ran.answered.finished;
+        finished = subst (λ (o : Origin). Finished (form_for o) old new ending.summary ending.lost ran.answered.outcomes) (sym is) ran.answered.finished;
         cause = ran.cause;
         still = still;
         later = later;
         leaves = subst (λ (o : Origin). LeavesSource o before after) (sym is) tt;
       }
 
-  pub generated-closes : {source : SourceView} {old new : SinkView} (kind : Kind) (count : ℕ) (closing : Closing) → task.origin ≡ Generated count → kind ≡ plan.settings.input
-      → closing.end ≡ Ended → Answered WantsMemory (begins p window Summary old) (generated_lines kind count) new closing
-      → Closes plan task source source old new closing
-  generated-closes {source = source} {old = old} {new = new} kind count closing is of ended answers =
-      let answered = opened-as (λ q w. Answered WantsMemory (begins q w Summary old) (generated_lines kind count) new closing) answers in
+  pub generated-closes : {source : SourceView} {old new : SinkView} (kind : Kind) (count : ℕ) (ending : Ending) → task.origin ≡ Generated count → kind ≡ plan.settings.input
+      → ending.end ≡ Ended → Answered WantsMemory (begins p window Summary old) (generated_lines kind count) new ending
+      → Closes plan task source source old new ending
+  generated-closes {source = source} {old = old} {new = new} kind count ending is of ended answers =
+      let answered = opened-as (λ q w. Answered WantsMemory (begins q w Summary old) (generated_lines kind count) new ending) answers in
       let records = generated_lines kind count in
       record {
         outcomes = answered.outcomes;
         records = records;
-        takes = subst (λ (o : Origin). Takes o plan.settings.input source source closing.end records) (sym is) (record { ended = ended; same = refl; are = ap (λ (k : Kind). generated_lines k count) of });
+        rest = [];
+        all = λ _. refl;
+        takes = subst (λ (o : Origin). Takes o plan.settings.input source source ending.end [] records) (sym is) (record { ended = ended; none = refl; same = refl; are = ap (λ (k : Kind). generated_lines k count) of });
         lawful = answered.lawful;
-        finished = subst (λ (o : Origin). Finished (form_for o) old new closing.summary closing.lost answered.outcomes) (sym is) answered.finished;
+        finished = subst (λ (o : Origin). Finished (form_for o) old new ending.summary ending.lost answered.outcomes) (sym is) answered.finished;
         cause = λ fault kept. absurd (let wrong : Fault ≡ Ended = sym fault ∙ ended in cc);
         still = λ _. refl;
         later = omega arith;

@@ -1,11 +1,10 @@
 -- Which runs come to the end of their records.
-use Rattle.std.proofs.Common.{◌≡◌, ◌⊎◌, ℕ, List, ◌++◌, Option, None, Some, refl, sym, ap, ◌∙◌, subst, inl, inr, append-nil}
+use Rattle.std.proofs.Common.{◌≡◌, ◌⊎◌, ℕ, List, [], ◌++◌, Option, None, Some, refl, sym, ap, ◌∙◌, subst, inl, inr, append-nil}
 use Rattle.std.specs.Prelude.{IfSome, IsSomeAnd}
 use Rattle.std.specs.Io.KnownBytes.{Consumes, IsAtEnd}
-use Rattle.exec_io.specs.Shelves.{Texts}
 use Rattle.exec_value.specs.declared.kinds.Kind.{Kind}
 use Rattle.exec_value.specs.declared.outcome.Outcome.{Outcome}
-use Rattle.io_views.specs.Sources.{SourceView}
+use Rattle.exec_io.specs.Views.{SourceView}
 use Rattle.plan_shape.specs.Blueprint.{Blueprint}
 use Rattle.plan_reader.specs.PlanFile.{IsPlanOf}
 use Rattle.record_lines.specs.declared.ending.End.{End}
@@ -18,8 +17,8 @@ use Rattle.exec_engine.specs.declared.task.Origin.{Origin}
 use Rattle.exec_engine.specs.declared.task.Origin.TheVariants.{Source, Generated}
 use Rattle.exec_engine.specs.declared.task.Task.{Task}
 use Rattle.exec_engine.specs.Complete.{IsFinished}
-use Rattle.exec_engine.specs.Opening.{Stands}
-use Rattle.exec_engine.specs.Outside.{Outside}
+use Rattle.exec_engine.specs.Opening.{Finds}
+use Rattle.exec_io.specs.Outside.{Outside}
 use Rattle.exec_engine.specs.Says.{Lines, Prints, Says}
 use Rattle.exec_engine.specs.Taken.{Takes, PassesLimit, KeepsLimit, IsWithin}
 use Rattle.exec_engine.proofs.RefusedLaws.{refused-stands}
@@ -37,14 +36,14 @@ within-reads (Some all) None bytes consumed at_end within = absurd consumed
 within-reads (Some all) (Some rest) bytes consumed at_end within =
     λ beyond. within (subst IsBeyond (consumed ∙ ap (λ bs. bytes ++ bs) at_end ∙ append-nil bytes) beyond)
 
-takes-beyond : (origin : Origin) (kind : Kind) (before after : SourceView) (records : List (List ℕ)) → Takes origin kind before after LimitEnd records → PassesLimit origin before
+takes-beyond : (origin : Origin) (kind : Kind) (before after : SourceView) (records : List (List ℕ)) → Takes origin kind before after LimitEnd [] records → PassesLimit origin before
 takes-beyond (Source form) kind before after records takes =
-    beyond-reads before.left after.left takes.bytes takes.reads.consumed (takes.reads.beyond refl)
+    beyond-reads before.left after.left (takes.bytes ++ []) takes.reads.consumed (IsBeyond-append takes.bytes [] (takes.reads.beyond refl))
 takes-beyond (Generated count) kind before after records takes = absurd (let e : LimitEnd ≡ Ended = takes.ended in cc)
 
-takes-within : (origin : Origin) (kind : Kind) (before after : SourceView) (records : List (List ℕ)) → Takes origin kind before after Ended records → KeepsLimit origin before
+takes-within : (origin : Origin) (kind : Kind) (before after : SourceView) (records : List (List ℕ)) → Takes origin kind before after Ended [] records → KeepsLimit origin before
 takes-within (Source form) kind before after records takes =
-    within-reads before.left after.left takes.bytes takes.reads.consumed (takes.reads.at_end refl) (takes.reads.within (λ e. cc))
+    within-reads before.left after.left (takes.bytes ++ []) takes.reads.consumed (takes.reads.at_end refl) (λ beyond. takes.reads.within (λ e. cc) (subst IsBeyond (append-nil takes.bytes) beyond))
 takes-within (Generated count) kind before after records takes = tt
 
 -- no limit is passed within the limits
@@ -56,26 +55,26 @@ not-beyond (Source form) before beyond within = both before.left beyond within
     both (Some all) beyond within = within beyond
 not-beyond (Generated count) before beyond within = beyond
 
-module _ (texts : Option Texts) (task : Task) (old new : Outside) where
-  lines-within : {outcomes : List Outcome} → Lines texts task old new Ended outcomes → KeepsLimit task.origin old.records
+module _ (task : Task) (old new : Outside) where
+  lines-within : {outcomes : List Outcome} → Lines task old new Ended [] outcomes → KeepsLimit task.origin old.records
   lines-within lines = takes-within task.origin lines.plan.settings.input old.records new.records lines.records lines.takes
 
   -- a limit is answered where the records pass one
-  pub says-beyond : (status : Status) → Says texts task old new status → status ≡ Limit → PassesLimit task.origin old.records
+  pub says-beyond : (status : Status) → Says task old new status → status ≡ Limit → PassesLimit task.origin old.records
   says-beyond status says is =
-      let limit = subst (Says texts task old new) is says in
+      let limit = subst (Says task old new) is says in
       let lines = limit.1 in
       takes-beyond task.origin lines.plan.settings.input old.records new.records lines.records lines.takes
 
   -- and the end where they don't
-  pub says-within : (status : Status) → Says texts task old new status → (status ≡ AllValues) ⊎ (status ≡ NotAllValues) → KeepsLimit task.origin old.records
-  says-within status says (inl is) = lines-within (subst (Says texts task old new) is says).1
-  says-within status says (inr is) = lines-within (subst (Says texts task old new) is says).1
+  pub says-within : (status : Status) → Says task old new status → (status ≡ AllValues) ⊎ (status ≡ NotAllValues) → KeepsLimit task.origin old.records
+  says-within status says (inl is) = lines-within (subst (Says task old new) is says).1
+  says-within status says (inr is) = lines-within (subst (Says task old new) is says).1
 
   -- without a fault a run of a plan that stands there, whose records are within the limits, comes to
   -- the end
-  pub says-finished : (plan : Blueprint) (status : Status) → Stands texts task.plan.now (λ bytes. IsPlanOf bytes plan) → IsWithin task.origin old.records
-      → ¬ (status ≡ ReadFault) → ¬ (status ≡ WriteFault) → Says texts task old new status → IsFinished status
+  pub says-finished : (plan : Blueprint) (status : Status) → Finds old task (λ bytes. IsPlanOf bytes plan) → IsWithin task.origin old.records
+      → ¬ (status ≡ ReadFault) → ¬ (status ≡ WriteFault) → Says task old new status → IsFinished status
   says-finished plan AllValues stands within read write says = inl refl
   says-finished plan NotAllValues stands within read write says = inr (inl refl)
   says-finished plan Usage stands within read write says = absurd says

@@ -2,8 +2,8 @@
 use Rattle.std.proofs.Common.{◌≡◌, ℕ, ◌<◌, Bool, true, false, IsTrue, IsFalse, Option, None, Some, IfSome, refl, sym, ◌∙◌, subst, arith}
 use Rattle.std.specs.Prelude.{◌&&◌, nat_le}
 use Rattle.std.proofs.lemmas.Bool.{and_parts, leb-true}
-use Rattle.life_rules.specs.declared.scope.ScopeKind.{ScopeKind}
-use Rattle.life_rules.specs.declared.scope.ScopeKind.TheVariants.{Simple, Counting}
+use Rattle.node_tree.specs.declared.scope_kind.ScopeKind.{ScopeKind}
+use Rattle.node_tree.specs.declared.scope_kind.ScopeKind.TheVariants.{Simple, Counting}
 use Rattle.plan_shape.specs.declared.limits.TheConstants.{MOST_STOP_AFTER}
 use Rattle.plan_shape.specs.Blueprint.{Blueprint, IsPlan}
 use Rattle.plan_shape.specs.Conditions.{is_within}

@@ -1,23 +1,15 @@
 -- A plan or its refusal: what stands under a name is one of them.
 use Rattle.std.proofs.Common.{◌≡◌, ◌≢◌, ◌⊎◌, ℕ, ◌+◌, ◌≤◌, Bool, true, false, IsTrue, IsFalse, List, length, take, Option, None, Some, refl, sym, ap, ◌∙◌, subst, inl, inr, arith}
-use Rattle.std.specs.Prelude.{IfSome, IsSomeAnd, Result, Ok, Err}
-use Rattle.exec_io.specs.Shelves.{Texts, text_of}
+use Rattle.std.specs.Prelude.{Result, Ok, Err}
+use Rattle.exec_io.specs.Shelves.{Texts, Stands}
+use Rattle.exec_io.proofs.GivenLemmas.{given-stands}
 use Rattle.plan_shape.specs.Blueprint.{Blueprint}
 use Rattle.plan_reader.specs.declared.fault.PlanFault.{PlanFault}
 use Rattle.plan_reader.specs.declared.fault.PlanFault.TheVariants.{TooLong, NotJson, Form, UnknownName, Limit, Kinds, Excluded, NoMemory}
 use Rattle.plan_reader.specs.declared.read.TheConstants.{MOST_PLAN_BYTES}
 use Rattle.plan_reader.specs.Plans.{found_in}
 use Rattle.plan_reader.specs.PlanFile.{IsPlanOf, IsFaultOf, IsAccepted, Matches, excludes, IsRefused as IsRefusedFor}
-use Rattle.exec_engine.specs.Opening.{Gives, Stands, IsRefused, HasPlan, HasRefusal}
-
--- what is given under a name is what stands there
-pub given : (texts : Option Texts) (name : List ℕ) (bytes : List ℕ) (P : List ℕ → Type 0) → Gives texts name bytes → Stands texts name P → P bytes
-given None name bytes P gives stands = absurd stands
-given (Some known) name bytes P gives stands = told (text_of known name) gives stands
-  where
-    told : (found : Option (List ℕ)) → IsSomeAnd found (λ text. bytes ≡ take (MOST_PLAN_BYTES + 1) text) → IsSomeAnd found (λ text. P (take (MOST_PLAN_BYTES + 1) text)) → P bytes
-    told None gives stands = absurd stands
-    told (Some text) gives stands = subst P (sym gives) stands
+use Rattle.exec_engine.specs.Opening.{IsRefused, HasPlan, HasRefusal}
 
 -- a result has one answer
 one-ok : {A B : Type 0} {result : Result A B} {a b : A} → result ≡ Ok a → result ≡ Ok b → a ≡ b
@@ -53,16 +45,16 @@ not-refused bytes plan NoMemory is refused = refused.0 refl
 
 module _ {texts : Option Texts} {name : List ℕ} where
   -- a plan that was opened is the one that stands there
-  pub stands-same : {plan other : Blueprint} → HasPlan texts name plan → Stands texts name (λ bytes. IsPlanOf bytes other) → plan ≡ other
+  pub stands-same : {plan other : Blueprint} → HasPlan texts name plan → Stands MOST_PLAN_BYTES texts name (λ bytes. IsPlanOf bytes other) → plan ≡ other
   stands-same {plan = plan} {other = other} has stands =
-      same-plan has.bytes plan other has.opened.is (given texts name has.bytes (λ bytes. IsPlanOf bytes other) has.given stands)
+      same-plan has.bytes plan other has.opened.is (given-stands MOST_PLAN_BYTES texts name has.bytes (λ bytes. IsPlanOf bytes other) has.given stands)
 
   -- it isn't refused
-  pub opened-stands : {plan : Blueprint} (fault : PlanFault) → HasPlan texts name plan → Stands texts name (λ bytes. IsRefused bytes fault) → ⊥
+  pub opened-stands : {plan : Blueprint} (fault : PlanFault) → HasPlan texts name plan → Stands MOST_PLAN_BYTES texts name (λ bytes. IsRefused bytes fault) → ⊥
   opened-stands {plan = plan} fault has stands =
-      not-refused has.bytes plan fault has.opened.is (given texts name has.bytes (λ bytes. IsRefused bytes fault) has.given stands)
+      not-refused has.bytes plan fault has.opened.is (given-stands MOST_PLAN_BYTES texts name has.bytes (λ bytes. IsRefused bytes fault) has.given stands)
 
   -- and what was refused is no plan
-  pub refused-stands : (plan : Blueprint) (fault : PlanFault) → HasRefusal texts name fault → Stands texts name (λ bytes. IsPlanOf bytes plan) → ⊥
+  pub refused-stands : (plan : Blueprint) (fault : PlanFault) → HasRefusal texts name fault → Stands MOST_PLAN_BYTES texts name (λ bytes. IsPlanOf bytes plan) → ⊥
   refused-stands plan fault has stands =
-      not-refused has.bytes plan fault (given texts name has.bytes (λ bytes. IsPlanOf bytes plan) has.given stands) has.refused
+      not-refused has.bytes plan fault (given-stands MOST_PLAN_BYTES texts name has.bytes (λ bytes. IsPlanOf bytes plan) has.given stands) has.refused

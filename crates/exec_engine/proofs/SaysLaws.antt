@@ -1,19 +1,17 @@
 -- What a status says, by how the run over its records closed.
-use Rattle.std.proofs.Common.{◌≡◌, ◌≢◌, ◌⊎◌, ℕ, ◌<◌, ◌≤◌, Bool, true, false, List, length, Option, refl, sym, ap, ◌∙◌, subst, inl, inr, nat_lt, arith}
+use Rattle.std.proofs.Common.{◌≡◌, ◌≢◌, ◌⊎◌, ℕ, ◌<◌, ◌≤◌, Bool, true, false, List, [], length, Option, refl, sym, ap, ◌∙◌, subst, inl, inr, nat_lt, arith}
 use Rattle.std.specs.Prelude.{◌==◌, if◌then◌else◌}
 use Rattle.std.proofs.lemmas.Bool.{cases_Bool, ltb-true, ltb-false, eqb-true, eqb-false}
 use Rattle.exec_io.specs.Causes.{Rose}
-use Rattle.exec_io.specs.Shelves.{Texts}
 use Rattle.exec_value.specs.declared.outcome.Outcome.{Outcome}
-use Rattle.exec_value.proofs.PutsLemmas.{AppendsFront-whole}
-use Rattle.io_views.specs.Sinks.{SinkView}
-use Rattle.io_views.specs.Sources.{SourceView}
-use Rattle.io_views.specs.Untouched.{IsHandedOn}
+use Rattle.exec_io.proofs.PutsLemmas.{AppendsFront-whole}
+use Rattle.exec_io.specs.Views.{SourceView, SinkView}
+use Rattle.exec_io.specs.Untouched.{IsHandedOn}
 use Rattle.line_summary.specs.declared.summary.Summary.{Summary}
 use Rattle.plan_shape.specs.Blueprint.{Blueprint}
 use Rattle.record_lines.specs.declared.ending.End.{End}
 use Rattle.record_lines.specs.declared.ending.End.TheVariants.{Ended, Fault, Limit as LimitEnd}
-use Rattle.record_loop.specs.declared.closing.Closing.{Closing}
+use Rattle.record_loop.specs.declared.ending.Ending.{Ending}
 use Rattle.exec_status.specs.declared.status.Status.{Status}
 use Rattle.exec_status.specs.declared.status.Status.TheVariants.{AllValues, NotAllValues, Usage, PlanRefused, NoMemory, ReadFault, WriteFault, Limit}
 use Rattle.exec_status.proofs.Concluding.{IsOfRun}
@@ -22,78 +20,82 @@ use Rattle.exec_engine.specs.declared.task.Origin.TheVariants.{Source, Generated
 use Rattle.exec_engine.specs.declared.task.Task.{Task}
 use Rattle.exec_engine.specs.Closes.{Closes, Runs}
 use Rattle.exec_engine.specs.Opening.{HasPlan}
-use Rattle.exec_engine.specs.Outside.{Outside}
+use Rattle.exec_io.specs.Outside.{Outside}
 use Rattle.exec_engine.specs.Says.{AreValues, HasNoMemory, HasFailure, Lines, Prints, PrintsFront, Says}
 use Rattle.exec_engine.specs.Statuses.{status_by, status_of}
 use Rattle.exec_engine.specs.Taken.{LeavesSource}
 
-module _ (texts : Option Texts) (task : Task) (old new : Outside) where
-  module _ {plan : Blueprint} (has : HasPlan texts task.plan.now plan) (closing : Closing) (closes : Closes plan task old.records new.records old.out new.out closing) where
+module _ (task : Task) (old new : Outside) where
+  module _ {plan : Blueprint} (has : HasPlan old.shelf.texts task.plan.now plan) (ending : Ending) (closes : Closes plan task old.records new.records old.out new.out ending) where
     -- the lines of a run, by its end
-    closed-lines : Lines texts task old new closing.end closes.outcomes
+    closed-lines : Lines task old new ending.end closes.rest closes.outcomes
     closed-lines = record { plan = plan; has = has; records = closes.records; takes = closes.takes; lawful = closes.lawful }
 
     -- all that was written, where no write was lost
-    closed-prints : (end : End) (P : List Outcome → Type 0) → closing.end ≡ end → closing.lost ≡ false → P closes.outcomes → Prints texts task old new end P
+    closed-prints : (end : End) (P : List Outcome → Type 0) → ending.end ≡ end → ending.lost ≡ false → P closes.outcomes → Prints task old new end P
     closed-prints end P is kept holds =
-        (closes.outcomes, subst (λ (e : End). Lines texts task old new e closes.outcomes) is closed-lines, holds, closes.finished.wrote.whole kept, closes.finished.wrote.still kept)
+        (closes.outcomes, subst (λ (e : End). Lines task old new e [] closes.outcomes) is (subst (λ (r : List ℕ). Lines task old new ending.end r closes.outcomes) (closes.all kept) closed-lines), holds, closes.finished.wrote.whole kept, closes.finished.wrote.still kept)
 
     -- a front of it, else
-    closed-front : closing.lost ≡ true → PrintsFront texts task old new
+    closed-front : ending.lost ≡ true → PrintsFront task old new
     closed-front lost = record {
-      end = closing.end;
+      end = ending.end;
+      rest = closes.rest;
       outcomes = closes.outcomes;
       lines = closed-lines;
+      all = λ still. absurd (still (closes.finished.wrote.cause lost));
       front = closes.finished.wrote.part;
       whole = λ still. absurd (still (closes.finished.wrote.cause lost));
       cause = λ still is. absurd (still (closes.finished.wrote.cause lost));
     }
 
     -- the lines of records that came to their end, by their numbers
-    says-lines : (memory all : Bool) → closing.end ≡ Ended → closing.lost ≡ false → nat_lt 0 closing.summary.no_memory ≡ memory → (closing.summary.values == closing.summary.lines) ≡ all → Says texts task old new (if memory then NoMemory else (if all then AllValues else NotAllValues))
+    says-lines : (memory all : Bool) → ending.end ≡ Ended → ending.lost ≡ false → nat_lt 0 ending.summary.no_memory ≡ memory → (ending.summary.values == ending.summary.lines) ≡ all → Says task old new (if memory then NoMemory else (if all then AllValues else NotAllValues))
     says-lines true all is kept some values =
         let counted = closes.finished.counted in
-        inr (closed-prints Ended HasNoMemory is kept (omega (arith, ltb-true 0 closing.summary.no_memory some, counted.no_memory)))
+        inr (closed-prints Ended HasNoMemory is kept (omega (arith, ltb-true 0 ending.summary.no_memory some, counted.no_memory)))
     says-lines false true is kept some values =
         let counted = closes.finished.counted in
-        closed-prints Ended AreValues is kept (sym counted.values ∙ eqb-true closing.summary.values closing.summary.lines values ∙ counted.lines)
+        closed-prints Ended AreValues is kept (sym counted.values ∙ eqb-true ending.summary.values ending.summary.lines values ∙ counted.lines)
     says-lines false false is kept some values =
         let counted = closes.finished.counted in
-        let none : closing.summary.no_memory ≡ 0 = omega (arith, ltb-false 0 closing.summary.no_memory some) in
-        let other : closing.summary.values ≡ closing.summary.lines → ⊥ = eqb-false closing.summary.values closing.summary.lines values in
-        let fewer : closing.summary.values < closing.summary.lines = below closing.summary.values closing.summary.lines closing.summary.few_values other in
+        let none : ending.summary.no_memory ≡ 0 = omega (arith, ltb-false 0 ending.summary.no_memory some) in
+        let other : ending.summary.values ≡ ending.summary.lines → ⊥ = eqb-false ending.summary.values ending.summary.lines values in
+        let fewer : ending.summary.values < ending.summary.lines = below ending.summary.values ending.summary.lines ending.summary.few_values other in
         closed-prints Ended HasFailure is kept (sym counted.no_memory ∙ none, omega (arith, fewer, counted.values, counted.lines))
       where
         below : (m n : ℕ) → m ≤ n → (m ≡ n → ⊥) → m < n
         below m n le ne = omega arith
 
     -- what the status of a run says, by how it closed
-    says-by : (lost : Bool) (end : End) → closing.lost ≡ lost → closing.end ≡ end → Says texts task old new (status_by lost end closing.summary)
+    says-by : (lost : Bool) (end : End) → ending.lost ≡ lost → ending.end ≡ end → Says task old new (status_by lost end ending.summary)
     says-by true end gone is = inr (closed-front gone)
     says-by false Fault kept is = inr (closed-prints Fault (λ _. Rose old.records.faults new.records.faults) is kept (closes.cause is kept))
     says-by false LimitEnd kept is = closed-prints LimitEnd (λ _. Unit {0}) is kept tt
-    says-by false Ended kept is = says-lines (nat_lt 0 closing.summary.no_memory) (closing.summary.values == closing.summary.lines) is kept refl refl
+    says-by false Ended kept is = says-lines (nat_lt 0 ending.summary.no_memory) (ending.summary.values == ending.summary.lines) is kept refl refl
 
-  pub says-run : {plan : Blueprint} (status : Status) → HasPlan texts task.plan.now plan → Runs plan task old.records new.records old.out new.out status → Says texts task old new status
-  says-run status has (inl short) = subst (Says texts task old new) (sym short.0) (inl short.1)
+  pub says-run : {plan : Blueprint} (status : Status) → HasPlan old.shelf.texts task.plan.now plan → Runs plan task old.records new.records old.out new.out status → Says task old new status
+  says-run status has (inl short) = subst (Says task old new) (sym short.0) (inl short.1)
   says-run status has (inr done) =
-      subst (Says texts task old new) (sym done.2) (says-by has done.0 done.1 done.0.lost done.0.end refl refl)
+      subst (Says task old new) (sym done.2) (says-by has done.0 done.1 done.0.lost done.0.end refl refl)
 
   -- what a status says of the lines, a write fault on notes says too
-  pub says-fault : (status : Status) → Says texts task old new status → Says texts task old new WriteFault
+  pub says-fault : (status : Status) → Says task old new status → Says task old new WriteFault
   says-fault status says = fault status says
     where
-      front : (end : End) (P : List Outcome → Type 0) (prints : Prints texts task old new end P) → (end ≡ Fault → Rose old.records.faults new.records.faults) → PrintsFront texts task old new
+      front : (end : End) (P : List Outcome → Type 0) (prints : Prints task old new end P) → (end ≡ Fault → Rose old.records.faults new.records.faults) → PrintsFront task old new
       front end P prints cause = record {
         end = end;
+        rest = [];
         outcomes = prints.0;
         lines = prints.1;
+        all = λ _. refl;
         front = AppendsFront-whole prints.3;
         whole = λ _. prints.3;
         cause = λ _. cause;
       }
 
-      fault : (status : Status) → Says texts task old new status → Says texts task old new WriteFault
+      fault : (status : Status) → Says task old new status → Says task old new WriteFault
       fault AllValues says = inr (front Ended AreValues says (λ is. cc))
       fault NotAllValues says = inr (front Ended HasFailure says (λ is. cc))
       fault Usage says = absurd says
@@ -111,11 +113,11 @@ same-leaves (Source form) before after same = tt
 same-leaves (Generated count) before after same = same
 
 -- a status by how a run closed has a property that all of these have
-by-closing : (P : Status → Type 0) (lost : Bool) (end : End) (summary : Summary) → (lost ≡ true → P WriteFault) → (lost ≡ false → end ≡ Fault → P ReadFault) → P Limit → P NoMemory → P AllValues → P NotAllValues → P (status_by lost end summary)
-by-closing P true end summary write read limit memory all some = write refl
-by-closing P false Fault summary write read limit memory all some = read refl refl
-by-closing P false LimitEnd summary write read limit memory all some = limit
-by-closing P false Ended summary write read limit memory all some =
+by-ending : (P : Status → Type 0) (lost : Bool) (end : End) (summary : Summary) → (lost ≡ true → P WriteFault) → (lost ≡ false → end ≡ Fault → P ReadFault) → P Limit → P NoMemory → P AllValues → P NotAllValues → P (status_by lost end summary)
+by-ending P true end summary write read limit memory all some = write refl
+by-ending P false Fault summary write read limit memory all some = read refl refl
+by-ending P false LimitEnd summary write read limit memory all some = limit
+by-ending P false Ended summary write read limit memory all some =
     lines (nat_lt 0 summary.no_memory) (summary.values == summary.lines)
   where
     lines : (a b : Bool) → P (if a then NoMemory else (if b then AllValues else NotAllValues))
@@ -138,7 +140,7 @@ module _ {plan : Blueprint} {task : Task} {before after : SourceView} {old new :
   by-run : (P : Status → Type 0) (status : Status) (runs : Runs plan task before after old new status) → (Rose old.faults new.faults → P WriteFault) → (Rose before.faults after.faults → P ReadFault) → P Limit → P NoMemory → P AllValues → P NotAllValues → P status
   by-run P status (inl short) write read limit memory all some = subst P (sym short.0) memory
   by-run P status (inr done) write read limit memory all some =
-      subst P (sym done.2) (by-closing P done.0.lost done.0.end done.0.summary (λ lost. write (done.1.finished.wrote.cause lost)) (λ kept is. read (done.1.cause is kept)) limit memory all some)
+      subst P (sym done.2) (by-ending P done.0.lost done.0.end done.0.summary (λ lost. write (done.1.finished.wrote.cause lost)) (λ kept is. read (done.1.cause is kept)) limit memory all some)
 
   -- a run is no fault of usage, and no refusal
   pub run-is : (status : Status) → Runs plan task before after old new status → IsOfRun status

@@ -5,17 +5,16 @@ use Rattle.std.specs.Io.KnownBytes.{Consumes, IsAtEnd}
 use Rattle.std.proofs.lemmas.List.Sums.{sum_by-cons}
 use Rattle.std.proofs.lemmas.Bool.{cases_Bool}
 use Rattle.std.proofs.lemmas.Option.{slice_get_within, slice_get-get_or}
-use Rattle.exec_io.specs.Shelves.{Texts}
 use Rattle.exec_value.specs.declared.data.Datum.{Datum}
 use Rattle.exec_value.specs.declared.kinds.Kind.{Kind}
 use Rattle.exec_value.specs.declared.outcome.Completion.{Completion}
 use Rattle.exec_value.specs.declared.outcome.Completion.TheVariants.{NoMemory as NoMemoryEnd, Value, Error, Stopped}
 use Rattle.exec_value.specs.declared.outcome.Outcome.{Outcome}
 use Rattle.exec_value.specs.declared.outcome.Outcome.TheVariants.{Done, BadRecord}
-use Rattle.exec_value.specs.Summary.{is_value, is_out_of_memory}
-use Rattle.io_views.specs.Sources.{SourceView}
-use Rattle.io_views.specs.Untouched.{IsUntouched}
-use Rattle.plan_facts.proofs.Plans.{plans-built}
+use Rattle.outcome_lines.specs.Summary.{is_value, is_out_of_memory}
+use Rattle.exec_io.specs.Views.{SourceView}
+use Rattle.exec_io.specs.Untouched.{IsUntouched}
+use Rattle.plan_kinds.proofs.Plans.{plans-built}
 use Rattle.plan_laws.proofs.Memory.{allowed-memory}
 use Rattle.plan_laws.proofs.OneCompletion.{calm-settled}
 use Rattle.plan_reader.specs.PlanFile.{IsPlanOf}
@@ -35,8 +34,8 @@ use Rattle.exec_engine.specs.declared.task.Origin.{Origin}
 use Rattle.exec_engine.specs.declared.task.Origin.TheVariants.{Source, Generated}
 use Rattle.exec_engine.specs.declared.task.Task.{Task}
 use Rattle.exec_engine.specs.Complete.{IsFinished, AreNeverStopped, SettlesToValue, SettleToValues}
-use Rattle.exec_engine.specs.Opening.{Stands}
-use Rattle.exec_engine.specs.Outside.{Outside}
+use Rattle.exec_engine.specs.Opening.{Finds}
+use Rattle.exec_io.specs.Outside.{Outside}
 use Rattle.exec_engine.specs.Says.{HasFailure, HasNoMemory, Lines, Prints, Says, Untouched, terms_for}
 use Rattle.exec_engine.specs.Taken.{Takes, OfRecords}
 use Rattle.exec_engine.proofs.RefusedLaws.{stands-same}
@@ -91,9 +90,10 @@ bytes-of_source P None left bytes consumed at_end holds = absurd holds
 bytes-of_source P (Some all) None bytes consumed at_end holds = absurd consumed
 bytes-of_source P (Some all) (Some rest) bytes consumed at_end holds = subst P (consumed ∙ ap (λ bs. bytes ++ bs) at_end ∙ append-nil bytes) holds
 
-of-records : (origin : Origin) (kind : Kind) (before after : SourceView) (records : List (List ℕ)) (P : List (List ℕ) → Type 0) → Takes origin kind before after Ended records → OfRecords origin kind before P → P records
+of-records : (origin : Origin) (kind : Kind) (before after : SourceView) (records : List (List ℕ)) (P : List (List ℕ) → Type 0) → Takes origin kind before after Ended [] records → OfRecords origin kind before P → P records
 of-records (Source form) kind before after records P takes holds =
-    subst P (sym takes.are) (bytes-of_source (λ bytes. P (records_of bytes Ended)) before.left after.left takes.bytes takes.reads.consumed (takes.reads.at_end refl) holds)
+    subst P (sym takes.are) (subst (λ (bs : List ℕ). P (records_of bs Ended)) (append-nil takes.bytes)
+    (bytes-of_source (λ bytes. P (records_of bytes Ended)) before.left after.left (takes.bytes ++ []) takes.reads.consumed (takes.reads.at_end refl) holds))
 of-records (Generated count) kind before after records P takes holds = subst P (sym takes.are) holds
 
 -- no lawful line of a small plan is out-of-memory
@@ -129,14 +129,14 @@ small-lines task plan records outcomes small lawful = none-counted is_out_of_mem
     let P : Outcome → Type 0 = λ o. MayEnd (terms_for task plan) (i + 1) stop line o in
     small-ends task plan (i + 1) stop line small (subst P (not-memory outcome is) (lawful.each i line outcome (slice_get-get_or records i [] within) at)))
 
-module _ (texts : Option Texts) (task : Task) (old new : Outside) where
+module _ (task : Task) (old new : Outside) where
   -- records that settle to values alone have no other line, unless memory runs out
-  pub says-values : (plan : Blueprint) (status : Status) → Stands texts task.plan.now (λ bytes. IsPlanOf bytes plan) → IsFinished status
-      → OfRecords task.origin plan.settings.input old.records (SettleToValues task plan) → Says texts task old new status → (status ≡ AllValues) ⊎ (status ≡ NoMemory)
+  pub says-values : (plan : Blueprint) (status : Status) → Finds old task (λ bytes. IsPlanOf bytes plan) → IsFinished status
+      → OfRecords task.origin plan.settings.input old.records (SettleToValues task plan) → Says task old new status → (status ≡ AllValues) ⊎ (status ≡ NoMemory)
   says-values plan status stands (inl all) settle says = inl all
   says-values plan status stands (inr (inr none)) settle says = inr none
   says-values plan status stands (inr (inl some)) settle says =
-      let prints = subst (Says texts task old new) some says in
+      let prints = subst (Says task old new) some says in
       let lines = prints.1 in
       let P : Blueprint → Type 0 = λ p. OfRecords task.origin p.settings.input old.records (SettleToValues task p) in
       let here = subst P (sym (stands-same lines.has stands)) settle in
@@ -144,16 +144,16 @@ module _ (texts : Option Texts) (task : Task) (old new : Outside) where
       absurd (omega (arith, all-values task lines.plan lines.records prints.0 lines.has.opened.whole these lines.lawful, prints.2.0, prints.2.1))
 
   -- and for a small plan it runs out before a record is taken alone
-  pub says-small : (plan : Blueprint) (status : Status) → Stands texts task.plan.now (λ bytes. IsPlanOf bytes plan) → IsSmall plan → Says texts task old new status → status ≡ NoMemory → Untouched texts task old new
-  says-small plan status stands small says is = untouched (subst (Says texts task old new) is says)
+  pub says-small : (plan : Blueprint) (status : Status) → Finds old task (λ bytes. IsPlanOf bytes plan) → IsSmall plan → Says task old new status → status ≡ NoMemory → Untouched task old new
+  says-small plan status stands small says is = untouched (subst (Says task old new) is says)
     where
-      untouched : Says texts task old new NoMemory → Untouched texts task old new
+      untouched : Says task old new NoMemory → Untouched task old new
       untouched (inl kept) = kept
       untouched (inr prints) =
           let lines = prints.1 in
           absurd (omega (arith, prints.2, small-lines task lines.plan lines.records prints.0 (subst IsSmall (sym (stands-same lines.has stands)) small) lines.lawful))
 
   -- none of its lines is out-of-memory
-  pub says-small_lines : (end : End) (outcomes : List Outcome) (lines : Lines texts task old new end outcomes) → IsSmall lines.plan → ¬ HasNoMemory outcomes
-  says-small_lines end outcomes lines small some =
+  pub says-small_lines : (end : End) (rest : List ℕ) (outcomes : List Outcome) (lines : Lines task old new end rest outcomes) → IsSmall lines.plan → ¬ HasNoMemory outcomes
+  says-small_lines end rest outcomes lines small some =
       omega (arith, some, small-lines task lines.plan lines.records outcomes small lines.lawful)

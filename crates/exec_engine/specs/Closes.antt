@@ -1,13 +1,12 @@
 -- How a run whose plan was opened ends.
-use Rattle.std.specs.Prelude.{◌≡◌, ◌≢◌, ◌⊎◌, ◌≤◌, false, ℕ, List}
+use Rattle.std.specs.Prelude.{◌≡◌, ◌≢◌, ◌⊎◌, ◌≤◌, false, ℕ, List, []}
 use Rattle.exec_io.specs.Causes.{Rose}
 use Rattle.exec_value.specs.declared.outcome.Outcome.{Outcome}
-use Rattle.io_views.specs.Sinks.{SinkView}
-use Rattle.io_views.specs.Sources.{SourceView}
-use Rattle.io_views.specs.Untouched.{IsUntouched}
+use Rattle.exec_io.specs.Views.{SourceView, SinkView}
+use Rattle.exec_io.specs.Untouched.{IsUntouched}
 use Rattle.plan_shape.specs.Blueprint.{Blueprint}
 use Rattle.record_lines.specs.declared.ending.End.TheVariants.{Fault}
-use Rattle.record_loop.specs.declared.closing.Closing.{Closing}
+use Rattle.record_loop.specs.declared.ending.Ending.{Ending}
 use Rattle.record_loop.specs.Printing.{Finished}
 use Rattle.run_rules.specs.Lawful.{Lawful}
 use Rattle.exec_status.specs.declared.status.Status.{Status}
@@ -18,17 +17,19 @@ use Rattle.exec_engine.specs.Statuses.{status_of}
 use Rattle.exec_engine.specs.Taken.{Takes, LeavesSource}
 use Rattle.exec_engine.specs.Tasks.{form_for}
 
--- Records were taken until the end that the closing names, and their outcomes are lawful and written.
--- Where no write was lost, a fault is the source's.
+-- Records were taken until the end that the ending names, and their outcomes are lawful and written.
+-- Where no write was lost, all was taken that was read, and a fault is the source's.
 pub record Closes (plan : Blueprint) (task : Task) (before after : SourceView) (old new : SinkView)
-    (closing : Closing) : Type 0 where
+    (ending : Ending) : Type 0 where
   pub outcomes : List Outcome
   pub records : List (List ℕ)
-  pub takes : Takes task.origin plan.settings.input before after closing.end records
+  pub rest : List ℕ
+  pub takes : Takes task.origin plan.settings.input before after ending.end rest records
+  pub all : ending.lost ≡ false → rest ≡ []
   pub lawful : Lawful (terms_for task plan) records outcomes
-  pub finished : Finished (form_for task.origin) old new closing.summary closing.lost outcomes
-  pub cause : closing.end ≡ Fault → closing.lost ≡ false → Rose before.faults after.faults
-  pub still : closing.end ≢ Fault → after.faults ≡ before.faults
+  pub finished : Finished (form_for task.origin) old new ending.summary ending.lost outcomes
+  pub cause : ending.end ≡ Fault → ending.lost ≡ false → Rose before.faults after.faults
+  pub still : ending.end ≢ Fault → after.faults ≡ before.faults
   pub later : before.faults ≤ after.faults
   pub leaves : LeavesSource task.origin before after
 
@@ -36,5 +37,5 @@ pub record Closes (plan : Blueprint) (task : Task) (before after : SourceView) (
 abbrev pub Runs : Blueprint → Task → SourceView → SourceView → SinkView → SinkView → Status → Type 0
 Runs plan task before after old new status =
     ((status ≡ NoMemory) × IsUntouched before after old new)
-    ⊎ ((closing : Closing) × Closes plan task before after old new closing
-    × (status ≡ status_of closing))
+    ⊎ ((ending : Ending) × Closes plan task before after old new ending
+    × (status ≡ status_of ending))

@@ -1,34 +1,27 @@
 -- How a command ends.
-use Rattle.std.specs.Prelude.{◌≡◌, ℕ, ◌≤◌, List, Option}
+use Rattle.std.specs.Prelude.{◌≡◌, ◌≤◌}
 use Rattle.exec_io.specs.Causes.{Rose}
-use Rattle.exec_io.specs.Shelves.{Texts}
-use Rattle.io_views.specs.Untouched.{IsUntouched, IsHandedOn}
+use Rattle.exec_io.specs.Untouched.{IsUntouched, IsHandedOn}
 use Rattle.exec_words.specs.declared.command.Command.{Command}
 use Rattle.exec_words.specs.declared.command.Command.TheVariants.{Run, Gen, Replay, Check}
 use Rattle.exec_status.specs.declared.status.Status.{Status}
 use Rattle.exec_status.specs.declared.status.Status.TheVariants.{Usage}
 use Rattle.exec_status.specs.Notes.{note_of}
 use Rattle.exec_status.specs.Sinks.{Tells}
-use Rattle.trace_commands.specs.Answers.{Question, the_check, the_replay}
+use Rattle.trace_commands.specs.Answers.{the_check, the_replay}
 use Rattle.trace_commands.specs.Ends.{Ends}
 use Rattle.exec_engine.specs.Ends.{RunEnds}
-use Rattle.exec_engine.specs.Outside.{Outside}
+use Rattle.exec_io.specs.Outside.{Outside}
 use Rattle.exec_engine.specs.Tasks.{run_task, gen_task}
 
--- A command on a file ended with this status. It reads no records.
-pub record FileEnds (question : Question) (texts : Option Texts) (name : List ℕ) (old new : Outside)
-    (status : Status) : Type 0 where
-  pub ends : Ends question texts name old.shelf new.shelf old.out new.out old.notes new.notes status
-  pub records_same : new.records ≡ old.records
-
 -- A command ended with this status.
-abbrev pub CommandEnds : Option Texts → Outside → Outside → Status → Command → Type 0
-CommandEnds texts old new status (Run plan options summary) =
-    RunEnds texts (run_task plan options summary) old new status
-CommandEnds texts old new status (Gen plan count options) =
-    RunEnds texts (gen_task plan count options) old new status
-CommandEnds texts old new status (Replay file) = FileEnds the_replay texts file.now old new status
-CommandEnds texts old new status (Check file) = FileEnds the_check texts file.now old new status
+abbrev pub CommandEnds : Outside → Outside → Status → Command → Type 0
+CommandEnds old new status (Run plan options summary) =
+    RunEnds (run_task plan options summary) old new status
+CommandEnds old new status (Gen plan count options) =
+    RunEnds (gen_task plan count options) old new status
+CommandEnds old new status (Replay file) = Ends the_replay file.now old new status
+CommandEnds old new status (Check file) = Ends the_check file.now old new status
 
 -- Words that ask for nothing are told how the program is called: nothing is read, and nothing is done
 -- to out. The status stands also where notes fail.

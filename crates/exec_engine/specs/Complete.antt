@@ -3,7 +3,7 @@ use Rattle.std.specs.Prelude.{◌≡◌, ◌⊎◌, ℕ, ◌+◌, ◌-◌, ◌<�
 use Rattle.exec_value.specs.declared.data.Datum.{Datum}
 use Rattle.exec_value.specs.declared.outcome.Outcome.{Outcome}
 use Rattle.exec_value.specs.declared.outcome.Outcome.TheVariants.{Done}
-use Rattle.exec_value.specs.Summary.{is_value}
+use Rattle.outcome_lines.specs.Summary.{is_value}
 use Rattle.plan_rules.specs.Calm.{Calm}
 use Rattle.plan_rules.specs.declared.stop.StopState.TheVariants.{Never}
 use Rattle.plan_settle.specs.Root.{settled_root}

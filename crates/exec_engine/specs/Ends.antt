@@ -1,9 +1,9 @@
 -- How a run ends.
-use Rattle.std.specs.Prelude.{◌≡◌, ◌≢◌, ◌⊎◌, ℕ, ◌≤◌, List, Option}
+use Rattle.std.specs.Prelude.{◌≡◌, ◌≢◌, ◌⊎◌, ℕ, ◌≤◌, List}
 use Rattle.exec_io.specs.Causes.{Rose}
-use Rattle.exec_io.specs.Shelves.{Texts}
+use Rattle.exec_io.specs.Outside.{Outside}
 use Rattle.exec_value.specs.declared.outcome.Outcome.{Outcome}
-use Rattle.io_views.specs.Untouched.{IsHandedOn}
+use Rattle.exec_io.specs.Untouched.{IsHandedOn}
 use Rattle.plan_reader.specs.declared.fault.PlanFault.{PlanFault}
 use Rattle.plan_reader.specs.PlanFile.{IsPlanOf}
 use Rattle.plan_settle.specs.Small.{IsSmall}
@@ -11,29 +11,29 @@ use Rattle.plan_shape.specs.Blueprint.{Blueprint}
 use Rattle.record_lines.specs.declared.ending.End.{End}
 use Rattle.exec_status.specs.declared.status.Status.{Status}
 use Rattle.exec_status.specs.declared.status.Status.TheVariants.{AllValues, NotAllValues, PlanRefused, NoMemory, ReadFault, WriteFault, Limit}
+use Rattle.exec_status.specs.Files.{RunsShort}
 use Rattle.exec_status.specs.Noted.{Noted}
 use Rattle.exec_engine.specs.declared.task.Task.{Task}
 use Rattle.exec_engine.specs.Complete.{IsFinished, SettleToValues}
-use Rattle.exec_engine.specs.Opening.{Stands, IsRefused}
-use Rattle.exec_engine.specs.Outside.{Outside}
-use Rattle.exec_engine.specs.Refusals.{IsRefusedWith, RunsShort}
+use Rattle.exec_engine.specs.Opening.{Finds, IsRefused}
+use Rattle.exec_engine.specs.Refusals.{IsRefusedWith}
 use Rattle.exec_engine.specs.Says.{HasNoMemory, Lines, Says, Untouched}
 use Rattle.exec_engine.specs.Taken.{LeavesSource, PassesLimit, KeepsLimit, IsWithin, OfRecords}
 
 -- A run of this task ended with this status.
-pub record RunEnds (texts : Option Texts) (task : Task) (old new : Outside) (status : Status)
-    : Type 0 where
+pub record RunEnds (task : Task) (old new : Outside) (status : Status) : Type 0 where
   -- What the status says of the plan, the records and the lines, and what notes hold.
-  pub says : Says texts task old new status
-  pub noted : Noted (Says texts task old new) (IsRefusedWith texts task.plan.now) old.notes new.notes
-      status
+  pub says : Says task old new status
+  pub noted : Noted (Says task old new) (IsRefusedWith old.shelf.texts task.plan.now)
+      old.notes new.notes status
   -- A fault is answered only where a count of faults rose in this call, and where none is answered no
   -- call of the shelf, the records or out failed.
   pub read_fault : status ≡ ReadFault
-      → Rose old.shelf new.shelf ⊎ Rose old.records.faults new.records.faults
+      → Rose old.shelf.faults new.shelf.faults ⊎ Rose old.records.faults new.records.faults
   pub write_fault : status ≡ WriteFault
       → Rose old.out.faults new.out.faults ⊎ Rose old.notes.faults new.notes.faults
-  pub shelf_still : status ≢ ReadFault → status ≢ WriteFault → new.shelf ≡ old.shelf
+  pub shelf_still : status ≢ ReadFault → status ≢ WriteFault
+      → new.shelf.faults ≡ old.shelf.faults
   pub records_still : status ≢ ReadFault → status ≢ WriteFault
       → new.records.faults ≡ old.records.faults
   pub out_still : status ≢ WriteFault → new.out.faults ≡ old.out.faults
@@ -47,29 +47,31 @@ pub record RunEnds (texts : Option Texts) (task : Task) (old new : Outside) (sta
   pub notes_handed_on : ¬ Rose old.notes.faults new.notes.faults → IsHandedOn old.notes new.notes
   -- A plan that the shelf gives, without a fault, and that is refused, is answered so, also where notes
   -- fail, unless memory runs out.
-  pub refused : (fault : PlanFault) → Stands texts task.plan.now (λ bytes. IsRefused bytes fault)
-      → ¬ Rose old.shelf new.shelf
+  pub refused : (fault : PlanFault) → Finds old task (λ bytes. IsRefused bytes fault)
+      → ¬ Rose old.shelf.faults new.shelf.faults
       → (status ≡ PlanRefused) ⊎ RunsShort old.notes new.notes status
   -- A run that nothing hinders, of a plan that the shelf gives, over records within the limits, comes
   -- to the end of them, unless memory runs out; and where each record settles to a value, all lines
   -- are values.
-  pub complete : (plan : Blueprint) → Stands texts task.plan.now (λ bytes. IsPlanOf bytes plan)
+  pub complete : (plan : Blueprint) → Finds old task (λ bytes. IsPlanOf bytes plan)
       → IsWithin task.origin old.records
-      → ¬ Rose old.shelf new.shelf → ¬ Rose old.records.faults new.records.faults
+      → ¬ Rose old.shelf.faults new.shelf.faults → ¬ Rose old.records.faults new.records.faults
       → ¬ Rose old.out.faults new.out.faults → ¬ Rose old.notes.faults new.notes.faults
       → IsFinished status
   pub complete_values : (plan : Blueprint)
-      → Stands texts task.plan.now (λ bytes. IsPlanOf bytes plan) → IsFinished status
+      → Finds old task (λ bytes. IsPlanOf bytes plan) → IsFinished status
       → OfRecords task.origin plan.settings.input old.records (SettleToValues task plan)
       → (status ≡ AllValues) ⊎ (status ≡ NoMemory)
   -- No line of a small plan is out-of-memory, and for one memory runs out only before a record is read
   -- or generated.
-  pub small_lines : (end : End) (outcomes : List Outcome) (lines : Lines texts task old new end outcomes)
-      → IsSmall lines.plan → ¬ HasNoMemory outcomes
-  pub small : (plan : Blueprint) → Stands texts task.plan.now (λ bytes. IsPlanOf bytes plan)
-      → IsSmall plan → status ≡ NoMemory → Untouched texts task old new
+  pub small_lines : (end : End) (rest : List ℕ) (outcomes : List Outcome)
+      (lines : Lines task old new end rest outcomes) → IsSmall lines.plan → ¬ HasNoMemory outcomes
+  pub small : (plan : Blueprint) → Finds old task (λ bytes. IsPlanOf bytes plan)
+      → IsSmall plan → status ≡ NoMemory → Untouched task old new
+  -- Nothing on the shelf changes.
+  pub shelf_same : new.shelf.texts ≡ old.shelf.texts
   -- No count of faults falls.
-  pub shelf_later : old.shelf ≤ new.shelf
+  pub shelf_later : old.shelf.faults ≤ new.shelf.faults
   pub records_later : old.records.faults ≤ new.records.faults
   pub out_later : old.out.faults ≤ new.out.faults
   pub notes_later : old.notes.faults ≤ new.notes.faults

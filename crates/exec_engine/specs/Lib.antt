@@ -1,4 +1,3 @@
-pub mod Outside
 pub mod Opening
 pub mod Refusals
 pub mod Tasks

@@ -1,6 +1,7 @@
 -- What the shelf gives under the name of a plan.
-use Rattle.std.specs.Prelude.{◌≡◌, ◌≢◌, ℕ, ◌+◌, List, take, Option, IfSome, IsSomeAnd}
-use Rattle.exec_io.specs.Shelves.{Texts, text_of}
+use Rattle.std.specs.Prelude.{◌≢◌, ℕ, List, Option}
+use Rattle.exec_io.specs.Outside.{Outside}
+use Rattle.exec_io.specs.Shelves.{Texts, Gives, Stands}
 use Rattle.plan_kinds.specs.Reached.{KindsMatch}
 use Rattle.plan_shape.specs.Blueprint.{Blueprint, IsPlan}
 use Rattle.plan_reader.specs.declared.fault.PlanFault.{PlanFault}
@@ -8,19 +9,11 @@ use Rattle.plan_reader.specs.declared.fault.PlanFault.TheVariants.{NoMemory}
 use Rattle.plan_reader.specs.declared.read.TheConstants.{MOST_PLAN_BYTES}
 use Rattle.plan_reader.specs.PlanFile.{IsPlanOf, IsFaultOf}
 use Rattle.run_rules.specs.PlanTerms.{MayRun}
+use Rattle.exec_engine.specs.declared.task.Task.{Task}
 
--- A shelf that tells its texts gives the named one, or its first bytes, one more than a plan may
--- have.
-abbrev pub Gives : Option Texts → List ℕ → List ℕ → Type 0
-Gives texts name bytes =
-    IfSome texts (λ known.
-    IsSomeAnd (text_of known name) (λ text. bytes ≡ take (MOST_PLAN_BYTES + 1) text))
-
--- The shelf tells its texts, and what it gives of the named one has this property.
-abbrev pub Stands : Option Texts → List ℕ → (List ℕ → Type 0) → Type 0
-Stands texts name P =
-    IsSomeAnd texts (λ known.
-    IsSomeAnd (text_of known name) (λ text. P (take (MOST_PLAN_BYTES + 1) text)))
+-- The shelf tells its texts, and what it gives of the task's plan has this property.
+abbrev pub Finds : Outside → Task → (List ℕ → Type 0) → Type 0
+Finds old task P = Stands MOST_PLAN_BYTES old.shelf.texts task.plan.now P
 
 -- The bytes are refused for this cause.
 abbrev pub IsRefused : List ℕ → PlanFault → Type 0
@@ -36,11 +29,11 @@ pub record IsOpened (bytes : List ℕ) (plan : Blueprint) : Type 0 where
 -- The shelf gave bytes under the name that are this plan.
 pub record HasPlan (texts : Option Texts) (name : List ℕ) (plan : Blueprint) : Type 0 where
   pub bytes : List ℕ
-  pub given : Gives texts name bytes
+  pub given : Gives MOST_PLAN_BYTES texts name bytes
   pub opened : IsOpened bytes plan
 
 -- The shelf gave bytes under the name that are refused for this cause.
 pub record HasRefusal (texts : Option Texts) (name : List ℕ) (fault : PlanFault) : Type 0 where
   pub bytes : List ℕ
-  pub given : Gives texts name bytes
+  pub given : Gives MOST_PLAN_BYTES texts name bytes
   pub refused : IsRefused bytes fault

@@ -1,14 +1,13 @@
 -- What each status says of the plan, the records and the lines.
-use Rattle.std.specs.Prelude.{◌≡◌, ◌⊎◌, ℕ, ◌<◌, List, length, count_by, Option}
+use Rattle.std.specs.Prelude.{◌≡◌, ◌⊎◌, ℕ, ◌<◌, List, [], length, count_by}
 use Rattle.exec_io.specs.Causes.{Rose}
-use Rattle.exec_io.specs.Shelves.{Texts}
 use Rattle.exec_io.specs.Sinks.{Appends}
 use Rattle.exec_value.specs.declared.outcome.Outcome.{Outcome}
-use Rattle.exec_value.specs.Summary.{is_value, is_out_of_memory}
-use Rattle.exec_value.specs.Writing.{AppendsFront}
-use Rattle.io_views.specs.Untouched.{IsUntouched}
+use Rattle.outcome_lines.specs.Summary.{is_value, is_out_of_memory}
+use Rattle.exec_io.specs.Writing.{AppendsFront}
+use Rattle.exec_io.specs.Untouched.{IsUntouched}
 use Rattle.plan_reader.specs.declared.fault.PlanFault.{PlanFault}
-use Rattle.plain_runs.specs.Entries.{WantsMemory}
+use Rattle.plain_runs.specs.PlainWork.{WantsMemory}
 use Rattle.plan_shape.specs.Blueprint.{Blueprint}
 use Rattle.record_lines.specs.declared.ending.End.{End}
 use Rattle.record_lines.specs.declared.ending.End.TheVariants.{Ended, Fault, Limit as LimitEnd}
@@ -18,7 +17,7 @@ use Rattle.run_rules.specs.PlanTerms.{terms_of, window_of}
 use Rattle.exec_status.specs.declared.status.Status.{Status}
 use Rattle.exec_status.specs.declared.status.Status.TheVariants.{AllValues, NotAllValues, Usage, PlanRefused, NoMemory, ReadFault, WriteFault, Limit}
 use Rattle.exec_engine.specs.declared.task.Task.{Task}
-use Rattle.exec_engine.specs.Outside.{Outside}
+use Rattle.exec_io.specs.Outside.{Outside}
 use Rattle.exec_engine.specs.Opening.{HasPlan, HasRefusal}
 use Rattle.exec_engine.specs.Taken.{Takes}
 use Rattle.exec_engine.specs.Tasks.{form_for}
@@ -40,34 +39,37 @@ HasFailure outcomes =
 abbrev pub terms_for : Task → Blueprint → Terms
 terms_for task plan = terms_of WantsMemory plan (window_of plan task.window)
 
-module _ (texts : Option Texts) (task : Task) (old new : Outside) where
-  -- The shelf gave a plan under the name, records were taken until this end, and the outcomes are
-  -- lawful for them.
-  pub record Lines (end : End) (outcomes : List Outcome) : Type 0 where
+module _ (task : Task) (old new : Outside) where
+  -- The shelf gave a plan under the name, records were taken until this end, but for a rest that was
+  -- read, and the outcomes are lawful for them.
+  pub record Lines (end : End) (rest : List ℕ) (outcomes : List Outcome) : Type 0 where
     pub plan : Blueprint
-    pub has : HasPlan texts task.plan.now plan
+    pub has : HasPlan old.shelf.texts task.plan.now plan
     pub records : List (List ℕ)
-    pub takes : Takes task.origin plan.settings.input old.records new.records end records
+    pub takes : Takes task.origin plan.settings.input old.records new.records end rest records
     pub lawful : Lawful (terms_for task plan) records outcomes
 
   -- A call of the source failed.
   abbrev SourceFailed : Type 0
   SourceFailed = Rose old.records.faults new.records.faults
 
-  -- The lines of such outcomes, or the one line for all, were written whole, and no call of out
-  -- failed.
+  -- All records that were read were taken, the lines of their outcomes, or the one line for all, were
+  -- written whole, and no call of out failed.
   abbrev pub Prints : End → (List Outcome → Type 0) → Type 0
   Prints end P =
-      (outcomes : List Outcome) × Lines end outcomes × P outcomes
+      (outcomes : List Outcome) × Lines end [] outcomes × P outcomes
       × Appends old.out.written new.out.written (text_of (form_for task.origin) outcomes)
       × (new.out.faults ≡ old.out.faults)
 
-  -- A front of that was written. Where no call of out failed it is the whole, and the reading came to
-  -- its end, to a limit, or to a fault of the source.
+  -- A front of the lines of the records that were taken was written. Where no call of out failed it is
+  -- the whole, all records that were read were taken, and the reading came to its end, to a limit, or to
+  -- a fault of the source.
   pub record PrintsFront : Type 0 where
     pub end : End
+    pub rest : List ℕ
     pub outcomes : List Outcome
-    pub lines : Lines end outcomes
+    pub lines : Lines end rest outcomes
+    pub all : ¬ Rose old.out.faults new.out.faults → rest ≡ []
     pub front : AppendsFront old.out.written new.out.written (text_of (form_for task.origin) outcomes)
     pub whole : ¬ Rose old.out.faults new.out.faults
         → Appends old.out.written new.out.written (text_of (form_for task.origin) outcomes)
@@ -82,7 +84,7 @@ module _ (texts : Option Texts) (task : Task) (old new : Outside) where
   Says AllValues = Prints Ended AreValues
   Says NotAllValues = Prints Ended HasFailure
   Says Usage = ⊥
-  Says PlanRefused = ((fault : PlanFault) × HasRefusal texts task.plan.now fault) × Untouched
+  Says PlanRefused = ((fault : PlanFault) × HasRefusal old.shelf.texts task.plan.now fault) × Untouched
   Says NoMemory = Untouched ⊎ Prints Ended HasNoMemory
   Says ReadFault = Untouched ⊎ Prints Fault (λ _. SourceFailed)
   Says WriteFault = Untouched ⊎ PrintsFront

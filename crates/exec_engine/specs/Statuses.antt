@@ -3,7 +3,7 @@ use Rattle.std.specs.Prelude.{◌==◌, Bool, true, false, nat_lt, if◌then◌e
 use Rattle.line_summary.specs.declared.summary.Summary.{Summary}
 use Rattle.record_lines.specs.declared.ending.End.{End}
 use Rattle.record_lines.specs.declared.ending.End.TheVariants.{Ended, Fault, Limit as LimitEnd}
-use Rattle.record_loop.specs.declared.closing.Closing.{Closing}
+use Rattle.record_loop.specs.declared.ending.Ending.{Ending}
 use Rattle.exec_status.specs.declared.status.Status.{Status}
 use Rattle.exec_status.specs.declared.status.Status.TheVariants.{AllValues, NotAllValues, NoMemory, ReadFault, WriteFault, Limit}
 
@@ -20,5 +20,5 @@ status_by false Fault summary = ReadFault
 status_by false LimitEnd summary = Limit
 status_by false Ended summary = status_of_lines summary
 
-abbrev pub status_of : Closing → Status
-status_of closing = status_by closing.lost closing.end closing.summary
+abbrev pub status_of : Ending → Status
+status_of ending = status_by ending.lost ending.end ending.summary

@@ -1,7 +1,7 @@
 -- Which records a run takes.
-use Rattle.std.specs.Prelude.{◌≡◌, ℕ, List, IfSome, IsSomeAnd}
+use Rattle.std.specs.Prelude.{◌≡◌, ℕ, List, [], IfSome, IsSomeAnd}
 use Rattle.exec_value.specs.declared.kinds.Kind.{Kind}
-use Rattle.io_views.specs.Sources.{SourceView}
+use Rattle.exec_io.specs.Views.{SourceView}
 use Rattle.record_lines.specs.declared.ending.End.{End}
 use Rattle.record_lines.specs.declared.ending.End.TheVariants.{Ended}
 use Rattle.record_lines.specs.Records.{records_of, IsBeyond}
@@ -10,23 +10,26 @@ use Rattle.record_loop.specs.Generated.{generated_lines}
 use Rattle.exec_engine.specs.declared.task.Origin.{Origin}
 use Rattle.exec_engine.specs.declared.task.Origin.TheVariants.{Source, Generated}
 
--- The records are those of the bytes that were read of a source until this end.
-pub record TakesRead (before after : SourceView) (end : End) (records : List (List ℕ)) : Type 0 where
+-- The records are those of the bytes that were read of a source until this end, but for this rest,
+-- which was read and not taken.
+pub record TakesRead (before after : SourceView) (end : End) (rest : List ℕ)
+    (records : List (List ℕ)) : Type 0 where
   pub bytes : List ℕ
-  pub reads : Reads before.left after.left end bytes
+  pub reads : Reads before.left after.left end bytes rest
   pub are : records ≡ records_of bytes end
 
 -- The records are so many generated ones, and nothing is read.
 pub record TakesGenerated (kind : Kind) (count : ℕ) (before after : SourceView) (end : End)
-    (records : List (List ℕ)) : Type 0 where
+    (rest : List ℕ) (records : List (List ℕ)) : Type 0 where
   pub ended : end ≡ Ended
+  pub none : rest ≡ []
   pub same : after ≡ before
   pub are : records ≡ generated_lines kind count
 
-abbrev pub Takes : Origin → Kind → SourceView → SourceView → End → List (List ℕ) → Type 0
-Takes (Source form) kind before after end records = TakesRead before after end records
-Takes (Generated count) kind before after end records =
-    TakesGenerated kind count before after end records
+abbrev pub Takes : Origin → Kind → SourceView → SourceView → End → List ℕ → List (List ℕ) → Type 0
+Takes (Source form) kind before after end rest records = TakesRead before after end rest records
+Takes (Generated count) kind before after end rest records =
+    TakesGenerated kind count before after end rest records
 
 -- Of a source nothing is said here; for generated records nothing is read.
 abbrev pub LeavesSource : Origin → SourceView → SourceView → Type 0

@@ -5,7 +5,7 @@ ghost use Rattle.exec_engine.specs.Statuses.{status_of_lines, status_of};
 use exec_status::Status;
 use line_summary::Summary;
 use record_lines::End;
-use record_loop::Closing;
+use record_loop::Ending;
 
 /// The status of lines that were all written.
 fn status_of_lines(summary: &Summary) -> Status
@@ -21,15 +21,15 @@ fn status_of_lines(summary: &Summary) -> Status
 }
 
 /// The status of a run that ended so. A lost write comes first.
-pub fn status_of(closing: &Closing) -> Status
-    ensures { result ≡ status_of closing.now }
+pub fn status_of(ending: &Ending) -> Status
+    ensures { result ≡ status_of ending.now }
 {
-    if closing.is_lost() {
+    if ending.is_lost() {
         return Status::WriteFault;
     }
-    match closing.end() {
+    match ending.end() {
         End::Fault => Status::ReadFault,
         End::Limit => Status::Limit,
-        End::Ended => status_of_lines(closing.summary()),
+        End::Ended => status_of_lines(ending.summary()),
     }
 }

@@ -2,11 +2,9 @@
 ghost use Rattle.std.specs.Prelude.{◌≡◌, ◌↔◌, None, IfSome};
 ghost use Rattle.std.specs.Thread.{IsSync};
 ghost use Rattle.exec_words.specs.Command.{command_of};
-ghost use Rattle.io_views.specs.Sinks.{view_of};
-ghost use Rattle.io_views.specs.Sources.{source_view};
+ghost use Rattle.exec_io.specs.Outside.{outside};
 ghost use Rattle.exec_engine.specs.Commands.{CommandEnds, UsageEnds};
 ghost use Rattle.exec_engine.specs.Ends.{RunEnds};
-ghost use Rattle.exec_engine.specs.Outside.{outside};
 ghost use Rattle.exec_engine.specs.Tasks.{IsBounded};
 
 use crate::opening::open_plan;
@@ -33,13 +31,9 @@ fn run_task<R: Wait + Sync, F: Shelf, S: Source, K: Sink, N: Sink>(
 ) -> Status
     requires sync { IsSync R.row }
     requires bounds { IsBounded task }
-    ensures { RunEnds (F.texts shelf.old) task.entry
-        (outside (F.faults shelf.old) (source_view S.left S.faults records.old)
-        (view_of K.written K.outstanding K.faults out.old)
-        (view_of N.written N.outstanding N.faults notes.old))
-        (outside (F.faults shelf.new) (source_view S.left S.faults records.new)
-        (view_of K.written K.outstanding K.faults out.new)
-        (view_of N.written N.outstanding N.faults notes.new)) result }
+    ensures { RunEnds task.entry
+        (outside (F.told shelf.old) (S.told records.old) (K.told out.old) (N.told notes.old))
+        (outside (F.told shelf.new) (S.told records.new) (K.told out.new) (N.told notes.new)) result }
 {
     match open_plan(alloc, task.plan, shelf) {
         Ok(plan) => conclude(run_plan(rt, alloc, &plan, task, records, out), notes),
@@ -61,21 +55,13 @@ pub fn run<R: Threads + Wait + Sync, F: Shelf, S: Source, K: Sink, N: Sink>(
     // is called, nothing is read, and nothing is done to out.
     ensures usage { (result ≡ Status.Usage) ↔ (command_of words.now ≡ None) }
     ensures told { command_of words.now ≡ None → UsageEnds
-        (outside (F.faults shelf.old) (source_view S.left S.faults records.old)
-        (view_of K.written K.outstanding K.faults out.old)
-        (view_of N.written N.outstanding N.faults notes.old))
-        (outside (F.faults shelf.new) (source_view S.left S.faults records.new)
-        (view_of K.written K.outstanding K.faults out.new)
-        (view_of N.written N.outstanding N.faults notes.new)) result }
+        (outside (F.told shelf.old) (S.told records.old) (K.told out.old) (N.told notes.old))
+        (outside (F.told shelf.new) (S.told records.new) (K.told out.new) (N.told notes.new)) result }
 
     // A command ends as its definition says.
-    ensures ends { IfSome (command_of words.now) (CommandEnds (F.texts shelf.old)
-        (outside (F.faults shelf.old) (source_view S.left S.faults records.old)
-        (view_of K.written K.outstanding K.faults out.old)
-        (view_of N.written N.outstanding N.faults notes.old))
-        (outside (F.faults shelf.new) (source_view S.left S.faults records.new)
-        (view_of K.written K.outstanding K.faults out.new)
-        (view_of N.written N.outstanding N.faults notes.new)) result) }
+    ensures ends { IfSome (command_of words.now) (CommandEnds
+        (outside (F.told shelf.old) (S.told records.old) (K.told out.old) (N.told notes.old))
+        (outside (F.told shelf.new) (S.told records.new) (K.told out.new) (N.told notes.new)) result) }
 {
     let Some(command) = read_words(words) else {
         refuse(usage_lines(), notes);

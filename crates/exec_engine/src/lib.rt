@@ -1,7 +1,7 @@
 //! The engine: from words to what they ask for, and a status.
 //!
 //!     words --read_words--> Command --> Task, or a command on a file (trace_commands)
-//!     Task  --open_plan--> Plan --run_plan--> Closing --status_of--> Status --conclude--> notes
+//!     Task  --open_plan--> Plan --run_plan--> Ending --status_of--> Status --conclude--> notes
 //!     a name without a plan --give_up--> notes; the status that stands then
 //!
 //! `run` is the top call of the program, which does all that the program does over the shelf, the

@@ -1,9 +1,7 @@
 //! A run whose plan was opened.
 ghost use Rattle.std.specs.Prelude.{IfOk, OnErr};
 ghost use Rattle.std.specs.Thread.{IsSync};
-ghost use Rattle.io_views.specs.Sinks.{view_of};
-ghost use Rattle.io_views.specs.Sources.{source_view};
-ghost use Rattle.io_views.specs.Untouched.{IsUntouched};
+ghost use Rattle.exec_io.specs.Untouched.{IsUntouched};
 ghost use Rattle.plan_kinds.specs.Reached.{KindsMatch};
 ghost use Rattle.run_rules.specs.PlanTerms.{MayRun};
 ghost use Rattle.exec_engine.specs.Closes.{Closes, Runs};
@@ -15,7 +13,7 @@ use exec_io::{Sink, Source};
 use exec_status::Status;
 use plain_runs::PlainRuns;
 use plan_shape::Plan;
-use record_loop::{Closing, run_generated, run_records};
+use record_loop::{Ending, run_generated, run_records};
 use run_rules::at_once;
 use std::alloc::{AllocError, Global};
 use std::sync::Wait;
@@ -29,19 +27,17 @@ fn close_plan<R: Wait + Sync, S: Source, K: Sink>(
     task: Task<'_>,
     records: &mut S,
     out: &mut K,
-) -> Result<Closing, AllocError>
+) -> Result<Ending, AllocError>
     requires sync { IsSync R.row }
     requires bounds { IsBounded task }
     requires kinds { KindsMatch plan.now.nodes plan.now.settings.input }
     requires may_run { MayRun plan.now.settings }
     ensures ok { IfOk result (Closes plan.now task.entry
-        (source_view S.left S.faults records.old) (source_view S.left S.faults records.new)
-        (view_of K.written K.outstanding K.faults out.old)
-        (view_of K.written K.outstanding K.faults out.new)) }
+        (S.told records.old) (S.told records.new)
+        (K.told out.old) (K.told out.new)) }
     ensures untouched { OnErr result (IsUntouched
-        (source_view S.left S.faults records.old) (source_view S.left S.faults records.new)
-        (view_of K.written K.outstanding K.faults out.old)
-        (view_of K.written K.outstanding K.faults out.new)) }
+        (S.told records.old) (S.told records.new)
+        (K.told out.old) (K.told out.new)) }
 {
     let settings = *plan.settings();
     let window = at_once(plan, task.window as usize);
@@ -70,12 +66,11 @@ pub fn run_plan<R: Wait + Sync, S: Source, K: Sink>(
     requires kinds { KindsMatch plan.now.nodes plan.now.settings.input }
     requires may_run { MayRun plan.now.settings }
     ensures { Runs plan.now task.entry
-        (source_view S.left S.faults records.old) (source_view S.left S.faults records.new)
-        (view_of K.written K.outstanding K.faults out.old)
-        (view_of K.written K.outstanding K.faults out.new) result }
+        (S.told records.old) (S.told records.new)
+        (K.told out.old) (K.told out.new) result }
 {
     match close_plan(rt, alloc, plan, task, records, out) {
-        Ok(closing) => status_of(&closing),
+        Ok(ending) => status_of(&ending),
         Err(AllocError) => Status::NoMemory,
     }
 }

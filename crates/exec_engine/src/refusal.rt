@@ -1,11 +1,10 @@
 //! What is told where there is no plan.
 ghost use Rattle.std.specs.Prelude.{◌≡◌, ◌≤◌};
-ghost use Rattle.io_views.specs.Sinks.{view_of};
-ghost use Rattle.exec_engine.specs.Refusals.{refusal_of, GivesUp};
+ghost use Rattle.exec_status.specs.Files.{GivesUp};
+ghost use Rattle.exec_engine.specs.Refusals.{refusal_of};
 
-use crate::opening::OpenFault;
 use exec_io::Sink;
-use exec_status::{Status, conclude, refuse};
+use exec_status::{FileFault, Status, conclude, refuse};
 use plan_reader::PlanFault;
 
 /// What is told of a plan that is refused.
@@ -26,17 +25,16 @@ pub fn refusal_of(fault: PlanFault) -> &'static [u8]
 
 /// Tells why there is no plan, and gives the status that stands then. A refusal stands also where
 /// notes fail.
-pub fn give_up<N: Sink>(fault: OpenFault, notes: &mut N) -> Status
-    ensures later { N.faults notes.old ≤ N.faults notes.new }
-    ensures gives_up { GivesUp fault (view_of N.written N.outstanding N.faults notes.old)
-        (view_of N.written N.outstanding N.faults notes.new) result }
+pub fn give_up<N: Sink>(fault: FileFault<PlanFault>, notes: &mut N) -> Status
+    ensures later { (N.told notes.old).faults ≤ (N.told notes.new).faults }
+    ensures gives_up { GivesUp refusal_of fault (N.told notes.old) (N.told notes.new) result }
 {
     match fault {
-        OpenFault::Refused(cause) => {
+        FileFault::Refused(cause) => {
             refuse(refusal_of(cause), notes);
             Status::PlanRefused
         }
-        OpenFault::ReadFault => conclude(Status::ReadFault, notes),
-        OpenFault::NoMemory => conclude(Status::NoMemory, notes),
+        FileFault::ReadFault => conclude(Status::ReadFault, notes),
+        FileFault::NoMemory => conclude(Status::NoMemory, notes),
     }
 }

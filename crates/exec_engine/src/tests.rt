@@ -1,49 +1,17 @@
-//! Worked examples of `run`, over a shelf, a source and sinks in memory.
+//! What only a shelf, a source and sinks in memory can show: faults at each call, and want of memory.
+//! The other worked examples are cases of the program (tests/cases/engine.json).
 ghost use Rattle.std.specs.Thread.{IsSync};
 
-mod faults;
-mod files;
-mod futures;
-mod lines;
-mod memory;
-mod plans;
-mod refusals;
-mod stops;
-mod summary;
-mod usage;
-mod versions;
-
 use super::*;
-use exec_io::{MemShelf, MemSink, MemSource};
+use exec_io::{MemShelf, MemSink, MemSource, NeverFails};
 use std::alloc::{AllocError, Global};
-use std::process::Abort;
 use std::sync::Wait;
 use std::test::Fail;
 use std::thread::Threads;
 
-/// Int records, and no further settings.
-const INTS: &str = r#""version":1,"input":"int""#;
-
-/// One more than the record.
-const ADD_ONE: &str = r#"{"do":"then","child":{"do":"input"},"job":{"job":"add","n":1}}"#;
-
-/// Twice the record and 9, by 12 nodes.
-const PLAN_G: &str =
-    r#"{"do":"continues_on","on":"loop","child":{"do":"then","job":{"job":"sum"},"child":{"do":"when_all","children":[{"do":"starts_on","on":"pool","child":{"do":"then","child":{"do":"input"},"job":{"job":"mul","n":2}}},{"do":"let_value","child":{"do":"input"},"pick":{"job":"pass"},"bodies":[{"do":"just","values":[9]},{"do":"then","job":{"job":"sum"},"child":{"do":"bulk","child":{"do":"just","values":[[1,2,3]]},"job":{"job":"index"}}}]}]}}}"#;
-
-/// One record more than a run takes, each of them 0.
-fn too_many_zeros(alloc: Global) -> Result<Vec<u8>, AllocError> {
-    let mut block = Vec::new(alloc);
-    for _ in 0..1000 {
-        block.extend_from_slice(b"0\n")?;
-    }
-    let mut records = Vec::new(alloc);
-    for _ in 0..1000 {
-        records.extend_from_slice(&block)?;
-    }
-    records.extend_from_slice(b"0\n")?;
-    Ok(records)
-}
+/// A plan that adds one to each record.
+const ADD_ONE: &str =
+    r#"{"version":1,"input":"int","root":{"do":"then","child":{"do":"input"},"job":{"job":"add","n":1}}}"#;
 
 /// What a run left.
 #[derive(Drop)]
@@ -51,16 +19,6 @@ struct Ran {
     status: Status,
     out: MemSink,
     notes: MemSink,
-}
-
-/// A plan file with these keys beside its root.
-fn plan_text(alloc: Global, keys: &str, root: &str) -> Result<String, AllocError> {
-    let mut text = String::from_str(alloc, "{")?;
-    text.push_str(keys)?;
-    text.push_str(r#","root":"#)?;
-    text.push_str(root)?;
-    text.push_str("}")?;
-    Ok(text)
 }
 
 /// A sink that takes at most `most` bytes a write, and fails at the calls of these numbers.
@@ -85,14 +43,14 @@ fn run_with<R: Threads + Wait + Sync>(
     rt: &R,
     alloc: Global,
     words: &[&str],
-    text: &[u8],
+    text: &str,
     mut records: MemSource,
     mut out: MemSink,
     mut notes: MemSink,
 ) -> Result<Ran, AllocError>
     requires { IsSync R.row }
 {
-    let mut shelf = shelf(alloc, text)?;
+    let mut shelf = shelf(alloc, text.as_bytes())?;
     let status = run(
         rt,
         alloc,
@@ -105,52 +63,85 @@ fn run_with<R: Threads + Wait + Sync>(
     Ok(Ran { status, out, notes })
 }
 
-/// The same, where nothing fails.
-fn run_words<R: Threads + Wait + Sync>(
-    rt: &R,
-    alloc: Global,
-    words: &[&str],
-    text: &[u8],
-    records: &[u8],
-) -> Result<Ran, AllocError>
-    requires { IsSync R.row }
-{
-    let records = source(alloc, records, &[])?;
-    let out = sink(alloc, 4096, &[])?;
-    let notes = sink(alloc, 4096, &[])?;
-    run_with(rt, alloc, words, text, records, out, notes)
+#[test]
+fn a_failed_write_leaves_what_was_written(rt: HostRuntime) -> Result<(), Fail> {
+    let alloc = rt.alloc();
+    let lines = "1 bad-record\n2 value 8\n";
+    // Out fails at its first write, at a later one, or at no call.
+    let rows: [(usize, u64, &str); 3] = [(1, 1, ""), (1, 9, "1 bad-re"), (4096, 99, lines)];
+    for (most, call, written) in rows {
+        let records = source(alloc, b"abc\n7\n", &[])?;
+        let (out, notes) = (sink(alloc, most, &[call])?, sink(alloc, 4096, &[])?);
+        let words = ["run", "plan.json"];
+        let ran = run_with(&rt, alloc, &words, ADD_ONE, records, out, notes)?;
+        let lost = written.len() < lines.len();
+        assert_eq!(rt; ran.status == Status::WriteFault, lost);
+        assert_eq!(rt; ran.out.bytes(), written.as_bytes());
+        assert_eq!(rt; ran.notes.bytes().is_empty(), !lost);
+    }
+    Ok(())
 }
 
-/// A run of the plan with these keys and this root over records, where nothing fails.
-fn run_plan<R: Threads + Wait + Sync>(
-    rt: &R,
-    alloc: Global,
-    keys: &str,
-    root: &str,
-    records: &[u8],
-) -> Result<Ran, AllocError>
-    requires { IsSync R.row }
-{
-    let text = plan_text(alloc, keys, root)?;
-    run_words(rt, alloc, &["run", "plan.json"], text.as_bytes(), records)
+#[test]
+fn a_write_fault_comes_before_a_read_fault(rt: HostRuntime) -> Result<(), Fail> {
+    let alloc = rt.alloc();
+    // The second read fails, and notes take five bytes and fail then, or take all.
+    let rows: [(&[u64], Status, &str); 2] = [
+        (&[], Status::ReadFault, "read fault\n"),
+        (&[2], Status::WriteFault, "read "),
+    ];
+    for (told, status, note) in rows {
+        let records = source(alloc, b"abc\n9", &[2])?;
+        let (out, notes) = (sink(alloc, 4096, &[])?, sink(alloc, 5, told)?);
+        let words = ["run", "plan.json"];
+        let ran = run_with(&rt, alloc, &words, ADD_ONE, records, out, notes)?;
+        assert_eq!(rt; ran.status, status);
+        assert_eq!(rt; ran.out.bytes(), b"1 bad-record\n".as_slice());
+        assert_eq!(rt; ran.notes.bytes(), note.as_bytes());
+    }
+    Ok(())
 }
 
-/// A plan's keys and root, records, and what a run writes and ends with.
-type Row<'a> = (&'a str, &'a str, &'a [u8], &'a str, Status);
+#[test]
+fn a_refusal_stands_where_notes_fail(rt: HostRuntime) -> Result<(), Fail> {
+    let alloc = rt.alloc();
+    let rows: [(&[&str], Status, &str); 4] = [
+        (&["run", "plan.json"], Status::PlanRefused, "plan "),
+        (&["check", "plan.json"], Status::PlanRefused, "trace"),
+        (&["replay", "plan.json"], Status::PlanRefused, "trace"),
+        (&["run"], Status::Usage, "usage"),
+    ];
+    for (words, status, told) in rows {
+        let records = source(alloc, b"5\n", &[])?;
+        let (out, notes) = (sink(alloc, 4096, &[])?, sink(alloc, 5, &[2])?);
+        let ran = run_with(&rt, alloc, words, "{", records, out, notes)?;
+        assert_eq!(rt; ran.status, status);
+        assert_eq!(rt; ran.out.bytes(), b"".as_slice());
+        assert_eq!(rt; ran.notes.bytes(), told.as_bytes());
+    }
+    Ok(())
+}
 
-/// Each of these runs writes and ends so, and tells nothing.
-fn assert_rows<R: Threads + Wait + Abort + Sync>(
-    rt: &R,
-    alloc: Global,
-    rows: &[Row<'_>],
-) -> Result<(), Fail>
-    requires { IsSync R.row }
-{
-    for (keys, root, records, out, status) in rows {
-        let ran = run_plan(rt, alloc, *keys, *root, *records)?;
-        assert_eq!(rt; ran.out.bytes(), out.as_bytes());
-        assert_eq!(rt; ran.status, *status);
-        assert_eq!(rt; ran.notes.bytes(), b"".as_slice());
+#[test]
+fn want_of_memory_ends_the_run(rt: HostRuntime) -> Result<(), Fail> {
+    let alloc = rt.alloc();
+    let mut shelf = shelf(alloc, ADD_ONE.as_bytes())?;
+    let mut records = source(alloc, b"5\n-1\n", &[])?;
+    let mut out = NeverFails::new(MemSink::new(alloc, 4096, Vec::new(alloc)));
+    let mut notes = NeverFails::new(MemSink::new(alloc, 4096, Vec::new(alloc)));
+    let words = ["run", "plan.json"];
+    let status = run(
+        &rt,
+        alloc,
+        &words,
+        &mut shelf,
+        &mut records,
+        &mut out,
+        &mut notes,
+    );
+    if status != Status::NoMemory {
+        assert_eq!(rt; status, Status::AllValues);
+        assert_eq!(rt; notes.inner().bytes(), b"".as_slice());
     }
     Ok(())
 }

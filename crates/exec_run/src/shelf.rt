@@ -28,9 +28,7 @@ impl<'a, R: Files> FileShelf<'a, R> {
 }
 
 impl<R: Files> Shelf for FileShelf<'_, R> {
-    ghost texts = { λ _. None };
-
-    ghost faults = { λ s. s.faults.count };
+    ghost told = { λ s. record { texts = None; faults = s.faults.count } };
 
     fn read(&mut self, alloc: Global, name: &str, max: usize) -> Result<Vec<u8>, ShelfFault> {
         match open_front(self.rt, alloc, name, max.saturating_add(1)) {

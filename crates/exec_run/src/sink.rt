@@ -33,11 +33,8 @@ impl<W: Write> Writing<W> {
 }
 
 impl<W: Write> Sink for Writing<W> {
-    ghost written = { λ _. None };
-
-    ghost outstanding = { λ _. None };
-
-    ghost faults = { λ s. s.faults.count };
+    ghost told = { λ s.
+        record { written = None; outstanding = None; faults = s.faults.count } };
 
     fn write(&mut self, piece: &[u8]) -> Result<usize, Failed>
         requires { 0 < length piece.now }

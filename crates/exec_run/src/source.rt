@@ -26,9 +26,7 @@ impl<R: Read> Reading<R> {
 }
 
 impl<R: Read> Source for Reading<R> {
-    ghost left = { λ s. R.remaining s.inner };
-
-    ghost faults = { λ s. s.faults.count };
+    ghost told = { λ s. record { left = R.remaining s.inner; faults = s.faults.count } };
 
     fn read(&mut self, buf: &mut [u8]) -> Result<usize, Failed> {
         match self.inner.read(buf) {

@@ -1,13 +1,9 @@
 -- The status that is due to a file is one.
-use Rattle.std.proofs.Common.{◌≡◌, ℕ, ◌+◌, ◌-◌, ◌<◌, ◌≤◌, List, length, take, Option, None, Some, Result, Ok, Err, refl, sym, ◌∙◌, subst, inl, inr, arith}
-use Rattle.std.specs.Prelude.{IsSomeAnd}
-use Rattle.std.proofs.lemmas.Bool.{false≢true, cases_lt}
-use Rattle.exec_io.specs.Shelves.{Texts, text_of}
+use Rattle.std.proofs.Common.{◌≡◌, ℕ, ◌-◌, ◌≤◌, List, length, Result, Ok, Err, refl, sym, ◌∙◌, subst, inl, inr, arith}
+use Rattle.std.proofs.lemmas.Bool.{false≢true}
 use Rattle.exec_status.specs.declared.status.Status.{Status}
 use Rattle.exec_status.specs.declared.status.Status.TheVariants.{PlanRefused}
 use Rattle.trace_text.specs.declared.limits.TheConstants.{FILE_BYTES}
-use Rattle.trace_text.specs.declared.fault.TraceFault.{TraceFault}
-use Rattle.trace_text.specs.declared.fault.TraceFault.TheVariants.{TooLong as TooLongFault, Line as LineFault, NoMemory as NoTraceMemory}
 use Rattle.trace_text.specs.Reading.{trace_in, schedule_in}
 use Rattle.trace_text.specs.Values.{TraceValue}
 use Rattle.replay_core.specs.declared.check.Verdict.{Verdict}
@@ -16,8 +12,6 @@ use Rattle.replay_core.specs.Verdicts.{IsVerdict}
 use Rattle.trace_commands.specs.declared.file.Refusal.{Refusal}
 use Rattle.trace_commands.specs.declared.file.Refusal.TheVariants.{TooLong, Line}
 use Rattle.trace_commands.specs.Answers.{Question, IsRefused, IsChecked, IsReplayed, the_check, the_replay, verdict_status, IsDue}
-use Rattle.trace_commands.specs.Files.{Gives, Has}
-use Rattle.trace_commands.specs.Refusals.{IsFaultOf, fault_of}
 
 -- bytes that are answered or refused so have no other status
 pub record IsDecided (question : Question) : Type 0 where
@@ -66,24 +60,3 @@ replay-refused bytes refusal due refused (inr again) = sym again.1
 
 pub replay-decided : IsDecided the_replay
 replay-decided = record { answered = replay-answered; refused = replay-refused }
-
--- the shelf gives these bytes and no others
-pub same_bytes : (texts : Option Texts) (name bytes other : List ℕ) → Gives texts name bytes → Has texts name other → bytes ≡ other
-same_bytes None name bytes other gives has = absurd has
-same_bytes (Some known) name bytes other gives has = given (text_of known name) gives has
-  where
-    given : (found : Option (List ℕ)) → IsSomeAnd found (λ text. bytes ≡ take (FILE_BYTES + 1) text) → IsSomeAnd found (λ text. other ≡ take (FILE_BYTES + 1) text) → bytes ≡ other
-    given None gives has = absurd gives
-    given (Some text) gives has = gives ∙ sym has
-
--- a fault of the reading is one of the file
-pub fault-is : {A : Type 0} (read : List ℕ → Result A ℕ) (bytes : List ℕ) (fault : TraceFault) → (answers : List ℕ → Status → List ℕ → Type 0) →
-    (fault ≡ TooLongFault → FILE_BYTES < length bytes) → (FILE_BYTES < length bytes → fault ≡ TooLongFault) → ((n : ℕ) → fault ≡ LineFault n → read bytes ≡ Err n) →
-    IsFaultOf (record { refuses = IsRefused read; answers = answers }) bytes (fault_of fault)
-fault-is read bytes TooLongFault answers long too_long line = long refl
-fault-is read bytes (LineFault n) answers long too_long line =
-    elim (cases_lt FILE_BYTES (length bytes)) [
-      | inl more ↦ absurd (let e : LineFault n ≡ TooLongFault = too_long more in cc)
-      | inr short ↦ (short, line n refl)
-    ]
-fault-is read bytes NoTraceMemory answers long too_long line = tt

@@ -1,24 +1,29 @@
 -- How a command on a file ends, by what it printed or missed.
-use Rattle.std.proofs.Common.{◌≡◌, ◌≢◌, ◌⊎◌, ℕ, ◌≤◌, List, [], Option, refl, sym, ◌∙◌, subst, inl, inr, arith}
+use Rattle.std.proofs.Common.{◌≡◌, ◌≢◌, ◌⊎◌, ℕ, ◌≤◌, List, [], Ok, Err, refl, ap, ◌∙◌, subst, inl, inr, arith}
 use Rattle.exec_io.specs.Causes.{Rose}
-use Rattle.exec_io.specs.Shelves.{Texts}
+use Rattle.exec_io.specs.Outside.{Outside}
+use Rattle.exec_io.specs.Shelves.{Stands}
+use Rattle.exec_status.specs.declared.file.FileFault.{FileFault}
+use Rattle.exec_status.specs.declared.file.FileFault.TheVariants.{Refused, ReadFault as NotRead, NoMemory as NoFileMemory}
 use Rattle.exec_status.specs.declared.status.Status.{Status}
 use Rattle.exec_status.specs.declared.status.Status.TheVariants.{AllValues, NotAllValues, Usage, PlanRefused, NoMemory, ReadFault, WriteFault, Limit}
 use Rattle.exec_status.specs.Notes.{note_of}
-use Rattle.exec_status.specs.Noted.{Concludes, Noted}
-use Rattle.io_views.specs.Sinks.{SinkView}
-use Rattle.io_views.specs.Untouched.{IsHandedOn}
+use Rattle.exec_status.specs.Files.{ReadsShelf, Misses, GivesUp, RunsShort}
+use Rattle.exec_status.specs.Noted.{Concludes}
+use Rattle.exec_io.specs.Views.{SinkView}
+use Rattle.exec_io.specs.Untouched.{IsHandedOn}
 use Rattle.exec_status.specs.Sinks.{TellsAll}
-use Rattle.exec_status.proofs.Concluding.{IsOfRun, concluded, read_fault-concluded, write_fault-concluded, Noted-concluded, Noted-handed}
-use Rattle.trace_commands.specs.declared.file.FileFault.{FileFault}
-use Rattle.trace_commands.specs.declared.file.FileFault.TheVariants.{Refused, ReadFault as NotRead, NoMemory as NoFileMemory}
+use Rattle.exec_status.proofs.Concluding.{IsOfRun, concluded, quiet-concluded, read_fault-concluded, write_fault-concluded, Noted-concluded, Noted-handed}
+use Rattle.exec_status.proofs.Missing.{missed-status, missed-noted, missed-read, missed-write, missed-still, missed-refused, short-concluded}
+use Rattle.exec_io.proofs.GivenLemmas.{given-stands}
+use Rattle.trace_text.specs.declared.limits.TheConstants.{FILE_BYTES}
+use Rattle.trace_commands.specs.declared.file.Refusal.{Refusal}
 use Rattle.trace_commands.specs.Answers.{Question, HasAnswer, IsDue, Prints}
 use Rattle.trace_commands.specs.Answers.Prints.{whole, front}
-use Rattle.trace_commands.specs.Files.{Has}
-use Rattle.trace_commands.specs.Refusals.{IsRefusedWith, Misses, GivesUp}
+use Rattle.trace_commands.specs.Refusals.{HasRefusal, IsRefusedWith, refusal_text}
 use Rattle.trace_commands.specs.Says.{Says}
 use Rattle.trace_commands.specs.Ends.{Ends}
-use Rattle.trace_commands.proofs.Due.{IsDecided, same_bytes}
+use Rattle.trace_commands.proofs.Due.{IsDecided}
 
 -- an answer comes with one of these statuses
 abbrev pub IsAnswer : Status → Type 0
@@ -47,8 +52,8 @@ answer-of_run ReadFault is = absurd is
 answer-of_run WriteFault is = absurd is
 answer-of_run Limit is = absurd is
 
-module _ (question : Question) (texts : Option Texts) (name : List ℕ) {old new : SinkView} where
-  Says-whole : {text : List ℕ} (due : Status) → IsAnswer due → HasAnswer question texts name due text → TellsAll old new text → Says question texts name old new due
+module _ (question : Question) (name : List ℕ) (old new : Outside) where
+  Says-whole : {text : List ℕ} (due : Status) → IsAnswer due → HasAnswer question old.shelf.texts name due text → TellsAll old.out new.out text → Says question name old new due
   Says-whole {text = text} AllValues is has all = (text, has, all)
   Says-whole {text = text} NotAllValues is has all = (text, has, all)
   Says-whole Usage is has all = absurd is
@@ -58,36 +63,15 @@ module _ (question : Question) (texts : Option Texts) (name : List ℕ) {old new
   Says-whole WriteFault is has all = absurd is
   Says-whole Limit is has all = absurd is
 
-  module _ {text : List ℕ} (due : Status) (is : IsAnswer due) (has : HasAnswer question texts name due text) where
-    Says-printed : (status : Status) → Prints due text old new status → Says question texts name old new status
+  module _ {text : List ℕ} (due : Status) (is : IsAnswer due) (has : HasAnswer question old.shelf.texts name due text) where
+    Says-printed : (status : Status) → Prints due text old.out new.out status → Says question name old new status
     Says-printed status (whole all) = Says-whole due is has all
     Says-printed status (front part) = inr (due, text, has, part)
 
     -- a note is told only where out failed
-    Says-fault : (status : Status) → Prints due text old new status → note_of status ≢ [] → Says question texts name old new WriteFault
+    Says-fault : (status : Status) → Prints due text old.out new.out status → note_of status ≢ [] → Says question name old new WriteFault
     Says-fault status (whole all) some = absurd (some (no_note due is))
     Says-fault status (front part) some = inr (due, text, has, part)
-
--- where no fault is answered the status is the one that is due, unless memory ran out
-Says-due : (question : Question) (texts : Option Texts) (name : List ℕ) (old new : SinkView) (status : Status) → IsDecided question → Says question texts name old new status → status ≢ ReadFault → status ≢ WriteFault →
-    (bytes : List ℕ) (due : Status) → Has texts name bytes → IsDue question bytes due → (status ≡ due) ⊎ (status ≡ NoMemory)
-Says-due question texts name old new AllValues decided says read write bytes due has is =
-    let answer = says.1 in
-    let P : List ℕ → Type 0 = λ b. IsDue question b due in
-    inl (decided.answered answer.bytes AllValues due says.0 answer.answer (subst P (sym (same_bytes texts name answer.bytes bytes answer.given has)) is))
-Says-due question texts name old new NotAllValues decided says read write bytes due has is =
-    let answer = says.1 in
-    let P : List ℕ → Type 0 = λ b. IsDue question b due in
-    inl (decided.answered answer.bytes NotAllValues due says.0 answer.answer (subst P (sym (same_bytes texts name answer.bytes bytes answer.given has)) is))
-Says-due question texts name old new Usage decided says read write bytes due has is = absurd says
-Says-due question texts name old new PlanRefused decided says read write bytes due has is =
-    let refusal = says.0.1 in
-    let P : List ℕ → Type 0 = λ b. IsDue question b due in
-    inl (decided.refused refusal.bytes says.0.0 due refusal.is (subst P (sym (same_bytes texts name refusal.bytes bytes refusal.given has)) is))
-Says-due question texts name old new NoMemory decided says read write bytes due has is = inr refl
-Says-due question texts name old new ReadFault decided says read write bytes due has is = absurd (read refl)
-Says-due question texts name old new WriteFault decided says read write bytes due has is = absurd (write refl)
-Says-due question texts name old new Limit decided says read write bytes due has is = absurd says
 
 Prints-run : {text : List ℕ} {old new : SinkView} (due status : Status) → IsAnswer due → Prints due text old new status → IsOfRun status
 Prints-run due status is (whole all) = answer-of_run due is
@@ -105,88 +89,78 @@ Prints-handed : {text : List ℕ} {old new : SinkView} (due status : Status) →
 Prints-handed due status (whole all) still = inl all.handed_on
 Prints-handed due status (front part) still = absurd (still part.cause)
 
+-- where out didn't fail the answer's status stands, also where notes fail
+Prints-due : {text : List ℕ} {old new first last : SinkView} (due status result : Status) → IsAnswer due → Prints due text old new status → Concludes status first last result → ¬ Rose old.faults new.faults → result ≡ due
+Prints-due due status result is (whole all) concludes still = quiet-concluded due result (no_note due is) concludes
+Prints-due due status result is (front part) concludes still = absurd (still part.cause)
+
 -- the end of a command that had an answer
-pub answered : (question : Question) (texts : Option Texts) (name : List ℕ) {before after : ℕ} {old new first last : SinkView} {text : List ℕ} (due status result : Status) →
-    IsDecided question → IsAnswer due → HasAnswer question texts name due text → after ≡ before → Prints due text old new status → Concludes status first last result →
-    old.faults ≤ new.faults → first.faults ≤ last.faults → Ends question texts name before after old new first last result
-answered question texts name {old = old} {new = new} {first = first} {last = last} due status result decided is has still prints concludes out notes =
-    let came = Says question texts name old new in
-    let says : came result = concluded came status result (Says-printed question texts name due is has status prints) (Says-fault question texts name due is has status prints) concludes in
-    let noted = Noted-concluded came (IsRefusedWith question texts name) status result (Says-printed question texts name due is has status prints) (Prints-run due status is prints) concludes in
-    let write : result ≡ WriteFault → Rose old.faults new.faults ⊎ Rose first.faults last.faults =
-    λ e. elim (write_fault-concluded status result concludes e) [ inl lost ↦ inl (Prints-write due status is prints lost) | inr rose ↦ inr rose ] in
+pub answered : {T : Type 0} {x : T} (question : Question) (name : List ℕ) (old new : Outside) {text : List ℕ} (due status result : Status) →
+    IsDecided question → IsAnswer due → HasAnswer question old.shelf.texts name due text → ReadsShelf {T = T} {C = Refusal} old.shelf new.shelf (Ok x) → new.records ≡ old.records →
+    Prints due text old.out new.out status → Concludes status old.notes new.notes result → old.out.faults ≤ new.out.faults → old.notes.faults ≤ new.notes.faults → Ends question name old new result
+answered question name old new {text = text} due status result decided is has reads records prints concludes out notes =
+    let came = Says question name old new in
+    let refused = IsRefusedWith question old.shelf.texts name in
+    let says : came result = concluded came status result (Says-printed question name old new due is has status prints) (Says-fault question name old new due is has status prints) concludes in
+    let noted = Noted-concluded came refused status result (Says-printed question name old new due is has status prints) (Prints-run due status is prints) concludes in
+    let shelf : new.shelf.faults ≡ old.shelf.faults = reads.still (λ e. cc) in
     record {
       says = says;
       noted = noted;
       read_fault = λ e. absurd (Prints-read due status is prints (read_fault-concluded status result concludes e));
-      write_fault = write;
-      shelf_still = λ _ _. still;
+      write_fault = λ e. elim (write_fault-concluded status result concludes e) [ inl lost ↦ inl (Prints-write due status is prints lost) | inr rose ↦ inr rose ];
+      shelf_still = λ _ _. shelf;
       out_handed_on = Prints-handed due status prints;
-      notes_handed_on = Noted-handed came (IsRefusedWith question texts name) result noted;
-      complete = λ bytes wanted there wants shelf_still out_still notes_still.
-          Says-due question texts name old new result decided says
-          (λ e. Prints-read due status is prints (read_fault-concluded status result concludes e))
-          (λ e. elim (write e) [ inl rose ↦ out_still rose | inr rose ↦ notes_still rose ])
-          bytes wanted there wants;
-      shelf_later = omega (arith, still);
+      notes_handed_on = Noted-handed came refused result noted;
+      refused = λ refusal stands _.
+          let is_so = given-stands FILE_BYTES old.shelf.texts name has.bytes (λ bytes. question.refuses bytes refusal) has.given stands in
+          let wrong : due ≡ PlanRefused = decided.answered has.bytes due PlanRefused text has.answer (inr ((refusal, is_so), refl)) in
+          absurd (subst IsAnswer wrong is);
+      complete = λ wanted stands _ out_still.
+          let is_due = given-stands FILE_BYTES old.shelf.texts name has.bytes (λ bytes. IsDue question bytes wanted) has.given stands in
+          inl (Prints-due due status result is prints concludes out_still ∙ decided.answered has.bytes due wanted text has.answer is_due);
+      shelf_same = reads.same;
+      records_same = records;
+      shelf_later = reads.later;
       out_later = out;
       notes_later = notes;
     }
 
-module _ (question : Question) (texts : Option Texts) (name : List ℕ) (out first last : SinkView) where
-  missed-says : (fault : FileFault) (result : Status) → Misses question texts name fault → GivesUp fault first last result → Says question texts name out out result
-  missed-says (Refused refusal) result misses gives_up =
-      let P : Status → Type 0 = Says question texts name out out in
-      subst P (sym gives_up.0) ((refusal, misses), refl)
-  missed-says NotRead result misses gives_up = concluded (Says question texts name out out) ReadFault result refl (λ _. inl refl) gives_up
-  missed-says NoFileMemory result misses gives_up = concluded (Says question texts name out out) NoMemory result refl (λ _. inl refl) gives_up
-
-  missed-noted : (fault : FileFault) (result : Status) → Misses question texts name fault → GivesUp fault first last result →
-      Noted (Says question texts name out out) (IsRefusedWith question texts name) first last result
-  missed-noted (Refused refusal) result misses gives_up =
-      let P : Status → Type 0 = Noted (Says question texts name out out) (IsRefusedWith question texts name) first last in
-      subst P (sym gives_up.0) (_, (refusal, misses, refl), gives_up.1)
-  missed-noted NotRead result misses gives_up = Noted-concluded (Says question texts name out out) (IsRefusedWith question texts name) ReadFault result refl tt gives_up
-  missed-noted NoFileMemory result misses gives_up = Noted-concluded (Says question texts name out out) (IsRefusedWith question texts name) NoMemory result refl tt gives_up
-
--- a read fault is the shelf's, and a write fault is that of notes
-missed-read : (first last : SinkView) (fault : FileFault) (result : Status) → GivesUp fault first last result → result ≡ ReadFault → fault ≡ NotRead
-missed-read first last (Refused refusal) result gives_up e = absurd (let wrong : PlanRefused ≡ ReadFault = sym gives_up.0 ∙ e in cc)
-missed-read first last NotRead result gives_up e = refl
-missed-read first last NoFileMemory result gives_up e = absurd (let wrong : NoMemory ≡ ReadFault = read_fault-concluded NoMemory result gives_up e in cc)
-
-missed-write : (first last : SinkView) (fault : FileFault) (result : Status) → GivesUp fault first last result → result ≡ WriteFault → Rose first.faults last.faults
-missed-write first last (Refused refusal) result gives_up e = absurd (let wrong : PlanRefused ≡ WriteFault = sym gives_up.0 ∙ e in cc)
-missed-write first last NotRead result gives_up e = elim (write_fault-concluded ReadFault result gives_up e) [ inl wrong ↦ absurd (cc) | inr rose ↦ rose ]
-missed-write first last NoFileMemory result gives_up e = elim (write_fault-concluded NoMemory result gives_up e) [ inl wrong ↦ absurd (cc) | inr rose ↦ rose ]
-
--- where neither is answered the shelf didn't fail
-missed-still : (first last : SinkView) (fault : FileFault) (result : Status) → GivesUp fault first last result → result ≢ ReadFault → result ≢ WriteFault → fault ≢ NotRead
-missed-still first last (Refused refusal) result gives_up read write e = cc
-missed-still first last NotRead result gives_up read write e = concluded (λ s. (s ≢ ReadFault) → (s ≢ WriteFault) → ⊥) ReadFault result (λ r w. r refl) (λ _ r w. w refl) gives_up read write
-missed-still first last NoFileMemory result gives_up read write e = cc
+-- the status that is due to a file that was missed
+missed-due : (question : Question) (name : List ℕ) (old new : Outside) (fault : FileFault Refusal) (result due : Status) → IsDecided question → Misses (HasRefusal question old.shelf.texts name) fault → GivesUp refusal_text fault old.notes new.notes result → fault ≢ NotRead →
+    Stands FILE_BYTES old.shelf.texts name (λ bytes. IsDue question bytes due) → (result ≡ due) ⊎ RunsShort old.notes new.notes result
+missed-due question name old new (Refused refusal) result due decided misses gives_up other stands =
+    let is_due = given-stands FILE_BYTES old.shelf.texts name misses.bytes (λ bytes. IsDue question bytes due) misses.given stands in
+    inl (gives_up.0 ∙ decided.refused misses.bytes refusal due misses.is is_due)
+missed-due question name old new NotRead result due decided misses gives_up other stands = absurd (other refl)
+missed-due question name old new NoFileMemory result due decided misses gives_up other stands = inr (short-concluded result gives_up)
 
 -- the end of a command that had none
-pub missed : (question : Question) (texts : Option Texts) (name : List ℕ) {before after : ℕ} {out first last : SinkView} (fault : FileFault) (result : Status) →
-    IsDecided question → Misses question texts name fault → GivesUp fault first last result → (fault ≡ NotRead → Rose before after) → (fault ≢ NotRead → after ≡ before) →
-    before ≤ after → first.faults ≤ last.faults → Ends question texts name before after out out first last result
-missed question texts name {out = out} {first = first} {last = last} fault result decided misses gives_up cause still later notes =
-    let says = missed-says question texts name out first last fault result misses gives_up in
-    let noted = missed-noted question texts name out first last fault result misses gives_up in
+pub missed : {T : Type 0} (question : Question) (name : List ℕ) (old new : Outside) (fault : FileFault Refusal) (result : Status) →
+    IsDecided question → Misses (HasRefusal question old.shelf.texts name) fault → GivesUp refusal_text fault old.notes new.notes result → ReadsShelf {T = T} {C = Refusal} old.shelf new.shelf (Err fault) →
+    new.records ≡ old.records → new.out ≡ old.out → old.notes.faults ≤ new.notes.faults → Ends question name old new result
+missed question name old new fault result decided misses gives_up reads records out notes =
+    let came = Says question name old new in
+    let refused = IsRefusedWith question old.shelf.texts name in
+    let has = HasRefusal question old.shelf.texts name in
+    let noted = missed-noted refusal_text old.notes new.notes came refused has fault result (λ refusal is. (refusal, is, refl)) out out misses gives_up in
+    let read : result ≡ ReadFault → fault ≡ NotRead = missed-read refusal_text old.notes new.notes fault result gives_up in
+    let cause : fault ≡ NotRead → Rose old.shelf.faults new.shelf.faults = λ e. reads.cause (ap (λ (f : FileFault Refusal). Err f) e) in
     record {
-      says = says;
+      says = missed-status refusal_text old.notes new.notes came has fault result (λ refusal is. ((refusal, is), out)) out out (inl out) misses gives_up;
       noted = noted;
-      read_fault = λ e. cause (missed-read first last fault result gives_up e);
-      write_fault = λ e. inr (missed-write first last fault result gives_up e);
-      shelf_still = λ read write. still (missed-still first last fault result gives_up read write);
-      out_handed_on = λ _. inr refl;
-      notes_handed_on = Noted-handed (Says question texts name out out) (IsRefusedWith question texts name) result noted;
-      complete = λ bytes wanted there wants shelf_still out_still notes_still.
-          Says-due question texts name out out result decided says
-          (λ e. shelf_still (cause (missed-read first last fault result gives_up e)))
-          (λ e. notes_still (missed-write first last fault result gives_up e))
-          bytes wanted there wants;
-      shelf_later = later;
-      out_later = omega arith;
+      read_fault = λ e. cause (read e);
+      write_fault = λ e. inr (missed-write refusal_text old.notes new.notes fault result gives_up e);
+      shelf_still = λ no_read no_write.
+          let other : fault ≢ NotRead = missed-still refusal_text old.notes new.notes fault result gives_up no_read no_write in
+          reads.still (λ e. other (cc));
+      out_handed_on = λ _. inr out;
+      notes_handed_on = Noted-handed came refused result noted;
+      refused = λ refusal stands still. missed-refused refusal_text old.notes new.notes fault result gives_up (λ e. still (cause e));
+      complete = λ due stands still _. missed-due question name old new fault result due decided misses gives_up (λ e. still (cause e)) stands;
+      shelf_same = reads.same;
+      records_same = records;
+      shelf_later = reads.later;
+      out_later = let same : new.out.faults ≡ old.out.faults = ap (λ (s : SinkView). s.faults) out in omega (arith, same);
       notes_later = notes;
     }

@@ -1,9 +1,9 @@
 -- What is asked of a file, and what is answered.
 use Rattle.std.specs.Prelude.{◌≡◌, ◌⊎◌, ℕ, ◌<◌, ◌≤◌, List, length, Option, codes, Result, Ok, Err}
-use Rattle.exec_io.specs.Shelves.{Texts}
+use Rattle.exec_io.specs.Shelves.{Texts, Gives}
 use Rattle.exec_status.specs.declared.status.Status.{Status}
 use Rattle.exec_status.specs.declared.status.Status.TheVariants.{AllValues, NotAllValues, PlanRefused, WriteFault}
-use Rattle.io_views.specs.Sinks.{SinkView}
+use Rattle.exec_io.specs.Views.{SinkView}
 use Rattle.exec_status.specs.Sinks.{TellsAll, TellsFront, numbered}
 use Rattle.trace_text.specs.declared.limits.TheConstants.{FILE_BYTES}
 use Rattle.trace_text.specs.Reading.{trace_in, schedule_in}
@@ -16,7 +16,6 @@ use Rattle.replay_core.specs.Traces.{AreSound}
 use Rattle.replay_core.specs.Verdicts.{IsVerdict}
 use Rattle.trace_commands.specs.declared.file.Refusal.{Refusal}
 use Rattle.trace_commands.specs.declared.file.Refusal.TheVariants.{TooLong, Line}
-use Rattle.trace_commands.specs.Files.{Gives}
 
 -- What is asked of a file: which bytes are refused for which cause, and with which status and text
 -- others are answered.
@@ -68,8 +67,20 @@ the_replay = record { refuses = IsRefused schedule_in; answers = IsReplayed }
 pub record HasAnswer (question : Question) (texts : Option Texts) (name : List ℕ) (status : Status)
     (text : List ℕ) : Type 0 where
   pub bytes : List ℕ
-  pub given : Gives texts name bytes
+  pub given : Gives FILE_BYTES texts name bytes
   pub answer : question.answers bytes status text
+
+-- The check answers the bytes, or the file of this name, with this verdict.
+abbrev pub IsVerdictOn : List ℕ → Verdict → Type 0
+IsVerdictOn bytes verdict = IsChecked bytes (verdict_status verdict) (verdict_text verdict)
+
+abbrev pub HasVerdict : Option Texts → List ℕ → Verdict → Type 0
+HasVerdict texts name verdict =
+    HasAnswer the_check texts name (verdict_status verdict) (verdict_text verdict)
+
+-- The replay answers the file of this name with this text.
+abbrev pub HasTrace : Option Texts → List ℕ → List ℕ → Type 0
+HasTrace texts name text = HasAnswer the_replay texts name AllValues text
 
 -- The status that is due to a file with these bytes: that of the answer, or of the refusal.
 abbrev pub IsDue : Question → List ℕ → Status → Type 0

@@ -1,4 +1,3 @@
-pub mod Files
 pub mod Answers
 pub mod Refusals
 pub mod Says

@@ -1,14 +1,15 @@
 //! `check FILE`: whether a trace is one of the pure machine.
-ghost use Rattle.std.specs.Prelude.{◌≡◌, ◌≢◌, ◌≤◌, IfOk, IfErr, Err};
-ghost use Rattle.exec_io.specs.Causes.{Rose};
-ghost use Rattle.io_views.specs.Sinks.{view_of};
-ghost use Rattle.trace_commands.specs.Answers.{IsChecked, HasAnswer, Prints, verdict_status, verdict_text, the_check};
+ghost use Rattle.std.specs.Prelude.{◌≤◌, IfOk, IfErr};
+ghost use Rattle.exec_io.specs.Outside.{outside};
+ghost use Rattle.exec_io.specs.Views.{SourceView};
+ghost use Rattle.exec_status.specs.Files.{IsFaultOf, Misses, ReadsShelf};
+ghost use Rattle.trace_commands.specs.Answers.{IsVerdictOn, HasVerdict, Prints, verdict_status, verdict_text, the_check};
 ghost use Rattle.trace_commands.specs.Ends.{Ends};
-ghost use Rattle.trace_commands.specs.Refusals.{IsFaultOf, Misses};
+ghost use Rattle.trace_commands.specs.Refusals.{HasRefusal};
 
-use crate::file::{FileFault, fault_of, give_up, read_file};
+use crate::file::{Refusal, fault_of, give_up, read_file};
 use exec_io::{Failed, Shelf, Sink};
-use exec_status::{Status, conclude, tell_numbered};
+use exec_status::{FileFault, Status, conclude, tell_numbered};
 use replay_core::{Verdict, check_trace, read_trace};
 use std::alloc::{AllocError, Global};
 
@@ -25,11 +26,10 @@ pub fn check_file<F: Shelf, K: Sink, N: Sink>(
     out: &mut K,
     notes: &mut N,
 ) -> Status
-    ensures { Ends the_check (F.texts shelf.old) name.now (F.faults shelf.old) (F.faults shelf.new)
-        (view_of K.written K.outstanding K.faults out.old)
-        (view_of K.written K.outstanding K.faults out.new)
-        (view_of N.written N.outstanding N.faults notes.old)
-        (view_of N.written N.outstanding N.faults notes.new) result }
+    // Whatever a source of records tells, none are read.
+    ensures { (records : SourceView) → Ends the_check name.now
+        (outside (F.told shelf.old) records (K.told out.old) (N.told notes.old))
+        (outside (F.told shelf.new) records (K.told out.new) (N.told notes.new)) result }
 {
     match judge(alloc, name, shelf) {
         Ok(verdict) => conclude(print_verdict(verdict, out), notes),
@@ -38,14 +38,10 @@ pub fn check_file<F: Shelf, K: Sink, N: Sink>(
 }
 
 // What the check says of the file of this name.
-fn judge<F: Shelf>(alloc: Global, name: &str, shelf: &mut F) -> Result<Verdict, FileFault>
-    ensures later { F.faults shelf.old ≤ F.faults shelf.new }
-    ensures cause { result ≡ Err FileFault.ReadFault
-        → Rose (F.faults shelf.old) (F.faults shelf.new) }
-    ensures still { result ≢ Err FileFault.ReadFault → F.faults shelf.new ≡ F.faults shelf.old }
-    ensures answer { IfOk result (λ verdict. HasAnswer the_check (F.texts shelf.old) name.now
-        (verdict_status verdict) (verdict_text verdict)) }
-    ensures fault { IfErr result (Misses the_check (F.texts shelf.old) name.now) }
+fn judge<F: Shelf>(alloc: Global, name: &str, shelf: &mut F) -> Result<Verdict, FileFault<Refusal>>
+    ensures reads { ReadsShelf (F.told shelf.old) (F.told shelf.new) result }
+    ensures answer { IfOk result (HasVerdict (F.told shelf.old).texts name.now) }
+    ensures fault { IfErr result (Misses (HasRefusal the_check (F.told shelf.old).texts name.now)) }
 {
     match read_file(alloc, name, shelf) {
         Ok(bytes) => judge_bytes(alloc, &bytes),
@@ -54,10 +50,9 @@ fn judge<F: Shelf>(alloc: Global, name: &str, shelf: &mut F) -> Result<Verdict, 
 }
 
 // What the check says of a file with these bytes.
-fn judge_bytes(alloc: Global, bytes: &[u8]) -> Result<Verdict, FileFault>
-    ensures answer { IfOk result (λ verdict.
-        IsChecked bytes.now (verdict_status verdict) (verdict_text verdict)) }
-    ensures fault { IfErr result (IsFaultOf the_check bytes.now) }
+fn judge_bytes(alloc: Global, bytes: &[u8]) -> Result<Verdict, FileFault<Refusal>>
+    ensures answer { IfOk result (IsVerdictOn bytes.now) }
+    ensures fault { IfErr result (IsFaultOf (the_check.refuses bytes.now)) }
 {
     match read_trace(alloc, bytes) {
         Ok(trace) => match check_trace(alloc, &trace) {
@@ -70,10 +65,9 @@ fn judge_bytes(alloc: Global, bytes: &[u8]) -> Result<Verdict, FileFault>
 
 // Writes the line of a verdict, and gives the status that stands then.
 fn print_verdict<K: Sink>(verdict: Verdict, out: &mut K) -> Status
-    ensures later { K.faults out.old ≤ K.faults out.new }
+    ensures later { (K.told out.old).faults ≤ (K.told out.new).faults }
     ensures prints { Prints (verdict_status verdict) (verdict_text verdict)
-        (view_of K.written K.outstanding K.faults out.old)
-        (view_of K.written K.outstanding K.faults out.new) result }
+        (K.told out.old) (K.told out.new) result }
 {
     match verdict {
         Verdict::Taken(count) => match tell_numbered(b"ok ", count, out) {

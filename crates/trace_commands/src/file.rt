@@ -1,13 +1,12 @@
 //! The file of a command: how its bytes are read, and what is told where it gives no answer.
-ghost use Rattle.std.specs.Prelude.{◌≡◌, ◌≢◌, ◌≤◌, IfOk, IfErr, OnOk, OnErr, Err};
-ghost use Rattle.exec_io.specs.Causes.{Rose};
-ghost use Rattle.io_views.specs.Sinks.{view_of};
+ghost use Rattle.std.specs.Prelude.{◌≡◌, ◌≤◌, IfOk, IfErr, OnOk, OnErr};
+ghost use Rattle.exec_io.specs.Shelves.{Gives};
+ghost use Rattle.exec_status.specs.Files.{GivesUp, IsOfShelf, ReadsShelf};
 ghost use Rattle.exec_status.specs.Sinks.{Tells, TellsAll, TellsFront};
-ghost use Rattle.trace_commands.specs.Files.{Gives, IsOfShelf};
-ghost use Rattle.trace_commands.specs.Refusals.{refusal_text, fault_of, GivesUp};
+ghost use Rattle.trace_commands.specs.Refusals.{refusal_text, fault_of};
 
 use exec_io::{Failed, Shelf, ShelfFault, Sink};
-use exec_status::{Status, conclude, tell, tell_numbered};
+use exec_status::{FileFault, Status, conclude, tell, tell_numbered};
 use replay_core::{FILE_BYTES, TraceFault};
 use std::alloc::Global;
 
@@ -20,24 +19,15 @@ pub enum Refusal {
     Line(u32),
 }
 
-/// Why a file has no answer.
-#[derive(Clone, Copy, Debug, PartialEq, Eq)]
-pub enum FileFault {
-    /// Its bytes are refused.
-    Refused(Refusal),
-    /// The shelf failed.
-    ReadFault,
-    /// There was no memory for the bytes or the answer.
-    NoMemory,
-}
-
 /// The bytes of the file of this name: all of them, or one more than a file may have.
-pub fn read_file<F: Shelf>(alloc: Global, name: &str, shelf: &mut F) -> Result<Vec<u8>, FileFault>
-    ensures later { F.faults shelf.old ≤ F.faults shelf.new }
-    ensures cause { result ≡ Err FileFault.ReadFault
-        → Rose (F.faults shelf.old) (F.faults shelf.new) }
-    ensures still { result ≢ Err FileFault.ReadFault → F.faults shelf.new ≡ F.faults shelf.old }
-    ensures given { IfOk result (λ bytes. Gives (F.texts shelf.old) name.now bytes.items) }
+pub fn read_file<F: Shelf>(
+    alloc: Global,
+    name: &str,
+    shelf: &mut F,
+) -> Result<Vec<u8>, FileFault<Refusal>>
+    ensures reads { ReadsShelf (F.told shelf.old) (F.told shelf.new) result }
+    ensures given { IfOk result (λ bytes.
+        Gives FILE_BYTES (F.told shelf.old).texts name.now bytes.items) }
     ensures fault { IfErr result IsOfShelf }
 {
     match shelf.read(alloc, name, FILE_BYTES) {
@@ -48,7 +38,7 @@ pub fn read_file<F: Shelf>(alloc: Global, name: &str, shelf: &mut F) -> Result<V
 }
 
 /// Why bytes that weren't read as a trace or a schedule have no answer.
-pub fn fault_of(fault: TraceFault) -> FileFault
+pub fn fault_of(fault: TraceFault) -> FileFault<Refusal>
     ensures { result ≡ fault_of fault }
 {
     match fault {
@@ -60,10 +50,9 @@ pub fn fault_of(fault: TraceFault) -> FileFault
 
 /// Tells why there is no answer, and gives the status that stands then. A refusal stands also where
 /// notes fail.
-pub fn give_up<N: Sink>(fault: FileFault, notes: &mut N) -> Status
-    ensures later { N.faults notes.old ≤ N.faults notes.new }
-    ensures gives_up { GivesUp fault (view_of N.written N.outstanding N.faults notes.old)
-        (view_of N.written N.outstanding N.faults notes.new) result }
+pub fn give_up<N: Sink>(fault: FileFault<Refusal>, notes: &mut N) -> Status
+    ensures later { (N.told notes.old).faults ≤ (N.told notes.new).faults }
+    ensures gives_up { GivesUp refusal_text fault (N.told notes.old) (N.told notes.new) result }
 {
     match fault {
         FileFault::Refused(refusal) => {
@@ -77,19 +66,16 @@ pub fn give_up<N: Sink>(fault: FileFault, notes: &mut N) -> Status
 
 // Tells of a refusal, as far as notes take it.
 fn tell_refusal<N: Sink>(refusal: Refusal, notes: &mut N)
-    ensures later { N.faults notes.old ≤ N.faults notes.new }
-    ensures tells { Tells (view_of N.written N.outstanding N.faults notes.old)
-        (view_of N.written N.outstanding N.faults notes.new) (refusal_text refusal) }
+    ensures later { (N.told notes.old).faults ≤ (N.told notes.new).faults }
+    ensures tells { Tells (N.told notes.old) (N.told notes.new) (refusal_text refusal) }
 {
     let _ = put_refusal(refusal, notes);
 }
 
 fn put_refusal<N: Sink>(refusal: Refusal, notes: &mut N) -> Result<(), Failed>
-    ensures later { N.faults notes.old ≤ N.faults notes.new }
-    ensures ok { OnOk result (TellsAll (view_of N.written N.outstanding N.faults notes.old)
-        (view_of N.written N.outstanding N.faults notes.new) (refusal_text refusal)) }
-    ensures err { OnErr result (TellsFront (view_of N.written N.outstanding N.faults notes.old)
-        (view_of N.written N.outstanding N.faults notes.new) (refusal_text refusal)) }
+    ensures later { (N.told notes.old).faults ≤ (N.told notes.new).faults }
+    ensures ok { OnOk result (TellsAll (N.told notes.old) (N.told notes.new) (refusal_text refusal)) }
+    ensures err { OnErr result (TellsFront (N.told notes.old) (N.told notes.new) (refusal_text refusal)) }
 {
     match refusal {
         Refusal::TooLong => tell(b"trace refused: too long\n", notes),

@@ -1,17 +1,18 @@
 //! `replay FILE`: the trace of a schedule.
-ghost use Rattle.std.specs.Prelude.{◌≡◌, ◌≢◌, ◌≤◌, IfOk, IfErr, Err};
-ghost use Rattle.exec_io.specs.Causes.{Rose};
-ghost use Rattle.io_views.specs.Sinks.{view_of};
+ghost use Rattle.std.specs.Prelude.{◌≡◌, ◌≤◌, IfOk, IfErr};
+ghost use Rattle.exec_io.specs.Outside.{outside};
+ghost use Rattle.exec_io.specs.Views.{SourceView};
 ghost use Rattle.exec_status.specs.declared.status.Status.TheVariants.{AllValues};
-ghost use Rattle.trace_commands.specs.Answers.{IsReplayed, HasAnswer, Prints, the_replay};
+ghost use Rattle.exec_status.specs.Files.{IsFaultOf, Misses, ReadsShelf};
+ghost use Rattle.trace_commands.specs.Answers.{IsReplayed, HasTrace, Prints, the_replay};
 ghost use Rattle.trace_commands.specs.Ends.{Ends};
-ghost use Rattle.trace_commands.specs.Refusals.{IsFaultOf, Misses};
+ghost use Rattle.trace_commands.specs.Refusals.{HasRefusal};
 ghost use Rattle.trace_text.specs.Texts.{trace_text};
 ghost use Rattle.replay_core.specs.Replays.{trace_of};
 
-use crate::file::{FileFault, fault_of, give_up, read_file};
+use crate::file::{Refusal, fault_of, give_up, read_file};
 use exec_io::{Failed, Shelf, Sink};
-use exec_status::{Status, conclude, tell};
+use exec_status::{FileFault, Status, conclude, tell};
 use replay_core::{Schedule, read_schedule, replay, write_trace};
 use std::alloc::{AllocError, Global};
 
@@ -26,11 +27,10 @@ pub fn replay_file<F: Shelf, K: Sink, N: Sink>(
     out: &mut K,
     notes: &mut N,
 ) -> Status
-    ensures { Ends the_replay (F.texts shelf.old) name.now (F.faults shelf.old) (F.faults shelf.new)
-        (view_of K.written K.outstanding K.faults out.old)
-        (view_of K.written K.outstanding K.faults out.new)
-        (view_of N.written N.outstanding N.faults notes.old)
-        (view_of N.written N.outstanding N.faults notes.new) result }
+    // Whatever a source of records tells, none are read.
+    ensures { (records : SourceView) → Ends the_replay name.now
+        (outside (F.told shelf.old) records (K.told out.old) (N.told notes.old))
+        (outside (F.told shelf.new) records (K.told out.new) (N.told notes.new)) result }
 {
     match play(alloc, name, shelf) {
         Ok(text) => conclude(print_text(&text, out), notes),
@@ -39,14 +39,10 @@ pub fn replay_file<F: Shelf, K: Sink, N: Sink>(
 }
 
 // The text of the trace that the file of this name leads to.
-fn play<F: Shelf>(alloc: Global, name: &str, shelf: &mut F) -> Result<Vec<u8>, FileFault>
-    ensures later { F.faults shelf.old ≤ F.faults shelf.new }
-    ensures cause { result ≡ Err FileFault.ReadFault
-        → Rose (F.faults shelf.old) (F.faults shelf.new) }
-    ensures still { result ≢ Err FileFault.ReadFault → F.faults shelf.new ≡ F.faults shelf.old }
-    ensures answer { IfOk result (λ text. HasAnswer the_replay (F.texts shelf.old) name.now
-        AllValues text.items) }
-    ensures fault { IfErr result (Misses the_replay (F.texts shelf.old) name.now) }
+fn play<F: Shelf>(alloc: Global, name: &str, shelf: &mut F) -> Result<Vec<u8>, FileFault<Refusal>>
+    ensures reads { ReadsShelf (F.told shelf.old) (F.told shelf.new) result }
+    ensures answer { IfOk result (λ text. HasTrace (F.told shelf.old).texts name.now text.items) }
+    ensures fault { IfErr result (Misses (HasRefusal the_replay (F.told shelf.old).texts name.now)) }
 {
     match read_file(alloc, name, shelf) {
         Ok(bytes) => play_bytes(alloc, &bytes),
@@ -55,9 +51,9 @@ fn play<F: Shelf>(alloc: Global, name: &str, shelf: &mut F) -> Result<Vec<u8>, F
 }
 
 // The text of the trace that a file with these bytes leads to.
-fn play_bytes(alloc: Global, bytes: &[u8]) -> Result<Vec<u8>, FileFault>
+fn play_bytes(alloc: Global, bytes: &[u8]) -> Result<Vec<u8>, FileFault<Refusal>>
     ensures answer { IfOk result (λ text. IsReplayed bytes.now AllValues text.items) }
-    ensures fault { IfErr result (IsFaultOf the_replay bytes.now) }
+    ensures fault { IfErr result (IsFaultOf (the_replay.refuses bytes.now)) }
 {
     match read_schedule(alloc, bytes) {
         Ok(schedule) => match text_of(alloc, &schedule) {
@@ -78,10 +74,9 @@ fn text_of(alloc: Global, schedule: &Schedule) -> Result<Vec<u8>, AllocError>
 
 // Writes a text, and gives the status that stands then.
 fn print_text<K: Sink>(text: &[u8], out: &mut K) -> Status
-    ensures later { K.faults out.old ≤ K.faults out.new }
+    ensures later { (K.told out.old).faults ≤ (K.told out.new).faults }
     ensures prints { Prints AllValues text.now
-        (view_of K.written K.outstanding K.faults out.old)
-        (view_of K.written K.outstanding K.faults out.new) result }
+        (K.told out.old) (K.told out.new) result }
 {
     match tell(text, out) {
         Ok(()) => Status::AllValues,

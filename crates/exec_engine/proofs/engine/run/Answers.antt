@@ -1,9 +1,21 @@
-use Rattle.std.proofs.Common.{sym, ap, ◌∙◌, subst}
-use Rattle.std.specs.Prelude.{Some}
+use Rattle.std.proofs.Common.{◌≡◌, ◌↔◌, ℕ, List, Option, None, sym, ap, ◌∙◌, subst}
+use Rattle.std.specs.Prelude.{Some, IfSome}
+use Rattle.exec_io.specs.Outside.{Outside, outside}
+use Rattle.exec_status.specs.declared.status.Status.{Status}
+use Rattle.exec_status.specs.declared.status.Status.TheVariants.{Usage}
 use Rattle.exec_words.specs.declared.command.Command.{Command}
+use Rattle.trace_commands.specs.Answers.{Question, the_check, the_replay}
+use Rattle.trace_commands.specs.Ends.{Ends}
+use Rattle.trace_commands.specs.Says.{Says}
+use Rattle.exec_engine.specs.Commands.{CommandEnds}
 use Rattle.exec_engine.specs.Tasks.{IsBounded}
 use Rattle.exec_engine.proofs.WordsLaws.{run-bounded, gen-bounded}
 use Rattle.exec_engine.proofs.engine.run.Goals as goal
+
+-- a command on a file ends with no fault of usage
+ends-usage : (question : Question) (name : List ℕ) (old new : Outside) (status : Status) (said : Option Command) (command : Command) → said ≡ Some command → Ends question name old new status → (status ≡ Usage) ↔ (said ≡ None)
+ends-usage question name old new status said command is ends =
+    (λ e. absurd (subst (Says question name old new) e ends.says), λ none. absurd (let wrong : Some command ≡ None = sym is ∙ none in cc))
 
 pub run_task-requires-clause-bounds : goal.run_task-requires-clause-bounds
 run_task-requires-clause-bounds g c κs within =
@@ -14,3 +26,33 @@ pub run_task-requires-in-Gen-clause-bounds : goal.run_task-requires-in-Gen-claus
 run_task-requires-in-Gen-clause-bounds g c κs within =
     subst IsBounded (sym c.of_gen-task.ensures) (gen-bounded c.args.words.now c.in-Gen.plan c.in-Gen.count c.in-Gen.options
     (sym c.read_words.ensures ∙ c.in-Some.is ∙ ap (λ (command : Command). Some command) c.in-Gen.is))
+
+pub returns-in-Replay-clause-usage : goal.returns-in-Replay-clause-usage
+returns-in-Replay-clause-usage g c =
+    let is = sym c.read_words.ensures ∙ c.in-Some.is ∙ ap (λ (command : Command). Some command) c.in-Replay.is in
+    ends-usage the_replay c.in-Replay.file.now
+    (outside (g.F.Shelf.told c.args.shelf.now) (g.S.Source.told c.args.records.now) (g.K.Sink.told c.args.out.now) (g.N.Sink.told c.args.notes.now))
+    (outside (g.F.Shelf.told c.replay_file.new.shelf) (g.S.Source.told c.args.records.now) (g.K.Sink.told c.replay_file.new.out) (g.N.Sink.told c.replay_file.new.notes))
+    c.replay_file.result _ _ is (c.replay_file.ensures (g.S.Source.told c.args.records.now))
+
+pub returns-in-Replay-clause-ends : goal.returns-in-Replay-clause-ends
+returns-in-Replay-clause-ends g c =
+    let is = sym c.read_words.ensures ∙ c.in-Some.is ∙ ap (λ (command : Command). Some command) c.in-Replay.is in
+    let old = outside (g.F.Shelf.told c.args.shelf.now) (g.S.Source.told c.args.records.now) (g.K.Sink.told c.args.out.now) (g.N.Sink.told c.args.notes.now) in
+    let new = outside (g.F.Shelf.told c.replay_file.new.shelf) (g.S.Source.told c.args.records.now) (g.K.Sink.told c.replay_file.new.out) (g.N.Sink.told c.replay_file.new.notes) in
+    subst (λ (said : Option Command). IfSome said (CommandEnds old new c.replay_file.result)) (sym is) (c.replay_file.ensures (g.S.Source.told c.args.records.now))
+
+pub returns-in-Check-clause-usage : goal.returns-in-Check-clause-usage
+returns-in-Check-clause-usage g c =
+    let is = sym c.read_words.ensures ∙ c.in-Some.is ∙ ap (λ (command : Command). Some command) c.in-Check.is in
+    ends-usage the_check c.in-Check.file.now
+    (outside (g.F.Shelf.told c.args.shelf.now) (g.S.Source.told c.args.records.now) (g.K.Sink.told c.args.out.now) (g.N.Sink.told c.args.notes.now))
+    (outside (g.F.Shelf.told c.check_file.new.shelf) (g.S.Source.told c.args.records.now) (g.K.Sink.told c.check_file.new.out) (g.N.Sink.told c.check_file.new.notes))
+    c.check_file.result _ _ is (c.check_file.ensures (g.S.Source.told c.args.records.now))
+
+pub returns-in-Check-clause-ends : goal.returns-in-Check-clause-ends
+returns-in-Check-clause-ends g c =
+    let is = sym c.read_words.ensures ∙ c.in-Some.is ∙ ap (λ (command : Command). Some command) c.in-Check.is in
+    let old = outside (g.F.Shelf.told c.args.shelf.now) (g.S.Source.told c.args.records.now) (g.K.Sink.told c.args.out.now) (g.N.Sink.told c.args.notes.now) in
+    let new = outside (g.F.Shelf.told c.check_file.new.shelf) (g.S.Source.told c.args.records.now) (g.K.Sink.told c.check_file.new.out) (g.N.Sink.told c.check_file.new.notes) in
+    subst (λ (said : Option Command). IfSome said (CommandEnds old new c.check_file.result)) (sym is) (c.check_file.ensures (g.S.Source.told c.args.records.now))

@@ -1,11 +1,9 @@
 use Rattle.std.proofs.Common.{◌≡◌, ◌≢◌, ap}
 use Rattle.std.specs.Prelude.{IfOk, Result, Ok, Err}
-use Rattle.io_views.specs.Sinks.{view_of}
-use Rattle.io_views.specs.Sources.{source_view}
-use Rattle.plain_runs.specs.Entries.{WantsMemory}
+use Rattle.plain_runs.specs.PlainWork.{WantsMemory}
 use Rattle.plan_rules.specs.declared.settings.Settings.{Settings}
 use Rattle.record_lines.specs.declared.ending.End.TheVariants.{Ended, Fault}
-use Rattle.record_loop.specs.declared.closing.Closing.{Closing}
+use Rattle.record_loop.specs.declared.ending.Ending.{Ending}
 use Rattle.record_loop.specs.declared.printer.Form.TheVariants.{Summary}
 use Rattle.record_loop.specs.Generated.{generated_lines}
 use Rattle.record_loop.specs.Ran.{Answered, Ran}
@@ -20,8 +18,8 @@ ok-both P Q R (Err e) first second next = tt
 
 pub returns-in-Source-clause-ok : goal.returns-in-Source-clause-ok
 returns-in-Source-clause-ok g c =
-    let source = source_view g.S.Source.left g.S.Source.faults in
-    let sink = view_of g.K.Sink.written g.K.Sink.outstanding g.K.Sink.faults in
+    let source = g.S.Source.told in
+    let sink = g.K.Sink.told in
     let before = source c.args.records.now in
     let after = source c.run_records.new.records in
     let old = sink c.args.out.now in
@@ -29,25 +27,25 @@ returns-in-Source-clause-ok g c =
     let plan = c.in_ok-runs.runs.plan in
     let window = c.at_once-window.result in
     let form = c.in-Source.form in
-    ok-both (λ (closing : Closing). Ran WantsMemory (begins plan window form old) before after new closing)
-    (λ (closing : Closing). closing.end ≢ Fault → after.faults ≡ before.faults)
-    (λ (closing : Closing). Closes c.args.plan.now c.args.task before after old new closing)
+    ok-both (λ (ending : Ending). Ran WantsMemory (begins plan window form old) before after new ending)
+    (λ (ending : Ending). ending.end ≢ Fault → after.faults ≡ before.faults)
+    (λ (ending : Ending). Closes c.args.plan.now c.args.task before after old new ending)
     c.run_records.result c.run_records.ensures.ran c.run_records.ensures.still
-    (λ closing ran still. source-closes c.args.plan.now c.args.task plan window c.in_ok-runs.ensures.plan c.at_once-window.ensures form closing c.in-Source.is ran still c.run_records.ensures.later)
+    (λ ending ran still. source-closes c.args.plan.now c.args.task plan window c.in_ok-runs.ensures.plan c.at_once-window.ensures form ending c.in-Source.is ran still c.run_records.ensures.later)
 
 pub returns-clause-ok : goal.returns-clause-ok
 returns-clause-ok g c =
-    let before = source_view g.S.Source.left g.S.Source.faults c.args.records.now in
-    let sink = view_of g.K.Sink.written g.K.Sink.outstanding g.K.Sink.faults in
+    let before = g.S.Source.told c.args.records.now in
+    let sink = g.K.Sink.told in
     let old = sink c.args.out.now in
     let new = sink c.run_generated.new.out in
     let plan = c.in_ok-runs.runs.plan in
     let window = c.at_once-window.result in
     let kind = c.settings-settings.result.now.input in
     let count = c.in-Generated.count in
-    ok-both (λ (closing : Closing). Answered WantsMemory (begins plan window Summary old) (generated_lines kind count) new closing)
-    (λ (closing : Closing). closing.end ≡ Ended)
-    (λ (closing : Closing). Closes c.args.plan.now c.args.task before before old new closing)
+    ok-both (λ (ending : Ending). Answered WantsMemory (begins plan window Summary old) (generated_lines kind count) new ending)
+    (λ (ending : Ending). ending.end ≡ Ended)
+    (λ (ending : Ending). Closes c.args.plan.now c.args.task before before old new ending)
     c.run_generated.result c.run_generated.ensures.ran c.run_generated.ensures.end
-    (λ closing answered ended. generated-closes c.args.plan.now c.args.task plan window c.in_ok-runs.ensures.plan c.at_once-window.ensures kind count closing c.in-Generated.is
+    (λ ending answered ended. generated-closes c.args.plan.now c.args.task plan window c.in_ok-runs.ensures.plan c.at_once-window.ensures kind count ending c.in-Generated.is
     (ap (λ (s : Settings). s.input) c.settings-settings.ensures) ended answered)
