@@ -7,10 +7,10 @@ use Rattle.life_rules.specs.declared.scope.Refused.{Refused}
 use Rattle.life_rules.specs.Scopes.{refusal, is_refused}
 use Rattle.atomic_table.specs.declared.shared.Seat.{Seat}
 use Rattle.table_rules.specs.declared.view.View.{View}
-use Rattle.op_table.specs.Views.{Board}
-use Rattle.op_table.specs.Claims.{logged, Seated}
-use Rattle.op_table.specs.ScopeMoves.{IsMaking, MayLeaveScope}
-use Rattle.op_table.specs.ScopeEntries.{enters, IsEntered}
+use Rattle.table_steps.specs.Views.{Board}
+use Rattle.table_steps.specs.Claims.{logged, Seated}
+use Rattle.table_steps.specs.ScopeMoves.{IsMaking, MayLeaveScope}
+use Rattle.table_steps.specs.ScopeEntries.{enters, IsEntered}
 
 module _ {P E : Type 0} (most : ℕ) (w : ScopeWord) (v : View P E) where
   abbrev refuses : View P E

@@ -7,8 +7,8 @@ use Rattle.life_rules.specs.Scopes.{may_seal}
 use Rattle.table_words.specs.ScopeNumbers.{scope_read}
 use Rattle.atomic_table.specs.declared.shared.Seat.{Seat}
 use Rattle.table_rules.specs.declared.view.View.{View}
-use Rattle.op_table.specs.Claims.{Seated}
-use Rattle.op_table.specs.ScopeMoves.{leaves_scope, ReadsScope}
+use Rattle.table_steps.specs.Claims.{Seated}
+use Rattle.table_steps.specs.ScopeMoves.{leaves_scope, ReadsScope}
 use Rattle.count_scope.specs.Tries.{Sealed, AreTries}
 use Rattle.count_scope.specs.Seals.{IsFresh, listed, Seals}
 use Rattle.count_scope.specs.Leaves.{is_last, emptied, SealsWhere, HasAssociation, disassociated, Leaves}

@@ -3,4 +3,3 @@ mod Trying
 mod Leaving
 mod Associating
 mod Starting
-mod Hands

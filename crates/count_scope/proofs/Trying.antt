@@ -8,8 +8,8 @@ use Rattle.table_words.specs.ScopeNumbers.{scope_read, scope_written}
 use Rattle.atomic_table.specs.declared.shared.Seat.{Seat}
 use Rattle.table_rules.specs.declared.view.View.{View}
 use Rattle.table_rules.specs.Grown.{HasBitsOf}
-use Rattle.op_table.specs.Claims.{logged, Seated}
-use Rattle.op_table.specs.ScopeMoves.{IsSealedAs}
+use Rattle.table_steps.specs.Claims.{logged, Seated}
+use Rattle.table_steps.specs.ScopeMoves.{IsSealedAs}
 use Rattle.count_scope.specs.Tries.{Sealed, is_settled, expected_after, AllFailed}
 use Rattle.count_scope.specs.Seals.{IsFresh, listed, Seals}
 use Rattle.count_scope.proofs.Rising.{same-bits, fresh-kept, sealed-parts, unsettled-seals, clear_in, clear-falls, two-at-most}

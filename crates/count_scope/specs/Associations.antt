@@ -3,7 +3,7 @@ use Rattle.std.specs.Prelude.{◌≡◌, ℕ, ◌+◌, Bool, true, false, Some, 
 use Rattle.life_rules.specs.declared.scope.Refused.{Refused}
 use Rattle.life_rules.specs.Scopes.{refusal}
 use Rattle.table_words.specs.ScopeNumbers.{scope_read}
-use Rattle.op_table.specs.Claims.{logged, Seated}
+use Rattle.table_steps.specs.Claims.{logged, Seated}
 use Rattle.count_scope.specs.declared.members.Association.{Association}
 use Rattle.count_scope.specs.Leaves.{Leaves}
 

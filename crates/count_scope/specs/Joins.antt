@@ -3,8 +3,8 @@ use Rattle.std.specs.Prelude.{◌≡◌, ℕ, true, if◌then◌else◌, Bool, f
 use Rattle.life_rules.specs.declared.scope.ScopeWord.{ScopeWord}
 use Rattle.life_rules.specs.Scopes.{may_seal}
 use Rattle.table_words.specs.ScopeNumbers.{scope_read}
-use Rattle.op_table.specs.Claims.{logged, Seated}
-use Rattle.op_table.specs.ScopeSets.{joining}
+use Rattle.table_steps.specs.Claims.{logged, Seated}
+use Rattle.table_steps.specs.ScopeSets.{joining}
 use Rattle.count_scope.specs.declared.joining.JoinStart.{JoinStart}
 use Rattle.count_scope.specs.declared.joining.JoinStart.TheVariants.{Joined, Waiting}
 use Rattle.count_scope.specs.Tries.{Sealed, AreTries}

@@ -3,8 +3,8 @@ use Rattle.std.specs.Prelude.{◌≡◌, ℕ, ◌-◌, ◌≤◌, Bool, true, fa
 use Rattle.life_rules.specs.declared.scope.ScopeWord.{ScopeWord}
 use Rattle.table_words.specs.ScopeNumbers.{scope_read}
 use Rattle.table_rules.specs.declared.view.View.{View}
-use Rattle.op_table.specs.Claims.{logged, Seated}
-use Rattle.op_table.specs.ScopeEntries.{MayEnter}
+use Rattle.table_steps.specs.Claims.{logged, Seated}
+use Rattle.table_steps.specs.ScopeEntries.{MayEnter}
 use Rattle.count_scope.specs.Tries.{Sealed, AreTries}
 use Rattle.count_scope.specs.Seals.{listed}
 

@@ -4,10 +4,9 @@ pub mod Leaves
 pub mod Associations
 pub mod Joins
 pub mod Looks
-pub mod Ready
 -- the definitions that the public contracts cite
 pub use Rattle.life_rules.specs.Scopes
 pub use Rattle.table_words.specs.ScopeNumbers
-pub use Rattle.op_table.specs.Views
-pub use Rattle.op_table.specs.Claims
-pub use Rattle.op_table.specs.ScopeSets
+pub use Rattle.table_steps.specs.Views
+pub use Rattle.table_steps.specs.Claims
+pub use Rattle.table_steps.specs.ScopeSets

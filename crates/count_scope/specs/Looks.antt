@@ -2,8 +2,8 @@
 use Rattle.std.specs.Prelude.{◌≡◌, ℕ}
 use Rattle.life_rules.specs.declared.scope.ScopeWord.{ScopeWord}
 use Rattle.table_words.specs.ScopeNumbers.{scope_read}
-use Rattle.op_table.specs.Claims.{logged, Seated}
-use Rattle.op_table.specs.ScopeSets.{closing}
+use Rattle.table_steps.specs.Claims.{logged, Seated}
+use Rattle.table_steps.specs.ScopeSets.{closing}
 
 module _ {P E : Type 0} where
   -- one load read this word, and the answer is what it says

@@ -5,7 +5,7 @@ use Rattle.table_words.specs.ScopeNumbers.{scope_read}
 use Rattle.table_rules.specs.declared.view.Seen.{Seen}
 use Rattle.table_rules.specs.declared.view.View.{View}
 use Rattle.table_rules.specs.Grown.{HasBitsOf}
-use Rattle.op_table.specs.Claims.{Seated}
+use Rattle.table_steps.specs.Claims.{Seated}
 use Rattle.count_scope.specs.Tries.{Sealed, AreTries}
 
 -- the hand's newest step was on the scope's word, and read or left a word with the bits of this one

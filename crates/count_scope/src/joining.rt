@@ -1,6 +1,6 @@
 //! How a scope is closed and joined (P3149, [exec.counting.scopes]).
 ghost use Rattle.std.specs.Prelude.{◌≡◌};
-ghost use Rattle.op_table.specs.Views.{IsHandOf, IsSameHand};
+ghost use Rattle.table_steps.specs.Views.{IsHandOf, IsSameHand};
 ghost use Rattle.count_scope.specs.Joins.{start_of, start_after, Starts};
 ghost use Rattle.count_scope.specs.Looks.{Closes};
 

@@ -18,13 +18,12 @@ mod looks;
 mod members;
 mod requesting;
 mod seals;
-#[cfg(test)]
-mod tests;
 
 pub use joining::{JoinStart, close, start_join};
-pub use life_rules::{Refused, ScopeKind, ScopeState};
+pub use life_rules::{Refused, ScopeState};
 pub use looks::{is_joined, state};
 pub use members::{Association, associate, disassociate};
+pub use node_tree::ScopeKind;
 pub use op_table::{Cargo, Hand, OpTable};
 pub use requesting::request_scope;
 pub use stop_calls::Request;

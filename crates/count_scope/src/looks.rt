@@ -1,6 +1,6 @@
 //! What a scope's word says.
 ghost use Rattle.life_rules.specs.Scopes.{scope_state};
-ghost use Rattle.op_table.specs.Views.{IsHandOf, IsSameHand};
+ghost use Rattle.table_steps.specs.Views.{IsHandOf, IsSameHand};
 ghost use Rattle.count_scope.specs.Looks.{Reads};
 
 use life_rules::ScopeState;
@@ -27,5 +27,5 @@ pub fn state<P: Cargo>(table: &OpTable<P>, hand: &mut Hand<P>) -> ScopeState
     ensures hand { IsHandOf table.now hand.new }
     ensures read { Reads scope_state result hand.old.me hand.new.me }
 {
-    exec_life::scope_state(table.scope_step(hand))
+    life_rules::scope_state(table.scope_step(hand))
 }

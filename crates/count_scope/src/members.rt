@@ -1,12 +1,11 @@
 //! Associations: places in the scope's count (P3149, [exec.scope]).
-ghost use Rattle.op_table.specs.Views.{IsHandOf, IsSameHand};
-ghost use Rattle.op_table.specs.ScopeEntries.{MayEnter};
+ghost use Rattle.table_steps.specs.Views.{IsHandOf, IsSameHand};
+ghost use Rattle.table_steps.specs.ScopeEntries.{MayEnter};
 ghost use Rattle.count_scope.specs.Leaves.{HasAssociation, disassociated, Leaves};
 ghost use Rattle.count_scope.specs.Associations.{Associates, CountsOne};
 
 use crate::seals::leave;
-use exec_life::refusal;
-use life_rules::Refused;
+use life_rules::{Refused, refusal};
 use op_table::{Cargo, Hand, OpTable};
 
 /// A place in the scope's count. It has no drop: who has it gives it back, by `disassociate`.

@@ -2,8 +2,8 @@
 //! `counting_scope`).
 ghost use Rattle.std.specs.Prelude.{false};
 ghost use Rattle.life_rules.specs.declared.event.SourceRef.TheVariants.{Scope};
-ghost use Rattle.op_table.specs.Requests.{MayRequest};
-ghost use Rattle.op_table.specs.Views.{IsHandOf, IsSameHand};
+ghost use Rattle.table_steps.specs.Requests.{MayRequest};
+ghost use Rattle.table_steps.specs.Views.{IsHandOf, IsSameHand};
 ghost use Rattle.stop_calls.specs.Requests.{IsRequested};
 
 use life_rules::SourceRef;

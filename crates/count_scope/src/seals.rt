@@ -7,8 +7,8 @@
 //! tries at most.
 ghost use Rattle.std.specs.Prelude.{◌≡◌, true};
 ghost use Rattle.life_rules.specs.Scopes.{may_seal};
-ghost use Rattle.op_table.specs.Views.{IsHandOf, IsSameHand};
-ghost use Rattle.op_table.specs.ScopeMoves.{MayLeaveScope, leaves_scope};
+ghost use Rattle.table_steps.specs.Views.{IsHandOf, IsSameHand};
+ghost use Rattle.table_steps.specs.ScopeMoves.{MayLeaveScope, leaves_scope};
 ghost use Rattle.count_scope.specs.Tries.{is_settled};
 ghost use Rattle.count_scope.specs.Seals.{IsFresh, Seals};
 ghost use Rattle.count_scope.specs.Leaves.{is_last, Leaves};

@@ -5,6 +5,8 @@ use Rattle.std.specs.Int.{bit_at}
 use Rattle.std.proofs.lemmas.Bool.{both_ways, cases_lt, false_from_ne_true}
 use Rattle.std.proofs.lemmas.List.{length-replicate}
 use Rattle.std.proofs.lemmas.Nat.Bits.{bit_at-zero}
+use Rattle.node_tree.specs.declared.node.TheConstants.{MOST_NODES}
+use Rattle.life_rules.specs.declared.limits.TheConstants.{MOST_BLOCKS}
 use Rattle.table_words.specs.declared.layout.Layout.{Layout}
 use Rattle.table_words.specs.Layouts.{place_number, places_in}
 use Rattle.table_words.proofs.Spots.{place-within}
@@ -18,7 +20,7 @@ zeros (suc n) (suc i) = zeros n i
 
 -- lists of zeros mark nothing
 module _ (l : Layout) (bits generations : List ℕ) (words : ℕ) (dull : bits ≡ replicate words 0) where
-  pub sized-zeros : l.blocks ≤ 256 → (1 ≤ l.nodes) × (l.nodes ≤ 1025) → words ≡ places_in l / 64 + 1 →
+  pub sized-zeros : l.blocks ≤ MOST_BLOCKS → (1 ≤ l.nodes) × (l.nodes ≤ MOST_NODES) → words ≡ places_in l / 64 + 1 →
       generations ≡ replicate l.blocks 0 → IsSized l bits generations
   sized-zeros blocks nodes wide first =
       record {

@@ -1,6 +1,8 @@
 -- A set of names of a table's places, those of one block at one generation.
 use Rattle.std.specs.Prelude.{◌≡◌, ℕ, ◌+◌, ◌/◌, ◌%◌, ◌<◌, ◌≤◌, Bool, true, false, ◌&&◌, ◌==◌, nat_lt, List, length, slice_index}
 use Rattle.std.specs.Int.{bit_at}
+use Rattle.node_tree.specs.declared.node.TheConstants.{MOST_NODES}
+use Rattle.life_rules.specs.declared.limits.TheConstants.{MOST_BLOCKS}
 use Rattle.life_rules.specs.declared.event.Name.{Name}
 use Rattle.table_words.specs.declared.layout.Layout.{Layout}
 use Rattle.table_words.specs.Layouts.{place_number, places_in}
@@ -27,8 +29,8 @@ has m x =
 
 -- there is a bit for each place, and a generation for each block
 pub record IsSized (l : Layout) (words stamps : List ℕ) : Type 0 where
-  pub blocks : l.blocks ≤ 256
-  pub nodes : (1 ≤ l.nodes) × (l.nodes ≤ 1025)
+  pub blocks : l.blocks ≤ MOST_BLOCKS
+  pub nodes : (1 ≤ l.nodes) × (l.nodes ≤ MOST_NODES)
   pub bits : length words ≡ places_in l / 64 + 1
   pub generations : length stamps ≡ l.blocks
 

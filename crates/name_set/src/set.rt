@@ -1,5 +1,7 @@
 //! The set.
 ghost use Rattle.std.specs.Prelude.{◌≡◌, ◌≤◌, ◌||◌, ◌&&◌, not, true, false, IfOk, MatchOption};
+ghost use Rattle.node_tree.specs.declared.node.TheConstants.{MOST_NODES};
+ghost use Rattle.life_rules.specs.declared.limits.TheConstants.{MOST_BLOCKS};
 ghost use Rattle.life_rules.specs.declared.event.Name.{Name};
 ghost use Rattle.life_rules.specs.Views.{same};
 ghost use Rattle.name_set.specs.Sets.{has, IsEmpty, IsLowest, IsPlaceOf, IsOfItsBlock};
@@ -33,8 +35,8 @@ impl Model for NameSet {
 impl NameSet {
     /// An empty set for the names of these places. It fails only for want of memory.
     pub fn empty(alloc: Global, layout: Layout) -> Result<NameSet, AllocError>
-        requires blocks { layout.blocks ≤ 256 }
-        requires nodes { (1 ≤ layout.nodes) × (layout.nodes ≤ 1025) }
+        requires blocks { layout.blocks ≤ MOST_BLOCKS }
+        requires nodes { (1 ≤ layout.nodes) × (layout.nodes ≤ MOST_NODES) }
         ensures layout { IfOk result (λ set. set.layout ≡ layout) }
         ensures empty { IfOk result IsEmpty }
     {

@@ -4,15 +4,15 @@ use Rattle.std.specs.Prelude.{Option, Some, None}
 use Rattle.std.proofs.lemmas.Bool.{cond-true}
 use Rattle.life_rules.specs.declared.event.Name.{Name}
 use Rattle.life_rules.specs.Views.{same}
-use Rattle.life_rules.proofs.Tests.{same-refl}
+use Rattle.life_rules.proofs.Names.{same-refl}
 use Rattle.atomic_table.specs.declared.shared.Seat.{Seat}
 use Rattle.table_rules.specs.declared.view.View.{View}
 use Rattle.table_rules.specs.declared.view.Owed.{Owed}
 use Rattle.table_rules.specs.Named.{find_by}
-use Rattle.op_table.specs.declared.claim.Block.{Block}
-use Rattle.op_table.specs.Views.{Board}
-use Rattle.op_table.specs.Claims.{Seated, root_name, Missed}
-use Rattle.op_table.specs.Slots.{slot_of, kept}
+use Rattle.table_steps.specs.declared.block.Block.{Block}
+use Rattle.table_steps.specs.Views.{Board}
+use Rattle.table_steps.specs.Claims.{Seated, root_name, Missed}
+use Rattle.table_steps.specs.Slots.{slot_of, kept}
 use Rattle.op_slot.specs.Searches.{IsMissedBelow, IsFound}
 use Rattle.op_slot.specs.Tends.{IsCalm, Owes}
 use Rattle.op_slot.proofs.Kept.{kept-first}

@@ -7,15 +7,16 @@ use Rattle.std.proofs.lemmas.Bool.{both_ways, cond-true, cond-false, eqb-true, e
 use Rattle.std.proofs.lemmas.Nat.{same_from_place}
 use Rattle.life_rules.specs.declared.event.Name.{Name}
 use Rattle.life_rules.specs.Views.{same}
-use Rattle.life_rules.proofs.Tests.{either, same-true}
+use Rattle.common_lemmas.proofs.Bool.{either}
+use Rattle.life_rules.proofs.Names.{same-true}
 use Rattle.table_words.specs.declared.layout.Layout.{Layout}
 use Rattle.table_words.specs.Layouts.{place_number}
 use Rattle.table_rules.specs.Named.{find_by, without, Each}
-use Rattle.op_table.specs.Kids.{empty_slots}
-use Rattle.op_table.specs.Reports.{laid}
-use Rattle.op_table.specs.Readings.{at_entry}
-use Rattle.op_table.specs.Slots.{kept}
-use Rattle.op_table.specs.Sheds.{shed}
+use Rattle.table_steps.specs.Kids.{empty_slots}
+use Rattle.table_steps.specs.Reports.{laid}
+use Rattle.table_steps.specs.Readings.{at_entry}
+use Rattle.table_steps.specs.Slots.{kept}
+use Rattle.table_steps.specs.Sheds.{shed}
 
 module _ {A : Type 0} where
   -- the first of a list of slots is found

@@ -7,11 +7,12 @@ use Rattle.std.proofs.lemmas.Nat.{same_from_place}
 use Rattle.life_rules.specs.declared.words.CallbackPhase.{CallbackPhase}
 use Rattle.life_rules.specs.declared.event.Name.{Name}
 use Rattle.life_rules.specs.declared.event.SourceRef.TheVariants.{Node}
-use Rattle.life_rules.specs.declared.tree.TreeNode.{TreeNode}
-use Rattle.life_rules.specs.LifeSteps.{are_different}
-use Rattle.life_rules.specs.Tree.{is_child, is_root, parent_of}
+use Rattle.node_tree.specs.declared.node.TreeNode.{TreeNode}
+use Rattle.common_lemmas.specs.Lists.{are_different}
+use Rattle.node_tree.specs.Tree.{is_child, is_root, parent_of}
 use Rattle.life_rules.specs.Views.{beside, same}
-use Rattle.life_rules.proofs.Tests.{either, same-refl, same-true}
+use Rattle.common_lemmas.proofs.Bool.{either}
+use Rattle.life_rules.proofs.Names.{same-refl, same-true}
 use Rattle.table_words.specs.Layouts.{place_number}
 use Rattle.table_rules.specs.declared.cargo.Cargo.{Ghosts}
 use Rattle.table_rules.specs.declared.frame.Frame.{Frame}
@@ -20,14 +21,14 @@ use Rattle.table_rules.specs.declared.view.Owed.{Owed}
 use Rattle.table_rules.specs.declared.view.Reported.{Reported}
 use Rattle.table_rules.specs.Named.{find_by, Each}
 use Rattle.table_rules.specs.ShownViews.{scan_in, has_name}
-use Rattle.op_table.specs.Awaits.{owes_each, is_named, is_unnamed, AwaitsAt, CanAwait}
-use Rattle.op_table.specs.Claims.{Seated}
-use Rattle.op_table.specs.Finishes.{is_settled, is_of_kids, CanEnd, CanFinish, FinishedAt, RootedAt}
-use Rattle.op_table.specs.Releases.{CanRelease}
-use Rattle.op_table.specs.Reports.{CanReport}
-use Rattle.op_table.specs.Rests.{CanLeave, CanRest, RestsAt}
-use Rattle.op_table.specs.Slots.{slot_of, is_of_family, kids_of, kept, has_seen}
-use Rattle.op_table.specs.Swaps.{HasHome}
+use Rattle.table_steps.specs.Awaits.{owes_each, is_named, is_unnamed, AwaitsAt, CanAwait}
+use Rattle.table_steps.specs.Claims.{Seated}
+use Rattle.table_steps.specs.Finishes.{is_settled, is_of_kids, CanEnd, CanFinish, FinishedAt, RootedAt}
+use Rattle.table_steps.specs.Releases.{CanRelease}
+use Rattle.table_steps.specs.Reports.{CanReport}
+use Rattle.table_steps.specs.Rests.{CanLeave, CanRest, RestsAt}
+use Rattle.table_steps.specs.Slots.{slot_of, is_of_family, kids_of, kept, has_seen}
+use Rattle.table_steps.specs.Swaps.{HasHome}
 use Rattle.op_slot.specs.Puts.{FitsOwed, CanPut}
 use Rattle.op_slot.specs.Tends.{aimed, IsCalm, OwesReport, HasPlaces, Owes, Tends}
 use Rattle.op_slot.proofs.Kept.{kept-shed}

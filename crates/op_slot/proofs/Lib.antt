@@ -5,8 +5,3 @@ pub mod Searching
 pub mod Tending
 pub mod Leaving
 pub mod Found
-mod Fan
-mod FanSteps
-mod FanLeaves
-mod FanEnds
-mod Entries

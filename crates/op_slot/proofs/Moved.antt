@@ -4,12 +4,12 @@ use Rattle.std.specs.Prelude.{Option, Some, None}
 use Rattle.life_rules.specs.declared.event.Name.{Name}
 use Rattle.table_rules.specs.declared.cargo.Cargo.{Ghosts}
 use Rattle.table_rules.specs.declared.frame.Frame.{Frame}
-use Rattle.op_table.specs.Claims.{Seated}
-use Rattle.op_table.specs.Begins.{CanBegin}
-use Rattle.op_table.specs.Slots.{slot_of, kept}
-use Rattle.op_table.specs.Sheds.{shed}
-use Rattle.op_table.specs.Releases.{is_own_slot}
-use Rattle.op_table.specs.Swaps.{IsSwapped}
+use Rattle.table_steps.specs.Claims.{Seated}
+use Rattle.table_steps.specs.Begins.{CanBegin}
+use Rattle.table_steps.specs.Slots.{slot_of, kept}
+use Rattle.table_steps.specs.Sheds.{shed}
+use Rattle.table_steps.specs.Releases.{is_own_slot}
+use Rattle.table_steps.specs.Swaps.{IsSwapped}
 use Rattle.op_slot.specs.Puts.{IsPut, BeginsThen}
 use Rattle.op_slot.proofs.Kept.{kept-first}
 

@@ -5,16 +5,16 @@ use Rattle.std.proofs.lemmas.Bool.{both_ways, cond-true, cond-false, eqb-true, e
 use Rattle.std.proofs.lemmas.Bool.Decides.{nat_tests}
 use Rattle.std.proofs.lemmas.Nat.{same_from_place}
 use Rattle.life_rules.specs.declared.event.Name.{Name}
-use Rattle.life_rules.specs.declared.tree.TreeNode.{TreeNode}
-use Rattle.life_rules.specs.Tree.{is_child}
-use Rattle.life_rules.proofs.Tests.{either}
+use Rattle.node_tree.specs.declared.node.TreeNode.{TreeNode}
+use Rattle.node_tree.specs.Tree.{is_child}
+use Rattle.common_lemmas.proofs.Bool.{either}
 use Rattle.life_kept.proofs.Trees.{child-within}
 use Rattle.table_words.specs.Layouts.{place_number}
 use Rattle.table_rules.specs.declared.frame.Frame.{Frame}
 use Rattle.table_rules.specs.Named.{Each}
-use Rattle.op_table.specs.Finishes.{is_of_kids}
-use Rattle.op_table.specs.Kids.{children_below}
-use Rattle.op_table.specs.Slots.{slot_of, kids_of}
+use Rattle.table_steps.specs.Finishes.{is_of_kids}
+use Rattle.table_steps.specs.Kids.{children_below}
+use Rattle.table_steps.specs.Slots.{slot_of, kids_of}
 use Rattle.op_slot.specs.Tends.{HasPlaces}
 
 module _ (tree : List TreeNode) (p : ℕ) where

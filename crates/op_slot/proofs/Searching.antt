@@ -3,9 +3,9 @@ use Rattle.std.proofs.Common.{◌≡◌, ℕ, ◌+◌, ◌<◌, sym, subst, add-
 use Rattle.std.specs.Prelude.{Option, Some, None}
 use Rattle.atomic_table.specs.declared.shared.Seat.{Seat}
 use Rattle.table_rules.specs.declared.view.View.{View}
-use Rattle.op_table.specs.declared.claim.Block.{Block}
-use Rattle.op_table.specs.Views.{Board}
-use Rattle.op_table.specs.Claims.{Claimed, Missed, IsAnswer}
+use Rattle.table_steps.specs.declared.block.Block.{Block}
+use Rattle.table_steps.specs.Views.{Board}
+use Rattle.table_steps.specs.Claims.{Claimed, Missed, IsAnswer}
 use Rattle.op_slot.specs.Searches.{IsMissedBelow, IsFound, IsSearched}
 
 module _ {P E O : Type 0} (board : Board O) (block : ℕ) (old middle new : Seat (Option P) (View P E)) where

@@ -4,26 +4,27 @@ use Rattle.std.specs.Prelude.{Option, Some, None}
 use Rattle.std.proofs.lemmas.Bool.{both_ways, cond-true, cond-false, eqb-true, eq-eqb, false_from_ne_true}
 use Rattle.life_rules.specs.declared.words.CallbackPhase.{CallbackPhase}
 use Rattle.life_rules.specs.declared.event.Name.{Name}
-use Rattle.life_rules.specs.Tree.{is_child, has_source}
+use Rattle.node_tree.specs.Tree.{is_child, has_source}
 use Rattle.life_rules.specs.Views.{beside, same}
-use Rattle.life_rules.proofs.Tests.{either, same-refl}
+use Rattle.common_lemmas.proofs.Bool.{either}
+use Rattle.life_rules.proofs.Names.{same-refl}
 use Rattle.table_words.specs.Layouts.{OfSource, index, place_number}
 use Rattle.table_rules.specs.declared.cargo.Cargo.{Ghosts}
 use Rattle.table_rules.specs.declared.frame.Frame.{Frame}
 use Rattle.table_rules.specs.declared.view.Held.{Held}
 use Rattle.table_rules.specs.declared.view.Owed.{Owed}
 use Rattle.table_rules.specs.Named.{find_by}
-use Rattle.op_table.specs.Begins.{Begins, IsRenewed, start_shown}
-use Rattle.op_table.specs.Claims.{Seated, logged}
-use Rattle.op_table.specs.Finishes.{is_of_kids}
-use Rattle.op_table.specs.Kids.{empty_slots}
-use Rattle.op_table.specs.Readings.{above_it, says_begun, says_phase, notes_idle, IsBegunAs, IsPhaseAs}
-use Rattle.op_table.specs.Releases.{is_own_slot}
-use Rattle.op_table.specs.Reports.{LastAt, laid}
-use Rattle.op_table.specs.Sheds.{shed}
-use Rattle.op_table.specs.Slots.{slot_of, kids_of, kept}
-use Rattle.op_table.specs.Swaps.{IsSwapped}
-use Rattle.op_table.specs.Takes.{TakenAt}
+use Rattle.table_steps.specs.Begins.{Begins, IsRenewed, start_shown}
+use Rattle.table_steps.specs.Claims.{Seated, logged}
+use Rattle.table_steps.specs.Finishes.{is_of_kids}
+use Rattle.table_steps.specs.Kids.{empty_slots}
+use Rattle.table_steps.specs.Readings.{above_it, says_begun, says_phase, notes_idle, IsBegunAs, IsPhaseAs}
+use Rattle.table_steps.specs.Releases.{is_own_slot}
+use Rattle.table_steps.specs.Reports.{LastAt, laid}
+use Rattle.table_steps.specs.Sheds.{shed}
+use Rattle.table_steps.specs.Slots.{slot_of, kids_of, kept}
+use Rattle.table_steps.specs.Swaps.{IsSwapped}
+use Rattle.table_steps.specs.Takes.{TakenAt}
 use Rattle.op_slot.specs.Tends.{aimed, IsCalm, put_at, HasPlaces, Owes, Tends}
 use Rattle.op_slot.proofs.Kept.{kept-first, kept-shed, find-noted, find-without, kept-empty, kept-beside, kept-laid}
 use Rattle.op_slot.proofs.Places.{kid-within, kid-apart, own-apart, kids-apart, kids-within, of-kids, not-of-kids}

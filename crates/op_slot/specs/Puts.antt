@@ -6,10 +6,10 @@ use Rattle.table_rules.specs.declared.frame.Frame.{Frame}
 use Rattle.table_rules.specs.declared.view.Held.{Held}
 use Rattle.table_rules.specs.declared.view.Owed.{Owed}
 use Rattle.table_rules.specs.Named.{find_by}
-use Rattle.op_table.specs.Claims.{Seated}
-use Rattle.op_table.specs.Begins.{CanBegin}
-use Rattle.op_table.specs.Slots.{slot_of, kept, has_seen}
-use Rattle.op_table.specs.Swaps.{IsSwapped}
+use Rattle.table_steps.specs.Claims.{Seated}
+use Rattle.table_steps.specs.Begins.{CanBegin}
+use Rattle.table_steps.specs.Slots.{slot_of, kept, has_seen}
+use Rattle.table_steps.specs.Swaps.{IsSwapped}
 
 module _ {P E O : Type 0} (cargo : Ghosts P E O) (f : Frame O) (m : Seated P E) (x : Name) (item : P) where
   -- the hand holds the node, and the item shows the node's start and fits, by what the hand has seen of

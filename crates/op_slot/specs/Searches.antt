@@ -2,9 +2,9 @@
 use Rattle.std.specs.Prelude.{◌≡◌, ℕ, zero, suc, ◌<◌, Option, MatchOption}
 use Rattle.atomic_table.specs.declared.shared.Seat.{Seat}
 use Rattle.table_rules.specs.declared.view.View.{View}
-use Rattle.op_table.specs.declared.claim.Block.{Block}
-use Rattle.op_table.specs.Views.{Board}
-use Rattle.op_table.specs.Claims.{Claimed, Missed}
+use Rattle.table_steps.specs.declared.block.Block.{Block}
+use Rattle.table_steps.specs.Views.{Board}
+use Rattle.table_steps.specs.Claims.{Claimed, Missed}
 
 module _ {P E O : Type 0} (board : Board O) where
   -- each of the first so many blocks was missed at a step of its own, one after the other: it wasn't

@@ -2,15 +2,15 @@
 -- homes that it has with it.
 use Rattle.std.specs.Prelude.{◌≡◌, ℕ, ◌<◌, ◌≤◌, true, false, ◌==◌, if◌then◌else◌, [], length, Option, Some}
 use Rattle.life_rules.specs.declared.event.Name.{Name}
-use Rattle.life_rules.specs.Tree.{is_child}
+use Rattle.node_tree.specs.Tree.{is_child}
 use Rattle.table_words.specs.Layouts.{place_number}
 use Rattle.table_rules.specs.declared.frame.Frame.{Frame}
 use Rattle.table_rules.specs.declared.view.Held.{Held}
 use Rattle.table_rules.specs.declared.view.Owed.{Owed}
 use Rattle.table_rules.specs.declared.view.Reported.{Reported}
 use Rattle.table_rules.specs.Named.{find_by}
-use Rattle.op_table.specs.Claims.{Seated}
-use Rattle.op_table.specs.Slots.{Aim, slot_of, kept}
+use Rattle.table_steps.specs.Claims.{Seated}
+use Rattle.table_steps.specs.Slots.{Aim, slot_of, kept}
 
 -- the hand makes no scan
 abbrev pub IsCalm : {P E : Type 0} → Seated P E → Type 0

@@ -1,8 +1,8 @@
 //! How a block is found, and given back.
 ghost use Rattle.std.specs.Prelude.{◌<◌};
-ghost use Rattle.op_table.specs.Views.{IsHandOf, IsSameHand};
-ghost use Rattle.op_table.specs.Releases.{CanReleaseBlock, StayEmpty};
-ghost use Rattle.op_table.specs.Steps.{Released, LeftGivenBack, LeftAllEmpty};
+ghost use Rattle.table_steps.specs.Views.{IsHandOf, IsSameHand};
+ghost use Rattle.table_steps.specs.Releases.{CanReleaseBlock, StayEmpty};
+ghost use Rattle.table_steps.specs.Steps.{Released, LeftGivenBack, LeftAllEmpty};
 ghost use Rattle.op_slot.specs.Searches.{IsSearched};
 
 use op_table::{Block, Cargo, Hand, OpTable};

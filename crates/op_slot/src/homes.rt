@@ -1,6 +1,6 @@
 //! How an item is put into a home, and taken out.
-ghost use Rattle.op_table.specs.Views.{IsHandOf, IsSameHand, IsPlaceIn};
-ghost use Rattle.op_table.specs.Swaps.{HasHome};
+ghost use Rattle.table_steps.specs.Views.{IsHandOf, IsSameHand, IsPlaceIn};
+ghost use Rattle.table_steps.specs.Swaps.{HasHome};
 ghost use Rattle.op_slot.specs.Puts.{CanPut, IsPut, IsTakenOut, BeginsThen};
 
 use life_rules::Name;

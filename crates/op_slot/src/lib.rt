@@ -11,8 +11,6 @@
 
 mod blocks;
 mod homes;
-#[cfg(test)]
-mod tests;
 
 pub use blocks::{claim_any, release};
 pub use homes::{put_home, take_home};

@@ -1,8 +1,8 @@
 //! How a callback is registered ([stopcallback]).
 ghost use Rattle.std.specs.Prelude.{◌≡◌};
-ghost use Rattle.op_table.specs.Views.{IsHandOf, IsSameHand, IsPlaceIn, aim_at};
-ghost use Rattle.op_table.specs.Claims.{logged};
-ghost use Rattle.op_table.specs.Callbacks.{CanArm, IsArmed, arms};
+ghost use Rattle.table_steps.specs.Views.{IsHandOf, IsSameHand, IsPlaceIn, aim_at};
+ghost use Rattle.table_steps.specs.Claims.{logged};
+ghost use Rattle.table_steps.specs.Callbacks.{CanArm, IsArmed, arms};
 
 use crate::plays::Subject;
 use crate::table::{Hand, OpTable, SeatOf};

@@ -1,8 +1,8 @@
 //! How a node is begun.
 ghost use Rattle.std.specs.Prelude.{◌≡◌};
-ghost use Rattle.op_table.specs.Views.{IsHandOf, IsSameHand, IsPlaceIn, aim_at};
-ghost use Rattle.op_table.specs.Begins.{CanBegin, HasRenewed};
-ghost use Rattle.op_table.specs.Steps.{Renewed, Held, Begun};
+ghost use Rattle.table_steps.specs.Views.{IsHandOf, IsSameHand, IsPlaceIn, aim_at};
+ghost use Rattle.table_steps.specs.Begins.{CanBegin, HasRenewed};
+ghost use Rattle.table_steps.specs.Steps.{Renewed, Held, Begun};
 
 use crate::plays::{Beginnings, Renewals, Subject};
 use crate::table::{Hand, OpTable, SeatOf};

@@ -2,22 +2,16 @@
 ghost use Rattle.std.specs.Prelude.{◌≡◌, ◌<◌, true, IfSome};
 ghost use Rattle.life_rules.specs.Words.{is_free};
 ghost use Rattle.table_words.specs.Blocks.{block_read};
-ghost use Rattle.op_table.specs.Views.{IsHandOf, IsSameHand, aim_at};
-ghost use Rattle.op_table.specs.Claims.{IsAnswer, IsAnswerFrom, OwesNoneIn, root_name};
+ghost use Rattle.table_steps.specs.Views.{IsHandOf, IsSameHand, aim_at};
+ghost use Rattle.table_steps.specs.Claims.{IsAnswer, IsAnswerFrom, OwesNoneIn, root_name};
 
 use crate::plays::{Claims, Looks, Subject};
 use crate::table::{Hand, OpTable, SeatOf};
 use life_rules::{BlockState, BlockWord};
 use std::marker::Brand;
 use table_rules::Cargo;
+use table_steps::Block;
 use table_words::{block_number, read_block, stamp};
-
-/// A block at one generation: the room of one operation.
-#[derive(Clone, Copy, Debug, PartialEq, Eq)]
-pub struct Block {
-    pub index: u32,
-    pub generation: u32,
-}
 
 impl<P: Cargo> OpTable<P> {
     /// Claims a free block: the hand then owes the start of its root, and has the root's empty

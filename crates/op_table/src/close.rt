@@ -1,61 +1,28 @@
 //! How a table is closed, and what it leaves.
 ghost use Rattle.std.specs.Prelude.{◌≡◌, ◌<◌, ◌≤◌, ◌+◌, []};
 ghost use Rattle.std.specs.Mem.Slots.{slots_items, slots_len, IsFull};
+ghost use Rattle.node_tree.specs.declared.node.TheConstants.{MOST_NODES};
+ghost use Rattle.life_rules.specs.declared.limits.TheConstants.{MOST_BLOCKS};
 ghost use Rattle.life_rules.specs.Words.{is_free};
-ghost use Rattle.life_rules.specs.Views.{one};
-ghost use Rattle.life_rules.specs.Scopes.{scope_state};
+ghost use Rattle.common_lemmas.specs.Sums.{one};
 ghost use Rattle.table_words.specs.Layouts.{words_in};
 ghost use Rattle.table_rules.specs.ShownWords.{is_retired};
-ghost use Rattle.op_table.specs.Views.{knows};
-ghost use Rattle.op_table.specs.Closings.{TellsOf, AreAllBack, IsClosing, IsCountedBy, IsGathering, gathered};
+ghost use Rattle.table_steps.specs.Views.{knows};
+ghost use Rattle.table_steps.specs.Closings.{TellsOf, AreAllBack, IsClosing, IsCountedBy, IsGathering, gathered};
 
 use crate::plays::{Gathers, Knower};
 use crate::table::{Hand, OpTable, SeatOf};
 use atomic_table::Closed;
-use life_rules::{BlockState, ScopeState, ScopeWord};
+use life_rules::{BlockState, ScopeState, scope_state};
 use std::alloc::Global;
 use std::marker::Brand;
 use table_rules::{Cargo, View};
+use table_steps::Closing;
 use table_words::{Layout, SCOPE, read_block, read_scope};
-
-/// What a table leaves.
-#[derive(Clone, Copy, Debug, PartialEq, Eq)]
-pub struct Closing {
-    pub scope: ScopeState,
-    /// So many blocks were free.
-    pub free: u32,
-    /// So many blocks were retired.
-    pub retired: u32,
-}
-
-// What the scope's word says ([exec.scope.simple.counting]).
-fn scope_state(word: ScopeWord) -> ScopeState
-    ensures { result ≡ scope_state word }
-{
-    if word.joined {
-        ScopeState::Joined
-    } else if word.joining {
-        if word.closed {
-            ScopeState::ClosedAndJoining
-        } else {
-            ScopeState::OpenAndJoining
-        }
-    } else if !word.used && word.count == 0 {
-        if word.closed {
-            ScopeState::UnusedAndClosed
-        } else {
-            ScopeState::Unused
-        }
-    } else if word.closed {
-        ScopeState::Closed
-    } else {
-        ScopeState::Open
-    }
-}
 
 // The same with one block more.
 fn with_block(closing: Closing, state: BlockState) -> Closing
-    requires { (closing.free < 256) × (closing.retired < 256) }
+    requires { (closing.free < MOST_BLOCKS) × (closing.retired < MOST_BLOCKS) }
     ensures scope { result.scope ≡ closing.scope }
     ensures free { result.free ≡ closing.free + one (is_free state) }
     ensures retired { result.retired ≡ closing.retired + one (is_retired state) }
@@ -76,7 +43,7 @@ fn with_block(closing: Closing, state: BlockState) -> Closing
 // What the words of a table that no hand steps on any more tell.
 fn closing_of<S>(closed: &Closed<S, Global>, layout: Layout) -> Closing
     requires words { IsFull closed.now.words × (slots_len closed.now.words ≡ words_in layout) }
-    requires layout { (layout.blocks ≤ 256) × (layout.nodes ≤ 1025) }
+    requires layout { (layout.blocks ≤ MOST_BLOCKS) × (layout.nodes ≤ MOST_NODES) }
     ensures { TellsOf layout (slots_items closed.now.words) layout.blocks result }
 {
     let scope = closed.word(SCOPE);

@@ -1,7 +1,7 @@
 //! How an association with the counting scope begins (P3149, [exec.scope]).
 ghost use Rattle.std.specs.Prelude.{◌≡◌, ℕ};
-ghost use Rattle.op_table.specs.Views.{IsHandOf, IsSameHand};
-ghost use Rattle.op_table.specs.ScopeEntries.{MayEnter, enters_at, IsEntered};
+ghost use Rattle.table_steps.specs.Views.{IsHandOf, IsSameHand};
+ghost use Rattle.table_steps.specs.ScopeEntries.{MayEnter, enters_at, IsEntered};
 
 use crate::table::{Hand, OpTable, SeatOf};
 use atomic_table::Play;

@@ -1,8 +1,8 @@
 //! How a node is finished.
 ghost use Rattle.std.specs.Prelude.{◌≡◌};
-ghost use Rattle.op_table.specs.Views.{IsHandOf, IsSameHand, IsPlaceIn, aim_at};
-ghost use Rattle.op_table.specs.Finishes.{CanFinish};
-ghost use Rattle.op_table.specs.Steps.{Finished};
+ghost use Rattle.table_steps.specs.Views.{IsHandOf, IsSameHand, IsPlaceIn, aim_at};
+ghost use Rattle.table_steps.specs.Finishes.{CanFinish};
+ghost use Rattle.table_steps.specs.Steps.{Finished};
 
 use crate::plays::{Finishes, Subject};
 use crate::table::{Hand, OpTable, SeatOf};

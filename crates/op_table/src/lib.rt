@@ -61,19 +61,14 @@ mod scan_seal;
 mod scope;
 mod scope_look;
 mod scope_set;
-mod shape;
 mod sight;
 mod skip;
 mod swaps;
 mod table;
-#[cfg(test)]
-mod tests;
 mod waiting;
 mod withdraw;
 
-pub use claim::Block;
-pub use close::Closing;
-pub use life_rules::Context;
-pub use report::Report;
+pub use node_tree::Context;
 pub use table::{Hand, OpTable, Ruled};
-pub use table_rules::Cargo;
+pub use table_rules::{Cargo, MOST_ASSOCIATIONS};
+pub use table_steps::{Block, Closing, Report};

@@ -1,12 +1,13 @@
 //! Loads of a node's control word, by hands that seek something to do.
 ghost use Rattle.std.specs.Prelude.{◌≡◌, ◌<◌};
 ghost use Rattle.life_rules.specs.Words.{is_parked};
-ghost use Rattle.op_table.specs.Views.{IsHandOf, IsSameHand};
-ghost use Rattle.op_table.specs.Looks.{is_ready_in, IsRead, IsReadAs};
+ghost use Rattle.table_steps.specs.Views.{IsHandOf, IsSameHand};
+ghost use Rattle.table_steps.specs.Looks.{is_ready_in, IsRead, IsReadAs};
 
 use crate::plays::Looks;
 use crate::table::{Hand, OpTable, SeatOf};
-use life_rules::{Context, ControlWord, Name};
+use life_rules::{ControlWord, Name};
+use node_tree::Context;
 use table_rules::Cargo;
 use table_words::{read_control, stamp};
 

@@ -1,20 +1,20 @@
 //! How a table is opened, and with what it was.
 ghost use Rattle.std.specs.Prelude.{◌≡◌, ◌≤◌, [], ◌∷◌, length, IfOk};
-ghost use Rattle.life_rules.specs.declared.tree.TheConstants.{MOST_BLOCKS, MOST_HANDS};
+ghost use Rattle.life_rules.specs.declared.limits.TheConstants.{MOST_BLOCKS, MOST_HANDS};
+ghost use Rattle.table_rules.specs.declared.frame.TheConstants.{MOST_ASSOCIATIONS};
 ghost use Rattle.table_rules.specs.Named.{Each};
-ghost use Rattle.op_table.specs.Views.{IsHandOf, AreFreshHands, IsOpenedOver};
-ghost use Rattle.op_table.specs.Remembers.{OwesAndRunsNone};
+ghost use Rattle.table_steps.specs.Views.{IsHandOf, AreFreshHands, IsOpenedOver};
+ghost use Rattle.table_steps.specs.Remembers.{OwesAndRunsNone};
 
 use crate::plays::NextHand;
-use crate::shape::Shape;
 use crate::table::{Hand, OpTable, SeatOf};
 use atomic_table::Table;
-use life_rules::ScopeKind;
 use name_set::NameSet;
-use node_tree::Tree;
+use node_tree::{ScopeKind, Tree};
 use std::alloc::{AllocError, Global};
 use std::snapshot::Snapshot;
 use table_rules::{Cargo, Frame};
+use table_steps::Shape;
 use table_words::Layout;
 
 impl<P: Cargo> OpTable<P> {
@@ -31,7 +31,7 @@ impl<P: Cargo> OpTable<P> {
     ) -> Result<(OpTable<P>, Vec<Hand<P>>), AllocError>
         requires blocks { (1 ≤ blocks) × (blocks ≤ MOST_BLOCKS) }
         requires hands { (1 ≤ hands) × (hands ≤ MOST_HANDS) }
-        requires most { (1 ≤ most) × (most ≤ 65535) }
+        requires most { (1 ≤ most) × (most ≤ MOST_ASSOCIATIONS) }
         ensures opened { IfOk result (λ t. IsOpenedOver t.0 tree.now over.now blocks hands kind most) }
         ensures hands { IfOk result (λ t. AreFreshHands t.0 hands t.1.items) }
     {

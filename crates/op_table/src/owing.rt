@@ -1,9 +1,9 @@
 //! The starts that a hand owes.
 ghost use Rattle.std.specs.Prelude.{◌≡◌, [], MatchOption};
 ghost use Rattle.name_set.specs.Sets.{IsOfItsBlock};
-ghost use Rattle.op_table.specs.Views.{IsHandOf, IsPlaceIn};
-ghost use Rattle.op_table.specs.Owing.{Owes};
-ghost use Rattle.op_table.specs.Remembers.{AreAdded, ArePlacesOf};
+ghost use Rattle.table_steps.specs.Views.{IsHandOf, IsPlaceIn};
+ghost use Rattle.table_steps.specs.Owing.{Owes};
+ghost use Rattle.table_steps.specs.Remembers.{AreAdded, ArePlacesOf};
 
 use crate::table::{Hand, OpTable, SeatOf};
 use life_rules::Name;

@@ -1,8 +1,8 @@
 //! What a hand reads of a node that it holds, and notes.
 ghost use Rattle.std.specs.Prelude.{◌≡◌};
 ghost use Rattle.life_rules.specs.Words.{is_idle};
-ghost use Rattle.op_table.specs.Views.{IsHandOf, IsSameHand, IsPlaceIn, aim_at};
-ghost use Rattle.op_table.specs.Readings.{above_it, says_begun, says_phase, HoldsAbove, Holds, IsBegunAs, IsPhaseAs};
+ghost use Rattle.table_steps.specs.Views.{IsHandOf, IsSameHand, IsPlaceIn, aim_at};
+ghost use Rattle.table_steps.specs.Readings.{above_it, says_begun, says_phase, HoldsAbove, Holds, IsBegunAs, IsPhaseAs};
 
 use crate::plays::{ReadsChild, ReadsPhase, Subject};
 use crate::table::{Hand, OpTable, SeatOf};

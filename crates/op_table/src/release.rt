@@ -1,16 +1,16 @@
 //! How a block is given back.
 ghost use Rattle.std.specs.Prelude.{◌≡◌, ◌<◌, [], ◌∷◌};
-ghost use Rattle.op_table.specs.Views.{IsHandOf, IsSameHand, aim_at};
-ghost use Rattle.op_table.specs.Claims.{root_name};
-ghost use Rattle.op_table.specs.Releases.{CanReleaseBlock, StayEmpty, word_after};
-ghost use Rattle.op_table.specs.Steps.{Released, LeftGivenBack, LeftAllEmpty};
+ghost use Rattle.table_steps.specs.Views.{IsHandOf, IsSameHand, aim_at};
+ghost use Rattle.table_steps.specs.Claims.{root_name};
+ghost use Rattle.table_steps.specs.Releases.{CanReleaseBlock, StayEmpty, word_after};
+ghost use Rattle.table_steps.specs.Steps.{Released, LeftGivenBack, LeftAllEmpty};
 
-use crate::claim::Block;
 use crate::plays::{Releases, Site, Subject};
 use crate::table::{Hand, OpTable, SeatOf};
 use life_rules::{BlockState, BlockWord};
 use std::marker::Brand;
 use table_rules::Cargo;
+use table_steps::Block;
 use table_words::block_number;
 
 // The word of a block of this generation that is given back: free at the next, or retired after the

@@ -2,26 +2,18 @@
 ghost use Rattle.std.specs.Prelude.{◌≡◌, ◌≢◌, ◌∷◌, []};
 ghost use Rattle.life_rules.specs.Words.{pending};
 ghost use Rattle.table_words.specs.Controls.{control_read};
-ghost use Rattle.op_table.specs.Views.{IsHandOf, IsSameHand, IsPlaceIn, aim_at};
-ghost use Rattle.op_table.specs.Readings.{above_it};
-ghost use Rattle.op_table.specs.declared.report.Report.TheVariants.{Last, Others};
-ghost use Rattle.op_table.specs.Reports.{CanReport, IsReportedAs};
+ghost use Rattle.table_steps.specs.Views.{IsHandOf, IsSameHand, IsPlaceIn, aim_at};
+ghost use Rattle.table_steps.specs.Readings.{above_it};
+ghost use Rattle.table_steps.specs.declared.report.Report.TheVariants.{Last, Others};
+ghost use Rattle.table_steps.specs.Reports.{CanReport, IsReportedAs};
 
 use crate::plays::{Keyed, Reports, Subject};
 use crate::table::{Hand, OpTable, SeatOf};
 use life_rules::{ControlWord, Name};
 use std::marker::Brand;
 use table_rules::Cargo;
+use table_steps::Report;
 use table_words::{read_control, words_are_exact};
-
-/// What a report found.
-#[derive(Clone, Copy, Debug, PartialEq, Eq)]
-pub enum Report {
-    /// The parent waited for this child alone: the hand holds it now.
-    Last,
-    /// The parent waits for others.
-    Others,
-}
 
 fn pending(control: ControlWord) -> u32
     ensures { result ≡ pending control }

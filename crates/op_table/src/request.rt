@@ -1,8 +1,8 @@
 //! How a stop is requested ([stopsource], `request_stop`).
 ghost use Rattle.std.specs.Prelude.{◌≡◌};
-ghost use Rattle.op_table.specs.Views.{IsHandOf, IsSameHand};
-ghost use Rattle.op_table.specs.Sights.{IsSourceIn};
-ghost use Rattle.op_table.specs.Requests.{mask, asks_at, IsWordOf, MayRequest, IsAsked};
+ghost use Rattle.table_steps.specs.Views.{IsHandOf, IsSameHand};
+ghost use Rattle.table_steps.specs.Sights.{IsSourceIn};
+ghost use Rattle.table_steps.specs.Requests.{mask, asks_at, IsWordOf, MayRequest, IsAsked};
 
 use crate::plays::Regard;
 use crate::sight::source_index;

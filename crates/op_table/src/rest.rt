@@ -2,14 +2,15 @@
 ghost use Rattle.std.specs.Prelude.{◌≡◌, ◌∷◌, []};
 ghost use Rattle.life_rules.specs.Words.{resting_at};
 ghost use Rattle.life_rules.specs.declared.event.Resting.TheVariants.{Parked};
-ghost use Rattle.op_table.specs.Views.{IsHandOf, IsSameHand, IsPlaceIn, aim_at};
-ghost use Rattle.op_table.specs.Rests.{CanRest};
-ghost use Rattle.op_table.specs.Steps.{Rested, LeftResting};
-ghost use Rattle.op_table.specs.Takes.{resting_in, MayServe, IsTaken};
+ghost use Rattle.table_steps.specs.Views.{IsHandOf, IsSameHand, IsPlaceIn, aim_at};
+ghost use Rattle.table_steps.specs.Rests.{CanRest};
+ghost use Rattle.table_steps.specs.Steps.{Rested, LeftResting};
+ghost use Rattle.table_steps.specs.Takes.{resting_in, MayServe, IsTaken};
 
 use crate::plays::{Keyed, Rests, Subject, Takes};
 use crate::table::{Hand, OpTable, SeatOf};
-use life_rules::{Context, ControlWord, Name, Resting};
+use life_rules::{ControlWord, Name, Resting};
+use node_tree::Context;
 use std::marker::Brand;
 use table_rules::Cargo;
 use table_words::control_number;

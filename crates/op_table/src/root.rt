@@ -1,12 +1,12 @@
 //! The name of a block's root.
 ghost use Rattle.std.specs.Prelude.{◌≡◌, ◌<◌};
-ghost use Rattle.op_table.specs.Views.{IsPlaceIn};
-ghost use Rattle.op_table.specs.Claims.{root_name};
+ghost use Rattle.table_steps.specs.Views.{IsPlaceIn};
+ghost use Rattle.table_steps.specs.Claims.{root_name};
 
-use crate::claim::Block;
 use crate::table::OpTable;
 use life_rules::Name;
 use table_rules::Cargo;
+use table_steps::Block;
 
 impl<P: Cargo> OpTable<P> {
     /// The root of the block, which the hand that claimed it begins first.

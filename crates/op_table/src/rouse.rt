@@ -1,6 +1,6 @@
 //! How a parked node is woken.
-ghost use Rattle.op_table.specs.Views.{IsHandOf, IsSameHand, IsPlaceIn};
-ghost use Rattle.op_table.specs.Rouses.{MayRouse, IsRoused};
+ghost use Rattle.table_steps.specs.Views.{IsHandOf, IsSameHand, IsPlaceIn};
+ghost use Rattle.table_steps.specs.Rouses.{MayRouse, IsRoused};
 
 use crate::plays::Looks;
 use crate::table::{Hand, OpTable, SeatOf};

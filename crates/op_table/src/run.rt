@@ -1,7 +1,7 @@
 //! How a scan runs the callback of its next place, or passes it ([stopcallback]).
 ghost use Rattle.std.specs.Prelude.{◌≡◌, ◌<◌, true, IfSome};
-ghost use Rattle.op_table.specs.Views.{IsHandOf, IsSameHand, IsPlaceIn, aim_at};
-ghost use Rattle.op_table.specs.Runs.{place_named, says_armed, run_index, meets_at, RunsAt, CanRun, IsNewest, IsRun, IsRunFrom};
+ghost use Rattle.table_steps.specs.Views.{IsHandOf, IsSameHand, IsPlaceIn, aim_at};
+ghost use Rattle.table_steps.specs.Runs.{place_named, says_armed, run_index, meets_at, RunsAt, CanRun, IsNewest, IsRun, IsRunFrom};
 
 use crate::plays::{Regard, Subject};
 use crate::table::{Hand, OpTable, SeatOf};

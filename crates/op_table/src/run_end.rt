@@ -1,8 +1,8 @@
 //! How a callback's run ends, also by a removal from inside it ([stopcallback]).
 ghost use Rattle.std.specs.Prelude.{◌≡◌};
-ghost use Rattle.op_table.specs.Views.{IsHandOf, IsSameHand, IsPlaceIn, aim_at};
-ghost use Rattle.op_table.specs.Claims.{logged};
-ghost use Rattle.op_table.specs.RunEnds.{ends_run, removes_own, CanEndRun, CanWithdrawOwn, IsRunEnded, IsOwnWithdrawn};
+ghost use Rattle.table_steps.specs.Views.{IsHandOf, IsSameHand, IsPlaceIn, aim_at};
+ghost use Rattle.table_steps.specs.Claims.{logged};
+ghost use Rattle.table_steps.specs.RunEnds.{ends_run, removes_own, CanEndRun, CanWithdrawOwn, IsRunEnded, IsOwnWithdrawn};
 
 use crate::plays::Subject;
 use crate::table::{Hand, OpTable, SeatOf};

@@ -1,7 +1,7 @@
 //! The callbacks that a hand runs.
 ghost use Rattle.std.specs.Prelude.{◌≡◌, nat_le};
-ghost use Rattle.op_table.specs.Views.{IsHandOf, IsPlaceIn};
-ghost use Rattle.op_table.specs.Remembers.{running};
+ghost use Rattle.table_steps.specs.Views.{IsHandOf, IsPlaceIn};
+ghost use Rattle.table_steps.specs.Remembers.{running};
 
 use crate::table::{Hand, OpTable};
 use life_rules::Name;

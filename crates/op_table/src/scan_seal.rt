@@ -1,9 +1,9 @@
 //! How a scan of a stop source ends.
 ghost use Rattle.std.specs.Prelude.{◌≡◌};
-ghost use Rattle.op_table.specs.Views.{IsHandOf, IsSameHand};
-ghost use Rattle.op_table.specs.Claims.{logged};
-ghost use Rattle.op_table.specs.Sights.{IsSourceIn};
-ghost use Rattle.op_table.specs.ScanSeals.{seals_scan, CanSealScan, IsScanSealed};
+ghost use Rattle.table_steps.specs.Views.{IsHandOf, IsSameHand};
+ghost use Rattle.table_steps.specs.Claims.{logged};
+ghost use Rattle.table_steps.specs.Sights.{IsSourceIn};
+ghost use Rattle.table_steps.specs.ScanSeals.{seals_scan, CanSealScan, IsScanSealed};
 
 use crate::plays::Regard;
 use crate::sight::source_index;

@@ -8,9 +8,9 @@
 ghost use Rattle.std.specs.Prelude.{◌≡◌, ◌≢◌, true, MatchResult};
 ghost use Rattle.life_rules.specs.Scopes.{may_seal};
 ghost use Rattle.table_words.specs.ScopeNumbers.{scope_read};
-ghost use Rattle.op_table.specs.Views.{IsHandOf, IsSameHand};
-ghost use Rattle.op_table.specs.Claims.{logged};
-ghost use Rattle.op_table.specs.ScopeMoves.{IsMaking, MayLeaveScope, makes, leaves_scope, ReadsScope, IsMade, SealsAt, IsSealedAs};
+ghost use Rattle.table_steps.specs.Views.{IsHandOf, IsSameHand};
+ghost use Rattle.table_steps.specs.Claims.{logged};
+ghost use Rattle.table_steps.specs.ScopeMoves.{IsMaking, MayLeaveScope, makes, leaves_scope, ReadsScope, IsMade, SealsAt, IsSealedAs};
 
 use crate::table::{Hand, OpTable, SeatOf};
 use atomic_table::Play;

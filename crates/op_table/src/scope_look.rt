@@ -1,6 +1,6 @@
 //! A look at the counting scope (P3149, [exec.scope]).
-ghost use Rattle.op_table.specs.Views.{IsHandOf, IsSameHand};
-ghost use Rattle.op_table.specs.ScopeMoves.{ReadsScope};
+ghost use Rattle.table_steps.specs.Views.{IsHandOf, IsSameHand};
+ghost use Rattle.table_steps.specs.ScopeMoves.{ReadsScope};
 
 use crate::plays::Looks;
 use crate::table::{Hand, OpTable, SeatOf};

@@ -3,9 +3,9 @@
 //! Each sets a bit of the scope's word, and lists what it read and what it left. So a hand knows of a bit
 //! that it set: each word of the scope that it reads afterwards has it.
 ghost use Rattle.std.specs.Prelude.{◌≡◌, bit_or};
-ghost use Rattle.op_table.specs.Views.{IsHandOf, IsSameHand};
-ghost use Rattle.op_table.specs.Claims.{logged};
-ghost use Rattle.op_table.specs.ScopeSets.{SetsScope, closing, joining};
+ghost use Rattle.table_steps.specs.Views.{IsHandOf, IsSameHand};
+ghost use Rattle.table_steps.specs.Claims.{logged};
+ghost use Rattle.table_steps.specs.ScopeSets.{SetsScope, closing, joining};
 
 use crate::table::{Hand, OpTable, SeatOf};
 use atomic_table::Play;

@@ -1,9 +1,11 @@
 //! Looks at stop sources.
 ghost use Rattle.std.specs.Prelude.{◌≡◌, ◌≤◌, ◌<◌, None};
+ghost use Rattle.node_tree.specs.declared.node.TheConstants.{MOST_NODES};
+ghost use Rattle.life_rules.specs.declared.limits.TheConstants.{MOST_BLOCKS};
 ghost use Rattle.life_rules.specs.declared.event.SourceRef.TheVariants.{Scope};
 ghost use Rattle.table_words.specs.Layouts.{IsSpot, index, words_in};
-ghost use Rattle.op_table.specs.Views.{IsHandOf, IsSameHand};
-ghost use Rattle.op_table.specs.Sights.{spot_of, says_requested, IsSourceIn, MayLookAfter, IsLookedAt, StillAsked};
+ghost use Rattle.table_steps.specs.Views.{IsHandOf, IsSameHand};
+ghost use Rattle.table_steps.specs.Sights.{spot_of, says_requested, IsSourceIn, MayLookAfter, IsLookedAt, StillAsked};
 
 use crate::plays::{Regard, Sights};
 use crate::table::{Hand, OpTable, SeatOf};
@@ -14,8 +16,8 @@ use table_words::{Layout, SCOPE_SOURCE, read_source, stamp};
 
 // The index of the source's word.
 pub(crate) fn source_index(layout: &Layout, source: SourceRef) -> usize
-    requires blocks { layout.now.blocks ≤ 256 }
-    requires nodes { layout.now.nodes ≤ 1025 }
+    requires blocks { layout.now.blocks ≤ MOST_BLOCKS }
+    requires nodes { layout.now.nodes ≤ MOST_NODES }
     requires spot { IsSpot layout.now (spot_of source) }
     ensures value { result ≡ index layout.now (spot_of source) }
     ensures within { result < words_in layout.now }

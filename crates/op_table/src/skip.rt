@@ -1,8 +1,8 @@
 //! How a scan of the scope's source passes a block that is free.
 ghost use Rattle.std.specs.Prelude.{◌≡◌, ◌<◌};
 ghost use Rattle.life_rules.specs.declared.event.Name.{Name};
-ghost use Rattle.op_table.specs.Views.{IsHandOf, IsSameHand, aim_at};
-ghost use Rattle.op_table.specs.Skips.{says_free, skips_at, CanSkip, IsSkipped};
+ghost use Rattle.table_steps.specs.Views.{IsHandOf, IsSameHand, aim_at};
+ghost use Rattle.table_steps.specs.Skips.{says_free, skips_at, CanSkip, IsSkipped};
 
 use crate::plays::Subject;
 use crate::table::{Hand, OpTable, SeatOf};

@@ -1,7 +1,7 @@
 //! How a hand moves what is in one of its homes.
 ghost use Rattle.std.specs.Prelude.{◌≡◌};
-ghost use Rattle.op_table.specs.Views.{IsHandOf, IsSameHand, IsPlaceIn, aim_at};
-ghost use Rattle.op_table.specs.Swaps.{HasHome, IsSwapped};
+ghost use Rattle.table_steps.specs.Views.{IsHandOf, IsSameHand, IsPlaceIn, aim_at};
+ghost use Rattle.table_steps.specs.Swaps.{HasHome, IsSwapped};
 
 use crate::plays::{Subject, Turns};
 use crate::table::{Hand, OpTable, SeatOf};

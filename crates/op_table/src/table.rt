@@ -1,10 +1,10 @@
 //! The table and its hands.
-use crate::shape::Shape;
 use atomic_table::{Seat, Table, TableRule};
 use name_set::NameSet;
 use std::alloc::Global;
 use std::marker::{Model, PhantomData};
 use table_rules::{Cargo, Frame, View};
+use table_steps::Shape;
 
 /// The rule of a running table.
 pub struct Ruled<P> {
@@ -13,7 +13,7 @@ pub struct Ruled<P> {
 
 impl<P: Cargo> TableRule<Option<P>, View<P, P::Entry>, Frame<P::Over>> for Ruled<P> {
     ghost use Rattle.table_rules.specs.Running.{Running};
-    ghost use Rattle.op_table.specs.Views.{fresh};
+    ghost use Rattle.table_steps.specs.Views.{fresh};
 
     ghost holds = { λ frame. Running P.Cargo frame };
 
@@ -37,7 +37,7 @@ impl<P: Cargo> Model for Hand<P> {
     ghost use Rattle.std.specs.Prelude.{Option};
     ghost use Rattle.atomic_table.specs.declared.shared.Seat.{Seat};
     ghost use Rattle.table_rules.specs.declared.view.View.{View};
-    ghost use Rattle.op_table.specs.Remembers.{Remembers};
+    ghost use Rattle.table_steps.specs.Remembers.{Remembers};
 
     ghost Value = { Seat (Option P) (View P P.Entry) };
 
@@ -61,8 +61,8 @@ pub struct OpTable<P: Cargo> {
 
 impl<P: Cargo> Model for OpTable<P> {
     ghost use Rattle.std.specs.Prelude.{◌≡◌};
-    ghost use Rattle.op_table.specs.Views.{Board};
-    ghost use Rattle.op_table.specs.Shapes.{IsShape, frame_of};
+    ghost use Rattle.table_steps.specs.Views.{Board};
+    ghost use Rattle.table_steps.specs.Shapes.{IsShape, frame_of};
     ghost use Rattle.table_words.specs.Layouts.{words_in, places_in};
 
     ghost Value = { Board P.Over };

@@ -1,8 +1,8 @@
 //! How a node waits for children.
 ghost use Rattle.std.specs.Prelude.{◌≡◌};
-ghost use Rattle.op_table.specs.Views.{IsHandOf, IsSameHand, IsPlaceIn, aim_at};
-ghost use Rattle.op_table.specs.Awaits.{CanAwait};
-ghost use Rattle.op_table.specs.Steps.{Awaited};
+ghost use Rattle.table_steps.specs.Views.{IsHandOf, IsSameHand, IsPlaceIn, aim_at};
+ghost use Rattle.table_steps.specs.Awaits.{CanAwait};
+ghost use Rattle.table_steps.specs.Steps.{Awaited};
 
 use crate::owing::add_children;
 use crate::plays::{Awaits, Naming, Subject};

@@ -1,7 +1,7 @@
 //! How a callback is removed by the hand that holds its node ([stopcallback]).
 ghost use Rattle.std.specs.Prelude.{◌≡◌};
-ghost use Rattle.op_table.specs.Views.{IsHandOf, IsSameHand, IsPlaceIn, aim_at};
-ghost use Rattle.op_table.specs.Callbacks.{WithdrawsAt, CanWithdraw, IsWithdrawn};
+ghost use Rattle.table_steps.specs.Views.{IsHandOf, IsSameHand, IsPlaceIn, aim_at};
+ghost use Rattle.table_steps.specs.Callbacks.{WithdrawsAt, CanWithdraw, IsWithdrawn};
 
 use crate::plays::Subject;
 use crate::reads::says_phase;

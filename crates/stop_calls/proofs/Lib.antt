@@ -2,5 +2,3 @@ pub mod Order
 pub mod Walking
 pub mod Looking
 pub mod Waiting
-mod Lone
-mod Stops

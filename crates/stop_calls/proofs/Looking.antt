@@ -5,16 +5,16 @@ use Rattle.std.proofs.lemmas.Bool.{or_left}
 use Rattle.life_rules.specs.declared.event.Name.{Name}
 use Rattle.life_rules.specs.declared.event.SourceRef.{SourceRef}
 use Rattle.life_rules.specs.declared.event.SourceRef.TheVariants.{Scope, Node}
-use Rattle.life_rules.specs.Tree.{nearest}
+use Rattle.node_tree.specs.Tree.{nearest}
 use Rattle.life_rules.specs.Views.{same}
 use Rattle.life_rules.specs.States.{source_for}
-use Rattle.life_rules.proofs.Tests.{same-refl}
+use Rattle.life_rules.proofs.Names.{same-refl}
 use Rattle.atomic_table.specs.declared.shared.Seat.{Seat}
 use Rattle.table_rules.specs.declared.view.View.{View}
 use Rattle.table_rules.specs.ShownViews.{has_name}
-use Rattle.op_table.specs.Views.{Board, IsPlaceIn}
-use Rattle.op_table.specs.Callbacks.{IsArmed}
-use Rattle.op_table.specs.Sights.{IsSourceIn, IsUnlooked}
+use Rattle.table_steps.specs.Views.{Board, IsPlaceIn}
+use Rattle.table_steps.specs.Callbacks.{IsArmed}
+use Rattle.table_steps.specs.Sights.{IsSourceIn, IsUnlooked}
 use Rattle.stop_calls.specs.Armings.{IsSourceAt}
 
 -- a source of the tree in the block of a place is one of the table's

@@ -4,11 +4,11 @@ use Rattle.std.specs.Prelude.{nat_le, nat_lt}
 use Rattle.std.specs.List.{list_any}
 use Rattle.std.proofs.lemmas.Bool.{and_from, and_parts, both_ways, eqb-true, le-leb, leb-true, leb-false, ltb-true, ltb-false}
 use Rattle.std.proofs.lemmas.Nat.{div-add-mod', mod_below, mul-le, row_fits}
-use Rattle.life_rules.specs.declared.tree.TreeNode.{TreeNode}
+use Rattle.node_tree.specs.declared.node.TreeNode.{TreeNode}
 use Rattle.life_rules.specs.declared.event.Name.{Name}
 use Rattle.life_rules.specs.declared.event.SourceRef.{SourceRef}
-use Rattle.life_rules.proofs.Tests.{either}
-use Rattle.op_table.specs.ScanOrders.{hears, none_hears, is_next_place}
+use Rattle.common_lemmas.proofs.Bool.{either}
+use Rattle.table_steps.specs.ScanOrders.{hears, none_hears, is_next_place}
 use Rattle.stop_calls.specs.declared.scanning.Scan.{Scan}
 use Rattle.stop_calls.specs.Cursors.{cursor, NoneBetween, NoneHears}
 use Rattle.stop_calls.specs.Searches.{NoneInBlock}

@@ -7,8 +7,8 @@ use Rattle.atomic_table.specs.declared.shared.Seat.{Seat}
 use Rattle.table_rules.specs.declared.view.View.{View}
 use Rattle.table_rules.specs.declared.view.Held.{Held}
 use Rattle.table_rules.specs.Named.{find_by}
-use Rattle.op_table.specs.Views.{Board}
-use Rattle.op_table.specs.Remembers.{running}
+use Rattle.table_steps.specs.Views.{Board}
+use Rattle.table_steps.specs.Remembers.{running}
 use Rattle.op_slot.proofs.Kept.{find-noted}
 use Rattle.stop_calls.specs.Removals.{MayWithdraw, IsReadAs}
 

@@ -4,23 +4,23 @@ use Rattle.std.specs.Prelude.{Option, Some, None}
 use Rattle.std.specs.List.{list_any}
 use Rattle.std.proofs.lemmas.Bool.{cond-true, cond-false}
 use Rattle.std.proofs.lemmas.Nat.{row_fits}
-use Rattle.life_rules.specs.declared.tree.TreeNode.{TreeNode}
+use Rattle.node_tree.specs.declared.node.TreeNode.{TreeNode}
 use Rattle.life_rules.specs.declared.event.Name.{Name}
 use Rattle.life_rules.specs.declared.event.Place.{Place}
 use Rattle.life_rules.specs.declared.event.SourceRef.{SourceRef}
 use Rattle.life_rules.specs.Views.{same_source}
-use Rattle.life_rules.proofs.Tests.{either}
+use Rattle.common_lemmas.proofs.Bool.{either}
 use Rattle.atomic_table.specs.declared.shared.Seat.{Seat}
 use Rattle.table_rules.specs.declared.view.View.{View}
 use Rattle.table_rules.specs.declared.view.Scanning.{Scanning}
 use Rattle.table_rules.specs.declared.view.Seen.{Seen}
 use Rattle.table_rules.specs.ShownViews.{scan_in}
-use Rattle.op_table.specs.Views.{Board}
-use Rattle.op_table.specs.Claims.{Seated, logged, word_index}
-use Rattle.op_table.specs.Runs.{CanRun, HasPassed, HasRun, run_index, node_named, last_of, listed}
-use Rattle.op_table.specs.ScanOrders.{hears, is_next_place}
-use Rattle.op_table.specs.RunEnds.{passes_to}
-use Rattle.op_table.specs.Skips.{skips, says_free}
+use Rattle.table_steps.specs.Views.{Board}
+use Rattle.table_steps.specs.Claims.{Seated, logged, word_index}
+use Rattle.table_steps.specs.Runs.{CanRun, HasPassed, HasRun, run_index, node_named, last_of, listed}
+use Rattle.table_steps.specs.ScanOrders.{hears, is_next_place}
+use Rattle.table_steps.specs.RunEnds.{passes_to}
+use Rattle.table_steps.specs.Skips.{skips, says_free}
 use Rattle.stop_calls.specs.declared.scanning.Scan.{Scan}
 use Rattle.stop_calls.specs.Cursors.{cursor, NoneBetween, Stands, NoneHears}
 use Rattle.stop_calls.specs.Walks.{MayTry, scanning_at, PassesBlock, EntersBlock, Walks, IsFound, IsThrough}

@@ -1,16 +1,16 @@
 -- What an arming tells ([stopcallback.inplace.cons]).
 use Rattle.std.specs.Prelude.{◌≡◌, ℕ, ◌<◌, Bool, true, false, List, length, Option, Some}
-use Rattle.life_rules.specs.declared.tree.TreeNode.{TreeNode}
+use Rattle.node_tree.specs.declared.node.TreeNode.{TreeNode}
 use Rattle.life_rules.specs.declared.event.Name.{Name}
 use Rattle.life_rules.specs.declared.event.SourceRef.{SourceRef}
 use Rattle.life_rules.specs.declared.event.SourceRef.TheVariants.{Scope, Node}
-use Rattle.life_rules.specs.Tree.{nearest, has_source}
+use Rattle.node_tree.specs.Tree.{nearest, has_source}
 use Rattle.life_rules.specs.States.{source_for}
 use Rattle.atomic_table.specs.declared.shared.Seat.{Seat}
 use Rattle.table_rules.specs.declared.view.View.{View}
-use Rattle.op_table.specs.Views.{Board}
-use Rattle.op_table.specs.Callbacks.{IsArmed}
-use Rattle.op_table.specs.Sights.{IsLookedAt}
+use Rattle.table_steps.specs.Views.{Board}
+use Rattle.table_steps.specs.Callbacks.{IsArmed}
+use Rattle.table_steps.specs.Sights.{IsLookedAt}
 use Rattle.stop_calls.specs.declared.arming.Armed.{Armed}
 use Rattle.stop_calls.specs.declared.arming.Armed.TheVariants.{Quiet, Asked}
 

@@ -1,12 +1,12 @@
 -- Where a scan of a stop source stands, among the places of the table.
 use Rattle.std.specs.Prelude.{◌≡◌, ℕ, ◌+◌, ◌*◌, ◌<◌, ◌≤◌, false, List, length, Some}
-use Rattle.life_rules.specs.declared.tree.TreeNode.{TreeNode}
+use Rattle.node_tree.specs.declared.node.TreeNode.{TreeNode}
 use Rattle.life_rules.specs.declared.event.Name.{Name}
 use Rattle.life_rules.specs.declared.event.SourceRef.{SourceRef}
 use Rattle.table_rules.specs.declared.view.View.{View}
 use Rattle.table_rules.specs.Named.{Each}
 use Rattle.table_rules.specs.ShownViews.{scan_in}
-use Rattle.op_table.specs.ScanOrders.{hears}
+use Rattle.table_steps.specs.ScanOrders.{hears}
 use Rattle.stop_calls.specs.declared.scanning.Scan.{Scan}
 
 -- a scan of the source that begins

@@ -4,7 +4,6 @@ pub mod Walks
 pub mod Searches
 pub mod Armings
 pub mod Removals
-pub mod Lone
 -- the definitions that the public contracts cite
-pub use Rattle.op_table.specs.Views
-pub use Rattle.op_table.specs.Sights
+pub use Rattle.table_steps.specs.Views
+pub use Rattle.table_steps.specs.Sights

@@ -10,10 +10,10 @@ use Rattle.table_rules.specs.declared.view.View.{View}
 use Rattle.table_rules.specs.declared.view.Held.{Held}
 use Rattle.table_rules.specs.Named.{find_by}
 use Rattle.table_rules.specs.ShownViews.{scan_in}
-use Rattle.op_table.specs.Views.{Board}
-use Rattle.op_table.specs.Remembers.{running}
-use Rattle.op_table.specs.Callbacks.{is_registered, IsWithdrawn}
-use Rattle.op_table.specs.RunEnds.{IsRunEnded, IsOwnWithdrawn}
+use Rattle.table_steps.specs.Views.{Board}
+use Rattle.table_steps.specs.Remembers.{running}
+use Rattle.table_steps.specs.Callbacks.{is_registered, IsWithdrawn}
+use Rattle.table_steps.specs.RunEnds.{IsRunEnded, IsOwnWithdrawn}
 use Rattle.stop_calls.specs.declared.removing.Withdrawn.{Withdrawn}
 use Rattle.stop_calls.specs.declared.removing.Withdrawn.TheVariants.{NeverRan, Ran, OwnHand, Running}
 use Rattle.stop_calls.specs.declared.removing.Settled.{Settled}

@@ -7,9 +7,9 @@ use Rattle.table_words.specs.Controls.{source_read}
 use Rattle.table_words.specs.Layouts.{index}
 use Rattle.atomic_table.specs.declared.shared.Seat.{Seat}
 use Rattle.table_rules.specs.declared.view.View.{View}
-use Rattle.op_table.specs.Views.{Board}
-use Rattle.op_table.specs.Sights.{spot_of}
-use Rattle.op_table.specs.Requests.{asks_at, IsWordOf}
+use Rattle.table_steps.specs.Views.{Board}
+use Rattle.table_steps.specs.Sights.{spot_of}
+use Rattle.table_steps.specs.Requests.{asks_at, IsWordOf}
 use Rattle.stop_calls.specs.declared.requesting.Request.{Request}
 use Rattle.stop_calls.specs.declared.requesting.Request.TheVariants.{Made, Already}
 use Rattle.stop_calls.specs.declared.requesting.Failure.{Failure}

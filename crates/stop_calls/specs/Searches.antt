@@ -1,15 +1,15 @@
 -- How a scan's next place is found, and its block met.
 use Rattle.std.specs.Prelude.{◌≡◌, ◌⊎◌, ℕ, ◌+◌, ◌*◌, ◌<◌, ◌≤◌, Bool, true, false, not, ◌==◌, List, length, Option, Some, None, MatchOption}
-use Rattle.life_rules.specs.declared.tree.TreeNode.{TreeNode}
-use Rattle.life_rules.specs.declared.tree.TheConstants.{MOST_NODES}
+use Rattle.node_tree.specs.declared.node.TreeNode.{TreeNode}
+use Rattle.node_tree.specs.declared.node.TheConstants.{MOST_NODES}
 use Rattle.life_rules.specs.declared.event.Place.{Place}
 use Rattle.life_rules.specs.declared.event.SourceRef.{SourceRef}
 use Rattle.life_rules.specs.declared.event.SourceRef.TheVariants.{Scope, Node}
 use Rattle.atomic_table.specs.declared.shared.Seat.{Seat}
 use Rattle.table_rules.specs.declared.view.View.{View}
-use Rattle.op_table.specs.Views.{Board}
-use Rattle.op_table.specs.Skips.{CanSkip}
-use Rattle.op_table.specs.ScanOrders.{hears}
+use Rattle.table_steps.specs.Views.{Board}
+use Rattle.table_steps.specs.Skips.{CanSkip}
+use Rattle.table_steps.specs.ScanOrders.{hears}
 use Rattle.stop_calls.specs.declared.scanning.Scan.{Scan}
 use Rattle.stop_calls.specs.Cursors.{cursor, NoneBetween}
 use Rattle.stop_calls.specs.Walks.{MayTry, PassesBlock, EntersBlock}

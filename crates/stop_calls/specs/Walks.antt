@@ -6,12 +6,12 @@ use Rattle.life_rules.specs.declared.event.SourceRef.TheVariants.{Scope, Node}
 use Rattle.atomic_table.specs.declared.shared.Seat.{Seat}
 use Rattle.table_rules.specs.declared.view.View.{View}
 use Rattle.table_rules.specs.declared.view.Seen.{Seen}
-use Rattle.op_table.specs.Views.{Board}
-use Rattle.op_table.specs.Runs.{CanRun, HasPassed, HasRun}
-use Rattle.op_table.specs.RunEnds.{passes_to, number_of}
-use Rattle.op_table.specs.ScanOrders.{is_next_place}
-use Rattle.op_table.specs.Skips.{CanSkip, IsSkipped}
-use Rattle.op_table.specs.ScanSeals.{CanSealScan}
+use Rattle.table_steps.specs.Views.{Board}
+use Rattle.table_steps.specs.Runs.{CanRun, HasPassed, HasRun}
+use Rattle.table_steps.specs.RunEnds.{passes_to, number_of}
+use Rattle.table_steps.specs.ScanOrders.{is_next_place}
+use Rattle.table_steps.specs.Skips.{CanSkip, IsSkipped}
+use Rattle.table_steps.specs.ScanSeals.{CanSealScan}
 use Rattle.stop_calls.specs.declared.scanning.Scan.{Scan}
 use Rattle.stop_calls.specs.declared.dues.Due.{Due}
 use Rattle.stop_calls.specs.Cursors.{cursor, Stands}

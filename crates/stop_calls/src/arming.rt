@@ -1,11 +1,11 @@
 //! How a callback is registered ([stopcallback.inplace.cons]), and a source is asked
 //! ([stopsource.inplace.mem]).
 ghost use Rattle.std.specs.Prelude.{◌≡◌, ◌<◌, length, None, MatchOption};
-ghost use Rattle.life_rules.specs.Tree.{nearest};
+ghost use Rattle.node_tree.specs.Tree.{nearest};
 ghost use Rattle.life_rules.specs.States.{source_for};
-ghost use Rattle.op_table.specs.Views.{IsHandOf, IsSameHand, IsPlaceIn};
-ghost use Rattle.op_table.specs.Callbacks.{CanArm};
-ghost use Rattle.op_table.specs.Sights.{IsSourceIn, IsLookedAt, StillAsked};
+ghost use Rattle.table_steps.specs.Views.{IsHandOf, IsSameHand, IsPlaceIn};
+ghost use Rattle.table_steps.specs.Callbacks.{CanArm};
+ghost use Rattle.table_steps.specs.Sights.{IsSourceIn, IsLookedAt, StillAsked};
 ghost use Rattle.stop_calls.specs.Armings.{IsSourceAt, IsArmedSo};
 
 use life_rules::{Name, SourceRef};

@@ -1,6 +1,6 @@
 //! A callback that runs ([stopcallback.inplace.cons]).
 ghost use Rattle.std.specs.Prelude.{◌≡◌};
-ghost use Rattle.op_table.specs.Views.{IsHandOf, IsSameHand, IsPlaceIn};
+ghost use Rattle.table_steps.specs.Views.{IsHandOf, IsSameHand, IsPlaceIn};
 ghost use Rattle.stop_calls.specs.Removals.{MayEndRun, IsOver};
 
 use life_rules::Name;

@@ -26,8 +26,6 @@ mod removing;
 mod requesting;
 mod scanning;
 mod searching;
-#[cfg(test)]
-mod tests;
 
 pub use arming::{Armed, arm, stop_requested};
 pub use dues::Due;

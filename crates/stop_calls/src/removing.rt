@@ -1,5 +1,5 @@
 //! How a callback is removed ([stopcallback.inplace.cons], the destructor).
-ghost use Rattle.op_table.specs.Views.{IsHandOf, IsSameHand, IsPlaceIn};
+ghost use Rattle.table_steps.specs.Views.{IsHandOf, IsSameHand, IsPlaceIn};
 ghost use Rattle.stop_calls.specs.Removals.{MayWithdraw, IsTried, IsSettled};
 
 use life_rules::{CallbackPhase, Name};

@@ -1,9 +1,9 @@
 //! How a stop is requested ([stopsource.inplace.mem], `request_stop`).
 ghost use Rattle.std.specs.Prelude.{true, false};
 ghost use Rattle.life_rules.specs.declared.event.SourceRef.TheVariants.{Node};
-ghost use Rattle.op_table.specs.Views.{IsHandOf, IsSameHand};
-ghost use Rattle.op_table.specs.Sights.{IsSourceIn};
-ghost use Rattle.op_table.specs.Requests.{MayRequest};
+ghost use Rattle.table_steps.specs.Views.{IsHandOf, IsSameHand};
+ghost use Rattle.table_steps.specs.Sights.{IsSourceIn};
+ghost use Rattle.table_steps.specs.Requests.{MayRequest};
 ghost use Rattle.stop_calls.specs.Requests.{is_answer, IsRequested, IsFailed};
 
 use crate::scanning::Scan;

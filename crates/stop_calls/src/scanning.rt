@@ -1,8 +1,8 @@
 //! How a scan goes through the callbacks of a source ([stopsource.inplace.mem]).
 ghost use Rattle.std.specs.Prelude.{◌≡◌, ◌<◌, true, false, IfSome};
-ghost use Rattle.op_table.specs.Views.{IsHandOf, IsSameHand, IsPlaceIn};
-ghost use Rattle.op_table.specs.Sights.{IsSourceIn};
-ghost use Rattle.op_table.specs.ScanSeals.{CanSealScan, IsScanSealed};
+ghost use Rattle.table_steps.specs.Views.{IsHandOf, IsSameHand, IsPlaceIn};
+ghost use Rattle.table_steps.specs.Sights.{IsSourceIn};
+ghost use Rattle.table_steps.specs.ScanSeals.{CanSealScan, IsScanSealed};
 ghost use Rattle.stop_calls.specs.Cursors.{first_scan, Stands, NoneHears};
 ghost use Rattle.stop_calls.specs.Walks.{IsScanned};
 ghost use Rattle.stop_calls.specs.Searches.{must_read, CanEnter, IsBlockMet};

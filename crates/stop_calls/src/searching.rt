@@ -1,6 +1,6 @@
 //! How the next place of a scan is found. No step: the tree says which places hear a source.
 ghost use Rattle.std.specs.Prelude.{◌≡◌, ◌≤◌, ◌<◌, length};
-ghost use Rattle.op_table.specs.ScanOrders.{hears};
+ghost use Rattle.table_steps.specs.ScanOrders.{hears};
 ghost use Rattle.stop_calls.specs.Searches.{may_hear, IsHeardIn, IsNextPlace};
 
 use crate::scanning::Scan;

@@ -5,20 +5,20 @@ use Rattle.std.proofs.lemmas.Bool.{cond-true}
 use Rattle.life_rules.specs.declared.event.Name.{Name}
 use Rattle.life_rules.specs.declared.event.SourceRef.{SourceRef}
 use Rattle.life_rules.specs.declared.event.SourceRef.TheVariants.{Node}
-use Rattle.life_rules.specs.Tree.{nearest, has_source, parent_of}
+use Rattle.node_tree.specs.Tree.{nearest, has_source, parent_of}
 use Rattle.life_rules.specs.Views.{beside}
 use Rattle.table_words.specs.Controls.{source_read}
 use Rattle.atomic_table.specs.declared.shared.Seat.{Seat}
 use Rattle.table_rules.specs.declared.view.View.{View}
 use Rattle.table_rules.specs.declared.view.Scanning.{Scanning}
 use Rattle.table_rules.specs.ShownViews.{scan_in}
-use Rattle.op_table.specs.Views.{Board}
-use Rattle.op_table.specs.Claims.{Seated}
-use Rattle.op_table.specs.Requests.{asks_at}
-use Rattle.op_table.specs.RunEnds.{passes_to}
-use Rattle.op_table.specs.Reports.{CanReport}
+use Rattle.table_steps.specs.Views.{Board}
+use Rattle.table_steps.specs.Claims.{Seated}
+use Rattle.table_steps.specs.Requests.{asks_at}
+use Rattle.table_steps.specs.RunEnds.{passes_to}
+use Rattle.table_steps.specs.Reports.{CanReport}
 use Rattle.op_slot.proofs.Leaving.{owes-reports}
-use Rattle.op_table.specs.ScanOrders.{hears, is_the_node}
+use Rattle.table_steps.specs.ScanOrders.{hears, is_the_node}
 use Rattle.stop_calls.specs.declared.scanning.Scan.{Scan}
 use Rattle.stop_calls.specs.declared.requesting.Request.TheVariants.{Made}
 use Rattle.stop_calls.specs.Cursors.{first_scan, NoneHears}

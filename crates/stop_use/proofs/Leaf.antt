@@ -5,10 +5,10 @@ use Rattle.life_rules.specs.declared.words.CallbackPhase.{CallbackPhase}
 use Rattle.life_rules.specs.declared.words.CallbackPhase.TheVariants.{Never}
 use Rattle.life_rules.specs.declared.event.Name.{Name}
 use Rattle.table_rules.specs.declared.view.Held.{Held}
-use Rattle.op_table.specs.Views.{Board}
-use Rattle.op_table.specs.Claims.{Seated}
-use Rattle.op_table.specs.Finishes.{CanFinish, FinishesAt, FinishedAt}
-use Rattle.op_table.specs.Readings.{IsPhaseAs}
+use Rattle.table_steps.specs.Views.{Board}
+use Rattle.table_steps.specs.Claims.{Seated}
+use Rattle.table_steps.specs.Finishes.{CanFinish, FinishesAt, FinishedAt}
+use Rattle.table_steps.specs.Readings.{IsPhaseAs}
 use Rattle.op_slot.specs.Puts.{IsPut, IsTakenOut}
 use Rattle.op_slot.specs.Tends.{aimed, IsCalm, KeepsOwed, Tends}
 use Rattle.op_slot.proofs.Tending.{swapped-calm, swapped-own, swapped-beside, phased-tends, phased-calm, phased-beside}

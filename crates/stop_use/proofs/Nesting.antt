@@ -6,18 +6,19 @@ use Rattle.std.proofs.lemmas.Bool.{cond-true, cond-false}
 use Rattle.life_rules.specs.declared.event.Name.{Name}
 use Rattle.life_rules.specs.declared.event.SourceRef.{SourceRef}
 use Rattle.life_rules.specs.declared.event.SourceRef.TheVariants.{Scope, Node}
-use Rattle.life_rules.specs.Views.{one, same, same_source}
-use Rattle.life_rules.proofs.Tests.{same-refl, same-other}
+use Rattle.common_lemmas.specs.Sums.{one}
+use Rattle.life_rules.specs.Views.{same, same_source}
+use Rattle.life_rules.proofs.Names.{same-refl, same-other}
 use Rattle.atomic_table.specs.declared.shared.Seat.{Seat}
 use Rattle.table_rules.specs.declared.view.View.{View}
 use Rattle.table_rules.specs.declared.view.Scanning.{Scanning}
 use Rattle.table_rules.specs.Named.{count_by, without}
 use Rattle.table_rules.specs.ShownViews.{scan_in}
-use Rattle.op_table.specs.Views.{Board}
-use Rattle.op_table.specs.Claims.{Seated}
-use Rattle.op_table.specs.RunEnds.{passes_to, number_of}
-use Rattle.op_table.specs.ScanSeals.{drops}
-use Rattle.op_table.specs.Remembers.{running}
+use Rattle.table_steps.specs.Views.{Board}
+use Rattle.table_steps.specs.Claims.{Seated}
+use Rattle.table_steps.specs.RunEnds.{passes_to, number_of}
+use Rattle.table_steps.specs.ScanSeals.{drops}
+use Rattle.table_steps.specs.Remembers.{running}
 use Rattle.stop_calls.specs.declared.scanning.Scan.{Scan}
 use Rattle.stop_calls.specs.Cursors.{NoneHears}
 use Rattle.stop_calls.specs.Removals.{MayEndRun, IsOver}

@@ -6,19 +6,19 @@ use Rattle.life_rules.specs.declared.words.CallbackPhase.{CallbackPhase}
 use Rattle.life_rules.specs.declared.words.CallbackPhase.TheVariants.{Never, Armed as IsArmed}
 use Rattle.life_rules.specs.declared.event.Name.{Name}
 use Rattle.life_rules.specs.Views.{same}
-use Rattle.life_rules.proofs.Tests.{same-other}
+use Rattle.life_rules.proofs.Names.{same-other}
 use Rattle.atomic_table.specs.declared.shared.Seat.{Seat}
 use Rattle.table_rules.specs.declared.view.View.{View}
 use Rattle.table_rules.specs.declared.view.Held.{Held}
 use Rattle.table_rules.specs.Named.{find_by}
 use Rattle.table_words.specs.Layouts.{place_number}
-use Rattle.op_table.specs.Views.{Board}
-use Rattle.op_table.specs.Begins.{Begins}
-use Rattle.op_table.specs.Callbacks.{CanArm}
-use Rattle.op_table.specs.Claims.{Seated}
-use Rattle.op_table.specs.Readings.{IsPhaseAs}
-use Rattle.op_table.specs.Rests.{CanRest}
-use Rattle.op_table.specs.Slots.{slot_of, kept}
+use Rattle.table_steps.specs.Views.{Board}
+use Rattle.table_steps.specs.Begins.{Begins}
+use Rattle.table_steps.specs.Callbacks.{CanArm}
+use Rattle.table_steps.specs.Claims.{Seated}
+use Rattle.table_steps.specs.Readings.{IsPhaseAs}
+use Rattle.table_steps.specs.Rests.{CanRest}
+use Rattle.table_steps.specs.Slots.{slot_of, kept}
 use Rattle.op_slot.specs.Puts.{CanPut, FitsOwed, IsPut}
 use Rattle.op_slot.specs.Tends.{aimed, KeepsOwed, Tends}
 use Rattle.op_slot.proofs.Kept.{find-noted}

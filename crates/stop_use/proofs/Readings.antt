@@ -7,7 +7,7 @@ use Rattle.life_rules.specs.declared.words.CallbackPhase.TheVariants.{Never}
 use Rattle.life_rules.specs.declared.event.Name.{Name}
 use Rattle.life_rules.specs.declared.event.SourceRef.{SourceRef}
 use Rattle.life_rules.specs.declared.event.SourceRef.TheVariants.{Node}
-use Rattle.life_rules.specs.Tree.{has_source}
+use Rattle.node_tree.specs.Tree.{has_source}
 use Rattle.life_rules.specs.Views.{beside}
 use Rattle.life_rules.specs.Words.{pending}
 use Rattle.table_words.specs.Controls.{control_read, source_read}
@@ -18,15 +18,15 @@ use Rattle.table_rules.specs.declared.view.View.{View}
 use Rattle.table_rules.specs.declared.view.Held.{Held}
 use Rattle.table_rules.specs.declared.view.Seen.{Seen}
 use Rattle.table_rules.specs.Named.{find_by}
-use Rattle.op_table.specs.declared.claim.Block.{Block}
-use Rattle.op_table.specs.declared.report.Report.TheVariants.{Last}
-use Rattle.op_table.specs.Views.{Board}
-use Rattle.op_table.specs.Claims.{Seated, root_name, word_index}
-use Rattle.op_table.specs.Readings.{above_it, HoldsAbove, IsBegunAs, IsPhaseAs, notes_idle, says_begun, says_phase}
-use Rattle.op_table.specs.Reports.{IsReportedAs}
-use Rattle.op_table.specs.Requests.{IsWordOf, asks_at}
-use Rattle.op_table.specs.Runs.{AreTries, HasRun, last_of, listed, run_index, says_armed}
-use Rattle.op_table.specs.Sights.{says_requested, spot_of}
+use Rattle.table_steps.specs.declared.block.Block.{Block}
+use Rattle.table_steps.specs.declared.report.Report.TheVariants.{Last}
+use Rattle.table_steps.specs.Views.{Board}
+use Rattle.table_steps.specs.Claims.{Seated, root_name, word_index}
+use Rattle.table_steps.specs.Readings.{above_it, HoldsAbove, IsBegunAs, IsPhaseAs, notes_idle, says_begun, says_phase}
+use Rattle.table_steps.specs.Reports.{IsReportedAs}
+use Rattle.table_steps.specs.Requests.{IsWordOf, asks_at}
+use Rattle.table_steps.specs.Runs.{AreTries, HasRun, last_of, listed, run_index, says_armed}
+use Rattle.table_steps.specs.Sights.{says_requested, spot_of}
 use Rattle.op_slot.specs.Searches.{IsFound}
 use Rattle.stop_calls.specs.declared.arming.Armed.TheVariants.{Asked as IsAsked}
 use Rattle.stop_calls.specs.Armings.{IsArmedSo}

@@ -4,12 +4,12 @@ use Rattle.std.specs.Prelude.{Option, IfErr, IsErrAnd}
 use Rattle.life_rules.specs.declared.event.Name.{Name}
 use Rattle.life_rules.specs.declared.event.SourceRef.{SourceRef}
 use Rattle.life_rules.specs.declared.event.SourceRef.TheVariants.{Node}
-use Rattle.life_rules.specs.Tree.{has_source}
+use Rattle.node_tree.specs.Tree.{has_source}
 use Rattle.life_rules.specs.Views.{beside}
 use Rattle.atomic_table.specs.declared.shared.Seat.{Seat}
 use Rattle.table_rules.specs.declared.view.View.{View}
-use Rattle.op_table.specs.Views.{Board}
-use Rattle.op_table.specs.Claims.{Seated}
+use Rattle.table_steps.specs.Views.{Board}
+use Rattle.table_steps.specs.Claims.{Seated}
 use Rattle.stop_calls.specs.declared.requesting.Request.TheVariants.{Made}
 use Rattle.stop_calls.specs.declared.scanning.Scan.{Scan}
 use Rattle.stop_calls.specs.Requests.{IsRequested}

@@ -2,28 +2,28 @@
 use Rattle.std.proofs.Common.{◌≡◌, inl, inr, ℕ, zero, suc, Bool, true, false, List, [], ◌∷◌, ◌++◌, append_assoc, refl, sym, ap, ◌∙◌, arith}
 use Rattle.std.specs.Prelude.{Option, if◌then◌else◌}
 use Rattle.std.proofs.lemmas.Bool.{cases_lt}
-use Rattle.life_rules.specs.declared.tree.TreeNode.{TreeNode}
+use Rattle.node_tree.specs.declared.node.TreeNode.{TreeNode}
 use Rattle.life_rules.specs.declared.words.CallbackPhase.{CallbackPhase}
 use Rattle.life_rules.specs.declared.event.Name.{Name}
 use Rattle.life_rules.specs.declared.event.SourceRef.{SourceRef}
-use Rattle.life_rules.specs.Tree.{has_source}
-use Rattle.life_rules.proofs.Tests.{either}
+use Rattle.node_tree.specs.Tree.{has_source}
+use Rattle.common_lemmas.proofs.Bool.{either}
 use Rattle.atomic_table.specs.declared.shared.Seat.{Seat}
 use Rattle.table_rules.specs.declared.view.View.{View}
 use Rattle.table_rules.specs.declared.view.Seen.{Seen}
-use Rattle.op_table.specs.Views.{Board}
-use Rattle.op_table.specs.Awaits.{AwaitsAt}
-use Rattle.op_table.specs.Begins.{IsRenewed, Begins}
-use Rattle.op_table.specs.Claims.{Seated, Missed, word_index}
-use Rattle.op_table.specs.Finishes.{FinishedAt}
-use Rattle.op_table.specs.Readings.{IsBegunAs, IsPhaseAs, says_begun, notes_idle, above_it}
-use Rattle.op_table.specs.Remembers.{running}
-use Rattle.op_table.specs.Rests.{RestsAt}
-use Rattle.op_table.specs.Runs.{HasPassed, HasRun, listed, run_index}
-use Rattle.op_table.specs.ScanSeals.{IsScanSealed}
-use Rattle.op_table.specs.Skips.{IsSkipped, skips, says_free}
-use Rattle.op_table.specs.Steps.{control_index}
-use Rattle.op_table.specs.Swaps.{IsSwapped}
+use Rattle.table_steps.specs.Views.{Board}
+use Rattle.table_steps.specs.Awaits.{AwaitsAt}
+use Rattle.table_steps.specs.Begins.{IsRenewed, Begins}
+use Rattle.table_steps.specs.Claims.{Seated, Missed, word_index}
+use Rattle.table_steps.specs.Finishes.{FinishedAt}
+use Rattle.table_steps.specs.Readings.{IsBegunAs, IsPhaseAs, says_begun, notes_idle, above_it}
+use Rattle.table_steps.specs.Remembers.{running}
+use Rattle.table_steps.specs.Rests.{RestsAt}
+use Rattle.table_steps.specs.Runs.{HasPassed, HasRun, listed, run_index}
+use Rattle.table_steps.specs.ScanSeals.{IsScanSealed}
+use Rattle.table_steps.specs.Skips.{IsSkipped, skips, says_free}
+use Rattle.table_steps.specs.Steps.{control_index}
+use Rattle.table_steps.specs.Swaps.{IsSwapped}
 use Rattle.op_slot.specs.Searches.{IsMissedBelow}
 use Rattle.op_slot.specs.Tends.{aimed}
 use Rattle.stop_calls.specs.declared.arming.Armed.{Armed}

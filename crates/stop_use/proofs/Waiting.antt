@@ -4,17 +4,17 @@ use Rattle.std.specs.Prelude.{Option, Some, None}
 use Rattle.std.specs.List.{list_any, list_all}
 use Rattle.std.proofs.lemmas.Bool.{and_from}
 use Rattle.life_rules.specs.declared.event.Name.{Name}
-use Rattle.life_rules.specs.LifeSteps.{are_different}
-use Rattle.life_rules.specs.Tree.{is_child}
+use Rattle.common_lemmas.specs.Lists.{are_different}
+use Rattle.node_tree.specs.Tree.{is_child}
 use Rattle.life_rules.specs.Views.{beside}
 use Rattle.atomic_table.specs.declared.shared.Seat.{Seat}
 use Rattle.table_rules.specs.declared.view.View.{View}
 use Rattle.table_rules.specs.declared.view.Held.{Held}
-use Rattle.op_table.specs.declared.claim.Block.{Block}
-use Rattle.op_table.specs.Views.{Board}
-use Rattle.op_table.specs.Awaits.{is_named, AwaitsAt, CanAwait}
-use Rattle.op_table.specs.Claims.{Seated, Missed}
-use Rattle.op_table.specs.Readings.{IsBegunAs, HoldsAbove}
+use Rattle.table_steps.specs.declared.block.Block.{Block}
+use Rattle.table_steps.specs.Views.{Board}
+use Rattle.table_steps.specs.Awaits.{is_named, AwaitsAt, CanAwait}
+use Rattle.table_steps.specs.Claims.{Seated, Missed}
+use Rattle.table_steps.specs.Readings.{IsBegunAs, HoldsAbove}
 use Rattle.op_slot.specs.Searches.{IsMissedBelow, IsFound}
 use Rattle.op_slot.specs.Tends.{aimed, AreApart, IsCalm, KeepsOwed, Owes, Tends}
 use Rattle.op_slot.proofs.Places.{kids-apart}

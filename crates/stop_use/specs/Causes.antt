@@ -6,7 +6,7 @@ use Rattle.life_rules.specs.declared.words.CallbackPhase.TheVariants.{Never}
 use Rattle.life_rules.specs.declared.event.Name.{Name}
 use Rattle.life_rules.specs.declared.event.SourceRef.{SourceRef}
 use Rattle.life_rules.specs.declared.event.SourceRef.TheVariants.{Node}
-use Rattle.life_rules.specs.Tree.{has_source}
+use Rattle.node_tree.specs.Tree.{has_source}
 use Rattle.life_rules.specs.Views.{beside}
 use Rattle.life_rules.specs.Words.{pending}
 use Rattle.table_words.specs.Stamps.{stamp_of}
@@ -16,11 +16,11 @@ use Rattle.table_words.specs.Layouts.{Spot, OfBlock, OfControl, OfCallback, OfSo
 use Rattle.atomic_table.specs.declared.shared.Seat.{Seat}
 use Rattle.table_rules.specs.declared.view.View.{View}
 use Rattle.table_rules.specs.declared.view.Seen.{Seen}
-use Rattle.op_table.specs.Views.{Board}
-use Rattle.op_table.specs.Claims.{Seated}
-use Rattle.op_table.specs.Readings.{says_begun, says_phase, HoldsAbove}
-use Rattle.op_table.specs.Runs.{says_armed}
-use Rattle.op_table.specs.Sights.{says_requested}
+use Rattle.table_steps.specs.Views.{Board}
+use Rattle.table_steps.specs.Claims.{Seated}
+use Rattle.table_steps.specs.Readings.{says_begun, says_phase, HoldsAbove}
+use Rattle.table_steps.specs.Runs.{says_armed}
+use Rattle.table_steps.specs.Sights.{says_requested}
 use Rattle.op_slot.specs.Searches.{IsMissedBelow}
 use Rattle.stop_calls.specs.declared.requesting.Request.TheVariants.{Made}
 use Rattle.stop_calls.specs.declared.scanning.Scan.{Scan}

@@ -1,17 +1,17 @@
 -- How a hand of this use scans a stop source, inside other scans.
 use Rattle.std.specs.Prelude.{◌≡◌, ℕ, ◌-◌, ◌*◌, ◌<◌, true, List, [], ◌∷◌, length, Some}
-use Rattle.life_rules.specs.declared.tree.TreeNode.{TreeNode}
+use Rattle.node_tree.specs.declared.node.TreeNode.{TreeNode}
 use Rattle.life_rules.specs.declared.event.Name.{Name}
 use Rattle.life_rules.specs.declared.event.SourceRef.{SourceRef}
 use Rattle.life_rules.specs.declared.event.SourceRef.TheVariants.{Scope, Node}
-use Rattle.life_rules.specs.Tree.{nearest, has_source}
+use Rattle.node_tree.specs.Tree.{nearest, has_source}
 use Rattle.life_rules.specs.Views.{beside}
 use Rattle.life_rules.specs.States.{source_for}
 use Rattle.table_rules.specs.declared.view.Scanning.{Scanning}
 use Rattle.table_rules.specs.Named.{Each}
-use Rattle.op_table.specs.Views.{Board}
-use Rattle.op_table.specs.Claims.{Seated}
-use Rattle.op_table.specs.ScanSeals.{drops}
+use Rattle.table_steps.specs.Views.{Board}
+use Rattle.table_steps.specs.Claims.{Seated}
+use Rattle.table_steps.specs.ScanSeals.{drops}
 use Rattle.stop_calls.specs.declared.scanning.Scan.{Scan}
 use Rattle.stop_calls.specs.Cursors.{cursor, Stands, NoneHears}
 use Rattle.stop_use.specs.declared.cargo.Item.{Item}

@@ -1,7 +1,7 @@
 //! How the failure is told, and the leaf reported.
 ghost use Rattle.std.specs.Prelude.{◌≡◌, [], IfOk, IfErr};
 ghost use Rattle.life_rules.specs.Views.{beside};
-ghost use Rattle.op_table.specs.Views.{IsHandOf};
+ghost use Rattle.table_steps.specs.Views.{IsHandOf};
 ghost use Rattle.stop_use.specs.Uses.{use_tree, IsRoot, IsIdle, HasFailed};
 ghost use Rattle.stop_use.specs.Causes.{GoesOn, IsStopCause, IsCause};
 

@@ -35,8 +35,6 @@ mod node;
 mod passing;
 mod scans;
 mod starting;
-#[cfg(test)]
-mod tests;
 
 pub use cargo::Item;
 pub use failing::{Answer, run};

@@ -2,7 +2,7 @@
 ghost use Rattle.std.specs.Prelude.{◌≡◌, ◌≢◌, ◌<◌, true, false, [], IfOk, IfErr};
 ghost use Rattle.life_rules.specs.Views.{beside};
 ghost use Rattle.life_rules.specs.declared.words.CallbackPhase.TheVariants.{Never};
-ghost use Rattle.op_table.specs.Views.{IsHandOf};
+ghost use Rattle.table_steps.specs.Views.{IsHandOf};
 ghost use Rattle.op_slot.specs.Tends.{KeepsOwed};
 ghost use Rattle.stop_use.specs.Uses.{IsNode, OwesNode, HoldsNode, HasFailed, IsStill, KeepsPlays};
 ghost use Rattle.stop_use.specs.Causes.{GoesOn, IsStartCause};

@@ -1,7 +1,7 @@
 //! What the callback of the branch does: it passes the request on.
 ghost use Rattle.std.specs.Prelude.{◌≡◌, [], IfOk, IfErr};
 ghost use Rattle.life_rules.specs.Views.{beside};
-ghost use Rattle.op_table.specs.Views.{IsHandOf};
+ghost use Rattle.table_steps.specs.Views.{IsHandOf};
 ghost use Rattle.stop_use.specs.Uses.{IsNode, IsRoot, IsIdle, IsStill, KeepsReports};
 ghost use Rattle.stop_use.specs.Scans.{Scans, IsInside, IsOuter};
 ghost use Rattle.stop_use.specs.Causes.{GoesOn, IsCauseAt, IsScanCause};

@@ -1,7 +1,7 @@
 //! How a hand takes a scan to its end, inside other scans.
 ghost use Rattle.std.specs.Prelude.{◌≡◌, IfSome, IfNone};
-ghost use Rattle.op_table.specs.Views.{IsHandOf};
-ghost use Rattle.op_table.specs.ScanSeals.{CanSealScan};
+ghost use Rattle.table_steps.specs.Views.{IsHandOf};
+ghost use Rattle.table_steps.specs.ScanSeals.{CanSealScan};
 ghost use Rattle.stop_calls.specs.Walks.{IsThrough};
 ghost use Rattle.stop_use.specs.Uses.{KeepsReports};
 ghost use Rattle.stop_use.specs.Causes.{GoesOn};

@@ -1,6 +1,6 @@
 //! How the operation is started, and its leaf fails.
 ghost use Rattle.std.specs.Prelude.{◌≡◌, [], IfOk, IfErr};
-ghost use Rattle.op_table.specs.Views.{IsHandOf};
+ghost use Rattle.table_steps.specs.Views.{IsHandOf};
 ghost use Rattle.life_rules.specs.Views.{beside};
 ghost use Rattle.stop_use.specs.Uses.{use_tree, IsNode, OwesNode, HoldsNode, HasFailed, IsStill, IsIdle, IsRoot, OwesKid};
 ghost use Rattle.stop_use.specs.Causes.{GoesOn, WasFree, IsStartCause, IsCause};

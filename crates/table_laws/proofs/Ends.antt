@@ -7,13 +7,14 @@ use Rattle.life_rules.specs.declared.words.ControlWord.TheVariants.{Idle, Done}
 use Rattle.life_rules.specs.declared.event.Name.{Name}
 use Rattle.life_rules.specs.declared.event.Resting.{Resting}
 use Rattle.life_rules.specs.declared.event.Resting.TheVariants as rest
-use Rattle.life_rules.specs.Tree.{is_child, is_root}
+use Rattle.node_tree.specs.Tree.{is_child, is_root}
 use Rattle.life_rules.specs.Words.{is_idle, is_held, is_done, pending, resting_at}
-use Rattle.life_rules.specs.Views.{View as PureView, one, beside}
+use Rattle.life_rules.specs.Views.{View as PureView, beside}
+use Rattle.common_lemmas.specs.Sums.{one}
 use Rattle.life_rules.specs.States.{State, is_live, control_at}
 use Rattle.life_rules.specs.LifeSteps.{root_of, may_release}
 use Rattle.life_rules.specs.Quiet.{Quiet}
-use Rattle.life_rules.proofs.Tests.{either, one-is, one-false}
+use Rattle.common_lemmas.proofs.Bool.{either, one-is, one-false}
 use Rattle.life_rules.proofs.Readings.{lives, begun-live, name_of-live}
 use Rattle.life_kept.proofs.Fitting.{done-word}
 use Rattle.life_kept.proofs.Holding.{weight-most}
@@ -30,14 +31,14 @@ use Rattle.table_rules.specs.Named.{count_by}
 use Rattle.table_rules.specs.ShownWords.{word_of, is_there, is_said, said_at}
 use Rattle.table_rules.specs.Scenes.{shown}
 use Rattle.table_rules.specs.Running.{Running}
-use Rattle.op_table.specs.Claims.{Seated}
-use Rattle.op_table.specs.Readings.{above_it}
-use Rattle.op_table.specs.Takes.{rest_word}
-use Rattle.op_table.specs.Reports.{CanReport}
-use Rattle.op_table.specs.Finishes.{CanEnd}
-use Rattle.op_table.specs.Releases.{CanReleaseBlock}
-use Rattle.op_table.proofs.Entries.{found, has-counts}
-use Rattle.op_table.proofs.HeldNow.{held, kid-quiet}
+use Rattle.table_steps.specs.Claims.{Seated}
+use Rattle.table_steps.specs.Readings.{above_it}
+use Rattle.table_steps.specs.Takes.{rest_word}
+use Rattle.table_steps.specs.Reports.{CanReport}
+use Rattle.table_steps.specs.Finishes.{CanEnd}
+use Rattle.table_steps.specs.Releases.{CanReleaseBlock}
+use Rattle.table_kept.proofs.Entries.{found, has-counts}
+use Rattle.table_kept.proofs.HeldNow.{held, kid-quiet}
 use Rattle.table_laws.specs.Laws.{Has, IsOver, DoneIsOver, ParentsWait, ReleasesQuiet}
 use Rattle.table_laws.proofs.Standing.{below, shows, among}
 

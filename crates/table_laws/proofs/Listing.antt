@@ -7,7 +7,7 @@ use Rattle.life_rules.specs.declared.words.CallbackPhase.{CallbackPhase}
 use Rattle.life_rules.specs.declared.words.CallbackPhase.TheVariants.{Never, Armed, Running as Runs, Ran, Removed}
 use Rattle.life_rules.specs.declared.event.Name.{Name}
 use Rattle.life_rules.specs.Words.{is_armed, is_running}
-use Rattle.life_rules.proofs.Tests.{either}
+use Rattle.common_lemmas.proofs.Bool.{either}
 use Rattle.table_words.specs.declared.layout.Layout.{Layout}
 use Rattle.table_words.specs.Stamps.{stamp_of, code_of}
 use Rattle.table_words.specs.Controls.{callback_read, callback_of_code, callback_written}
@@ -18,9 +18,9 @@ use Rattle.table_rules.specs.declared.view.Seen.{Seen}
 use Rattle.table_rules.specs.Named.{Each}
 use Rattle.table_rules.specs.ShownWords.{word_of}
 use Rattle.table_rules.specs.Grown.{HasRisen}
-use Rattle.op_table.specs.Views.{Board}
-use Rattle.op_table.specs.Readings.{says_phase}
-use Rattle.op_table.specs.Callbacks.{callback_index, is_registered, left_by, LeftCallback}
+use Rattle.table_steps.specs.Views.{Board}
+use Rattle.table_steps.specs.Readings.{says_phase}
+use Rattle.table_steps.specs.Callbacks.{callback_index, is_registered, left_by, LeftCallback}
 use Rattle.table_laws.specs.Listed.{is_over, says_over, lists_over, FoundNoRun, EndsIt}
 
 -- of a list whose entries all keep Q, an entry that passes the test

@@ -7,7 +7,7 @@ use Rattle.life_rules.specs.declared.words.BlockWord.{BlockWord}
 use Rattle.life_rules.specs.declared.event.Name.{Name}
 use Rattle.life_rules.specs.Associations.{kept}
 use Rattle.life_rules.specs.States.{State}
-use Rattle.life_rules.proofs.Totals.{total-at}
+use Rattle.common_lemmas.proofs.Totals.{total-at}
 use Rattle.table_rules.specs.declared.cargo.Cargo.{Ghosts}
 use Rattle.table_rules.specs.declared.view.View.{View}
 use Rattle.table_rules.specs.ShownWords.{is_present}

@@ -6,11 +6,12 @@ use Rattle.life_rules.specs.declared.words.CallbackPhase.{CallbackPhase}
 use Rattle.life_rules.specs.declared.words.CallbackPhase.TheVariants.{Never, Armed, Running as Runs, Ran, Removed}
 use Rattle.life_rules.specs.declared.event.Name.{Name}
 use Rattle.life_rules.specs.Words.{is_never, is_armed, is_running}
-use Rattle.life_rules.specs.Views.{View as PureView, one}
+use Rattle.life_rules.specs.Views.{View as PureView}
+use Rattle.common_lemmas.specs.Sums.{one}
 use Rattle.life_rules.specs.States.{State, is_live, phase_at}
-use Rattle.life_rules.proofs.Tests.{either, one-true}
+use Rattle.common_lemmas.proofs.Bool.{either, one-true}
 use Rattle.life_rules.proofs.Readings.{lives}
-use Rattle.life_rules.proofs.Totals.{total-single}
+use Rattle.common_lemmas.proofs.Totals.{total-single}
 use Rattle.stop_kept.proofs.Standing.{phase-live, runs-running}
 use Rattle.table_words.specs.Stamps.{stamp_of, code_of}
 use Rattle.table_words.specs.Controls.{callback_read, callback_code}
@@ -23,7 +24,7 @@ use Rattle.table_rules.specs.Named.{count_by}
 use Rattle.table_rules.specs.ShownWords.{word_of, is_there, is_said, said_at}
 use Rattle.table_rules.specs.Scenes.{shown}
 use Rattle.table_rules.specs.Running.{Running}
-use Rattle.op_table.proofs.Codes.{phase-rises}
+use Rattle.table_kept.proofs.Codes.{phase-rises}
 use Rattle.table_laws.specs.Listed.{is_over, lists_over, RunsNoMore}
 use Rattle.table_laws.specs.Laws.{Has, NeverAgain, IsOnlyRun, RunsOnce, RemovedForGood}
 use Rattle.table_laws.proofs.Standing.{below, shows, among}

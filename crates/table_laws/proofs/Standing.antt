@@ -15,8 +15,8 @@ use Rattle.table_rules.specs.ShownWords.{block_of}
 use Rattle.table_rules.specs.ShownViews.{shown_view}
 use Rattle.table_rules.specs.Scenes.{shown}
 use Rattle.table_rules.specs.Running.{Running}
-use Rattle.op_table.proofs.Seats.{at_within}
-use Rattle.op_table.proofs.ViewMoves.{view-here}
+use Rattle.table_kept.proofs.Seats.{at_within}
+use Rattle.table_kept.proofs.ViewMoves.{view-here}
 
 module _ {P E O : Type 0} (cargo : Ghosts P E O) (f : Frame O) (s : table.State (Option P) (View P E)) (r : Running cargo f s) (h : ℕ) (v : View P E) (at : get_elem? s.views h ≡ some v) where
   abbrev now : State

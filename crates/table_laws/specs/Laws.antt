@@ -6,7 +6,7 @@ use lib.ListN.{get_elem?}
 use Rattle.life_rules.specs.declared.event.Name.{Name}
 use Rattle.life_rules.specs.declared.event.Resting.{Resting}
 use Rattle.life_rules.specs.declared.event.SourceRef.{SourceRef}
-use Rattle.life_rules.specs.Tree.{is_child}
+use Rattle.node_tree.specs.Tree.{is_child}
 use Rattle.life_rules.specs.Words.{is_idle, is_done, is_armed}
 use Rattle.life_rules.specs.Views.{beside}
 use Rattle.life_rules.specs.States.{control_at, phase_at, bits_at, nearest_of}
@@ -22,15 +22,15 @@ use Rattle.table_rules.specs.ShownViews.{has_name}
 use Rattle.table_rules.specs.ShownWords.{word_of, scope_of}
 use Rattle.table_rules.specs.Scenes.{shown}
 use Rattle.table_rules.specs.Running.{Running}
-use Rattle.op_table.specs.Views.{Board, IsPlaceIn}
-use Rattle.op_table.specs.Claims.{Seated}
-use Rattle.op_table.specs.Readings.{above_it}
-use Rattle.op_table.specs.Begins.{CanBegin}
-use Rattle.op_table.specs.Rests.{CanLeave}
-use Rattle.op_table.specs.Takes.{rest_word}
-use Rattle.op_table.specs.Reports.{CanReport}
-use Rattle.op_table.specs.Finishes.{CanEnd}
-use Rattle.op_table.specs.Releases.{CanReleaseBlock}
+use Rattle.table_steps.specs.Views.{Board, IsPlaceIn}
+use Rattle.table_steps.specs.Claims.{Seated}
+use Rattle.table_steps.specs.Readings.{above_it}
+use Rattle.table_steps.specs.Begins.{CanBegin}
+use Rattle.table_steps.specs.Rests.{CanLeave}
+use Rattle.table_steps.specs.Takes.{rest_word}
+use Rattle.table_steps.specs.Reports.{CanReport}
+use Rattle.table_steps.specs.Finishes.{CanEnd}
+use Rattle.table_steps.specs.Releases.{CanReleaseBlock}
 use Rattle.table_laws.specs.Listed.{lists_over, RunsNoMore, EndsIt, GrewFrom}
 
 -- the hand with this number has this view

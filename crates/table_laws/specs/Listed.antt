@@ -15,11 +15,11 @@ use Rattle.table_rules.specs.declared.view.View.{View}
 use Rattle.table_rules.specs.declared.view.Seen.{Seen}
 use Rattle.table_rules.specs.ShownWords.{word_of}
 use Rattle.table_rules.specs.Scenes.{shown}
-use Rattle.op_table.specs.Views.{Board}
-use Rattle.op_table.specs.Readings.{says_phase}
-use Rattle.op_table.specs.Callbacks.{IsWithdrawn}
-use Rattle.op_table.specs.RunEnds.{IsRunEnded, IsOwnWithdrawn}
-use Rattle.op_table.specs.Runs.{says_armed, node_named}
+use Rattle.table_steps.specs.Views.{Board}
+use Rattle.table_steps.specs.Readings.{says_phase}
+use Rattle.table_steps.specs.Callbacks.{IsWithdrawn}
+use Rattle.table_steps.specs.RunEnds.{IsRunEnded, IsOwnWithdrawn}
+use Rattle.table_steps.specs.Runs.{says_armed, node_named}
 
 -- the callback ran, or was removed
 abbrev pub is_over : CallbackPhase → Bool

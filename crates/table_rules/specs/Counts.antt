@@ -1,8 +1,9 @@
 -- How many blocks the hands claimed and gave back.
 use Rattle.std.specs.Prelude.{◌≡◌, ℕ, ◌+◌, List, [], ◌∷◌, length}
 use Rattle.life_rules.specs.Words.{is_open}
-use Rattle.life_rules.specs.Views.{one}
-use Rattle.life_rules.specs.States.{State, total}
+use Rattle.common_lemmas.specs.Sums.{one}
+use Rattle.life_rules.specs.States.{State}
+use Rattle.common_lemmas.specs.Sums.{total}
 use Rattle.table_rules.specs.declared.view.View.{View}
 use Rattle.table_rules.specs.Named.{Each}
 

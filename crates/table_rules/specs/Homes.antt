@@ -4,10 +4,12 @@ use Rattle.std.specs.Option.{option_map_or}
 use Rattle.life_rules.specs.declared.words.ControlWord.{ControlWord}
 use Rattle.life_rules.specs.declared.words.ControlWord.TheVariants.{Idle, Busy, ReadyLoop, ReadyPool, Parked, Done}
 use Rattle.life_rules.specs.declared.event.Name.{Name}
-use Rattle.life_rules.specs.Tree.{is_child, parent_of}
+use Rattle.node_tree.specs.Tree.{is_child, parent_of}
 use Rattle.life_rules.specs.Words.{is_open, is_idle, is_done, is_under_way, pending}
-use Rattle.life_rules.specs.Views.{one, beside}
-use Rattle.life_rules.specs.States.{size, is_live, control_at, total, stand}
+use Rattle.common_lemmas.specs.Sums.{one}
+use Rattle.life_rules.specs.Views.{beside}
+use Rattle.life_rules.specs.States.{size, is_live, control_at, stand}
+use Rattle.common_lemmas.specs.Sums.{total}
 use Rattle.table_rules.specs.Scenes.{Home, Empty, is_out, is_full, Scene}
 
 -- a node that rests, ready in a context or parked

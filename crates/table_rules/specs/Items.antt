@@ -2,7 +2,7 @@
 use Rattle.std.specs.Prelude.{◌≡◌, ℕ, ◌≤◌, true, false, Some}
 use Rattle.life_rules.specs.declared.event.Name.{Name}
 use Rattle.life_rules.specs.declared.event.SourceRef.TheVariants.{Node}
-use Rattle.life_rules.specs.Tree.{is_child, is_root}
+use Rattle.node_tree.specs.Tree.{is_child, is_root}
 use Rattle.life_rules.specs.Words.{is_done}
 use Rattle.life_rules.specs.Views.{beside}
 use Rattle.life_rules.specs.States.{is_live, control_at, bits_at}

@@ -1,7 +1,7 @@
 -- What an await fixed for the children that it named.
 use Rattle.std.specs.Prelude.{◌≡◌, ℕ, true, false, not, ◌||◌}
 use Rattle.life_rules.specs.declared.event.Name.{Name}
-use Rattle.life_rules.specs.Tree.{is_child}
+use Rattle.node_tree.specs.Tree.{is_child}
 use Rattle.life_rules.specs.Words.{is_idle, is_done}
 use Rattle.life_rules.specs.Views.{beside}
 use Rattle.life_rules.specs.States.{control_at}

@@ -1,7 +1,8 @@
 -- How a view's lists are read by name.
 use Rattle.std.specs.Prelude.{ℕ, ◌+◌, if◌then◌else◌, List, [], ◌∷◌, Option, Some, None}
 use Rattle.life_rules.specs.declared.event.Name.{Name}
-use Rattle.life_rules.specs.Views.{one, same}
+use Rattle.common_lemmas.specs.Sums.{one}
+use Rattle.life_rules.specs.Views.{same}
 
 -- how often the list has an entry of x
 abbrev pub count_by : {A : Type 0} → (A → Name) → List A → Name → ℕ

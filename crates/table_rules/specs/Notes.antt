@@ -8,7 +8,7 @@ use Rattle.life_rules.specs.declared.event.SourceRef.{SourceRef}
 use Rattle.life_rules.specs.declared.event.SourceRef.TheVariants.{Scope, Node}
 use Rattle.life_rules.specs.declared.words.CallbackPhase.{CallbackPhase}
 use Rattle.life_rules.specs.declared.words.CallbackPhase.TheVariants.{Never, Armed, Running, Ran, Removed}
-use Rattle.life_rules.specs.Tree.{is_child, parent_of, given_by, nearest}
+use Rattle.node_tree.specs.Tree.{is_child, parent_of, given_by, nearest}
 use Rattle.life_rules.specs.Words.{is_idle, is_armed, is_running, has_run}
 use Rattle.life_rules.specs.Views.{beside}
 use Rattle.life_rules.specs.States.{State, control_at, phase_at, bits_at, source_for}

@@ -1,9 +1,10 @@
 -- What holds of a running table between any two atomic steps.
 use Rattle.std.specs.Prelude.{◌≡◌, ℕ, ◌^◌, ◌<◌, ◌≤◌, true, false, ◌||◌, List, length, Option}
-use Rattle.life_rules.specs.Tree.{has_source}
+use Rattle.node_tree.specs.Tree.{has_source}
 use Rattle.life_rules.specs.Words.{is_idle, is_under_way, is_armed, is_running}
 use Rattle.life_rules.specs.Sound.{Sound}
-use Rattle.life_rules.specs.declared.tree.TheConstants.{MOST_BLOCKS, MOST_HANDS, MOST_NODES}
+use Rattle.life_rules.specs.declared.limits.TheConstants.{MOST_BLOCKS, MOST_HANDS}
+use Rattle.node_tree.specs.declared.node.TheConstants.{MOST_NODES}
 use Rattle.table_words.specs.Layouts.{words_in, places_in, TheScope, OfControl, OfCallback, OfSource}
 use Rattle.table_words.specs.Stamps.{stamp_of}
 use Rattle.table_words.specs.Controls.{control_read, callback_read}

@@ -1,7 +1,7 @@
 -- With which start each node began.
 use Rattle.std.specs.Prelude.{◌≡◌, ℕ, true, false, ◌∷◌, Some}
 use Rattle.life_rules.specs.declared.event.Name.{Name}
-use Rattle.life_rules.specs.Tree.{parent_of}
+use Rattle.node_tree.specs.Tree.{parent_of}
 use Rattle.life_rules.specs.Words.{is_idle}
 use Rattle.life_rules.specs.Views.{beside}
 use Rattle.life_rules.specs.States.{is_live, control_at}

@@ -7,8 +7,10 @@
 
 mod cargo;
 mod frame;
+mod law;
 mod view;
 
 pub use cargo::Cargo;
-pub use frame::Frame;
+pub use frame::{Frame, MOST_ASSOCIATIONS};
+pub use law::limits_are_so;
 pub use view::{Held, Owed, Reported, Rooted, Scanning, Seen, View};

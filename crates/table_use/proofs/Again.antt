@@ -5,13 +5,13 @@ use Rattle.life_rules.specs.declared.words.CallbackPhase.{CallbackPhase}
 use Rattle.life_rules.specs.declared.words.CallbackPhase.TheVariants.{Never}
 use Rattle.life_rules.specs.declared.event.Name.{Name}
 use Rattle.table_rules.specs.declared.view.Held.{Held}
-use Rattle.op_table.specs.Views.{Board}
-use Rattle.op_table.specs.Claims.{Seated}
-use Rattle.op_table.specs.Finishes.{CanFinish, FinishesAt}
-use Rattle.op_table.specs.Readings.{Holds, IsPhaseAs}
-use Rattle.op_table.specs.Releases.{CanRelease, ReleasesAt}
-use Rattle.op_table.specs.Swaps.{HasHome}
-use Rattle.op_table.specs.Takes.{TakenAt}
+use Rattle.table_steps.specs.Views.{Board}
+use Rattle.table_steps.specs.Claims.{Seated}
+use Rattle.table_steps.specs.Finishes.{CanFinish, FinishesAt}
+use Rattle.table_steps.specs.Readings.{Holds, IsPhaseAs}
+use Rattle.table_steps.specs.Releases.{CanRelease, ReleasesAt}
+use Rattle.table_steps.specs.Swaps.{HasHome}
+use Rattle.table_steps.specs.Takes.{TakenAt}
 use Rattle.op_slot.specs.Puts.{CanPut, IsPut, IsTakenOut}
 use Rattle.op_slot.specs.Tends.{aimed, IsCalm, Tends}
 use Rattle.op_slot.proofs.Tending.{swapped-calm, swapped-old, swapped-own, phased-tends, phased-calm, taken-calm, taken-tends, held_as}

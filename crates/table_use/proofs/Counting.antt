@@ -2,11 +2,11 @@
 use Rattle.std.proofs.Common.{◌≡◌, ℕ, ◌+◌, ◌*◌, ◌≤◌, Bool, true, false, length, arith, refl, sym, ap, ◌∙◌, subst}
 use Rattle.std.specs.Prelude.{is_some}
 use Rattle.life_rules.specs.declared.event.Name.{Name}
-use Rattle.life_rules.specs.States.{total}
-use Rattle.life_rules.specs.Tree.{is_child}
-use Rattle.life_rules.specs.Views.{one}
-use Rattle.op_table.specs.Claims.{Seated}
-use Rattle.op_table.specs.Views.{Board}
+use Rattle.common_lemmas.specs.Sums.{total}
+use Rattle.node_tree.specs.Tree.{is_child}
+use Rattle.common_lemmas.specs.Sums.{one}
+use Rattle.table_steps.specs.Claims.{Seated}
+use Rattle.table_steps.specs.Views.{Board}
 use Rattle.table_use.specs.declared.cargo.Entry.{Entry}
 use Rattle.table_use.specs.declared.cargo.Item.{Item}
 use Rattle.table_use.specs.declared.cargo.Item.TheVariants.{Start, Rest, Kept, Done}

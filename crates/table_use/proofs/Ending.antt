@@ -2,12 +2,12 @@
 use Rattle.std.proofs.Common.{◌≡◌, ℕ, zero, suc, ◌+◌, ◌<◌, ◌≤◌, true, List, [], ◌∷◌, arith, refl, sym, ap, ◌∙◌, subst}
 use Rattle.std.specs.Prelude.{Option, Some, None, is_some}
 use Rattle.life_rules.specs.declared.event.Name.{Name}
-use Rattle.life_rules.specs.Tree.{is_child}
+use Rattle.node_tree.specs.Tree.{is_child}
 use Rattle.life_rules.specs.Views.{beside}
-use Rattle.op_table.specs.Views.{Board}
-use Rattle.op_table.specs.Claims.{Seated}
-use Rattle.op_table.specs.Rests.{CanRest}
-use Rattle.op_table.specs.Swaps.{HasHome}
+use Rattle.table_steps.specs.Views.{Board}
+use Rattle.table_steps.specs.Claims.{Seated}
+use Rattle.table_steps.specs.Rests.{CanRest}
+use Rattle.table_steps.specs.Swaps.{HasHome}
 use Rattle.op_slot.specs.Puts.{CanPut, IsPut, IsTakenOut}
 use Rattle.op_slot.specs.Tends.{put_at, IsCalm, Tends}
 use Rattle.op_slot.proofs.Tending.{swapped-calm, swapped-old, swapped-own, swapped-kid}

@@ -5,16 +5,16 @@ use Rattle.std.specs.List.{list_any}
 use Rattle.std.specs.Option.{option_map_or}
 use Rattle.std.proofs.lemmas.Bool.{eqb-true, ne_eqb}
 use Rattle.life_rules.specs.declared.event.Name.{Name}
-use Rattle.life_rules.specs.Tree.{is_child, is_root, parent_of}
+use Rattle.node_tree.specs.Tree.{is_child, is_root, parent_of}
 use Rattle.life_rules.specs.Views.{beside}
 use Rattle.life_kept.proofs.Trees.{child-parent}
 use Rattle.table_words.specs.Layouts.{place_number}
 use Rattle.table_rules.specs.declared.view.Held.{Held}
-use Rattle.op_table.specs.Claims.{Seated, root_name}
-use Rattle.op_table.specs.Views.{Board, IsPlaceIn}
-use Rattle.op_table.specs.Finishes.{is_of_kids}
-use Rattle.op_table.specs.Readings.{above_it, HoldsAbove}
-use Rattle.op_table.specs.Slots.{slot_of, is_of_family, kids_of}
+use Rattle.table_steps.specs.Claims.{Seated, root_name}
+use Rattle.table_steps.specs.Views.{Board, IsPlaceIn}
+use Rattle.table_steps.specs.Finishes.{is_of_kids}
+use Rattle.table_steps.specs.Readings.{above_it, HoldsAbove}
+use Rattle.table_steps.specs.Slots.{slot_of, is_of_family, kids_of}
 use Rattle.op_slot.specs.Tends.{AreApart, HasPlaces, Tends}
 use Rattle.table_use.specs.Uses.{use_tree, IsNode}
 

@@ -4,24 +4,25 @@ use Rattle.std.specs.Prelude.{Option, Some}
 use Rattle.std.proofs.lemmas.Bool.{cond-true}
 use Rattle.life_rules.specs.declared.words.CallbackPhase.{CallbackPhase}
 use Rattle.life_rules.specs.declared.event.Name.{Name}
-use Rattle.life_rules.specs.Tree.{has_source}
+use Rattle.node_tree.specs.Tree.{has_source}
 use Rattle.life_rules.specs.Views.{same}
-use Rattle.life_rules.proofs.Tests.{either, same-refl}
+use Rattle.common_lemmas.proofs.Bool.{either}
+use Rattle.life_rules.proofs.Names.{same-refl}
 use Rattle.table_rules.specs.declared.view.View.{View}
 use Rattle.table_rules.specs.declared.view.Rooted.{Rooted}
 use Rattle.table_rules.specs.Named.{find_by}
-use Rattle.op_table.specs.declared.report.Report.{Report}
-use Rattle.op_table.specs.declared.report.Report.TheVariants.{Last, Others}
-use Rattle.op_table.specs.Views.{Board}
-use Rattle.op_table.specs.Awaits.{AwaitsAt}
-use Rattle.op_table.specs.Begins.{Begins, notes_start, start_shown}
-use Rattle.op_table.specs.Claims.{Seated}
-use Rattle.op_table.specs.Finishes.{FinishesAt}
-use Rattle.op_table.specs.Readings.{above_it, says_begun, notes_idle, IsBegunAs, IsPhaseAs}
-use Rattle.op_table.specs.Reports.{IsReportedAs}
-use Rattle.op_table.specs.Rests.{RestsAt}
-use Rattle.op_table.specs.Slots.{slot_of, kept}
-use Rattle.op_table.specs.Swaps.{IsSwapped}
+use Rattle.table_steps.specs.declared.report.Report.{Report}
+use Rattle.table_steps.specs.declared.report.Report.TheVariants.{Last, Others}
+use Rattle.table_steps.specs.Views.{Board}
+use Rattle.table_steps.specs.Awaits.{AwaitsAt}
+use Rattle.table_steps.specs.Begins.{Begins, notes_start, start_shown}
+use Rattle.table_steps.specs.Claims.{Seated}
+use Rattle.table_steps.specs.Finishes.{FinishesAt}
+use Rattle.table_steps.specs.Readings.{above_it, says_begun, notes_idle, IsBegunAs, IsPhaseAs}
+use Rattle.table_steps.specs.Reports.{IsReportedAs}
+use Rattle.table_steps.specs.Rests.{RestsAt}
+use Rattle.table_steps.specs.Slots.{slot_of, kept}
+use Rattle.table_steps.specs.Swaps.{IsSwapped}
 use Rattle.op_slot.specs.Tends.{aimed}
 use Rattle.table_use.specs.declared.cargo.Entry.{Entry}
 use Rattle.table_use.specs.declared.cargo.Env.{Env}

@@ -6,23 +6,24 @@ use Rattle.std.proofs.lemmas.Bool.{both_ways, cond-false, eq-eqb, eqb-true}
 use Rattle.life_rules.specs.declared.words.CallbackPhase.{CallbackPhase}
 use Rattle.life_rules.specs.declared.words.CallbackPhase.TheVariants.{Never}
 use Rattle.life_rules.specs.declared.event.Name.{Name}
-use Rattle.life_rules.specs.Tree.{is_child, parent_of}
+use Rattle.node_tree.specs.Tree.{is_child, parent_of}
 use Rattle.life_rules.specs.Views.{beside, same}
-use Rattle.life_rules.proofs.Tests.{either, same-other}
+use Rattle.common_lemmas.proofs.Bool.{either}
+use Rattle.life_rules.proofs.Names.{same-other}
 use Rattle.life_kept.proofs.Trees.{child-parent}
 use Rattle.table_rules.specs.declared.view.Held.{Held}
 use Rattle.table_rules.specs.declared.view.Owed.{Owed}
 use Rattle.table_rules.specs.Named.{find_by, Each}
-use Rattle.op_table.specs.declared.report.Report.{Report}
-use Rattle.op_table.specs.declared.report.Report.TheVariants.{Last, Others}
-use Rattle.op_table.specs.Views.{Board}
-use Rattle.op_table.specs.Begins.{Begins, CanBegin}
-use Rattle.op_table.specs.Claims.{Seated}
-use Rattle.op_table.specs.Finishes.{CanFinish, FinishesAt}
-use Rattle.op_table.specs.Readings.{above_it, Holds, IsPhaseAs}
-use Rattle.op_table.specs.Reports.{laid, CanReport, IsReportedAs}
-use Rattle.op_table.specs.Slots.{slot_of, kids_of, kept, AreApart as Apart}
-use Rattle.op_table.specs.Swaps.{HasHome}
+use Rattle.table_steps.specs.declared.report.Report.{Report}
+use Rattle.table_steps.specs.declared.report.Report.TheVariants.{Last, Others}
+use Rattle.table_steps.specs.Views.{Board}
+use Rattle.table_steps.specs.Begins.{Begins, CanBegin}
+use Rattle.table_steps.specs.Claims.{Seated}
+use Rattle.table_steps.specs.Finishes.{CanFinish, FinishesAt}
+use Rattle.table_steps.specs.Readings.{above_it, Holds, IsPhaseAs}
+use Rattle.table_steps.specs.Reports.{laid, CanReport, IsReportedAs}
+use Rattle.table_steps.specs.Slots.{slot_of, kids_of, kept, AreApart as Apart}
+use Rattle.table_steps.specs.Swaps.{HasHome}
 use Rattle.op_slot.specs.Puts.{CanPut, FitsOwed, IsPut, IsTakenOut}
 use Rattle.op_slot.specs.Tends.{aimed, AreApart, IsCalm, HasPlaces, KeepsOwed, Owes, Tends}
 use Rattle.op_slot.proofs.Places.{kids-apart}

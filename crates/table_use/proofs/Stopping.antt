@@ -12,15 +12,15 @@ use Rattle.table_rules.specs.declared.view.Held.{Held}
 use Rattle.table_rules.specs.declared.view.Seen.{Seen}
 use Rattle.table_rules.specs.declared.view.View.{View}
 use Rattle.table_rules.specs.Named.{find_by}
-use Rattle.op_table.specs.declared.claim.Block.{Block}
-use Rattle.op_table.specs.declared.report.Report.{Report}
-use Rattle.op_table.specs.declared.report.Report.TheVariants.{Others}
-use Rattle.op_table.specs.Views.{Board}
-use Rattle.op_table.specs.Claims.{logged, root_name, Seated}
-use Rattle.op_table.specs.Readings.{above_it, says_begun, notes_idle, Holds, HoldsAbove, IsBegunAs, IsPhaseAs}
-use Rattle.op_table.specs.Reports.{IsReportedAs}
-use Rattle.op_table.specs.Rests.{LeftControl}
-use Rattle.op_table.specs.Takes.{rest_word, IsTaken, TakenAt}
+use Rattle.table_steps.specs.declared.block.Block.{Block}
+use Rattle.table_steps.specs.declared.report.Report.{Report}
+use Rattle.table_steps.specs.declared.report.Report.TheVariants.{Others}
+use Rattle.table_steps.specs.Views.{Board}
+use Rattle.table_steps.specs.Claims.{logged, root_name, Seated}
+use Rattle.table_steps.specs.Readings.{above_it, says_begun, notes_idle, Holds, HoldsAbove, IsBegunAs, IsPhaseAs}
+use Rattle.table_steps.specs.Reports.{IsReportedAs}
+use Rattle.table_steps.specs.Rests.{LeftControl}
+use Rattle.table_steps.specs.Takes.{rest_word, IsTaken, TakenAt}
 use Rattle.op_slot.specs.Puts.{IsPut, IsTakenOut}
 use Rattle.op_slot.specs.Tends.{aimed}
 use Rattle.op_slot.proofs.Tending.{swapped-home}

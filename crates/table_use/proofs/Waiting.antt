@@ -4,14 +4,14 @@ use Rattle.std.specs.Prelude.{Some, None}
 use Rattle.std.specs.List.{list_any, list_all}
 use Rattle.std.proofs.lemmas.Bool.{and_from}
 use Rattle.life_rules.specs.declared.event.Name.{Name}
-use Rattle.life_rules.specs.LifeSteps.{are_different}
-use Rattle.life_rules.specs.Tree.{is_child}
+use Rattle.common_lemmas.specs.Lists.{are_different}
+use Rattle.node_tree.specs.Tree.{is_child}
 use Rattle.life_rules.specs.Views.{beside}
 use Rattle.table_rules.specs.declared.view.Held.{Held}
-use Rattle.op_table.specs.Views.{Board}
-use Rattle.op_table.specs.Awaits.{is_named, AwaitsAt, CanAwait}
-use Rattle.op_table.specs.Claims.{Seated}
-use Rattle.op_table.specs.Readings.{IsBegunAs, HoldsAbove}
+use Rattle.table_steps.specs.Views.{Board}
+use Rattle.table_steps.specs.Awaits.{is_named, AwaitsAt, CanAwait}
+use Rattle.table_steps.specs.Claims.{Seated}
+use Rattle.table_steps.specs.Readings.{IsBegunAs, HoldsAbove}
 use Rattle.op_slot.specs.Puts.{CanPut, IsPut}
 use Rattle.op_slot.specs.Tends.{aimed, IsCalm, Owes, Tends}
 use Rattle.op_slot.proofs.Tending.{swapped-calm, swapped-own, read-tends, read-calm}

@@ -13,13 +13,13 @@ use Rattle.atomic_table.specs.declared.shared.Seat.{Seat}
 use Rattle.table_rules.specs.declared.frame.Frame.{Frame}
 use Rattle.table_rules.specs.declared.view.View.{View}
 use Rattle.table_rules.specs.declared.view.Seen.{Seen}
-use Rattle.op_table.specs.declared.claim.Block.{Block}
-use Rattle.op_table.specs.Views.{Board}
-use Rattle.op_table.specs.Claims.{Seated, root_name}
-use Rattle.op_table.specs.Readings.{above_it, says_begun, says_phase, Holds, HoldsAbove}
-use Rattle.op_table.specs.Runs.{IsNewest}
-use Rattle.op_table.specs.Slots.{slot_of, kept}
-use Rattle.op_table.specs.Takes.{rest_word}
+use Rattle.table_steps.specs.declared.block.Block.{Block}
+use Rattle.table_steps.specs.Views.{Board}
+use Rattle.table_steps.specs.Claims.{Seated, root_name}
+use Rattle.table_steps.specs.Readings.{above_it, says_begun, says_phase, Holds, HoldsAbove}
+use Rattle.table_steps.specs.Runs.{IsNewest}
+use Rattle.table_steps.specs.Slots.{slot_of, kept}
+use Rattle.table_steps.specs.Takes.{rest_word}
 use Rattle.op_slot.specs.Searches.{IsMissedBelow}
 use Rattle.table_use.specs.declared.cargo.Entry.{Entry}
 use Rattle.table_use.specs.declared.cargo.Env.{Env}

@@ -2,9 +2,9 @@
 use Rattle.std.specs.Prelude.{◌≡◌, ℕ, Some}
 use Rattle.life_rules.specs.declared.event.Name.{Name}
 use Rattle.table_rules.specs.Named.{find_by}
-use Rattle.op_table.specs.Views.{Board}
-use Rattle.op_table.specs.declared.claim.Block.{Block}
-use Rattle.op_table.specs.Claims.{Seated, root_name}
+use Rattle.table_steps.specs.Views.{Board}
+use Rattle.table_steps.specs.declared.block.Block.{Block}
+use Rattle.table_steps.specs.Claims.{Seated, root_name}
 use Rattle.table_use.specs.declared.cargo.Entry.{Entry}
 use Rattle.table_use.specs.declared.cargo.Env.{Env}
 use Rattle.table_use.specs.declared.cargo.Item.{Item}

@@ -1,10 +1,11 @@
 -- What a hand has at each point of an operation of this use.
 use Rattle.std.specs.Prelude.{◌≡◌, ℕ, ◌*◌, ◌<◌, ◌≤◌, Bool, true, false, List, [], ◌∷◌, length, Option, Some, None, is_some}
-use Rattle.life_rules.specs.declared.tree.TreeNode.{TreeNode}
+use Rattle.node_tree.specs.declared.node.TreeNode.{TreeNode}
 use Rattle.life_rules.specs.declared.event.Name.{Name}
-use Rattle.life_rules.specs.Tree.{is_child}
-use Rattle.life_rules.specs.States.{total}
-use Rattle.life_rules.specs.Views.{one, beside}
+use Rattle.node_tree.specs.Tree.{is_child}
+use Rattle.common_lemmas.specs.Sums.{total}
+use Rattle.common_lemmas.specs.Sums.{one}
+use Rattle.life_rules.specs.Views.{beside}
 use Rattle.table_words.specs.Layouts.{OfControl, index}
 use Rattle.table_rules.specs.declared.frame.Frame.{Frame}
 use Rattle.table_rules.specs.declared.view.Held.{Held}
@@ -12,11 +13,11 @@ use Rattle.table_rules.specs.declared.view.Reported.{Reported}
 use Rattle.atomic_table.specs.declared.shared.Seat.{Seat}
 use Rattle.table_rules.specs.declared.cargo.Cargo.{Ghosts}
 use Rattle.table_rules.specs.declared.view.View.{View}
-use Rattle.op_table.specs.Views.{Board}
-use Rattle.op_table.specs.declared.claim.Block.{Block}
-use Rattle.op_table.specs.Claims.{Seated, root_name}
-use Rattle.op_table.specs.Runs.{IsNewest}
-use Rattle.op_table.specs.Steps.{LeftAllEmpty}
+use Rattle.table_steps.specs.Views.{Board}
+use Rattle.table_steps.specs.declared.block.Block.{Block}
+use Rattle.table_steps.specs.Claims.{Seated, root_name}
+use Rattle.table_steps.specs.Runs.{IsNewest}
+use Rattle.table_steps.specs.Steps.{LeftAllEmpty}
 use Rattle.op_slot.specs.Tends.{IsCalm, KeepsOwed, OwesReport, Owes, Tends}
 use Rattle.table_use.specs.declared.cargo.Entry.{Entry}
 use Rattle.table_use.specs.declared.cargo.Env.{Env}

@@ -19,8 +19,6 @@ mod cargo;
 mod node;
 mod pair;
 mod root;
-#[cfg(test)]
-mod tests;
 
 pub use cargo::{Entry, Env, Item};
 pub use node::{Fault, Table, Worker};

@@ -1,9 +1,9 @@
 //! What a hand does with a node of any kind: it starts it, opens it, finishes it and reports it.
 ghost use Rattle.std.specs.Prelude.{◌≡◌, ◌≢◌, ◌<◌, true, false, Some, None, IfOk, IfErr};
 ghost use Rattle.life_rules.specs.Views.{beside};
-ghost use Rattle.life_rules.specs.Tree.{is_child};
+ghost use Rattle.node_tree.specs.Tree.{is_child};
 ghost use Rattle.life_rules.specs.declared.words.CallbackPhase.TheVariants.{Never};
-ghost use Rattle.op_table.specs.Views.{IsHandOf};
+ghost use Rattle.table_steps.specs.Views.{IsHandOf};
 ghost use Rattle.op_slot.specs.Tends.{KeepsOwed};
 ghost use Rattle.table_use.specs.declared.cargo.Item.TheVariants.{Start, Done};
 ghost use Rattle.table_use.specs.Starts.{value_at, env_of, Ends};

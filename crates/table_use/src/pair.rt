@@ -1,7 +1,7 @@
 //! A node with two children, and those.
 ghost use Rattle.std.specs.Prelude.{◌≡◌, ◌<◌, IfOk, IfErr};
 ghost use Rattle.life_rules.specs.Views.{beside};
-ghost use Rattle.op_table.specs.Views.{IsHandOf};
+ghost use Rattle.table_steps.specs.Views.{IsHandOf};
 ghost use Rattle.op_slot.specs.Tends.{IsCalm, KeepsOwed};
 ghost use Rattle.table_use.specs.Starts.{value_at};
 ghost use Rattle.table_use.specs.Uses.{IsNode, OwesBelow, OwesStart, HoldsNode, OwesDone, HoldsLast};

@@ -1,9 +1,9 @@
 //! A root with one child, from its claim to its release.
 ghost use Rattle.std.specs.Prelude.{◌≡◌, ◌+◌, ◌<◌, IfOk, IfErr, OnErr};
 ghost use Rattle.life_rules.specs.Views.{beside};
-ghost use Rattle.op_table.specs.Views.{IsHandOf};
+ghost use Rattle.table_steps.specs.Views.{IsHandOf};
 ghost use Rattle.op_slot.specs.Tends.{IsCalm};
-ghost use Rattle.op_table.specs.Steps.{LeftAllEmpty};
+ghost use Rattle.table_steps.specs.Steps.{LeftAllEmpty};
 ghost use Rattle.table_use.specs.Uses.{use_tree, IsNode, OwesBelow, HoldsNode, HoldsBlock, HoldsLast, HasEmptied};
 ghost use Rattle.table_use.specs.Notes.{HasNotedRoot, IsNotedNumber, KeepsNotes};
 ghost use Rattle.table_use.specs.Causes.{IsLeft, IsRootLeft, HasNoBlock, StopsAt, StopsAtRoot, IsCause};

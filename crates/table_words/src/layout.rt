@@ -1,5 +1,7 @@
 //! Where the words and the homes of a table lie.
 ghost use Rattle.std.specs.Prelude.{◌≡◌, ℕ, ◌≤◌, ◌<◌};
+ghost use Rattle.life_rules.specs.declared.limits.TheConstants.{MOST_BLOCKS};
+ghost use Rattle.node_tree.specs.declared.node.TheConstants.{MOST_NODES};
 ghost use Rattle.table_words.specs.Layouts.{Spot, TheScope, TheScopeSource, OfBlock, OfControl, OfCallback, OfSource, IsSpot, index, place_number, words_in, places_in};
 
 /// The blocks of a table, and the places of each: one for every node of the tree.
@@ -22,8 +24,8 @@ const FIRST_BLOCK: usize = 2;
 impl Layout {
     /// The number of places, which is that of homes.
     pub fn places(&self) -> usize
-        requires blocks { self.now.blocks ≤ 256 }
-        requires nodes { self.now.nodes ≤ 1025 }
+        requires blocks { self.now.blocks ≤ MOST_BLOCKS }
+        requires nodes { self.now.nodes ≤ MOST_NODES }
         ensures { result ≡ places_in self.now }
     {
         self.blocks as usize * self.nodes as usize
@@ -31,8 +33,8 @@ impl Layout {
 
     /// The number of words.
     pub fn words(&self) -> usize
-        requires blocks { self.now.blocks ≤ 256 }
-        requires nodes { self.now.nodes ≤ 1025 }
+        requires blocks { self.now.blocks ≤ MOST_BLOCKS }
+        requires nodes { self.now.nodes ≤ MOST_NODES }
         ensures { result ≡ words_in self.now }
     {
         FIRST_BLOCK + self.blocks as usize + 3 * self.places()
@@ -40,8 +42,8 @@ impl Layout {
 
     /// The number of a place, which is that of its home.
     pub fn place(&self, block: u32, node: u32) -> usize
-        requires blocks { self.now.blocks ≤ 256 }
-        requires nodes { self.now.nodes ≤ 1025 }
+        requires blocks { self.now.blocks ≤ MOST_BLOCKS }
+        requires nodes { self.now.nodes ≤ MOST_NODES }
         requires block { block < self.now.blocks }
         requires node { node < self.now.nodes }
         ensures value { result ≡ place_number self.now block node }
@@ -52,7 +54,7 @@ impl Layout {
 
     /// The index of a block's word.
     pub fn block(&self, block: u32) -> usize
-        requires blocks { self.now.blocks ≤ 256 }
+        requires blocks { self.now.blocks ≤ MOST_BLOCKS }
         requires block { block < self.now.blocks }
         ensures value { result ≡ index self.now (OfBlock block) }
         ensures within { result < words_in self.now }
@@ -62,8 +64,8 @@ impl Layout {
 
     /// The index of a place's control word.
     pub fn control(&self, block: u32, node: u32) -> usize
-        requires blocks { self.now.blocks ≤ 256 }
-        requires nodes { self.now.nodes ≤ 1025 }
+        requires blocks { self.now.blocks ≤ MOST_BLOCKS }
+        requires nodes { self.now.nodes ≤ MOST_NODES }
         requires block { block < self.now.blocks }
         requires node { node < self.now.nodes }
         ensures value { result ≡ index self.now (OfControl block node) }
@@ -74,8 +76,8 @@ impl Layout {
 
     /// The index of a place's callback word.
     pub fn callback(&self, block: u32, node: u32) -> usize
-        requires blocks { self.now.blocks ≤ 256 }
-        requires nodes { self.now.nodes ≤ 1025 }
+        requires blocks { self.now.blocks ≤ MOST_BLOCKS }
+        requires nodes { self.now.nodes ≤ MOST_NODES }
         requires block { block < self.now.blocks }
         requires node { node < self.now.nodes }
         ensures value { result ≡ index self.now (OfCallback block node) }
@@ -86,8 +88,8 @@ impl Layout {
 
     /// The index of a place's source word.
     pub fn source(&self, block: u32, node: u32) -> usize
-        requires blocks { self.now.blocks ≤ 256 }
-        requires nodes { self.now.nodes ≤ 1025 }
+        requires blocks { self.now.blocks ≤ MOST_BLOCKS }
+        requires nodes { self.now.nodes ≤ MOST_NODES }
         requires block { block < self.now.blocks }
         requires node { node < self.now.nodes }
         ensures value { result ≡ index self.now (OfSource block node) }

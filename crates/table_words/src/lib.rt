@@ -20,6 +20,7 @@
 
 mod block;
 mod halves;
+mod law;
 mod layout;
 mod place;
 mod scope;
@@ -28,6 +29,7 @@ mod tests;
 
 pub use block::{block_number, read_block};
 pub use halves::{stamp, words_are_exact};
+pub use law::scope_words_lie_so;
 pub use layout::{Layout, SCOPE, SCOPE_SOURCE, spots_are_apart};
 pub use place::{
     callback_number, control_number, read_callback, read_control, read_source, source_number,

@@ -1,5 +1,5 @@
 use Rattle.std.proofs.Common.{sym, ◌∙◌}
-use Rattle.op_table.specs.ScopeMoves.{leaves_scope}
+use Rattle.table_steps.specs.ScopeMoves.{leaves_scope}
 use Rattle.count_scope.proofs.Leaving.{last-seals, left-fresh, left-others, left-last}
 use Rattle.count_scope.proofs.seals.leave.Goals as goal
 

@@ -1,4 +1,4 @@
-use Rattle.op_table.specs.Views.{IsHandOf, IsSameHand}
+use Rattle.table_steps.specs.Views.{IsHandOf, IsSameHand}
 use Rattle.op_slot.specs.Searches.{IsMissedBelow}
 use Rattle.op_slot.proofs.blocks.claim_any.Given as goal
 

@@ -3,10 +3,10 @@ use Rattle.std.specs.Mem.Slots.{slots_items}
 use mathlib.Core.Option.{some}
 use lib.ListN.{get_elem?}
 use Rattle.life_rules.specs.Words.{is_free}
-use Rattle.life_rules.specs.Views.{one}
+use Rattle.common_lemmas.specs.Sums.{one}
 use Rattle.life_rules.specs.Scopes.{scope_state}
 use Rattle.table_rules.specs.ShownWords.{is_retired}
-use Rattle.op_table.proofs.Closings.{before-most, tells-none, tells-next}
+use Rattle.table_kept.proofs.Closings.{before-most, tells-none, tells-next}
 use Rattle.op_table.proofs.close.closing_of.Goals as goal
 
 pub loop-block-init : goal.loop-block-init

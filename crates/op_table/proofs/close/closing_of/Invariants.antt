@@ -1,5 +1,5 @@
 use Rattle.std.specs.Mem.Slots.{slots_items}
-use Rattle.op_table.specs.Closings.{TellsOf}
+use Rattle.table_steps.specs.Closings.{TellsOf}
 use Rattle.op_table.proofs.close.closing_of.Given as goal
 
 abbrev pub invariant-loop-block : goal.invariant-loop-block

@@ -1,5 +1,5 @@
 use Rattle.std.proofs.Common.{drop}
-use Rattle.op_table.specs.Remembers.{IsAdding}
+use Rattle.table_steps.specs.Remembers.{IsAdding}
 use Rattle.op_table.proofs.owing.add_children.Given as goal
 
 abbrev pub invariant-loop-child : goal.invariant-loop-child

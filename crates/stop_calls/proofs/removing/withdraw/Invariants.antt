@@ -1,5 +1,5 @@
 use Rattle.std.specs.Prelude.{ℕ}
-use Rattle.op_table.specs.Views.{IsHandOf, IsSameHand}
+use Rattle.table_steps.specs.Views.{IsHandOf, IsSameHand}
 use Rattle.stop_calls.specs.Removals.{MayWithdraw, Waits}
 use Rattle.stop_calls.proofs.removing.withdraw.Given as goal
 

@@ -1,4 +1,4 @@
-use Rattle.life_rules.specs.Tree.{has_source}
+use Rattle.node_tree.specs.Tree.{has_source}
 use Rattle.stop_use.specs.Uses.{use_tree}
 use Rattle.std.proofs.Common.{ap, subst}
 use Rattle.life_rules.specs.declared.event.SourceRef.TheVariants.{Node}

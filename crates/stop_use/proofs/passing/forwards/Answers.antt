@@ -1,5 +1,5 @@
 use Rattle.std.proofs.Common.{ap, ◌∙◌}
-use Rattle.life_rules.specs.Tree.{has_source}
+use Rattle.node_tree.specs.Tree.{has_source}
 use Rattle.stop_calls.specs.declared.scanning.Scan.{Scan}
 use Rattle.stop_use.proofs.Forwarding.{branch-scans, twig-is}
 use Rattle.stop_use.specs.Uses.{use_tree}

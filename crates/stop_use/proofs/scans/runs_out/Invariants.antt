@@ -1,5 +1,5 @@
 use Rattle.std.specs.Prelude.{◌≡◌}
-use Rattle.op_table.specs.Views.{IsHandOf}
+use Rattle.table_steps.specs.Views.{IsHandOf}
 use Rattle.stop_use.specs.Uses.{KeepsReports}
 use Rattle.stop_use.specs.Scans.{Scans, other_scans, places_left}
 use Rattle.stop_use.specs.Causes.{GoesOn}

@@ -1,7 +1,7 @@
 use Rattle.std.proofs.Common.{refl, subst}
 use Rattle.std.specs.Prelude.{Option}
 use Rattle.life_rules.specs.declared.event.Name.{Name}
-use Rattle.op_table.specs.declared.claim.Block.{Block}
+use Rattle.table_steps.specs.declared.block.Block.{Block}
 use Rattle.op_slot.specs.Searches.{IsSearched}
 use Rattle.op_slot.proofs.Searching.{searched-found}
 use Rattle.op_slot.proofs.Found.{found-calm, found-owes}

@@ -1,7 +1,7 @@
 use Rattle.std.proofs.Common.{sym, ap, subst, ◌∙◌}
 use Rattle.std.specs.Prelude.{Some}
 use Rattle.life_rules.specs.declared.event.Name.{Name}
-use Rattle.op_table.specs.Releases.{CanRelease}
+use Rattle.table_steps.specs.Releases.{CanRelease}
 use Rattle.table_use.specs.declared.node.Fault.TheVariants.{Registered, Lost, OtherItem}
 use Rattle.table_use.specs.Causes.{IsLeft, StopsAt}
 use Rattle.table_use.proofs.Nodes.{named-node}

@@ -2,11 +2,11 @@ use Rattle.std.proofs.Common.{arith, sym, ap, ◌∙◌, subst}
 use Rattle.life_rules.specs.declared.words.CallbackPhase.TheVariants.{Running}
 use Rattle.table_words.specs.Controls.{callback_written}
 use Rattle.table_words.specs.Layouts.{OfCallback, index}
-use Rattle.op_table.specs.Slots.{IsSeated}
-use Rattle.op_table.proofs.Hands.{hand-seated, hand-logged}
-use Rattle.op_table.proofs.RunAllowed.{runs-at, run-seated, met-seated}
-use Rattle.op_table.proofs.RunTold.{met-armed, met-unarmed, won, lost, tried}
-use Rattle.op_table.specs.Runs.{node_named, run_index}
+use Rattle.table_steps.specs.Slots.{IsSeated}
+use Rattle.table_kept.proofs.Hands.{hand-seated, hand-logged}
+use Rattle.table_kept.proofs.RunAllowed.{runs-at, run-seated, met-seated}
+use Rattle.table_kept.proofs.RunTold.{met-armed, met-unarmed, won, lost, tried}
+use Rattle.table_steps.specs.Runs.{node_named, run_index}
 use Rattle.op_table.proofs.table.OpTable.+run_from.Goals as goal
 
 pub compare_exchange-was-requires : goal.compare_exchange-was-requires

@@ -1,10 +1,10 @@
 use Rattle.std.proofs.Common.{arith, sym, ap, ◌∙◌, subst}
 use Rattle.table_words.specs.Layouts.{OfCallback, index}
-use Rattle.op_table.specs.Slots.{IsSeated}
-use Rattle.op_table.specs.Claims.{logged}
-use Rattle.op_table.specs.Callbacks.{arms}
-use Rattle.op_table.proofs.Hands.{hand-seated}
-use Rattle.op_table.proofs.ArmRuns.{arms-at, arm-seated}
+use Rattle.table_steps.specs.Slots.{IsSeated}
+use Rattle.table_steps.specs.Claims.{logged}
+use Rattle.table_steps.specs.Callbacks.{arms}
+use Rattle.table_kept.proofs.Hands.{hand-seated}
+use Rattle.table_kept.proofs.ArmRuns.{arms-at, arm-seated}
 use Rattle.op_table.proofs.table.OpTable.arm_at.Goals as goal
 
 pub store-requires : goal.store-requires

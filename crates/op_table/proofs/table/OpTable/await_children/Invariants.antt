@@ -1,4 +1,4 @@
-use Rattle.op_table.specs.Views.{aim_at}
+use Rattle.table_steps.specs.Views.{aim_at}
 use Rattle.op_table.proofs.table.OpTable.await_children.Given as goal
 
 abbrev pub ghosts-await_at-K-Subject : goal.ghosts-await_at-K-Subject

@@ -1,9 +1,9 @@
 use Rattle.std.proofs.Common.{◌≡◌, false, arith, sym, ap, ◌∙◌, inl, ⊎_elim}
 use Rattle.life_rules.specs.declared.words.BlockState.TheVariants.{Open, Retired}
 use Rattle.life_rules.specs.Words.{is_free}
-use Rattle.op_table.proofs.Loads.{looks_allowed}
-use Rattle.op_table.proofs.Hands.{hand-logged}
-use Rattle.op_table.proofs.ClaimTold.{told, seen_at}
+use Rattle.table_kept.proofs.Loads.{looks_allowed}
+use Rattle.table_kept.proofs.Hands.{hand-logged}
+use Rattle.table_kept.proofs.ClaimTold.{told, seen_at}
 use Rattle.op_table.proofs.table.OpTable.claim_at.Goals as goal
 
 pub load-found-requires : goal.load-found-requires

@@ -1,6 +1,6 @@
 use Rattle.table_words.specs.Blocks.{block_read}
-use Rattle.op_table.specs.Views.{aim_at}
-use Rattle.op_table.specs.Claims.{root_name}
+use Rattle.table_steps.specs.Views.{aim_at}
+use Rattle.table_steps.specs.Claims.{root_name}
 use Rattle.op_table.proofs.table.OpTable.claim_at.Given as goal
 
 abbrev pub ghosts-claim_from : goal.ghosts-claim_from

@@ -1,11 +1,11 @@
 use Rattle.std.proofs.Common.{ℕ, arith, refl, sym, ap, ◌∙◌, subst}
 use Rattle.life_rules.specs.declared.words.BlockState.TheVariants.{Open}
 use Rattle.table_words.specs.Blocks.{block_read}
-use Rattle.op_table.specs.Owing.{OwesNoneThere}
-use Rattle.op_table.specs.Claims.{logged, root_name}
-use Rattle.op_table.proofs.Hands.{hand-aimed, hand-logged}
-use Rattle.op_table.proofs.ClaimAllowed.{claims_at}
-use Rattle.op_table.proofs.ClaimTold.{won}
+use Rattle.table_steps.specs.Owing.{OwesNoneThere}
+use Rattle.table_steps.specs.Claims.{logged, root_name}
+use Rattle.table_kept.proofs.Hands.{hand-aimed, hand-logged}
+use Rattle.table_kept.proofs.ClaimAllowed.{claims_at}
+use Rattle.table_kept.proofs.ClaimTold.{won}
 use Rattle.op_table.proofs.table.OpTable.claim_from.Goals as goal
 
 pub compare_exchange-was-requires : goal.compare_exchange-was-requires

@@ -1,6 +1,6 @@
 use Rattle.std.proofs.Common.{ap, ◌∙◌}
-use Rattle.op_table.specs.Views.{knows}
-use Rattle.op_table.proofs.Closings.{IsLast, closes, told-within, counted-by}
+use Rattle.table_steps.specs.Views.{knows}
+use Rattle.table_kept.proofs.Closings.{IsLast, closes, told-within, counted-by}
 use Rattle.op_table.proofs.table.OpTable.close_table.Given as given
 use Rattle.op_table.proofs.table.OpTable.close_table.Goals as goal
 

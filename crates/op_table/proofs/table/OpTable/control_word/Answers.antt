@@ -1,5 +1,5 @@
 use Rattle.std.proofs.Common.{arith, sym, ap, ◌∙◌}
-use Rattle.op_table.proofs.Loads.{looks_allowed}
+use Rattle.table_kept.proofs.Loads.{looks_allowed}
 use Rattle.op_table.proofs.table.OpTable.control_word.Goals as goal
 
 pub load-requires : goal.load-requires

@@ -1,4 +1,4 @@
-use Rattle.op_table.specs.Views.{aim_at}
+use Rattle.table_steps.specs.Views.{aim_at}
 use Rattle.op_table.proofs.table.OpTable.end_run_step.Given as goal
 
 abbrev pub ghosts-end_run_at : goal.ghosts-end_run_at

@@ -1,9 +1,10 @@
 use Rattle.std.proofs.Common.{◌≤◌, arith, sym, ap, ◌∙◌, subst}
-use Rattle.op_table.specs.Slots.{IsSeated}
-use Rattle.op_table.specs.Claims.{logged}
-use Rattle.op_table.specs.ScopeEntries.{enters, enters_at}
-use Rattle.op_table.proofs.Hands.{hand-seated}
-use Rattle.op_table.proofs.EnterRuns.{enters-at, entered-seated}
+use Rattle.table_rules.specs.declared.frame.TheConstants.{MOST_ASSOCIATIONS}
+use Rattle.table_steps.specs.Slots.{IsSeated}
+use Rattle.table_steps.specs.Claims.{logged}
+use Rattle.table_steps.specs.ScopeEntries.{enters, enters_at}
+use Rattle.table_kept.proofs.Hands.{hand-seated}
+use Rattle.table_kept.proofs.EnterRuns.{enters-at, entered-seated}
 use Rattle.op_table.proofs.table.OpTable.enter_at.Goals as goal
 
 pub fetch_add-word-requires : goal.fetch_add-word-requires
@@ -13,7 +14,7 @@ fetch_add-word-requires g c =
       omega (arith, counts),
       enters-at g.P.Cargo c.args.self.now.frame c.self.inside.table.shared.key _ c.args.seat.now.id g.K.Room.most c.args.seat.now.me
           (sym (ap (λ b. b.frame) c.self.view_is) ∙ sym c.self.invariant.0)
-          c.requires.room (subst (λ b. b.frame.most ≤ 65535) c.self.view_is c.self.invariant.1.most) c.requires.enters,
+          c.requires.room (subst (λ b. b.frame.most ≤ MOST_ASSOCIATIONS) c.self.view_is c.self.invariant.1.most) c.requires.enters,
     )
 
 pub returns-clause-hand : goal.returns-clause-hand

@@ -1,5 +1,5 @@
-use Rattle.op_table.specs.Views.{knows}
-use Rattle.op_table.specs.Closings.{IsGathering}
+use Rattle.table_steps.specs.Views.{knows}
+use Rattle.table_steps.specs.Closings.{IsGathering}
 use Rattle.op_table.proofs.table.OpTable.gather.Given as goal
 
 abbrev pub ghosts-join : goal.ghosts-join

@@ -1,5 +1,5 @@
 use Rattle.std.proofs.Common.{ap, ◌∙◌, subst}
-use Rattle.op_table.proofs.Remembering.{IsLaid, remembers-none}
+use Rattle.table_kept.proofs.Remembering.{IsLaid, remembers-none}
 use Rattle.op_table.proofs.table.OpTable.hand_on.Goals as goal
 
 pub invariant_of-result : goal.invariant_of-result

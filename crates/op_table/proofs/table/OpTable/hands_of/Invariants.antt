@@ -1,5 +1,5 @@
 use Rattle.std.proofs.Common.{length}
-use Rattle.op_table.specs.Remembers.{IsHanding}
+use Rattle.table_steps.specs.Remembers.{IsHanding}
 use Rattle.op_table.proofs.table.OpTable.hands_of.Given as goal
 
 abbrev pub invariant-loop-alloc : goal.invariant-loop-alloc

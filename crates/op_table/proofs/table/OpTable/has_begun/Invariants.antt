@@ -1,5 +1,5 @@
-use Rattle.op_table.specs.Views.{aim_at}
-use Rattle.op_table.specs.Readings.{above_it}
+use Rattle.table_steps.specs.Views.{aim_at}
+use Rattle.table_steps.specs.Readings.{above_it}
 use Rattle.op_table.proofs.table.OpTable.has_begun.Given as goal
 
 abbrev pub ghosts-read_child-K-Subject : goal.ghosts-read_child-K-Subject

@@ -1,8 +1,8 @@
 use Rattle.std.proofs.Common.{arith, sym, ap, ◌∙◌, subst}
 use Rattle.atomic_table.specs.Table.{Joins}
 use Rattle.table_rules.specs.Running.{Running}
-use Rattle.op_table.specs.Closings.{gathered, spent}
-use Rattle.op_table.proofs.Joining.{joins}
+use Rattle.table_steps.specs.Closings.{gathered, spent}
+use Rattle.table_kept.proofs.Joining.{joins}
 use Rattle.op_table.proofs.table.OpTable.join.Goals as goal
 
 pub join_seat-requires : goal.join_seat-requires

@@ -1,8 +1,8 @@
 use Rattle.std.proofs.Common.{◌^◌, arith, sym, ap, ◌∙◌}
 use Rattle.std.specs.Prelude.{bit_or}
-use Rattle.op_table.specs.ScopeSets.{joining}
-use Rattle.op_table.proofs.Masks.{reads-joining}
-use Rattle.op_table.proofs.ScopeLeft.{sets-joining, hand-twice}
+use Rattle.table_steps.specs.ScopeSets.{joining}
+use Rattle.table_kept.proofs.Masks.{reads-joining}
+use Rattle.table_kept.proofs.ScopeLeft.{sets-joining, hand-twice}
 use Rattle.op_table.proofs.table.OpTable.join_at.Goals as goal
 
 pub fetch_or-word-requires : goal.fetch_or-word-requires

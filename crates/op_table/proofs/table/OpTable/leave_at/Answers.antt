@@ -1,7 +1,7 @@
 use Rattle.std.proofs.Common.{arith, sym, ap, ◌∙◌, subst}
-use Rattle.op_table.specs.Slots.{IsSeated}
-use Rattle.op_table.proofs.Hands.{hand-seated}
-use Rattle.op_table.proofs.ScopeKinds.{leaves_allowed, left-seated}
+use Rattle.table_steps.specs.Slots.{IsSeated}
+use Rattle.table_kept.proofs.Hands.{hand-seated}
+use Rattle.table_kept.proofs.ScopeKinds.{leaves_allowed, left-seated}
 use Rattle.op_table.proofs.table.OpTable.leave_at.Goals as goal
 
 pub fetch_sub-word-requires : goal.fetch_sub-word-requires

@@ -1,7 +1,7 @@
 use Rattle.std.proofs.Common.{arith, sym, ap, ◌∙◌, subst}
-use Rattle.op_table.specs.Slots.{IsSeated}
-use Rattle.op_table.proofs.Hands.{hand-seated}
-use Rattle.op_table.proofs.ScopeKinds.{makes_allowed, made-seated}
+use Rattle.table_steps.specs.Slots.{IsSeated}
+use Rattle.table_kept.proofs.Hands.{hand-seated}
+use Rattle.table_kept.proofs.ScopeKinds.{makes_allowed, made-seated}
 use Rattle.op_table.proofs.table.OpTable.mark_used_at.Goals as goal
 
 pub fetch_or-word-requires : goal.fetch_or-word-requires

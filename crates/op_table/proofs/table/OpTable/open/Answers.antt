@@ -1,8 +1,8 @@
 use Rattle.std.proofs.Common.{◌≤◌, sym, ◌∙◌, subst}
-use Rattle.life_rules.specs.Tree.{IsTree}
-use Rattle.life_rules.specs.declared.tree.TheConstants.{MOST_NODES}
-use Rattle.op_table.proofs.Opening.{framed, opens_with}
-use Rattle.op_table.proofs.PoppedHands.{have-none}
+use Rattle.node_tree.specs.Tree.{IsTree}
+use Rattle.node_tree.specs.declared.node.TheConstants.{MOST_NODES}
+use Rattle.table_kept.proofs.Opening.{framed, opens_with}
+use Rattle.table_kept.proofs.PoppedHands.{have-none}
 use Rattle.op_table.proofs.table.OpTable.open.Goals as goal
 
 pub vacant-requires : goal.vacant-requires

@@ -1,7 +1,7 @@
 use Rattle.std.proofs.Common.{◌≡◌, [], ap, ◌∙◌, subst}
 use Rattle.std.specs.Prelude.{MatchOption}
-use Rattle.op_table.specs.Owing.{Owes}
-use Rattle.op_table.proofs.Remembering.{IsLaid, tells-owed, tells-place}
+use Rattle.table_steps.specs.Owing.{Owes}
+use Rattle.table_kept.proofs.Remembering.{IsLaid, tells-owed, tells-place}
 use Rattle.op_table.proofs.table.OpTable.owed.Goals as goal
 
 pub returns-clause-owes : goal.returns-clause-owes

@@ -1,4 +1,4 @@
-use Rattle.op_table.specs.Views.{aim_at}
+use Rattle.table_steps.specs.Views.{aim_at}
 use Rattle.op_table.proofs.table.OpTable.park.Given as goal
 
 abbrev pub ghosts-rest_at : goal.ghosts-rest_at

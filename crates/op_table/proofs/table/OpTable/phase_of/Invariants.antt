@@ -1,4 +1,4 @@
-use Rattle.op_table.specs.Views.{aim_at}
+use Rattle.table_steps.specs.Views.{aim_at}
 use Rattle.op_table.proofs.table.OpTable.phase_of.Given as goal
 
 abbrev pub ghosts-read_phase : goal.ghosts-read_phase

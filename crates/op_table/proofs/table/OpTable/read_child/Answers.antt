@@ -1,9 +1,9 @@
 use Rattle.std.proofs.Common.{arith, sym, ap, ◌∙◌, subst}
 use Rattle.table_words.specs.Layouts.{OfControl, index}
-use Rattle.op_table.specs.Slots.{IsSeated}
-use Rattle.op_table.specs.Readings.{above_it, reads_child}
-use Rattle.op_table.proofs.Hands.{hand-seated}
-use Rattle.op_table.proofs.ReadAllowed.{child-at, child-seated}
+use Rattle.table_steps.specs.Slots.{IsSeated}
+use Rattle.table_steps.specs.Readings.{above_it, reads_child}
+use Rattle.table_kept.proofs.Hands.{hand-seated}
+use Rattle.table_kept.proofs.ReadAllowed.{child-at, child-seated}
 use Rattle.op_table.proofs.table.OpTable.read_child.Goals as goal
 
 pub load-word-requires : goal.load-word-requires

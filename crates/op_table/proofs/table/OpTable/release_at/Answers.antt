@@ -1,8 +1,8 @@
 use Rattle.std.proofs.Common.{arith, sym, ap, ◌∙◌}
-use Rattle.op_table.specs.Claims.{root_name}
-use Rattle.op_table.proofs.Hands.{hand-aimed}
-use Rattle.op_table.proofs.Loads.{left-under}
-use Rattle.op_table.proofs.ReleaseAllowed.{releases-at, releases-told, empties-told, stay-empty}
+use Rattle.table_steps.specs.Claims.{root_name}
+use Rattle.table_kept.proofs.Hands.{hand-aimed}
+use Rattle.table_kept.proofs.Loads.{left-under}
+use Rattle.table_kept.proofs.ReleaseAllowed.{releases-at, releases-told, empties-told, stay-empty}
 use Rattle.op_table.proofs.table.OpTable.release_at.Goals as goal
 
 pub store-requires : goal.store-requires

@@ -1,6 +1,6 @@
 use Rattle.std.proofs.Common.{[], ◌∷◌}
-use Rattle.op_table.specs.Views.{aim_at}
-use Rattle.op_table.specs.Claims.{root_name}
+use Rattle.table_steps.specs.Views.{aim_at}
+use Rattle.table_steps.specs.Claims.{root_name}
 use Rattle.op_table.proofs.table.OpTable.release_step.Given as goal
 
 abbrev pub ghosts-release_at-K-Subject : goal.ghosts-release_at-K-Subject

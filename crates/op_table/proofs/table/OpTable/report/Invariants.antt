@@ -1,6 +1,6 @@
 use Rattle.std.proofs.Common.{[], ◌∷◌}
-use Rattle.op_table.specs.Views.{aim_at}
-use Rattle.op_table.specs.Readings.{above_it}
+use Rattle.table_steps.specs.Views.{aim_at}
+use Rattle.table_steps.specs.Readings.{above_it}
 use Rattle.op_table.proofs.table.OpTable.report.Given as goal
 
 abbrev pub ghosts-report_to-K-Subject : goal.ghosts-report_to-K-Subject

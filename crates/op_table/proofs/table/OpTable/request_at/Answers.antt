@@ -1,12 +1,12 @@
 use Rattle.std.proofs.Common.{not, arith, sym, ap, ◌∙◌, subst}
 use Rattle.life_rules.specs.declared.words.Bits.{Bits}
 use Rattle.table_words.specs.Layouts.{index}
-use Rattle.op_table.specs.Slots.{IsSeated}
-use Rattle.op_table.specs.Claims.{logged}
-use Rattle.op_table.specs.Sights.{spot_of}
-use Rattle.op_table.specs.Requests.{asks, asks_at, IsWordOf}
-use Rattle.op_table.proofs.Hands.{hand-seated}
-use Rattle.op_table.proofs.RequestAllowed.{asks-at, asked-seated}
+use Rattle.table_steps.specs.Slots.{IsSeated}
+use Rattle.table_steps.specs.Claims.{logged}
+use Rattle.table_steps.specs.Sights.{spot_of}
+use Rattle.table_steps.specs.Requests.{asks, asks_at, IsWordOf}
+use Rattle.table_kept.proofs.Hands.{hand-seated}
+use Rattle.table_kept.proofs.RequestAllowed.{asks-at, asked-seated}
 use Rattle.op_table.proofs.table.OpTable.request_at.Goals as goal
 
 pub fetch_or-word-requires : goal.fetch_or-word-requires

@@ -1,8 +1,8 @@
 use Rattle.std.proofs.Common.{arith, ◌==◌, sym, ap, ◌∙◌}
 use Rattle.table_words.specs.Layouts.{OfControl, index}
-use Rattle.op_table.specs.Claims.{logged}
-use Rattle.op_table.proofs.Hands.{hand-logged}
-use Rattle.op_table.proofs.RouseRuns.{rouses-at}
+use Rattle.table_steps.specs.Claims.{logged}
+use Rattle.table_kept.proofs.Hands.{hand-logged}
+use Rattle.table_kept.proofs.RouseRuns.{rouses-at}
 use Rattle.op_table.proofs.table.OpTable.rouse_at.Goals as goal
 
 pub compare_exchange-was-requires : goal.compare_exchange-was-requires

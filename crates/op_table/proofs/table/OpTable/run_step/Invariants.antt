@@ -1,6 +1,6 @@
 use Rattle.std.specs.Prelude.{None}
-use Rattle.op_table.specs.Views.{aim_at}
-use Rattle.op_table.specs.Runs.{place_named}
+use Rattle.table_steps.specs.Views.{aim_at}
+use Rattle.table_steps.specs.Runs.{place_named}
 use Rattle.op_table.proofs.table.OpTable.run_step.Given as goal
 
 abbrev pub ghosts-run_at-K-Subject : goal.ghosts-run_at-K-Subject

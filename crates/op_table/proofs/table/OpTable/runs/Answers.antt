@@ -1,8 +1,8 @@
 use Rattle.std.proofs.Common.{ap, ◌∙◌, subst}
 use Rattle.std.specs.Prelude.{nat_le}
-use Rattle.op_table.specs.Remembers.{running}
-use Rattle.op_table.proofs.Remembering.{IsLaid, place-here}
-use Rattle.op_table.proofs.RememberRuns.{tells-run}
+use Rattle.table_steps.specs.Remembers.{running}
+use Rattle.table_kept.proofs.Remembering.{IsLaid, place-here}
+use Rattle.table_kept.proofs.RememberRuns.{tells-run}
 use Rattle.op_table.proofs.table.OpTable.runs.Goals as goal
 
 pub contains-requires : goal.contains-requires

@@ -1,6 +1,6 @@
 use Rattle.std.proofs.Common.{arith, sym, ap, ◌∙◌}
-use Rattle.op_table.proofs.Hands.{hand-logged}
-use Rattle.op_table.proofs.Loads.{looks_allowed}
+use Rattle.table_kept.proofs.Hands.{hand-logged}
+use Rattle.table_kept.proofs.Loads.{looks_allowed}
 use Rattle.op_table.proofs.table.OpTable.scope_at.Goals as goal
 
 pub load-word-requires : goal.load-word-requires

@@ -1,9 +1,9 @@
 use Rattle.std.proofs.Common.{◌≡◌, ◌≢◌, arith, sym, ap, ◌∙◌, subst}
 use Rattle.std.specs.Prelude.{MatchResult}
 use Rattle.table_words.specs.ScopeNumbers.{scope_read}
-use Rattle.op_table.proofs.Hands.{hand-logged}
-use Rattle.op_table.proofs.Masks.{written-narrow, seal-cause}
-use Rattle.op_table.proofs.ScopeKinds.{seals_allowed}
+use Rattle.table_kept.proofs.Hands.{hand-logged}
+use Rattle.table_kept.proofs.Masks.{written-narrow, seal-cause}
+use Rattle.table_kept.proofs.ScopeKinds.{seals_allowed}
 use Rattle.op_table.proofs.table.OpTable.seal_at.Goals as goal
 
 pub compare_exchange-word-requires : goal.compare_exchange-word-requires

@@ -1,11 +1,11 @@
 use Rattle.std.proofs.Common.{arith, sym, ap, ◌∙◌, subst}
 use Rattle.table_words.specs.Layouts.{index}
-use Rattle.op_table.specs.Slots.{IsSeated}
-use Rattle.op_table.specs.Claims.{logged}
-use Rattle.op_table.specs.Sights.{spot_of}
-use Rattle.op_table.specs.ScanSeals.{seals_scan}
-use Rattle.op_table.proofs.Hands.{hand-seated}
-use Rattle.op_table.proofs.ScanSealRuns.{seals-at, seal-seated}
+use Rattle.table_steps.specs.Slots.{IsSeated}
+use Rattle.table_steps.specs.Claims.{logged}
+use Rattle.table_steps.specs.Sights.{spot_of}
+use Rattle.table_steps.specs.ScanSeals.{seals_scan}
+use Rattle.table_kept.proofs.Hands.{hand-seated}
+use Rattle.table_kept.proofs.ScanSealRuns.{seals-at, seal-seated}
 use Rattle.op_table.proofs.table.OpTable.seal_scan_at.Goals as goal
 
 pub fetch_or-word-requires : goal.fetch_or-word-requires

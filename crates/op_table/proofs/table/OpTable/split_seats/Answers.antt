@@ -1,8 +1,8 @@
 use Rattle.std.proofs.Common.{◌+◌, arith, refl, sym, ap, ◌∙◌, subst}
 use Rattle.atomic_table.proofs.Lists.{at_index}
-use Rattle.op_table.specs.Views.{AreFreshHands}
-use Rattle.op_table.proofs.Splitting.{splits}
-use Rattle.op_table.proofs.FreshHands.{one_more}
+use Rattle.table_steps.specs.Views.{AreFreshHands}
+use Rattle.table_kept.proofs.Splitting.{splits}
+use Rattle.table_kept.proofs.FreshHands.{one_more}
 use Rattle.op_table.proofs.table.OpTable.split_seats.Goals as goal
 
 pub split_seat-next-requires : goal.split_seat-next-requires

@@ -1,5 +1,5 @@
 use Rattle.std.proofs.Common.{◌≤◌}
-use Rattle.op_table.specs.Views.{AreFreshHands}
+use Rattle.table_steps.specs.Views.{AreFreshHands}
 use Rattle.op_table.proofs.table.OpTable.split_seats.Given as goal
 
 abbrev pub invariant-loop-number : goal.invariant-loop-number

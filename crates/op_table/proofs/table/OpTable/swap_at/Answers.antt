@@ -1,9 +1,9 @@
 use Rattle.std.proofs.Common.{arith, sym, ap, ◌∙◌}
 use Rattle.table_words.specs.Layouts.{OfControl, index}
-use Rattle.op_table.specs.Slots.{slot_of}
-use Rattle.op_table.proofs.Hands.{hand-seated}
-use Rattle.op_table.proofs.Turning.{turns-at}
-use Rattle.op_table.proofs.Swapping.{turned-first, swapped-told, swapped-seated}
+use Rattle.table_steps.specs.Slots.{slot_of}
+use Rattle.table_kept.proofs.Hands.{hand-seated}
+use Rattle.table_kept.proofs.Turning.{turns-at}
+use Rattle.table_kept.proofs.Swapping.{turned-first, swapped-told, swapped-seated}
 use Rattle.op_table.proofs.table.OpTable.swap_at.Goals as goal
 
 pub load-requires : goal.load-requires

@@ -1,4 +1,4 @@
-use Rattle.op_table.specs.Views.{aim_at}
+use Rattle.table_steps.specs.Views.{aim_at}
 use Rattle.op_table.proofs.table.OpTable.swap_home.Given as goal
 
 abbrev pub ghosts-swap_at : goal.ghosts-swap_at

@@ -1,5 +1,5 @@
 use Rattle.std.proofs.Common.{[], ◌∷◌}
-use Rattle.op_table.specs.Views.{aim_at}
+use Rattle.table_steps.specs.Views.{aim_at}
 use Rattle.op_table.proofs.table.OpTable.take_parked.Given as goal
 
 abbrev pub ghosts-take_at-K-Subject : goal.ghosts-take_at-K-Subject

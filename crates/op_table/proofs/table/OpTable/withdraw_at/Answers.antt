@@ -1,11 +1,11 @@
 use Rattle.std.proofs.Common.{arith, sym, ap, ◌∙◌, subst}
 use Rattle.table_words.specs.Layouts.{OfCallback, index}
-use Rattle.op_table.specs.Slots.{Aim, IsSeated}
-use Rattle.op_table.specs.Claims.{logged}
-use Rattle.op_table.specs.Readings.{says_phase}
-use Rattle.op_table.specs.Callbacks.{is_registered, withdraws, left_by}
-use Rattle.op_table.proofs.Hands.{hand-seated}
-use Rattle.op_table.proofs.WithdrawAllowed.{withdraws-at, withdrawn-seated}
+use Rattle.table_steps.specs.Slots.{Aim, IsSeated}
+use Rattle.table_steps.specs.Claims.{logged}
+use Rattle.table_steps.specs.Readings.{says_phase}
+use Rattle.table_steps.specs.Callbacks.{is_registered, withdraws, left_by}
+use Rattle.table_kept.proofs.Hands.{hand-seated}
+use Rattle.table_kept.proofs.WithdrawAllowed.{withdraws-at, withdrawn-seated}
 use Rattle.op_table.proofs.table.OpTable.withdraw_at.Goals as goal
 
 pub compare_exchange-was-requires : goal.compare_exchange-was-requires

@@ -1,10 +1,10 @@
 use Rattle.std.proofs.Common.{arith, sym, ap, ◌∙◌, subst}
 use Rattle.table_words.specs.Layouts.{OfCallback, index}
-use Rattle.op_table.specs.Slots.{Aim, IsSeated}
-use Rattle.op_table.specs.Claims.{logged}
-use Rattle.op_table.specs.RunEnds.{removes_own}
-use Rattle.op_table.proofs.Hands.{hand-seated}
-use Rattle.op_table.proofs.RunEndAllowed.{removes-at, removed-seated}
+use Rattle.table_steps.specs.Slots.{Aim, IsSeated}
+use Rattle.table_steps.specs.Claims.{logged}
+use Rattle.table_steps.specs.RunEnds.{removes_own}
+use Rattle.table_kept.proofs.Hands.{hand-seated}
+use Rattle.table_kept.proofs.RunEndAllowed.{removes-at, removed-seated}
 use Rattle.op_table.proofs.table.OpTable.withdraw_own_at.Goals as goal
 
 pub store-requires : goal.store-requires

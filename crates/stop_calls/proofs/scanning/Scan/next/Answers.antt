@@ -1,6 +1,6 @@
 use Rattle.std.proofs.Common.{false, refl, sym, ap, ◌∙◌, subst}
 use Rattle.life_rules.specs.declared.event.SourceRef.{SourceRef}
-use Rattle.op_table.specs.Runs.{CanRun, HasPassed, HasRun}
+use Rattle.table_steps.specs.Runs.{CanRun, HasPassed, HasRun}
 use Rattle.stop_calls.specs.declared.scanning.Scan.{Scan}
 use Rattle.stop_calls.specs.Searches.{IsBlockMet}
 use Rattle.stop_calls.specs.Walks.{PassesBlock}

@@ -1,5 +1,5 @@
 use Rattle.std.specs.Prelude.{◌-◌, ◌*◌, length}
-use Rattle.op_table.specs.Views.{IsHandOf, IsSameHand}
+use Rattle.table_steps.specs.Views.{IsHandOf, IsSameHand}
 use Rattle.stop_calls.specs.Cursors.{cursor}
 use Rattle.stop_calls.proofs.Walking.{IsWalking}
 use Rattle.stop_calls.proofs.scanning.Scan.next.Given as goal

@@ -1,0 +1,239 @@
+-- What the store by which a node awaits children owes, and what it tells.
+use Rattle.std.proofs.Common.{◌≡◌, ℕ, ◌≤◌, Bool, true, false, not, ◌||◌, List, [], length, set, refl, sym, ap, ◌∙◌, subst, inr, arith}
+use Rattle.std.specs.Prelude.{Option, MatchOption}
+use Rattle.std.proofs.lemmas.Bool.{both_ways}
+use mathlib.Core.Option.{some}
+use lib.ListN.{get_elem?}
+use Rattle.life_rules.specs.declared.words.ControlWord.{ControlWord}
+use Rattle.life_rules.specs.declared.words.ControlWord.TheVariants.{Idle, Busy, ReadyLoop, ReadyPool, Parked, Done}
+use Rattle.life_rules.specs.declared.event.Name.{Name}
+use Rattle.node_tree.specs.Tree.{is_child}
+use Rattle.life_rules.specs.Words.{is_idle, is_done, is_under_way, pending}
+use Rattle.life_rules.specs.Views.{View as PureView, beside, lose, gain_each}
+use Rattle.life_rules.specs.States.{State, control_at}
+use Rattle.life_rules.specs.Callbacks.{nearest_is_requested}
+use Rattle.life_kept.proofs.Puts.{IsPut}
+use Rattle.life_kept.proofs.Trees.{child-parent}
+use Rattle.table_words.specs.Stamps.{stamp_of}
+use Rattle.table_words.specs.Controls.{control_read}
+use Rattle.table_words.specs.Layouts.{OfControl, index}
+use Rattle.atomic_table.specs.Table.{Allows}
+use Rattle.atomic_table.specs.Table as table
+use Rattle.table_rules.specs.declared.cargo.Cargo.{Ghosts}
+use Rattle.table_rules.specs.declared.frame.Frame.{Frame}
+use Rattle.table_rules.specs.declared.view.View.{View}
+use Rattle.table_rules.specs.Named.{without}
+use Rattle.table_rules.specs.ShownWords.{block_of}
+use Rattle.table_rules.specs.ShownViews.{shown_view}
+use Rattle.table_rules.specs.Scenes.{Home, Full, is_full, Past, Scene, shown, scene}
+use Rattle.table_rules.specs.Notes.{IsOwedSo}
+use Rattle.table_rules.specs.Running.{Stands, Running}
+use Rattle.table_steps.specs.Claims.{logged, Seated}
+use Rattle.table_steps.specs.Slots.{Aim, IsSeated}
+use Rattle.table_steps.specs.Awaits.{awaits, CanAwait, AwaitsAt}
+use Rattle.table_kept.proofs.Entries.{count-without}
+use Rattle.table_kept.proofs.Among.{among}
+use Rattle.table_kept.proofs.Loads.{known-logged}
+use Rattle.table_kept.proofs.Counts.{counts-moved}
+use Rattle.table_kept.proofs.ViewMoves.{views-moved}
+use Rattle.table_kept.proofs.ControlRuns.{begun-renewed, control-runs}
+use Rattle.table_kept.proofs.BeginTold.{aimed}
+use Rattle.table_kept.proofs.HeldNow.{start-so, fit-now, others-none}
+use Rattle.table_kept.proofs.Shedding.{sheds, carries-shed, deep-shed}
+use Rattle.table_kept.proofs.ShedHomes.{valid-shed, shed_homes}
+use Rattle.table_kept.proofs.Leaving.{is-held, shows-old, quiet}
+use Rattle.table_kept.proofs.OwedLive.{owes-not, owes-beside}
+use Rattle.table_kept.proofs.Awaiting.{count-owes, each-owes, named-child, seated-awaited}
+use Rattle.table_kept.proofs.AwaitRuns.{gone, homes_now, u, is-put, sound-now, past, named-here, lot-here, lot-other, own-home, kid-unfull, await-moves}
+use Rattle.table_kept.proofs.Moving.{Moves, moved}
+use Rattle.table_kept.proofs.MovingHomes.{homes-moved}
+use Rattle.table_kept.proofs.MovingItems.{Remembers, Leaves, starts-moved, items-moved, lots-moved}
+use Rattle.table_kept.proofs.MovingViews.{known-moved, known-beside, others-held}
+
+-- a node that has begun and isn't under way is done
+done-else : (c : ControlWord) (full : Bool) → is_idle c ≡ false → is_under_way c ≡ false → full ≡ false →
+    (not (is_done c) || full) ≡ true → ⊥
+done-else Idle full begun way none h = both_ways true begun refl
+done-else (Busy n) full begun way none h = both_ways true way refl
+done-else ReadyLoop full begun way none h = both_ways true way refl
+done-else ReadyPool full begun way none h = both_ways true way refl
+done-else Parked full begun way none h = both_ways true way refl
+done-else Done full begun way none h = both_ways full none h
+
+module _ {P E O : Type 0} (cargo : Ghosts P E O) (f : Frame O) (s : table.State (Option P) (View P E)) (id value : ℕ) (x : Name) (nodes : List ℕ) (v : View P E) (c : List (ℕ × Option P)) (r : Running cargo f s) (at : get_elem? s.views id ≡ some v) (seated : IsSeated f.tree f.layout (v, c)) (can : CanAwait cargo f (v, c) x nodes) (stamped : stamp_of value ≡ x.generation) (reads : control_read value ≡ Busy (length nodes)) where
+  abbrev now : State
+  now = shown f s
+
+  abbrev here : Scene P E
+  here = scene f s r.past
+
+  abbrev homes_after_it : ℕ → ℕ → Home P
+  homes_after_it = homes_now cargo f s id x nodes v c r at seated can
+
+  abbrev past_now : Past P E
+  past_now = past cargo f s id x nodes v c r at seated can
+
+  abbrev view_now : PureView
+  view_now = u cargo f s id x nodes v c r at seated can
+
+  abbrev put_now : IsPut now id x (Busy (length nodes)) view_now
+  put_now = is-put cargo f s id x nodes v c r at seated can
+
+  abbrev moves_now : Moves here id x (Busy (length nodes)) view_now put_now homes_after_it past_now
+  moves_now = await-moves cargo f s id x nodes v c r at seated can
+
+  remembers : Remembers cargo f.over.value here id x (Busy (length nodes)) view_now put_now homes_after_it past_now moves_now
+  remembers = record { start = λ y. refl; lot = lot-other cargo f s id x nodes v c r at seated can; delivered = λ y ne. refl }
+
+  item-is : (item : P) → homes_after_it x.block x.node ≡ Full item → can.item ≡ item
+  item-is item e = let both : Full can.item ≡ Full item = sym (own-home cargo f s id x nodes v c r at seated can) ∙ e in cc
+
+  leaves : Leaves cargo f.over.value here id x (Busy (length nodes)) view_now put_now homes_after_it past_now moves_now
+  leaves =
+      let e = can.leave.held in
+      let holds = can.leave.holds in
+      record {
+        start = λ item is. ap cargo.start (sym (item-is item is)) ∙ can.start ∙ start-so cargo f s id x v r at e holds;
+        fit = λ item is.
+            subst (λ i. cargo.fits i x.node (nearest_is_requested now x)) (item-is item is)
+            (fit-now cargo f s id x v r at e holds can.item can.fit);
+        goes_on = λ item is _. subst (λ i. ¬ cargo.ends i) (item-is item is) can.goes_on;
+        bound = λ item is.
+            subst (λ i. cargo.least i ≤ past_now.named x) (item-is item is)
+            (subst (λ n. cargo.least can.item ≤ n) (sym (named-here cargo f s id x nodes v c r at seated can)) can.bound);
+        ended = λ done _. cc;
+        delivered = λ item done _ _. cc;
+        lot = λ item _ is. ap cargo.lot (sym (item-is item is)) ∙ sym (lot-here cargo f s id x nodes v c r at seated can);
+        drawn = λ n _ child begun so.
+            absurd (done-else (control_at now (beside x n)) (is_full (homes_after_it x.block n)) begun
+            (quiet cargo f s id x v c r at seated can.leave n child).under_way
+            (kid-unfull cargo f s id x nodes v c r at seated can n child) so);
+      }
+
+  module _ (n : ℕ) where
+    abbrev i : ℕ
+    i = index f.layout (OfControl x.block x.node)
+
+    abbrev owing : View P E
+    owing = awaits x (cargo.start can.item) (cargo.lot can.item) nodes v
+
+    abbrev mine : View P E
+    mine = logged i n owing
+
+    abbrev after : Scene P E
+    after = moved here id x (Busy (length nodes)) view_now put_now homes_after_it past_now
+
+    shows-mine : shown_view (block_of f.layout s.words) mine ≡ view_now
+    shows-mine =
+        let old = shown_view (block_of f.layout s.words) v in
+        (λ k. record old {
+          holds = λ y. count-without (λ e. e.name) v.held x y k;
+          starts = λ y. count-owes x (cargo.start can.item) (cargo.lot can.item) nodes v.owed y can.different k;
+        })
+        ∙ ap (λ (z : PureView). record z { holds = lose x z.holds; starts = gain_each x nodes z.starts })
+        (sym (shows-old cargo f s id x v c r at seated can.leave))
+
+    -- the starts that the hand owes now are owed with what is so of the node
+    owed-so : (m : ℕ) → is_child f.tree x.node m ≡ true →
+        IsOwedSo after (record { name = beside x m; above = cargo.start can.item; lot = cargo.lot can.item })
+    owed-so m child =
+        subst (λ o. MatchOption o ((cargo.start can.item ≡ []) × (cargo.lot can.item ≡ []))
+        (λ q. (cargo.start can.item ≡ past_now.start (beside (beside x m) q)) × (cargo.lot can.item ≡ past_now.lot (beside (beside x m) q))))
+        (sym (child-parent f.tree x.node m child))
+        (can.start ∙ start-so cargo f s id x v r at can.leave.held can.leave.holds, sym (lot-here cargo f s id x nodes v c r at seated can))
+
+    stands-awaiting : Stands cargo f.over.value after (set s.views id mine)
+    stands-awaiting =
+        let e = can.leave.held in
+        let holds = can.leave.holds in
+        let old = r.stands.views.each id v at in
+        let own_among = among f s id v r.sized.seats at in
+        let held = is-held cargo f s id x v c r at seated can.leave in
+        let none : pending (control_at now x) ≡ 0 = ap pending held.word in
+        let lots = lot-other cargo f s id x nodes v c r at seated can in
+        let known = known-beside here id x (Busy (length nodes)) view_now put_now homes_after_it past_now moves_now (λ y. refl) lots (λ y _. refl) (inr none) v own_among old
+        (without (λ e. e.name) v.held x)
+        (others-held here id x (Busy (length nodes)) view_now put_now homes_after_it past_now moves_now (λ y. refl) lots (λ y _. refl) (inr none) v own_among old) in
+        record {
+          sound = sound-now cargo f s id x nodes v c r at seated can;
+          homes = homes-moved here id x (Busy (length nodes)) view_now put_now homes_after_it past_now moves_now r.stands.homes;
+          starts = starts-moved cargo f.over.value here id x (Busy (length nodes)) view_now put_now homes_after_it past_now moves_now remembers leaves r.stands.starts;
+          items = items-moved cargo f.over.value here id x (Busy (length nodes)) view_now put_now homes_after_it past_now moves_now remembers leaves r.stands.items;
+          lots = lots-moved cargo f.over.value here id x (Busy (length nodes)) view_now put_now homes_after_it past_now moves_now remembers leaves r.stands.lots;
+          views = views-moved here after s.views id v mine at
+              (λ j z ne there.
+              known-moved here id x (Busy (length nodes)) view_now put_now homes_after_it past_now moves_now (λ y. refl) lots (λ y _. refl) (inr none) z
+              (among f s j z r.sized.seats there) (others-none cargo f s id x v r at e holds j z ne there))
+              (known-logged after i n owing (record {
+                held = known.held;
+                owed = each-owes (IsOwedSo after) x (cargo.start can.item) (cargo.lot can.item) nodes v.owed
+                    (λ m named. owed-so m (named-child f.tree x nodes can.leave.held.idle can.idle m named)) known.owed;
+                reported = known.reported;
+                noted = known.noted;
+                unlooked = known.unlooked;
+                seen_after = known.seen_after;
+                seen = known.seen;
+              }))
+              refl refl r.stands.views;
+          counts = counts-moved here.state after.state s.views id v mine at refl refl r.stands.counts;
+        }
+
+    pub await-runs : stamp_of n ≤ stamp_of value → Running cargo f record {
+      words = set s.words i value;
+      homes = shed_homes cargo f s id v c r at seated (gone cargo f s id x nodes v c r at seated can);
+      views = set s.views id mine;
+    }
+    await-runs low =
+        let own = is-held cargo f s id x v c r at seated can.leave in
+        control-runs cargo f s id value x (Busy (length nodes)) v r at own.live stamped reads mine view_now shows-mine
+        (shed_homes cargo f s id v c r at seated (gone cargo f s id x nodes v c r at seated can)) homes_after_it past_now (λ j m. refl)
+        (begun-renewed cargo f s x r own.live (ap is_idle own.word)) (record { word = n; steps = refl; low = low })
+        (deep-shed (gone cargo f s id x nodes v c r at seated can) s.homes c) stands-awaiting
+
+-- what the store owes
+pub awaits_allowed : {P E O : Type 0} (cargo : Ghosts P E O) (f : Frame O) (slots id value : ℕ) (x : Name) (nodes : List ℕ) (m : Seated P E) →
+    IsSeated f.tree f.layout m → CanAwait cargo f m x nodes → stamp_of value ≡ x.generation → control_read value ≡ Busy (length nodes) →
+    Allows (Running cargo f) slots id m (index f.layout (OfControl x.block x.node)) (λ _. value)
+    (λ _. AwaitsAt cargo (aimed f x) nodes (index f.layout (OfControl x.block x.node)) m)
+awaits_allowed {P} {E} cargo f slots id value x nodes m seated can stamped reads s r deep at small =
+    let i = index f.layout (OfControl x.block x.node) in
+    let n = value in
+    let c = m.1 in
+    let away = gone cargo f s id x nodes m.0 c r at seated can in
+    let mine : View P E = logged i n (awaits x (cargo.start can.item) (cargo.lot can.item) nodes m.0) in
+    let is = carries-shed away c in (
+      mine,
+      sheds away c,
+      valid-shed cargo f s id m.0 c r at seated away,
+      await-runs cargo f s id value x nodes m.0 c r at seated can stamped reads n (omega arith),
+      record {
+        word = n;
+        item = can.item;
+        home = can.home;
+        me_is = λ k. (mine, is k);
+        seated = subst (λ d. IsSeated f.tree f.layout (mine, d)) (sym is)
+            (seated-awaited f.tree f.layout x nodes (cargo.start can.item) (cargo.lot can.item) i n m.0 c seated);
+        unowed = λ k named.
+            let child = named-child f.tree x nodes can.leave.held.idle can.idle k named in
+            owes-not cargo f s id m.0 r at (beside x k) (quiet cargo f s id x m.0 c r at seated can.leave k child).starts;
+        beside_it = owes-beside cargo f s id m.0 r at x (is-held cargo f s id x m.0 c r at seated can.leave).live;
+      },
+    )
+
+module _ {P E O : Type 0} (cargo : Ghosts P E O) where
+  -- the store, by the frame that the table shows
+  pub awaits-at : (board f : Frame O) (slots id i value : ℕ) (x : Name) (nodes names : List ℕ) (aim : Aim) (m : Seated P E) → board ≡ f →
+      i ≡ index board.layout (OfControl x.block x.node) → aim ≡ aimed board x → names ≡ nodes → IsSeated board.tree board.layout m →
+      CanAwait cargo board m x nodes → stamp_of value ≡ x.generation → control_read value ≡ Busy (length nodes) →
+      Allows (Running cargo f) slots id m i (λ _. value) (λ _. AwaitsAt cargo aim names i m)
+  awaits-at board f slots id i value x nodes names aim m same i_is aim_is names_are seated can stamped reads =
+      subst (λ z. Allows (Running cargo z) slots id m i (λ _. value) (λ _. AwaitsAt cargo aim names i m)) same
+      (subst (λ (z : List ℕ × (ℕ × Aim)). Allows (Running cargo board) slots id m z.1.0 (λ _. value) (λ _. AwaitsAt cargo z.1.1 z.0 z.1.0 m))
+      (λ k. (sym names_are k, (sym i_is k, sym aim_is k)))
+      (awaits_allowed cargo board slots id value x nodes m seated can stamped reads))
+
+  pub awaits-told : (board : Frame O) (i : ℕ) (x : Name) (nodes names : List ℕ) (aim : Aim) (m m' : Seated P E) →
+      i ≡ index board.layout (OfControl x.block x.node) → aim ≡ aimed board x → names ≡ nodes → AwaitsAt cargo aim names i m m' →
+      AwaitsAt cargo (aimed board x) nodes (index board.layout (OfControl x.block x.node)) m m'
+  awaits-told board i x nodes names aim m m' i_is aim_is names_are told =
+      subst (λ (z : List ℕ × (ℕ × Aim)). AwaitsAt cargo z.1.1 z.0 z.1.0 m m') (λ k. (names_are k, (i_is k, aim_is k))) told

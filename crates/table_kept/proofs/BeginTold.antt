@@ -1,0 +1,119 @@
+-- What the two stores of a begin owe and tell, in the contract's words.
+use Rattle.std.proofs.Common.{◌≡◌, ◌≢◌, ℕ, false, ◌==◌, List, [], ◌∷◌, Some, sym, ap, ◌∙◌, subst}
+use Rattle.std.specs.Prelude.{slice_get, Option, None}
+use Rattle.std.specs.Option.{option_map_or}
+use Rattle.std.proofs.lemmas.Bool.{cond-false, ne_eqb}
+use Rattle.life_rules.specs.declared.words.ControlWord.TheVariants.{Busy}
+use Rattle.node_tree.specs.declared.node.TreeNode.{TreeNode}
+use Rattle.life_rules.specs.declared.event.Name.{Name}
+use Rattle.node_tree.specs.Tree.{has_source}
+use Rattle.life_rules.specs.Words.{clear}
+use Rattle.common_lemmas.proofs.Bool.{either}
+use Rattle.table_words.specs.declared.layout.Layout.{Layout}
+use Rattle.table_words.specs.Stamps.{stamp_of}
+use Rattle.table_words.specs.Controls.{control_read, source_read}
+use Rattle.table_words.specs.Layouts.{OfControl, OfSource, index, place_number}
+use Rattle.atomic_table.specs.Table.{Allows}
+use Rattle.table_rules.specs.declared.cargo.Cargo.{Ghosts}
+use Rattle.table_rules.specs.declared.frame.Frame.{Frame}
+use Rattle.table_rules.specs.Running.{Running}
+use Rattle.table_steps.specs.Claims.{logged, Seated}
+use Rattle.table_steps.specs.Kids.{empty_slots}
+use Rattle.table_steps.specs.Slots.{Aim, slot_of, kids_of, kept, AreApart, IsSeated}
+use Rattle.table_steps.specs.Begins.{CanBegin, BeginsAt, Renews, IsRenewed, HasRenewed}
+use Rattle.table_kept.proofs.Begins.{begins_allowed}
+use Rattle.table_kept.proofs.ShedHomes.{kept-each}
+use Rattle.table_kept.proofs.Renewing.{renews_allowed}
+
+-- the node that is aimed at, in a table with this frame
+abbrev pub aimed : {O : Type 0} → Frame O → Name → Aim
+aimed f x = record { tree = f.tree; layout = f.layout; name = x }
+
+-- a slot that a hand carries keeps what is in it beside the empty slots of children, since it carries each
+-- slot once
+kept-beside : {P : Type 0} (l : Layout) (b slot : ℕ) (inside : Option P) (ns : List ℕ) (c : List (ℕ × Option P)) →
+    AreApart (empty_slots l b ns c) → kept slot c ≡ Some inside → kept slot (empty_slots l b ns c) ≡ Some inside
+kept-beside l b slot inside [] c apart is = is
+kept-beside l b slot inside (n ∷ ns) c apart is =
+    let rest = empty_slots l b ns c in
+    let below = kept-beside l b slot inside ns c apart.1 is in
+    let differ : slot ≢ place_number l b n = kept-each (λ k. k ≢ place_number l b n) slot inside rest apart.0 below in
+    cond-false (place_number l b n == slot) (Some None) (kept slot rest) (ne_eqb (place_number l b n) slot (λ e. differ (sym e)))
+    ∙ below
+
+module _ {P E O : Type 0} (cargo : Ghosts P E O) where
+  -- the hand can begin the node after a step that was listed
+  can-logged : (f : Frame O) (x : Name) (i n : ℕ) (m : Seated P E) → CanBegin cargo f m x →
+      CanBegin cargo f (logged i n m.0, m.1) x
+  can-logged f x i n m can =
+      record {
+        owed = can.owed;
+        owes = can.owes;
+        item = can.item;
+        home = can.home;
+        entry = can.entry;
+        start = can.start;
+        key = can.key;
+        drawn = can.drawn;
+        goes_on = can.goes_on;
+      }
+
+  pub can-renewed : (f : Frame O) (x : Name) (m m' : Seated P E) → IsRenewed (aimed f x) m m' → CanBegin cargo f m x →
+      CanBegin cargo f m' x
+  can-renewed f x m m' renewed can =
+      either (has_source f.tree x.node)
+      (λ t.
+      let did = renewed.0 t in
+      subst (λ z. CanBegin cargo f z x) (sym did.1)
+      (can-logged f x (index f.layout (OfSource x.block x.node)) did.0 m can))
+      (λ none. subst (λ z. CanBegin cargo f z x) (sym (renewed.1 none)) can)
+
+  -- and its newest step is the renewal, where the node has a source
+  pub has-renewed : (aim : Aim) (m m' : Seated P E) → IsRenewed aim m m' → HasRenewed aim m'
+  has-renewed aim m m' renewed has =
+      let did = renewed.0 has in (did.0, m.0.steps, did.2, ap (λ (z : Seated P E). z.0.steps) did.1)
+
+  -- the renewal, by the frame that the table shows
+  pub renews-at : (board f : Frame O) (slots id i value : ℕ) (x : Name) (m : Seated P E) → board ≡ f →
+      i ≡ index board.layout (OfSource x.block x.node) → CanBegin cargo board m x → stamp_of value ≡ x.generation →
+      source_read value ≡ clear → Allows (Running cargo f) slots id m i (λ _. value) (λ _. Renews i value m)
+  renews-at board f slots id i value x m same i_is can stamped reads =
+      subst (λ z. Allows (Running cargo z) slots id m i (λ _. value) (λ _. Renews i value m)) same
+      (subst (λ j. Allows (Running cargo board) slots id m j (λ _. value) (λ _. Renews j value m)) (sym i_is)
+      (renews_allowed cargo board slots id value x can.owed m can.owes stamped reads))
+
+  -- the store, by the frame that the table shows
+  pub begins-at : (board f : Frame O) (slots id i value : ℕ) (x : Name) (aim : Aim) (m : Seated P E) → board ≡ f →
+      i ≡ index board.layout (OfControl x.block x.node) → aim ≡ aimed board x → CanBegin cargo board m x →
+      HasRenewed (aimed board x) m → stamp_of value ≡ x.generation → control_read value ≡ Busy 0 →
+      Allows (Running cargo f) slots id m i (λ _. value) (λ _. BeginsAt cargo aim i m)
+  begins-at board f slots id i value x aim m same i_is aim_is can renewed stamped reads =
+      subst (λ z. Allows (Running cargo z) slots id m i (λ _. value) (λ _. BeginsAt cargo aim i m)) same
+      (subst (λ (z : ℕ × Aim). Allows (Running cargo board) slots id m z.0 (λ _. value) (λ _. BeginsAt cargo z.1 z.0 m))
+      (λ k. (sym i_is k, sym aim_is k))
+      (begins_allowed cargo board slots id value x m can renewed stamped reads))
+
+  pub begins-told : (board : Frame O) (i : ℕ) (x : Name) (aim : Aim) (m m' : Seated P E) →
+      i ≡ index board.layout (OfControl x.block x.node) → aim ≡ aimed board x → BeginsAt cargo aim i m m' →
+      BeginsAt cargo (aimed board x) (index board.layout (OfControl x.block x.node)) m m'
+  begins-told board i x aim m m' i_is aim_is told =
+      subst (λ (z : ℕ × Aim). BeginsAt cargo z.1 z.0 m m') (λ k. (i_is k, aim_is k)) told
+
+  -- what lies in the home of the node that was begun is what lay there, and no completion
+  pub begun-goes-on : (f : Frame O) (i : ℕ) (x : Name) (m middle m' : Seated P E) → CanBegin cargo f m x →
+      IsRenewed (aimed f x) m middle → BeginsAt cargo (aimed f x) i middle m' → IsSeated f.tree f.layout m' → (item : P) →
+      kept (slot_of f.layout x) m'.1 ≡ Some (Some item) → ¬ cargo.ends item
+  begun-goes-on f i x m middle m' can renewed did seated item home =
+      let was = can-renewed f x m middle renewed can in
+      let slot = slot_of f.layout x in
+      let slots = ap (λ (z : Seated P E). z.1) did.me_is in
+      let kids = kids_of f.tree x.node in
+      let own = kept-beside f.layout x.block slot (Some was.item) kids middle.1 (subst AreApart slots seated.apart) was.home in
+      subst (λ j. ¬ cargo.ends j) (inside-same was.item item (sym own ∙ ap (kept slot) (sym slots) ∙ home)) was.goes_on
+    where
+      inside-same : (a b : P) → Some (Some a) ≡ Some (Some b) → a ≡ b
+      inside-same a b e = cc
+
+-- what the node of this number says of its source
+pub source-is : (tree : List TreeNode) (n : ℕ) (node : TreeNode) → slice_get tree n ≡ Some node → has_source tree n ≡ node.source
+source-is tree n node e = ap (λ o. option_map_or (λ node. node.source) o false) e

@@ -1,0 +1,248 @@
+-- The store by which a node is begun keeps the rule.
+use Rattle.std.proofs.Common.{◌≡◌, ℕ, ◌<◌, ◌≤◌, Bool, true, false, ◌&&◌, ◌==◌, nat_lt, cond, List, [], ◌∷◌, length, set, refl, sym, ap, ◌∙◌, subst, arith}
+use Rattle.std.specs.Prelude.{Option, Some, None, MatchOption}
+use Rattle.std.specs.List.{list_any}
+use Rattle.std.proofs.lemmas.Bool.{and_from, cond-true, lt-ltb, le-leb}
+use mathlib.Core.Option.{some}
+use lib.ListN.{get_elem?}
+use Rattle.life_rules.specs.declared.words.ControlWord.TheVariants.{Busy}
+use Rattle.node_tree.specs.declared.node.TreeNode.{TreeNode}
+use Rattle.life_rules.specs.declared.event.Name.{Name}
+use Rattle.node_tree.specs.Tree.{is_root, is_child, parent_of, has_source}
+use Rattle.life_rules.specs.Views.{View as PureView, beside}
+use Rattle.life_rules.specs.States.{State}
+use Rattle.life_rules.specs.Callbacks.{nearest_is_requested}
+use Rattle.life_rules.specs.Sound.{Sound}
+use Rattle.common_lemmas.proofs.Bool.{either}
+use Rattle.life_rules.proofs.Readings.{lives}
+use Rattle.life_kept.proofs.Trees.{child-within}
+use Rattle.life_kept.proofs.Puts.{put}
+use Rattle.life_kept.proofs.Begin.{sound-begin}
+use Rattle.table_words.specs.Stamps.{stamp_of}
+use Rattle.table_words.specs.Controls.{control_read}
+use Rattle.table_words.specs.Layouts.{OfControl, OfSource, index, place_number}
+use Rattle.table_words.proofs.Spots.{place-within}
+use Rattle.atomic_table.specs.Table.{Allows, homes_after}
+use Rattle.atomic_table.specs.Table as table
+use Rattle.table_rules.specs.declared.cargo.Cargo.{Ghosts}
+use Rattle.table_rules.specs.declared.frame.Frame.{Frame}
+use Rattle.table_rules.specs.declared.view.View.{View}
+use Rattle.table_rules.specs.declared.view.Owed.{Owed}
+use Rattle.table_rules.specs.Named.{count_by, Each}
+use Rattle.table_rules.specs.ShownWords.{block_of, word_of, is_there}
+use Rattle.table_rules.specs.ShownViews.{shown_view}
+use Rattle.table_rules.specs.Scenes.{Out, Empty, home_in, Scene, shown, scene}
+use Rattle.table_rules.specs.Notes.{IsOwedSo, children_are_requested}
+use Rattle.table_rules.specs.Running.{Stands, Running}
+use Rattle.table_steps.specs.Claims.{logged, Seated}
+use Rattle.table_steps.specs.Slots.{slot_of, kids_of, kept, IsSeated}
+use Rattle.table_steps.specs.Begins.{begins, CanBegin, HasRenewed, BeginsAt, start_shown}
+use Rattle.table_kept.proofs.Entries.{each-map, each-both, found, each-found}
+use Rattle.table_kept.proofs.Seats.{at_within}
+use Rattle.table_kept.proofs.Among.{among}
+use Rattle.table_kept.proofs.Loads.{known-logged}
+use Rattle.table_kept.proofs.Stamping.{newest-risen}
+use Rattle.table_kept.proofs.Counts.{counts-moved}
+use Rattle.table_kept.proofs.ViewMoves.{view-here, views-moved}
+use Rattle.table_kept.proofs.ControlRuns.{place_of, place-live, name-live, control-runs}
+use Rattle.table_kept.proofs.HomeMoves.{home_of_place, empty-home}
+use Rattle.table_kept.proofs.KidSlots.{take_each, each-out, each-valid, deep-after, carries, has-kid, kids-below, kids-descend}
+use Rattle.table_kept.proofs.SeenStands.{seen-stands}
+use Rattle.table_kept.proofs.BeginSeats.{kids-are, seated-begun}
+use Rattle.table_kept.proofs.BeginState.{MayBegin, beginning, x-live}
+use Rattle.table_kept.proofs.Beginning.{begun_scene, kid-empty, homes-begun}
+use Rattle.table_kept.proofs.BeginItems.{starts-begun, items-begun, lots-begun, FitsAbove}
+use Rattle.table_kept.proofs.BeginningViews.{begins-shown, known-begun, mine-begun}
+
+-- what an owed entry says of the node's parent
+owed-above : {P E : Type 0} (s : Scene P E) (e : Owed E) (x : Name) (p : ℕ) → e.name ≡ x → IsOwedSo s e →
+    parent_of s.state.tree x.node ≡ Some p → (e.above ≡ s.past.start (beside x p)) × (e.lot ≡ s.past.lot (beside x p))
+owed-above {P} {E} s e x p name so is =
+    let of : Name → Option ℕ → Type 0 = λ z o.
+    MatchOption o ((e.above ≡ []) × (e.lot ≡ []))
+    (λ q. (e.above ≡ s.past.start (beside z q)) × (e.lot ≡ s.past.lot (beside z q))) in
+    let at : of x (parent_of s.state.tree x.node) = subst (λ z. of z (parent_of s.state.tree z.node)) name so in
+    subst (of x) is at
+
+none-and : (b : Bool) → (b && false) ≡ false
+none-and true = refl
+none-and false = refl
+
+-- a node is in the list of the children where it is a child
+pub kids-tested : (tree : List TreeNode) (p m : ℕ) → list_any (λ q. m == q) (kids_of tree p) ≡ is_child tree p m
+kids-tested tree p m =
+    has-kid tree p (length tree) m
+    ∙ either (is_child tree p m)
+    (λ t. ap (λ b. b && is_child tree p m) (lt-ltb m (length tree) (child-within tree p m t)))
+    (λ n. ap (λ b. nat_lt m (length tree) && b) n ∙ none-and (nat_lt m (length tree)) ∙ sym n)
+
+module _ {P E O : Type 0} (cargo : Ghosts P E O) (f : Frame O) (s : table.State (Option P) (View P E)) (id value : ℕ) (x : Name) (v : View P E) (c : List (ℕ × Option P)) (r : Running cargo f s) (at : get_elem? s.views id ≡ some v) (can : CanBegin cargo f (v, c) x) (renewed : HasRenewed (record { tree = f.tree; layout = f.layout; name = x }) (v, c)) (stamped : stamp_of value ≡ x.generation) (reads : control_read value ≡ Busy 0) where
+  abbrev now : State
+  now = shown f s
+
+  abbrev here : Scene P E
+  here = scene f s r.past
+
+  shows : now.view id ≡ shown_view (block_of f.layout s.words) v
+  shows = view-here (block_of f.layout s.words) s.views id v at
+
+  entry-found : (can.owed.name ≡ x) × (1 ≤ count_by (λ e. e.name) v.owed x)
+  entry-found = let is = found (λ e. e.name) v.owed x can.owed can.owes in (is.name_is, is.counts)
+
+  may : MayBegin now id x
+  may =
+      record {
+        sound = r.stands.sound;
+        below = (let l = at_within s.views id v at in let m = r.sized.seats in omega (arith, l, m));
+        owes = subst (λ (u : PureView). 1 ≤ u.starts x) (sym shows) entry-found.1;
+      }
+
+  abbrev root : Bool
+  root = is_root f.tree x.node
+
+  abbrev start : List E
+  start = start_shown cargo (kept (slot_of f.layout x) c)
+
+  start-is : start ≡ cargo.start can.item
+  start-is = ap (start_shown cargo) can.home
+
+  fits : FitsAbove here id x may r.stands.homes start cargo f.over.value
+  fits =
+      let so = each-found (IsOwedSo here) (λ e. e.name) v.owed x can.owed can.owes (r.stands.views.each id v at).owed in
+      record {
+        above = λ p is.
+            (can.entry, start-is ∙ can.start ∙ ap (λ l. can.entry ∷ l) (owed-above here can.owed x p entry-found.0 so is).0);
+        key = ap cargo.key start-is ∙ can.key;
+        drawn = λ p is. ap cargo.drawn start-is ∙ can.drawn ∙ (owed-above here can.owed x p entry-found.0 so is).1;
+      }
+
+  place-b : x.block < f.layout.blocks
+  place-b = (lives now x (x-live now id x may)).block
+
+  abbrev kids : List ℕ
+  kids = kids_of f.tree x.node
+
+  kids-within : Each (λ n. n < f.layout.nodes) kids
+  kids-within = subst (λ m. Each (λ n. n < m) kids) (sym r.frame.nodes) (kids-below f.tree x.node (length f.tree))
+
+  kid-test : (m : ℕ) → list_any (λ q. m == q) kids ≡ is_child f.tree x.node m
+  kid-test = kids-tested f.tree x.node
+
+  kids-empty : Each (λ n. home_of_place f.layout s.homes x.block n ≡ Empty) kids
+  kids-empty =
+      each-map (λ n. is_child f.tree x.node n ≡ true) (λ n. home_of_place f.layout s.homes x.block n ≡ Empty)
+      (λ n child. kid-empty here id x may r.stands.homes start n child) kids (kids-are f.tree x.node (length f.tree))
+
+  sound-now : Sound (put now id x (Busy 0) (beginning x (now.view id)))
+  sound-now =
+      let live = x-live now id x may in
+      let owes = may.owes in
+      subst (λ z. Sound (put now id z (Busy 0) (beginning z (now.view id)))) (name-live now x live)
+      (sound-begin now id (place_of x) r.stands.sound may.below
+      (and_from _ _ (place-live now x live)
+      (le-leb 1 _ (subst (λ z. 1 ≤ (now.view id).starts z) (sym (name-live now x live)) owes))))
+
+  module _ (told told_kids : Bool) (told_so : told ≡ true → nearest_is_requested now x ≡ true) (kids_so : told_kids ≡ true → children_are_requested now x ≡ true) (n : ℕ) where
+    abbrev i : ℕ
+    i = index f.layout (OfControl x.block x.node)
+
+    abbrev mine : View P E
+    mine = logged i n (begins root x start told told_kids v)
+
+    abbrev after : Scene P E
+    after = begun_scene here id x may r.stands.homes start
+
+    stands-begun : Stands cargo f.over.value after (set s.views id mine)
+    stands-begun =
+        record {
+          sound = sound-now;
+          homes = homes-begun here id x may r.stands.homes start;
+          starts = starts-begun here id x may r.stands.homes start cargo f.over.value fits r.stands.starts;
+          items = items-begun here id x may r.stands.homes start cargo f.over.value r.stands.items;
+          lots = lots-begun here id x may r.stands.homes start cargo f.over.value fits r.stands.lots;
+          views = views-moved here after s.views id v mine at
+              (λ j u ne e. known-begun here id x may r.stands.homes start u (among f s j u r.sized.seats e))
+              (known-logged after i n (begins root x start told told_kids v)
+              (mine-begun here id x may r.stands.homes start root v told told_kids told_so kids_so
+              (among f s id v r.sized.seats at) (r.stands.views.each id v at)))
+              refl refl r.stands.views;
+          counts = counts-moved here.state after.state s.views id v mine at refl refl r.stands.counts;
+        }
+
+    -- the renewal of the node's source still stands
+    renewed-now : has_source f.tree x.node ≡ true → stamp_of (word_of f.layout s.words (OfSource x.block x.node)) ≡ (block_of f.layout s.words x.block).generation
+    renewed-now has =
+        let did = renewed has in
+        let i = index f.layout (OfSource x.block x.node) in
+        let l = lives now x (x-live now id x may) in
+        let n = l.node in
+        let e = r.frame.nodes in
+        let least = newest-risen f.layout s.words s.views id v (record { index = i; word = did.0 }) did.1 at did.3 r.stamped.rises
+        (OfSource x.block x.node) (l.block, omega (arith, n, e)) refl in
+        let most = r.stamped.source x.block x.node l.block (omega (arith, n, e)) in
+        let stamp = did.2 in
+        let own = l.generation in
+        omega (arith, least, most, stamp, own)
+
+    pub begin-runs : stamp_of n ≤ stamp_of value → Running cargo f record {
+      words = set s.words i value;
+      homes = homes_after s.homes c (take_each f.layout x.block kids);
+      views = set s.views id mine;
+    }
+    begin-runs low =
+        let old = block_of f.layout s.words in
+        control-runs cargo f s id value x (Busy 0) v r at (x-live now id x may) stamped reads mine
+        (beginning x (now.view id)) (begins-shown old root x start told told_kids v ∙ ap (beginning x) (sym shows))
+        (homes_after s.homes c (take_each f.layout x.block kids)) after.home after.past
+        (λ j m. each-out f.layout s.homes c r.sized.homes x.block place-b kids kids-within j m
+        ∙ ap (λ b. cond (j == x.block && b) Out (home_of_place f.layout s.homes j m)) (kid-test m))
+        renewed-now (record { word = n; steps = refl; low = low })
+        (deep-after f.layout s.homes c r.sized.homes x.block place-b kids ∙ sym r.sized.homes) stands-begun
+
+  kids-home : Each (λ n. get_elem? s.homes (place_number f.layout x.block n) ≡ some (some None)) kids
+  kids-home =
+      let deep = r.sized.homes in
+      each-map (λ n. (n < f.layout.nodes) × (home_of_place f.layout s.homes x.block n ≡ Empty))
+      (λ n. get_elem? s.homes (place_number f.layout x.block n) ≡ some (some None))
+      (λ n both.
+      let w = place-within f.layout x.block n place-b both.0 in
+      let there : is_there f.layout x.block n ≡ true = and_from _ _ (lt-ltb x.block f.layout.blocks place-b) (lt-ltb n f.layout.nodes both.0) in
+      empty-home s.homes (place_number f.layout x.block n) (omega (arith, w, deep))
+      (sym (cond-true (is_there f.layout x.block n) (home_in (get_elem? s.homes (place_number f.layout x.block n))) Empty there) ∙ both.1))
+      kids (each-both (λ n. n < f.layout.nodes) (λ n. home_of_place f.layout s.homes x.block n ≡ Empty) kids kids-within kids-empty)
+
+  -- the store may be made, and tells what it does
+  pub begins-now : (w : View P E) × (a : table.Act (Option P)) × table.Valid s.homes c a
+      × Running cargo f (table.stepped s (index f.layout (OfControl x.block x.node)) value id c w a)
+      × BeginsAt cargo (record { tree = f.tree; layout = f.layout; name = x }) (index f.layout (OfControl x.block x.node)) (v, c) (w, table.carried_after c a)
+  begins-now =
+      let told = nearest_is_requested now x in
+      let told_kids = children_are_requested now x in
+      let i = index f.layout (OfControl x.block x.node) in
+      let n = value in
+      let w : View P E = logged i n (begins root x start told told_kids v) in
+      let is = carries f.layout s.homes c r.sized.homes x.block place-b kids in (
+        w,
+        take_each f.layout x.block kids,
+        each-valid f.layout s.homes c r.sized.homes x.block place-b kids kids-within
+            (kids-descend f.tree x.node (length f.tree)) kids-empty,
+        begin-runs told told_kids (λ t. t) (λ t. t) n (omega arith),
+        record {
+          word = n;
+          told = told;
+          told_children = told_kids;
+          seen = seen-stands cargo f s id v r at x (x-live now id x may);
+          me_is = λ k. (w, is k);
+          seated = λ old. subst (λ d. IsSeated f.tree f.layout (w, d)) (sym is)
+              (seated-begun cargo f s id x v c r at root start told told_kids i n (kids-descend f.tree x.node (length f.tree)) kids-within kids-home old);
+        },
+      )
+
+-- what the store owes
+pub begins_allowed : {P E O : Type 0} (cargo : Ghosts P E O) (f : Frame O) (slots id value : ℕ) (x : Name) (m : Seated P E) →
+    CanBegin cargo f m x → HasRenewed (record { tree = f.tree; layout = f.layout; name = x }) m → stamp_of value ≡ x.generation →
+    control_read value ≡ Busy 0 →
+    Allows (Running cargo f) slots id m (index f.layout (OfControl x.block x.node)) (λ _. value)
+    (λ _. BeginsAt cargo (record { tree = f.tree; layout = f.layout; name = x }) (index f.layout (OfControl x.block x.node)) m)
+begins_allowed cargo f slots id value x m can renewed stamped reads s r deep at small =
+    begins-now cargo f s id value x m.0 m.1 r at can renewed stamped reads

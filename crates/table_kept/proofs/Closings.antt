@@ -1,0 +1,173 @@
+-- What the words of a closed table tell, block by block.
+use Rattle.std.proofs.Common.{◌≡◌, ℕ, zero, suc, ◌+◌, ◌<◌, ◌≤◌, Bool, List, [], ◌∷◌, refl, sym, ap, ◌∙◌, subst, arith}
+use Rattle.std.specs.Prelude.{Option, slice_index, nat_lt}
+use Rattle.std.proofs.lemmas.Bool.{cond-true, lt-ltb}
+use mathlib.Core.Option.{some, some-injective, some-ne-none}
+use lib.ListN.{get_elem?}
+use Rattle.life_rules.specs.declared.words.BlockWord.{BlockWord}
+use Rattle.life_rules.specs.declared.words.BlockState.{BlockState}
+use Rattle.life_rules.specs.declared.words.BlockState.TheVariants.{Free, Open, Retired}
+use Rattle.life_rules.specs.Words.{is_free, is_open}
+use Rattle.common_lemmas.specs.Sums.{one}
+use Rattle.life_rules.specs.Scopes.{scope_state}
+use Rattle.common_lemmas.proofs.Bool.{one-most}
+use Rattle.table_words.specs.ScopeNumbers.{scope_read}
+use Rattle.table_words.specs.declared.layout.Layout.{Layout}
+use Rattle.table_words.specs.Blocks.{block_read}
+use Rattle.table_words.specs.Layouts.{TheScope, OfBlock, index}
+use Rattle.atomic_table.specs.declared.shared.Seat.{Seat}
+use Rattle.atomic_table.specs.Table as table
+use Rattle.table_rules.specs.declared.cargo.Cargo.{Ghosts}
+use Rattle.table_rules.specs.declared.frame.Frame.{Frame}
+use Rattle.table_rules.specs.declared.view.View.{View}
+use Rattle.table_rules.specs.Counts.{over_all}
+use Rattle.table_rules.specs.ShownWords.{is_retired, block_of, word_of}
+use Rattle.table_rules.specs.Running.{Running}
+use Rattle.table_steps.specs.declared.closing.Closing.{Closing}
+use Rattle.table_steps.specs.Views.{Board, knows}
+use Rattle.table_steps.specs.Closings.{AreAllBack, IsCountedBy, IsGathering, blocks_before, TellsOf, IsClosing}
+use Rattle.table_kept.proofs.Gathering.{alone}
+
+-- the item of a list that is found at an index
+pub found-at : (l : List ℕ) (i n : ℕ) → get_elem? l i ≡ some n → slice_index l i ≡ n
+found-at [] i n e = absurd (some-ne-none n (sym e))
+found-at (x ∷ xs) zero n e = some-injective x n e
+found-at (x ∷ xs) (suc i) n e = found-at xs i n e
+
+module _ (l : Layout) (words : List ℕ) where
+  block-found : (b n : ℕ) → b < l.blocks → get_elem? words (index l (OfBlock b)) ≡ some n →
+      block_of l words b ≡ block_read n
+  block-found b n below at =
+      let first : BlockWord = record { generation = 0; state = Free } in
+      cond-true (nat_lt b l.blocks) (block_read (word_of l words (OfBlock b))) first (lt-ltb b l.blocks below)
+      ∙ ap block_read (found-at words (index l (OfBlock b)) n at)
+
+  -- no more blocks pass a test than there are
+  pub before-most : (test : BlockState → Bool) (count : ℕ) → blocks_before count test l words ≤ count
+  before-most test zero = omega arith
+  before-most test (suc count) =
+      let before = before-most test count in
+      let last = one-most (test (block_of l words count).state) in
+      omega (arith, before, last)
+
+  -- of no block
+  pub tells-none : (n : ℕ) (c : Closing) → get_elem? words (index l TheScope) ≡ some n →
+      c.scope ≡ scope_state (scope_read n) → c.free ≡ 0 → c.retired ≡ 0 → TellsOf l words 0 c
+  tells-none n c at scope free retired =
+      record {
+        scope_is = scope ∙ ap (λ w. scope_state (scope_read w)) (sym (found-at words (index l TheScope) n at));
+        free_is = free;
+        retired_is = retired;
+      }
+
+  -- so many of one block more
+  pub before-next : (test : BlockState → Bool) (b : ℕ) →
+      blocks_before (b + 1) test l words ≡ blocks_before b test l words + one (test (block_of l words b).state)
+  before-next test b =
+      let next : b + 1 ≡ suc b = omega arith in
+      ap (λ k. blocks_before k test l words) next
+
+  -- one block more
+  pub tells-next : (b n : ℕ) (c d : Closing) → b < l.blocks → get_elem? words (index l (OfBlock b)) ≡ some n →
+      d.scope ≡ c.scope → d.free ≡ c.free + one (is_free (block_read n).state) →
+      d.retired ≡ c.retired + one (is_retired (block_read n).state) → TellsOf l words b c → TellsOf l words (b + 1) d
+  tells-next b n c d below at scope free retired old =
+      let is = block-found b n below at in
+      let of : (test : BlockState → Bool) (k m : ℕ) → k ≡ m + one (test (block_read n).state) → m ≡ blocks_before b test l words →
+      k ≡ blocks_before (b + 1) test l words =
+      λ test k m more before.
+      more
+      ∙ (λ i. before i + one (test (sym is i).state))
+      ∙ sym (before-next test b) in
+      record {
+        scope_is = scope ∙ old.scope_is;
+        free_is = of is_free d.free c.free free old.free_is;
+        retired_is = of is_retired d.retired c.retired retired old.retired_is;
+      }
+
+one-of : (state : BlockState) → one (is_free state) + one (is_retired state) ≤ 1
+one-of Free = omega arith
+one-of Open = omega arith
+one-of Retired = omega arith
+
+-- a block is free, or retired, or neither
+both-most : (l : Layout) (words : List ℕ) (count : ℕ) →
+    blocks_before count is_free l words + blocks_before count is_retired l words ≤ count
+both-most l words zero = omega arith
+both-most l words (suc count) =
+    let before = both-most l words count in
+    let last = one-of (block_of l words count).state in
+    omega (arith, before, last)
+
+-- so what is told isn't more than there are
+pub told-within : (l m : Layout) (words : List ℕ) (c : Closing) → l ≡ m → TellsOf l words l.blocks c →
+    c.free + c.retired ≤ m.blocks
+told-within l m words c same tells =
+    let most = both-most l words l.blocks in
+    let free = tells.free_is in
+    let retired = tells.retired_is in
+    let blocks : l.blocks ≡ m.blocks = ap (λ z. z.blocks) same in
+    omega (arith, most, free, retired, blocks)
+
+-- a block is free, open or retired
+one-way : (state : BlockState) → one (is_free state) + one (is_retired state) + one (is_open state) ≡ 1
+one-way Free = refl
+one-way Open = refl
+one-way Retired = refl
+
+all-ways : (l : Layout) (words : List ℕ) (count : ℕ) →
+    blocks_before count is_free l words + blocks_before count is_retired l words + blocks_before count is_open l words ≡ count
+all-ways l words zero = refl
+all-ways l words (suc count) =
+    let before = all-ways l words count in
+    let last = one-way (block_of l words count).state in
+    omega (arith, before, last)
+
+-- the words of the closed table are those of its last state, in which a view stands for all hands
+pub record IsLast {P E O : Type 0} (cargo : Ghosts P E O) (f : Frame O) (id : ℕ) (v : View P E) (c : Closing) : Type 0 where
+  pub closing : IsClosing cargo f c
+  pub at : get_elem? closing.last.views id ≡ some v
+
+pub closes : {P E O : Type 0} (cargo : Ghosts P E O) (key f : Frame O) (l : Layout) (words : List ℕ) (homes : List (Option P)) (id : ℕ) (v : View P E) (c : Closing) →
+    key ≡ f → l ≡ f.layout → table.Final (table.Seen (Running cargo key) id v) words homes → TellsOf l words l.blocks c →
+    IsLast cargo f id v c
+closes cargo key f l words homes id v c same layout final tells =
+    record {
+      closing = record {
+        last = final.0;
+        runs = subst (λ z. Running cargo z final.0) same final.1.0;
+        tells = subst (λ (z : Layout × List ℕ). TellsOf z.0 z.1 z.0.blocks c) (λ k. (layout k, sym final.2 k)) tells;
+      };
+      at = final.1.1;
+    }
+
+-- as many blocks are open as were claimed and not given back
+pub counted-told : {P E O : Type 0} (cargo : Ghosts P E O) (f : Frame O) (id : ℕ) (v : View P E) (c : Closing) →
+    IsLast cargo f id v c → v.hands ≡ f.hands → c.free + c.retired + v.claimed ≡ f.layout.blocks + v.released
+counted-told cargo f id v c last whole =
+    let s = last.closing.last in
+    let r = last.closing.runs in
+    let counts = r.stands.counts in
+    let many = counts.hands in
+    let seats = r.sized.seats in
+    let few : over_all (λ z. z.hands) s.views ≤ v.hands = omega (arith, many, seats, whole) in
+    let claimed = alone v (λ z. z.claimed) (λ z itself none. (itself none).0) s.views id last.at few counts.spent in
+    let released = alone v (λ z. z.released) (λ z itself none. (itself none).1) s.views id last.at few counts.spent in
+    let opened : blocks_before f.layout.blocks is_open f.layout s.words + over_all (λ z. z.released) s.views
+    ≡ over_all (λ z. z.claimed) s.views = counts.opened in
+    let ways = all-ways f.layout s.words f.layout.blocks in
+    let free = last.closing.tells.free_is in
+    let retired = last.closing.tells.retired_is in
+    omega (arith, claimed, released, opened, ways, free, retired)
+
+-- the same by what all hands counted
+pub counted-by : {P E O : Type 0} (cargo : Ghosts P E O) (board : Board O) (all : List (Seat (Option P) (View P E))) (hand : Seat (Option P) (View P E)) (c : Closing) →
+    IsLast cargo board.frame hand.id (knows hand) c → AreAllBack board all → IsGathering board all [] hand →
+    IsCountedBy board all c
+counted-by cargo board all hand c last back gathers =
+    let long = back.length_is in
+    let hands = gathers.hands in
+    let claimed = gathers.claimed in
+    let released = gathers.released in
+    let told = counted-told cargo board.frame hand.id (knows hand) c last (omega (arith, long, hands)) in
+    omega (arith, told, claimed, released)

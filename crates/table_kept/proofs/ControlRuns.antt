@@ -1,0 +1,253 @@
+-- A step that writes a node's control word at the node's generation keeps the rule where the scene that
+-- the words, views and homes then show does.
+use Rattle.std.proofs.Common.{◌≡◌, ℕ, ◌^◌, ◌<◌, ◌≤◌, true, false, not, ◌&&◌, ◌==◌, cond, List, length, set, refl, sym, ap, ◌∙◌, subst, arith, length-set}
+use Rattle.std.specs.Prelude.{Option}
+use Rattle.std.proofs.lemmas.Bool.{and_parts, and_from, both_ways, cond-true, cond-false, eqb-true, eq-eqb, lt-ltb}
+use mathlib.Core.Option.{some}
+use mathlib.Core.Option as maybe
+use lib.ListN.{get_elem?}
+use Rattle.life_rules.specs.declared.words.BlockState.{BlockState}
+use Rattle.life_rules.specs.declared.words.BlockState.TheVariants.{Free, Open, Retired}
+use Rattle.life_rules.specs.declared.words.ControlWord.{ControlWord}
+use Rattle.life_rules.specs.declared.words.ControlWord.TheVariants.{Idle}
+use Rattle.life_rules.specs.declared.words.CallbackPhase.TheVariants.{Never}
+use Rattle.life_rules.specs.declared.event.Name.{Name}
+use Rattle.life_rules.specs.declared.event.Place.{Place}
+use Rattle.node_tree.specs.Tree.{has_source}
+use Rattle.life_rules.specs.Words.{is_open, is_idle, is_under_way, clear}
+use Rattle.life_rules.specs.Views.{View as PureView}
+use Rattle.life_rules.specs.States.{State, is_live, is_place, control_at, name_at}
+use Rattle.common_lemmas.proofs.Bool.{either}
+use Rattle.life_rules.proofs.Readings.{lives, name_of-live}
+use Rattle.life_kept.proofs.Puts.{put}
+use Rattle.table_words.specs.Stamps.{stamp_of}
+use Rattle.table_words.specs.Controls.{control_read, callback_read, source_read}
+use Rattle.table_words.specs.ScopeNumbers.{scope_read}
+use Rattle.table_words.specs.Layouts.{Spot, TheScope, TheScopeSource, OfControl, OfCallback, OfSource, IsSpot, index}
+use Rattle.atomic_table.specs.Table as table
+use Rattle.table_rules.specs.declared.cargo.Cargo.{Ghosts}
+use Rattle.table_rules.specs.declared.frame.Frame.{Frame}
+use Rattle.table_rules.specs.declared.view.View.{View}
+use Rattle.table_rules.specs.ShownWords.{block_of, word_of, control_of, is_retired, is_said}
+use Rattle.table_rules.specs.ShownViews.{view_at, shown_view}
+use Rattle.table_rules.specs.Scenes.{Home, Past, Scene, shown, scene}
+use Rattle.table_rules.specs.Running.{Stands, Running}
+use Rattle.table_kept.proofs.Stamping.{is_on, Lists, written-risen, unsaid-kept, renewed-kept}
+use Rattle.table_kept.proofs.ViewMoves.{view-set, views-same}
+use Rattle.table_kept.proofs.WordMoves.{word-here}
+use Rattle.table_kept.proofs.ControlMoves.{spot-same, blocks-same, others-same, control-after}
+use Rattle.table_kept.proofs.HomeMoves.{home_of_place}
+
+pub open-kept : (w : BlockState) → is_open w ≡ true → is_retired w ≡ false
+open-kept Free o = refl
+open-kept Open o = refl
+open-kept Retired o = cc
+
+-- the place of a name
+abbrev pub place_of : Name → Place
+place_of x = record { block = x.block; node = x.node }
+
+module _ (s : State) (x : Name) (live : is_live s x ≡ true) where
+  -- a live name is of a place, and is what the place has now
+  pub place-live : is_place s (place_of x) ≡ true
+  place-live = let l = lives s x live in and_from _ _ (lt-ltb _ _ l.block) (lt-ltb _ _ l.node)
+
+  pub name-live : name_at s (place_of x) ≡ x
+  name-live = name_of-live s x live
+
+-- the source of a live node that has begun was renewed where it has one
+pub begun-renewed : {P E O : Type 0} (cargo : Ghosts P E O) (f : Frame O) (s : table.State (Option P) (View P E)) (x : Name) →
+    Running cargo f s → is_live (shown f s) x ≡ true → is_idle (control_at (shown f s) x) ≡ false → has_source f.tree x.node ≡ true →
+    stamp_of (word_of f.layout s.words (OfSource x.block x.node)) ≡ (block_of f.layout s.words x.block).generation
+begun-renewed cargo f s x r live begun has =
+    let now : State = shown f s in
+    let l = lives now x live in
+    let n = l.node in
+    let e = r.frame.nodes in
+    r.stamped.renewed x.block x.node l.block (omega (arith, n, e)) has
+    (ap is_idle (sym (cond-true (is_live now x) (now.control x.block x.node) Idle live)) ∙ begun)
+
+module _ {P E O : Type 0} (cargo : Ghosts P E O) (f : Frame O) (s : table.State (Option P) (View P E)) (id value : ℕ) (x : Name) (w : ControlWord) (v : View P E) (r : Running cargo f s) (at : get_elem? s.views id ≡ some v) (live : is_live (shown f s) x ≡ true) (stamped : stamp_of value ≡ x.generation) (reads : control_read value ≡ w) where
+  abbrev now : State
+  now = shown f s
+
+  place-b : x.block < f.layout.blocks
+  place-b = (lives now x live).block
+
+  place-n : x.node < f.layout.nodes
+  place-n =
+      let l = (lives now x live).node in
+      let e = r.frame.nodes in omega (arith, l, e)
+
+  kept : is_retired (block_of f.layout s.words x.block).state ≡ false
+  kept = open-kept (block_of f.layout s.words x.block).state (lives now x live).is_opened
+
+  present : stamp_of value ≡ (block_of f.layout s.words x.block).generation
+  present = stamped ∙ (lives now x live).generation
+
+  abbrev words : List ℕ
+  words = set s.words (index f.layout (OfControl x.block x.node)) value
+
+  spot-kept : (y : Spot) → IsSpot f.layout y → (OfControl x.block x.node ≡ y → ⊥) →
+      word_of f.layout words y ≡ word_of f.layout s.words y
+  spot-kept = spot-same f.layout s.words r.sized.words x.block x.node value w place-b place-n kept present reads
+
+  block-kept : (j : ℕ) → block_of f.layout words j ≡ block_of f.layout s.words j
+  block-kept = blocks-same f.layout s.words r.sized.words x.block x.node value w place-b place-n kept present reads
+
+  generation-kept : (j n : ℕ) → n ≤ (block_of f.layout s.words j).generation → n ≤ (block_of f.layout words j).generation
+  generation-kept j n l = subst (λ b. n ≤ b.generation) (sym (block-kept j)) l
+
+  stamp-other : (y : Spot) (j : ℕ) → IsSpot f.layout y → (OfControl x.block x.node ≡ y → ⊥) →
+      stamp_of (word_of f.layout s.words y) ≤ (block_of f.layout s.words j).generation →
+      stamp_of (word_of f.layout words y) ≤ (block_of f.layout words j).generation
+  stamp-other y j is ne old =
+      generation-kept j (stamp_of (word_of f.layout words y))
+      (subst (λ n. stamp_of n ≤ (block_of f.layout s.words j).generation) (sym (spot-kept y is ne)) old)
+
+  stamp-control : (j m : ℕ) → j < f.layout.blocks → m < f.layout.nodes →
+      stamp_of (word_of f.layout words (OfControl j m)) ≤ (block_of f.layout words j).generation
+  stamp-control j m hj hm =
+      either (j == x.block && m == x.node)
+      (λ t.
+      let parts = and_parts (j == x.block) (m == x.node) t in
+      let here : word_of f.layout words (OfControl x.block x.node) ≡ value =
+      word-here f.layout s.words r.sized.words (OfControl x.block x.node) (place-b, place-n) value in
+      let own : stamp_of (word_of f.layout words (OfControl x.block x.node)) ≤ (block_of f.layout words x.block).generation =
+      generation-kept x.block (stamp_of (word_of f.layout words (OfControl x.block x.node)))
+      (let e : stamp_of (word_of f.layout words (OfControl x.block x.node)) ≡ (block_of f.layout s.words x.block).generation =
+      ap stamp_of here ∙ present in omega (arith, e)) in
+      subst (λ (p : ℕ × ℕ). stamp_of (word_of f.layout words (OfControl p.0 p.1)) ≤ (block_of f.layout words p.0).generation)
+      (λ k. (sym (eqb-true j x.block parts.0) k, sym (eqb-true m x.node parts.1) k)) own)
+      (λ apart.
+      stamp-other (OfControl j m) j (hj, hm)
+      (λ e.
+      let p : x.block ≡ j = cc in
+      let q : x.node ≡ m = cc in
+      both_ways (j == x.block && m == x.node) apart
+      (and_from (j == x.block) (m == x.node) (eq-eqb j x.block (sym p))
+      (eq-eqb m x.node (sym q))))
+      (r.stamped.control j m hj hm))
+
+  -- the word that was written says something, the others what they said
+  settled-control : (j m : ℕ) → j < f.layout.blocks → m < f.layout.nodes →
+      is_said (block_of f.layout words j) (word_of f.layout words (OfControl j m)) ≡ false →
+      is_under_way (control_read (word_of f.layout words (OfControl j m))) ≡ false
+  settled-control j m hj hm old =
+      either (j == x.block && m == x.node)
+      (λ t.
+      let parts = and_parts (j == x.block) (m == x.node) t in
+      let here : word_of f.layout words (OfControl x.block x.node) ≡ value =
+      word-here f.layout s.words r.sized.words (OfControl x.block x.node) (place-b, place-n) value in
+      let said : is_said (block_of f.layout words x.block) (word_of f.layout words (OfControl x.block x.node)) ≡ true =
+      (λ k. is_said (block-kept x.block k) (here k))
+      ∙ and_from _ _ (ap not kept) (eq-eqb (stamp_of value) (block_of f.layout s.words x.block).generation present) in
+      absurd (both_ways (is_said (block_of f.layout words j) (word_of f.layout words (OfControl j m))) old
+      (subst (λ (p : ℕ × ℕ). is_said (block_of f.layout words p.0) (word_of f.layout words (OfControl p.0 p.1)) ≡ true)
+      (λ k. (sym (eqb-true j x.block parts.0) k, sym (eqb-true m x.node parts.1) k)) said)))
+      (λ apart.
+      let word = spot-kept (OfControl j m) (hj, hm)
+      (λ e.
+      let p : x.block ≡ j = cc in
+      let q : x.node ≡ m = cc in
+      both_ways (j == x.block && m == x.node) apart (and_from _ _ (eq-eqb j x.block (sym p)) (eq-eqb m x.node (sym q)))) in
+      ap (λ w. is_under_way (control_read w)) word
+      ∙ r.stamped.settled j m hj hm ((λ k. is_said (sym (block-kept j) k) (sym word k)) ∙ old))
+
+  quiet-still : (j m : ℕ) → j < f.layout.blocks → m < f.layout.nodes →
+      is_said (block_of f.layout words j) (word_of f.layout words (OfCallback j m)) ≡ false →
+      is_on (word_of f.layout words (OfCallback j m)) ≡ false
+  quiet-still j m hj hm =
+      unsaid-kept (block_of f.layout s.words j) (block_of f.layout words j) (word_of f.layout s.words (OfCallback j m)) (word_of f.layout words (OfCallback j m))
+      is_on (block-kept j) (spot-kept (OfCallback j m) (hj, hm) (λ e. cc)) (r.stamped.quiet j m hj hm)
+
+  -- the node's source was renewed where it has one
+  abbrev pub IsRenewedNow : Type 0
+  IsRenewedNow =
+      has_source f.tree x.node ≡ true → stamp_of (word_of f.layout s.words (OfSource x.block x.node)) ≡ (block_of f.layout s.words x.block).generation
+
+  renewed-control : IsRenewedNow → (j m : ℕ) → j < f.layout.blocks → m < f.layout.nodes → has_source f.tree m ≡ true →
+      is_idle (control_of f.layout words j m) ≡ false →
+      stamp_of (word_of f.layout words (OfSource j m)) ≡ (block_of f.layout words j).generation
+  renewed-control own j m hj hm has =
+      let word = spot-kept (OfSource j m) (hj, hm) (λ e. cc) in
+      let generation = ap (λ b. b.generation) (block-kept j) in
+      either (j == x.block && m == x.node)
+      (λ t begun.
+      let parts = and_parts (j == x.block) (m == x.node) t in
+      ap stamp_of word
+      ∙ subst (λ (p : ℕ × ℕ). has_source f.tree p.1 ≡ true → stamp_of (word_of f.layout s.words (OfSource p.0 p.1)) ≡ (block_of f.layout s.words p.0).generation)
+      (λ k. (sym (eqb-true j x.block parts.0) k, sym (eqb-true m x.node parts.1) k)) own has
+      ∙ sym generation)
+      (λ apart.
+      renewed-kept f.layout s.words words j m
+      (control-after f.layout s.words r.sized.words x.block x.node value w place-b place-n kept present reads j m
+      ∙ cond-false (j == x.block && m == x.node) w (now.control j m) apart)
+      word generation (r.stamped.renewed j m hj hm has))
+
+  module _ (mine : View P E) (u : PureView) (shows : shown_view (block_of f.layout s.words) mine ≡ u) where
+    abbrev pub put_state : State
+    put_state = put now id x w u
+
+    view-put : (h : ℕ) → view_at (block_of f.layout words) (set s.views id mine) h ≡ put_state.view h
+    view-put h =
+        let old = block_of f.layout s.words in
+        views-same old (block_of f.layout words)
+        (λ y k. not (is_retired (block-kept y.block k).state) && y.generation == (block-kept y.block k).generation)
+        (set s.views id mine) h
+        ∙ view-set old s.views id v mine at h
+        ∙ ap (λ z. cond (h == id) z (view_at old s.views h)) shows
+
+    module _ (homes : List (maybe.Option (Option P))) (home : ℕ → ℕ → Home P) (past : Past P E) (shelved : (j m : ℕ) → home_of_place f.layout homes j m ≡ home j m) where
+      abbrev pub put_scene : Scene P E
+      put_scene = record { state = put_state; home = home; past = past }
+
+      scene-put : scene f record { words = words; homes = homes; views = set s.views id mine } past ≡ put_scene
+      scene-put =
+          λ k. record {
+            state = record {
+              tree = f.tree;
+              blocks = f.layout.blocks;
+              hands = f.hands;
+              kind = f.kind;
+              most = f.most;
+              block = λ j. block-kept j k;
+              control = λ j m. control-after f.layout s.words r.sized.words x.block x.node value w place-b place-n kept present reads j m k;
+              callback = λ j m. others-same f.layout s.words r.sized.words x.block x.node value w place-b place-n kept present reads
+                  Never callback_read OfCallback (λ j m a b. (a, b)) (λ j m e. cc) j m k;
+              source = λ j m. others-same f.layout s.words r.sized.words x.block x.node value w place-b place-n kept present reads
+                  clear source_read OfSource (λ j m a b. (a, b)) (λ j m e. cc) j m k;
+              scope_source = source_read (spot-kept TheScopeSource tt (λ e. cc) k);
+              scope = scope_read (spot-kept TheScope tt (λ e. cc) k);
+              view = λ h. view-put h k;
+            };
+            home = λ j m. shelved j m k;
+            past = past;
+          }
+
+      -- the rule is kept, where what is said of the scene is
+      pub control-runs : IsRenewedNow → Lists f.layout (OfControl x.block x.node) value v mine → length homes ≡ length s.homes →
+          Stands cargo f.over.value put_scene (set s.views id mine) →
+          Running cargo f record { words = words; homes = homes; views = set s.views id mine }
+      control-runs renewed lists deep stands =
+          record {
+            frame = r.frame;
+            sized = record {
+              words = length-set s.words (index f.layout (OfControl x.block x.node)) value ∙ r.sized.words;
+              homes = deep ∙ r.sized.homes;
+              seats = subst (λ n. n ≤ f.hands) (sym (length-set s.views id mine)) r.sized.seats;
+            };
+            stamped = record {
+              control = stamp-control;
+              callback = λ j m hj hm. stamp-other (OfCallback j m) j (hj, hm) (λ e. cc) (r.stamped.callback j m hj hm);
+              source = λ j m hj hm. stamp-other (OfSource j m) j (hj, hm) (λ e. cc) (r.stamped.source j m hj hm);
+              settled = settled-control;
+              quiet = quiet-still;
+              renewed = renewed-control renewed;
+              rises = written-risen f.layout s.views id v mine at s.words value (OfControl x.block x.node) r.sized.words (place-b, place-n)
+                  (let old = r.stamped.control x.block x.node place-b place-n in let e = present in omega (arith, old, e)) lists r.stamped.rises;
+              scope = subst (λ k. k < 2 ^ 36) (sym (spot-kept TheScope tt (λ e. cc))) r.stamped.scope;
+            };
+            past = past;
+            stands = subst (λ z. Stands cargo f.over.value z (set s.views id mine)) (sym scene-put) stands;
+          }

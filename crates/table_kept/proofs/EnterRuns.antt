@@ -1,0 +1,159 @@
+-- The step by which the scope is entered keeps the rule.
+use Rattle.std.proofs.Common.{◌≡◌, ℕ, zero, suc, ◌+◌, ◌-◌, ◌%◌, ◌^◌, ◌<◌, ◌≤◌, cond, List, set, refl, sym, ◌∙◌, subst, arith}
+use Rattle.std.specs.Prelude.{Option, slice_index}
+use Rattle.std.proofs.lemmas.Bool.{cond-true, cond-false, eq-eqb}
+use mathlib.Core.Option.{some}
+use lib.ListN.{get_elem?}
+use Rattle.node_tree.specs.declared.node.TreeNode.{TreeNode}
+use Rattle.life_rules.specs.declared.scope.ScopeWord.{ScopeWord}
+use Rattle.life_rules.specs.Scopes.{is_refused}
+use Rattle.life_rules.specs.Views.{View as PureView}
+use Rattle.life_rules.specs.States.{State, with_view, with_scope}
+use Rattle.common_lemmas.specs.Sums.{total}
+use Rattle.life_rules.specs.ScopeSteps.{entered}
+use Rattle.life_rules.specs.Sound.{Sound}
+use Rattle.common_lemmas.proofs.Bool.{either}
+use Rattle.common_lemmas.proofs.Totals.{total-most, total-ones}
+use Rattle.scope_kept.proofs.Counts.{all_refused, count-parts}
+use Rattle.scope_kept.proofs.Steps.{sound-enter}
+use Rattle.table_words.specs.declared.layout.Layout.{Layout}
+use Rattle.table_words.specs.Stamps.{code_of}
+use Rattle.table_words.specs.ScopeNumbers.{scope_read}
+use Rattle.atomic_table.specs.Table.{Allows, keeps}
+use Rattle.atomic_table.specs.Table as table
+use Rattle.table_rules.specs.declared.cargo.Cargo.{Ghosts}
+use Rattle.table_rules.specs.declared.frame.TheConstants.{MOST_ASSOCIATIONS}
+use Rattle.table_rules.specs.declared.frame.Frame.{Frame}
+use Rattle.table_rules.specs.declared.view.View.{View}
+use Rattle.table_rules.specs.ShownWords.{block_of}
+use Rattle.table_rules.specs.ShownViews.{shown_view}
+use Rattle.table_rules.specs.Scenes.{shown}
+use Rattle.table_rules.specs.Running.{Running}
+use Rattle.table_steps.specs.Claims.{logged, Seated}
+use Rattle.table_steps.specs.Slots.{IsSeated}
+use Rattle.table_steps.specs.ScopeEntries.{MayEnter, enters, enters_at}
+use Rattle.table_kept.proofs.Seats.{at_within}
+use Rattle.table_kept.proofs.Stamping.{bits-counted}
+use Rattle.table_kept.proofs.ViewMoves.{view-here}
+use Rattle.table_kept.proofs.Masks.{reads-more}
+use Rattle.table_kept.proofs.ScopeRuns.{scope-runs}
+
+module _ {P E O : Type 0} (cargo : Ghosts P E O) (f : Frame O) (s : table.State (Option P) (View P E)) (id : ℕ) (v : View P E) (r : Running cargo f s) (at : get_elem? s.views id ≡ some v) (few : f.most ≤ MOST_ASSOCIATIONS) (may : MayEnter v) (small : slice_index s.words 0 < 18446744073709551616) where
+  abbrev now : State
+  now = shown f s
+
+  abbrev n : ℕ
+  n = slice_index s.words 0
+
+  abbrev more : ℕ
+  more = (n + 1) % 2 ^ 64
+
+  abbrev old_view : PureView
+  old_view = now.view id
+
+  is-shown : old_view ≡ shown_view (block_of f.layout s.words) v
+  is-shown = view-here (block_of f.layout s.words) s.views id v at
+
+  hand : id < f.hands
+  hand = let l = at_within s.views id v at in let m = r.sized.seats in omega (arith, l, m)
+
+  -- the count is at most the scope's greatest number and the number of hands together
+  room : code_of n + 1 ≤ 2 ^ 32 - 1
+  room =
+      let a = r.stands.sound.associations in
+      let parts = count-parts now a in
+      let keeps = a.most in
+      let each : all_refused now ≤ total (λ _. 1) f.hands =
+      total-most (λ i. (now.view i).refused) (λ _. 1) f.hands (λ i below. let one = a.single i below in omega (arith, one)) in
+      let all = total-ones f.hands in
+      let hands : f.hands ≤ 32 = r.frame.hands in
+      omega (arith, parts, keeps, each, all, hands, few)
+
+  narrow : more < 2 ^ 36
+  narrow = let wide = r.stamped.scope in let few_more = room in omega (arith, wide, few_more)
+
+  abbrev word : ScopeWord
+  word = record (scope_read n) { count = code_of n + 1 }
+
+  sound-now : Sound (with_view (with_scope now word) id (entered (scope_read n) f.most old_view))
+  sound-now =
+      sound-enter now id r.stands.sound hand
+      (eq-eqb (old_view.making + old_view.refused) 0 (subst (λ (z : PureView). z.making + z.refused ≡ 0) (sym is-shown) may))
+
+  enter-by : (made making refused : ℕ) → entered (scope_read n) f.most old_view ≡ record old_view { made = made; making = making; refused = refused } →
+      Running cargo f record { words = set s.words 0 more; homes = s.homes; views = set s.views id (logged 0 n (record v { made = made; making = making; refused = refused })) }
+  enter-by made making refused is =
+      scope-runs cargo f s id more v r at word (reads-more n room (omega (arith, small))) narrow (bits-counted (scope_read n) (code_of n + 1)) made making refused
+      (subst (λ (z : PureView). Sound (with_view (with_scope now word) id z)) is sound-now)
+
+  abbrev Kept : View P E → Type 0
+  Kept z = Running cargo f record { words = set s.words 0 more; homes = s.homes; views = set s.views id (logged 0 n z) }
+
+  pub enter-runs : Kept (enters f.most (scope_read n) v)
+  enter-runs =
+      let w = scope_read n in
+      let refuse : PureView → PureView = λ z. record z { refused = z.refused + 1 } in
+      let make : PureView → PureView = λ z. record z { made = z.made + 1 } in
+      let start : PureView → PureView = λ z. record z { making = z.making + 1 } in
+      let refuses : View P E = record v { refused = v.refused + 1 } in
+      let made_now : View P E = record v { made = v.made + 1 } in
+      let started : View P E = record v { making = v.making + 1 } in
+      let other : PureView = cond w.used (make old_view) (start old_view) in
+      let other_now : View P E = cond w.used made_now started in
+      either (is_refused w f.most)
+      (λ t.
+      subst Kept (sym (cond-true (is_refused w f.most) refuses other_now t))
+      (enter-by v.made v.making (v.refused + 1)
+      (cond-true (is_refused w f.most) (refuse old_view) other t
+      ∙ (λ k. record old_view { made = (is-shown k).made; making = (is-shown k).making; refused = (is-shown k).refused + 1 }))))
+      (λ kept.
+      either w.used
+      (λ t.
+      subst Kept (sym (cond-false (is_refused w f.most) refuses other_now kept ∙ cond-true w.used made_now started t))
+      (enter-by (v.made + 1) v.making v.refused
+      (cond-false (is_refused w f.most) (refuse old_view) other kept ∙ cond-true w.used (make old_view) (start old_view) t
+      ∙ (λ k. record old_view { made = (is-shown k).made + 1; making = (is-shown k).making; refused = (is-shown k).refused }))))
+      (λ unused.
+      subst Kept (sym (cond-false (is_refused w f.most) refuses other_now kept ∙ cond-false w.used made_now started unused))
+      (enter-by v.made (v.making + 1) v.refused
+      (cond-false (is_refused w f.most) (refuse old_view) other kept ∙ cond-false w.used (make old_view) (start old_view) unused
+      ∙ (λ k. record old_view { made = (is-shown k).made; making = (is-shown k).making + 1; refused = (is-shown k).refused })))))
+
+-- what the step owes, by the frame that the table shows
+pub enters-at : {P E O : Type 0} (cargo : Ghosts P E O) (board f : Frame O) (slots id most : ℕ) (m : Seated P E) → board ≡ f →
+    most ≡ board.most → board.most ≤ MOST_ASSOCIATIONS → MayEnter m.0 →
+    Allows (Running cargo f) slots id m 0 (λ n. (n + 1) % 2 ^ 64) (λ n m'. m' ≡ enters_at most 0 n m)
+enters-at cargo board f slots id most m same most_is few may =
+    subst (λ z. Allows (Running cargo z) slots id m 0 (λ n. (n + 1) % 2 ^ 64) (λ n m'. m' ≡ enters_at most 0 n m)) same
+    (subst (λ k. Allows (Running cargo board) slots id m 0 (λ n. (n + 1) % 2 ^ 64) (λ n m'. m' ≡ enters_at k 0 n m)) (sym most_is)
+    (λ s r deep at small. (
+      logged 0 (slice_index s.words 0) (enters board.most (scope_read (slice_index s.words 0)) m.0),
+      keeps,
+      tt,
+      enter-runs cargo board s id m.0 r at few may small,
+      refl,
+    )))
+
+-- the hand still carries each slot once
+pub entered-seated : {P E : Type 0} (tree : List TreeNode) (l : Layout) (most i n : ℕ) (m : Seated P E) → IsSeated tree l m →
+    IsSeated tree l (enters_at most i n m)
+entered-seated {P} {E} tree l most i n m old =
+    let v : View P E = m.0 in
+    let w = scope_read n in
+    let refuses : View P E = record v { refused = v.refused + 1 } in
+    let made_now : View P E = record v { made = v.made + 1 } in
+    let started : View P E = record v { making = v.making + 1 } in
+    let other_now : View P E = cond w.used made_now started in
+    let Stays : View P E → Type 0 = λ z. IsSeated tree l (logged i n z, m.1) in
+    either (is_refused w most)
+    (λ t.
+    subst Stays (sym (cond-true (is_refused w most) refuses other_now t))
+    (record { apart = old.apart; given = old.given; itself = old.itself }))
+    (λ kept.
+    either w.used
+    (λ t.
+    subst Stays (sym (cond-false (is_refused w most) refuses other_now kept ∙ cond-true w.used made_now started t))
+    (record { apart = old.apart; given = old.given; itself = old.itself }))
+    (λ unused.
+    subst Stays (sym (cond-false (is_refused w most) refuses other_now kept ∙ cond-false w.used made_now started unused))
+    (record { apart = old.apart; given = old.given; itself = old.itself })))

@@ -1,0 +1,243 @@
+-- The store by which a node below the root is finished keeps the rule.
+use Rattle.std.proofs.Common.{◌≡◌, ℕ, ◌≤◌, Bool, true, false, not, ◌&&◌, ◌||◌, ◌==◌, cond, List, set, refl, sym, ap, ◌∙◌, subst, inl, arith}
+use Rattle.std.specs.Prelude.{Option, Some, None, MatchOption}
+use Rattle.std.proofs.lemmas.Bool.{and_from, cond-true, cond-false, eq-eqb}
+use mathlib.Core.Option.{some}
+use lib.ListN.{get_elem?}
+use Rattle.life_rules.specs.declared.words.CallbackPhase.{CallbackPhase}
+use Rattle.life_rules.specs.declared.words.CallbackPhase.TheVariants.{Never, Armed, Running as Runs, Ran, Removed}
+use Rattle.life_rules.specs.declared.words.ControlWord.TheVariants.{Done}
+use Rattle.life_rules.specs.declared.event.Name.{Name}
+use Rattle.node_tree.specs.Tree.{is_child, is_root}
+use Rattle.life_rules.specs.Words.{is_armed, is_running, is_under_way, is_idle}
+use Rattle.life_rules.specs.Views.{View as PureView, same, beside, gain, lose}
+use Rattle.life_rules.specs.States.{State, phase_at, name_at}
+use Rattle.life_rules.specs.LifeSteps.{may_leave_node, after_finish}
+use Rattle.life_rules.specs.Callbacks.{nearest_is_requested}
+use Rattle.life_rules.specs.Sound.{Sound}
+use Rattle.life_rules.proofs.Names.{same-refl, same-other, gain-other}
+use Rattle.life_kept.proofs.Puts.{put, IsPut}
+use Rattle.life_kept.proofs.Finish.{sound-finish}
+use Rattle.table_words.specs.Stamps.{stamp_of}
+use Rattle.table_words.specs.Controls.{control_read}
+use Rattle.table_words.specs.Layouts.{OfControl, index}
+use Rattle.atomic_table.specs.Table as table
+use Rattle.table_rules.specs.declared.cargo.Cargo.{Ghosts}
+use Rattle.table_rules.specs.declared.frame.Frame.{Frame}
+use Rattle.table_rules.specs.declared.view.View.{View}
+use Rattle.table_rules.specs.Named.{without}
+use Rattle.table_rules.specs.ShownWords.{block_of}
+use Rattle.table_rules.specs.ShownViews.{shown_view}
+use Rattle.table_rules.specs.Scenes.{Home, Empty, Full, is_out, is_full, Past, Scene, shown, scene}
+use Rattle.table_rules.specs.Notes.{is_still}
+use Rattle.table_rules.specs.Running.{Stands, Running}
+use Rattle.table_steps.specs.Claims.{logged}
+use Rattle.table_steps.specs.Slots.{slot_of, is_of_family, IsSeated}
+use Rattle.table_steps.specs.Finishes.{is_settled, CanEnd, Completes, owes_report}
+use Rattle.table_kept.proofs.Entries.{count-without}
+use Rattle.table_kept.proofs.Among.{among}
+use Rattle.table_kept.proofs.Loads.{known-logged}
+use Rattle.table_kept.proofs.Counts.{counts-moved}
+use Rattle.table_kept.proofs.ViewMoves.{views-moved}
+use Rattle.table_kept.proofs.ControlRuns.{place_of, place-live, name-live, begun-renewed, control-runs}
+use Rattle.table_kept.proofs.HeldNow.{start-so, named-so, fit-now, phase-so, others-none}
+use Rattle.table_kept.proofs.BeginSeats.{or-left, kid-of-family}
+use Rattle.table_kept.proofs.Shedding.{deep-shed}
+use Rattle.table_kept.proofs.ShedHomes.{not-family, shed_homes}
+use Rattle.table_kept.proofs.Leaving.{is-held, is-below, shows-old, may-leave, place-n, home, home-given, kid-given, home-still, kid-left}
+use Rattle.table_kept.proofs.Moving.{Moves, moved, parent-differs}
+use Rattle.table_kept.proofs.MovingHomes.{homes-moved}
+use Rattle.table_kept.proofs.MovingItems.{Remembers, Leaves, starts-moved, items-moved, lots-moved}
+use Rattle.table_kept.proofs.MovingViews.{known-moved, known-beside, others-held}
+
+-- a callback that was read as settled isn't armed and doesn't run
+settled-still : (known phase : CallbackPhase) → is_settled known ≡ true → is_still known phase →
+    (is_armed phase || is_running phase) ≡ false
+settled-still Never phase settled still = ap (λ p. is_armed p || is_running p) still
+settled-still Armed phase settled still = cc
+settled-still Runs phase settled still = cc
+settled-still Ran phase settled still = ap (λ p. is_armed p || is_running p) still
+settled-still Removed phase settled still = ap (λ p. is_armed p || is_running p) still
+
+settled-option : (known : Option CallbackPhase) (phase : CallbackPhase) → MatchOption known ⊥ (λ p. is_settled p ≡ true) →
+    MatchOption known (Unit {0}) (λ p. is_still p phase) → (is_armed phase || is_running phase) ≡ false
+settled-option None phase settled still = absurd settled
+settled-option (Some known) phase settled still = settled-still known phase settled still
+
+module _ {P E O : Type 0} (cargo : Ghosts P E O) (f : Frame O) (s : table.State (Option P) (View P E)) (id : ℕ) (x : Name) (v : View P E) (c : List (ℕ × Option P)) (r : Running cargo f s) (at : get_elem? s.views id ≡ some v) (seated : IsSeated f.tree f.layout (v, c)) (end : CanEnd cargo f (v, c) x) where
+  abbrev state : State
+  state = shown f s
+
+  -- the pure machine may finish the node, and its law keeps its sentences
+  pub sound-done : Sound (after_finish state id (place_of x))
+  sound-done =
+      let held = is-held cargo f s id x v c r at seated end.leave in
+      let name = name-live state x held.live in
+      let quiet : (is_armed (phase_at state x) || is_running (phase_at state x)) ≡ false =
+      settled-option end.leave.held.phase (phase_at state x) end.phase (phase-so cargo f s id x v r at end.leave.held end.leave.holds) in
+      sound-finish state id (place_of x) r.stands.sound (is-below cargo f s id x v c r at seated end.leave)
+      (and_from _ _ (place-live state x held.live)
+      (subst (λ z. (may_leave_node (state.view id) z && not (is_armed (phase_at state z) || is_running (phase_at state z))) ≡ true) (sym name)
+      (and_from _ _ (may-leave cargo f s id x v c r at seated end.leave) (ap not quiet))))
+
+module _ {P E O : Type 0} (cargo : Ghosts P E O) (f : Frame O) (s : table.State (Option P) (View P E)) (id value : ℕ) (x : Name) (v : View P E) (c : List (ℕ × Option P)) (r : Running cargo f s) (at : get_elem? s.views id ≡ some v) (seated : IsSeated f.tree f.layout (v, c)) (end : CanEnd cargo f (v, c) x) (below_root : is_root f.tree x.node ≡ false) (can : Completes cargo f (v, c) x end) (stamped : stamp_of value ≡ x.generation) (reads : control_read value ≡ Done) where
+  abbrev now : State
+  now = shown f s
+
+  abbrev here : Scene P E
+  here = scene f s r.past
+
+  abbrev gone : ℕ → Bool
+  gone = is_of_family f.tree f.layout x
+
+  abbrev homes_now : ℕ → ℕ → Home P
+  homes_now = home cargo f s id x v c r at seated end.leave gone
+
+  abbrev u : PureView
+  u = record (now.view id) { holds = lose x (now.view id).holds; reports = gain x (now.view id).reports }
+
+  is-put : IsPut now id x Done u
+  is-put =
+      record {
+        sound = r.stands.sound;
+        hand = is-below cargo f s id x v c r at seated end.leave;
+        live = (is-held cargo f s id x v c r at seated end.leave).live;
+        views = refl;
+      }
+
+  sound-now : Sound (put now id x Done u)
+  sound-now =
+      let name = name-live now x (is-held cargo f s id x v c r at seated end.leave).live in
+      subst (λ z. Sound (put now id z Done (record (now.view id) { holds = lose z (now.view id).holds; reports = gain z (now.view id).reports }))) name
+      (subst (λ w. Sound (put now id (name_at now (place_of x)) Done w))
+      (cond-false (is_root f.tree x.node) _ _ below_root) (sound-done cargo f s id x v c r at seated end))
+
+  -- the rule remembers with which item the node finished
+  abbrev past : Past P E
+  past = record r.past { delivered = λ y. cond (same x y) (Some can.item) (r.past.delivered y) }
+
+  delivered-here : past.delivered x ≡ Some can.item
+  delivered-here = cond-true (same x x) (Some can.item) (r.past.delivered x) (same-refl x)
+
+  delivered-other : (y : Name) → (x ≡ y → ⊥) → past.delivered y ≡ r.past.delivered y
+  delivered-other y ne = cond-false (same x y) (Some can.item) (r.past.delivered y) (same-other x y ne)
+
+  own-home : homes_now x.block x.node ≡ Full can.item
+  own-home =
+      home-given cargo f s id x v c r at seated end.leave gone x.node (Some can.item) (place-n cargo f s id x v c r at seated end.leave)
+      (or-left (slot_of f.layout x == slot_of f.layout x) _ (eq-eqb (slot_of f.layout x) (slot_of f.layout x) refl)) can.home
+
+  kid-home : (n : ℕ) → is_child f.tree x.node n ≡ true → homes_now x.block n ≡ Empty
+  kid-home n child = kid-given cargo f s id x v c r at seated end.leave gone n child (kid-of-family f.tree f.layout x n child)
+
+  full-own : is_full (homes_now x.block x.node) ≡ true
+  full-own = ap is_full own-home
+
+  moves : Moves here id x Done u is-put homes_now past
+  moves =
+      record {
+        sound = sound-now;
+        under_way = ap is_under_way (is-held cargo f s id x v c r at seated end.leave).word;
+        begun = refl;
+        owes = λ y apart. refl;
+        reports = λ y ne. let e = gain-other x y (now.view id).reports ne in omega (arith, e);
+        named_other = λ y ne. refl;
+        far = λ j m own kid.
+            home-still cargo f s id x v c r at seated end.leave gone j m
+            (λ hm. not-family f.tree f.layout x j m (sym r.frame.nodes) (place-n cargo f s id x v c r at seated end.leave) hm own kid);
+        own = ap is_out own-home ∙ sym below_root;
+        waits = λ none. cc;
+        settled = λ _. full-own;
+        kids = λ n child.
+            kid-left cargo f s id x v c r at seated end.leave Done u is-put homes_now past n child refl refl
+            (gain-other x (beside x n) (now.view id).reports
+            (λ e. parent-differs f.tree r.stands.sound.tree x.node n child (λ k. (e k).node))) (kid-home n child);
+        named = λ none. cc;
+      }
+
+  remembers : Remembers cargo f.over.value here id x Done u is-put homes_now past moves
+  remembers = record { start = λ y. refl; lot = λ y ne. refl; delivered = delivered-other }
+
+  item-is : (item : P) → homes_now x.block x.node ≡ Full item → can.item ≡ item
+  item-is item e = let both : Full can.item ≡ Full item = sym own-home ∙ e in cc
+
+  fits-now : cargo.fits can.item x.node (nearest_is_requested now x)
+  fits-now = fit-now cargo f s id x v r at end.leave.held end.leave.holds can.item can.fit
+
+  leaves : Leaves cargo f.over.value here id x Done u is-put homes_now past moves
+  leaves =
+      let e = end.leave.held in
+      let holds = end.leave.holds in
+      record {
+        start = λ item is. ap cargo.start (sym (item-is item is)) ∙ can.start ∙ start-so cargo f s id x v r at e holds;
+        fit = λ item is. subst (λ i. cargo.fits i x.node (nearest_is_requested now x)) (item-is item is) fits-now;
+        goes_on = λ item is going. cc;
+        bound = λ item is.
+            subst (λ i. cargo.least i ≤ r.past.named x) (item-is item is)
+            (subst (λ n. cargo.least can.item ≤ n) (named-so cargo f s id x v r at e holds) (end.bound can.item can.home));
+        ended = λ _ _. (can.item, delivered-here, can.ends, fits-now);
+        delivered = λ item _ _ is. delivered-here ∙ ap Some (item-is item is);
+        lot = λ item waits _. cc;
+        drawn = λ n waits _ _ _. cc;
+      }
+
+  module _ (n : ℕ) where
+    abbrev i : ℕ
+    i = index f.layout (OfControl x.block x.node)
+
+    abbrev mine : View P E
+    mine = logged i n (owes_report x (cargo.start can.item) can.item v)
+
+    abbrev after : Scene P E
+    after = moved here id x Done u is-put homes_now past
+
+    shows-mine : shown_view (block_of f.layout s.words) mine ≡ u
+    shows-mine =
+        let old = shown_view (block_of f.layout s.words) v in
+        (λ k. record old { holds = λ y. count-without (λ e. e.name) v.held x y k; reports = gain x old.reports })
+        ∙ ap (λ (z : PureView). record z { holds = lose x z.holds; reports = gain x z.reports })
+        (sym (shows-old cargo f s id x v c r at seated end.leave))
+
+    stands-done : Stands cargo f.over.value after (set s.views id mine)
+    stands-done =
+        let e = end.leave.held in
+        let holds = end.leave.holds in
+        let old = r.stands.views.each id v at in
+        let own_among = among f s id v r.sized.seats at in
+        let known = known-beside here id x Done u is-put homes_now past moves (λ y. refl) (λ y _. refl) delivered-other (inl refl) v own_among old
+        (without (λ e. e.name) v.held x)
+        (others-held here id x Done u is-put homes_now past moves (λ y. refl) (λ y _. refl) delivered-other (inl refl) v own_among old) in
+        record {
+          sound = sound-now;
+          homes = homes-moved here id x Done u is-put homes_now past moves r.stands.homes;
+          starts = starts-moved cargo f.over.value here id x Done u is-put homes_now past moves remembers leaves r.stands.starts;
+          items = items-moved cargo f.over.value here id x Done u is-put homes_now past moves remembers leaves r.stands.items;
+          lots = lots-moved cargo f.over.value here id x Done u is-put homes_now past moves remembers leaves r.stands.lots;
+          views = views-moved here after s.views id v mine at
+              (λ j z ne there.
+              known-moved here id x Done u is-put homes_now past moves (λ y. refl) (λ y _. refl) delivered-other (inl refl) z
+              (among f s j z r.sized.seats there) (others-none cargo f s id x v r at e holds j z ne there))
+              (known-logged after i n (owes_report x (cargo.start can.item) can.item v) (record {
+                held = known.held;
+                owed = known.owed;
+                reported = ((can.start ∙ start-so cargo f s id x v r at e holds, delivered-here), known.reported);
+                noted = known.noted;
+                unlooked = known.unlooked;
+                seen_after = known.seen_after;
+                seen = known.seen;
+              }))
+              refl refl r.stands.views;
+          counts = counts-moved here.state after.state s.views id v mine at refl refl r.stands.counts;
+        }
+
+    pub finish-runs : stamp_of n ≤ stamp_of value → Running cargo f record {
+      words = set s.words i value;
+      homes = shed_homes cargo f s id v c r at seated gone;
+      views = set s.views id mine;
+    }
+    finish-runs low =
+        let own = is-held cargo f s id x v c r at seated end.leave in
+        control-runs cargo f s id value x Done v r at own.live stamped reads mine u shows-mine
+        (shed_homes cargo f s id v c r at seated gone) homes_now past (λ j m. refl)
+        (begun-renewed cargo f s x r own.live (ap is_idle own.word)) (record { word = n; steps = refl; low = low })
+        (deep-shed gone s.homes c) stands-done

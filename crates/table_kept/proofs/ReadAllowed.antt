@@ -1,0 +1,204 @@
+-- What the loads of a held node's callback, and of its children's control words, owe and tell.
+use Rattle.std.proofs.Common.{◌≡◌, ℕ, Bool, true, false, not, ◌&&◌, ◌==◌, cond, List, ◌∷◌, set, Option, Some, refl, sym, ap, ◌∙◌, subst, arith}
+use Rattle.std.specs.Prelude.{slice_index}
+use Rattle.std.specs.Option.{option_map_or}
+use Rattle.std.proofs.lemmas.Bool.{and_from, both_ways, cond-true, cond-false, lt-ltb}
+use mathlib.Core.Option.{some}
+use lib.ListN.{get_elem?}
+use Rattle.life_rules.specs.declared.words.ControlWord.TheVariants.{Idle}
+use Rattle.life_rules.specs.declared.words.CallbackPhase.{CallbackPhase}
+use Rattle.life_rules.specs.declared.words.CallbackPhase.TheVariants.{Never, Armed, Running as Runs, Ran, Removed}
+use Rattle.node_tree.specs.declared.node.TreeNode.{TreeNode}
+use Rattle.life_rules.specs.declared.event.Name.{Name}
+use Rattle.node_tree.specs.Tree.{is_child}
+use Rattle.life_rules.specs.Words.{is_idle}
+use Rattle.life_rules.specs.Views.{beside}
+use Rattle.life_rules.specs.States.{State, is_live, control_at, phase_at}
+use Rattle.common_lemmas.proofs.Bool.{either}
+use Rattle.life_rules.proofs.Readings.{lives, is_live-from}
+use Rattle.life_kept.proofs.Trees.{parent-child, child-within}
+use Rattle.table_words.specs.declared.layout.Layout.{Layout}
+use Rattle.table_words.specs.Stamps.{stamp_of}
+use Rattle.table_words.specs.Controls.{control_read, callback_read}
+use Rattle.table_words.specs.Layouts.{OfControl, OfCallback, index}
+use Rattle.atomic_table.specs.Table.{Allows, keeps}
+use Rattle.atomic_table.specs.Table as table
+use Rattle.table_rules.specs.declared.cargo.Cargo.{Ghosts}
+use Rattle.table_rules.specs.declared.frame.Frame.{Frame}
+use Rattle.table_rules.specs.declared.view.View.{View}
+use Rattle.table_rules.specs.declared.view.Held.{Held}
+use Rattle.table_rules.specs.ShownWords.{is_there, is_said, said_at, word_of}
+use Rattle.table_rules.specs.Scenes.{shown}
+use Rattle.table_rules.specs.Notes.{is_still}
+use Rattle.table_rules.specs.Running.{Running}
+use Rattle.table_steps.specs.Claims.{logged, Seated}
+use Rattle.table_steps.specs.Slots.{IsSeated}
+use Rattle.table_steps.specs.Readings.{above_it, says_begun, says_phase, notes_idle, reads_child, reads_phase, HoldsAbove, Holds}
+use Rattle.table_kept.proofs.ControlRuns.{open-kept}
+use Rattle.table_kept.proofs.Loads.{looks_keep}
+use Rattle.table_kept.proofs.BeginSeats.{seated-logged}
+use Rattle.table_kept.proofs.HeldNow.{held}
+use Rattle.table_kept.proofs.Noting.{noting-keeps, seated-noted}
+
+pub still-refl : (p : CallbackPhase) → is_still p p
+still-refl Never = refl
+still-refl Armed = refl
+still-refl Runs = refl
+still-refl Ran = refl
+still-refl Removed = refl
+
+idle-either : (said : Bool) (read : Bool) → (said && not read) ≡ false → said ≡ true → read ≡ true
+idle-either true true h t = refl
+idle-either true false h t = absurd (both_ways true h refl)
+idle-either false read h t = cc
+
+-- the name of a parent that is given
+pub above-is : {P E : Type 0} (f : List TreeNode) (v : View P E) (child : Name) (h : HoldsAbove f v child) →
+    above_it f child ≡ beside child h.parent
+above-is f v child h = ap (λ o. option_map_or (λ p. beside child p) o child) h.parent_is
+
+module _ {P E O : Type 0} (cargo : Ghosts P E O) (f : Frame O) (s : table.State (Option P) (View P E)) (id : ℕ) (x : Name) (v : View P E) (r : Running cargo f s) (at : get_elem? s.views id ≡ some v) where
+  abbrev now : State
+  now = shown f s
+
+  -- at the block's generation a live place's word is said, at another it isn't
+  said-is : (y : Name) → is_live now y ≡ true → (w : ℕ) → is_said (now.block y.block) w ≡ (stamp_of w == y.generation)
+  said-is y live w =
+      let l = lives now y live in
+      (λ k. not (open-kept (now.block y.block).state l.is_opened k) && stamp_of w == (now.block y.block).generation)
+      ∙ ap (λ g. stamp_of w == g) (sym l.generation)
+
+  there : (y : Name) → is_live now y ≡ true → is_there f.layout y.block y.node ≡ true
+  there y live =
+      let l = lives now y live in
+      let node = l.node in
+      let e = r.frame.nodes in
+      and_from _ _ (lt-ltb y.block f.layout.blocks l.block) (lt-ltb y.node f.layout.nodes (omega (arith, node, e)))
+
+  -- the phase that the word says is the node's
+  pub phase-said : is_live now x ≡ true →
+      phase_at now x ≡ says_phase x.generation (word_of f.layout s.words (OfCallback x.block x.node))
+  phase-said live =
+      let w = word_of f.layout s.words (OfCallback x.block x.node) in
+      cond-true (is_live now x) (now.callback x.block x.node) Never live
+      ∙ cond-true (is_there f.layout x.block x.node) (said_at (now.block x.block) Never callback_read w) Never (there x live)
+      ∙ ap (λ b. cond b (callback_read w) Never) (said-is x live w)
+
+  -- a child that isn't said to have begun is idle
+  pub idle-said : (n : ℕ) → is_live now x ≡ true → is_child f.tree x.node n ≡ true →
+      says_begun x.generation (word_of f.layout s.words (OfControl x.block n)) ≡ false → is_idle (control_at now (beside x n)) ≡ true
+  idle-said n live child unsaid =
+      let l = lives now x live in
+      let y = beside x n in
+      let y_live : is_live now y ≡ true = is_live-from now y (record {
+        block = l.block;
+        node = child-within f.tree x.node n child;
+        is_opened = l.is_opened;
+        generation = l.generation;
+      }) in
+      let w = word_of f.layout s.words (OfControl x.block n) in
+      ap is_idle (cond-true (is_live now y) (now.control x.block n) Idle y_live
+      ∙ cond-true (is_there f.layout x.block n) (said_at (now.block x.block) Idle control_read w) Idle (there y y_live)
+      ∙ ap (λ b. cond b (control_read w) Idle) (said-is y y_live w))
+      ∙ either (stamp_of w == x.generation)
+      (λ t. ap (λ b. is_idle (cond b (control_read w) Idle)) t ∙ idle-either (stamp_of w == x.generation) (is_idle (control_read w)) unsaid t)
+      (λ no. ap (λ b. is_idle (cond b (control_read w) Idle)) no)
+
+-- what the load of the callback's word owes
+pub phase_allowed : {P E O : Type 0} (cargo : Ghosts P E O) (f : Frame O) (slots id : ℕ) (x : Name) (m : Seated P E) → Holds m.0 x →
+    Allows (Running cargo f) slots id m (index f.layout (OfCallback x.block x.node)) (λ n. n)
+    (λ n m'. m' ≡ reads_phase x (index f.layout (OfCallback x.block x.node)) n m)
+phase_allowed cargo f slots id x m h s r deep at small =
+    let i = index f.layout (OfCallback x.block x.node) in
+    let n = slice_index s.words i in
+    let live = (held cargo f s id x m.0 r at h.held h.holds).live in
+    let phase = says_phase x.generation n in (
+      (reads_phase x i n m).0,
+      keeps,
+      tt,
+      noting-keeps cargo f s id i x m.0 (λ e. record e { phase = Some phase }) (λ e. refl) r at
+          (λ e name so. record {
+            start = so.start;
+            named = so.named;
+            told = so.told;
+            told_children = so.told_children;
+            lot = so.lot;
+            phase = subst (λ z. is_still phase (phase_at (shown f s) z)) (sym name)
+                (subst (is_still phase) (sym (phase-said cargo f s id x m.0 r at live)) (still-refl phase));
+            idle = so.idle;
+          }),
+      refl,
+    )
+
+-- what the load of a child's control word owes
+pub child_allowed : {P E O : Type 0} (cargo : Ghosts P E O) (f : Frame O) (slots id : ℕ) (x : Name) (n : ℕ) (m : Seated P E) → Holds m.0 x →
+    is_child f.tree x.node n ≡ true →
+    Allows (Running cargo f) slots id m (index f.layout (OfControl x.block n)) (λ w. w)
+    (λ w m'. m' ≡ reads_child x (beside x n) (index f.layout (OfControl x.block n)) w m)
+child_allowed {P} {E} cargo f slots id x n m h child s r deep at small =
+    let i = index f.layout (OfControl x.block n) in
+    let w = slice_index s.words i in
+    let live = (held cargo f s id x m.0 r at h.held h.holds).live in
+    let told : View P E → View P E = λ z. logged i w z in (
+      (reads_child x (beside x n) i w m).0,
+      keeps,
+      tt,
+      either (says_begun x.generation w)
+          (λ begun.
+          subst (λ z. Running cargo f record { words = set s.words i w; homes = s.homes; views = set s.views id (told z) })
+          (sym (cond-true (says_begun x.generation w) m.0 (notes_idle x n m.0) begun)) (looks_keep cargo f s id i m.0 r at))
+          (λ idle.
+          subst (λ z. Running cargo f record { words = set s.words i w; homes = s.homes; views = set s.views id (told z) })
+          (sym (cond-false (says_begun x.generation w) m.0 (notes_idle x n m.0) idle))
+          (noting-keeps cargo f s id i x m.0 (λ (e : Held E). record e { idle = n ∷ e.idle }) (λ e. refl) r at
+          (λ e name so. record {
+            start = so.start;
+            named = so.named;
+            told = so.told;
+            told_children = so.told_children;
+            lot = so.lot;
+            phase = so.phase;
+            idle = (
+              subst (λ z. (is_child f.tree z.node n ≡ true) × (is_idle (control_at (shown f s) (beside z n)) ≡ true)) (sym name)
+                  (child, idle-said cargo f s id x m.0 r at n live child idle),
+              so.idle,
+            );
+          }))),
+      refl,
+    )
+
+module _ {P E O : Type 0} (cargo : Ghosts P E O) where
+  -- the loads, by the frame that the table shows
+  pub phase-at : (board f : Frame O) (slots id i : ℕ) (x y : Name) (m : Seated P E) → board ≡ f →
+      i ≡ index board.layout (OfCallback x.block x.node) → y ≡ x → Holds m.0 x →
+      Allows (Running cargo f) slots id m i (λ n. n) (λ n m'. m' ≡ reads_phase y i n m)
+  phase-at board f slots id i x y m same i_is name holds =
+      subst (λ z. Allows (Running cargo z) slots id m i (λ n. n) (λ n m'. m' ≡ reads_phase y i n m)) same
+      (subst (λ (z : ℕ × Name). Allows (Running cargo board) slots id m z.0 (λ n. n) (λ n m'. m' ≡ reads_phase z.1 z.0 n m))
+      (λ k. (sym i_is k, sym name k))
+      (phase_allowed cargo board slots id x m holds))
+
+  pub child-at : (board f : Frame O) (slots id i : ℕ) (child x c : Name) (m : Seated P E) → board ≡ f →
+      i ≡ index board.layout (OfControl child.block child.node) → x ≡ above_it board.tree child → c ≡ child → HoldsAbove board.tree m.0 child →
+      Allows (Running cargo f) slots id m i (λ n. n) (λ n m'. m' ≡ reads_child x c i n m)
+  child-at board f slots id i child x c m same i_is name child_is holds =
+      subst (λ z. Allows (Running cargo z) slots id m i (λ n. n) (λ n m'. m' ≡ reads_child x c i n m)) same
+      (subst (λ (z : ℕ × (Name × Name)). Allows (Running cargo board) slots id m z.0 (λ n. n) (λ n m'. m' ≡ reads_child z.1.0 z.1.1 z.0 n m))
+      (λ k. (sym i_is k, (sym (name ∙ above-is board.tree m.0 child holds) k, sym child_is k)))
+      (child_allowed cargo board slots id (beside child holds.parent) child.node m (record { held = holds.held; holds = holds.holds })
+      (parent-child board.tree holds.parent child.node holds.parent_is)))
+
+-- the hand still carries each slot once
+pub phase-seated : {P E : Type 0} (tree : List TreeNode) (l : Layout) (x : Name) (i n : ℕ) (m : Seated P E) →
+    IsSeated tree l m → IsSeated tree l (reads_phase x i n m)
+phase-seated tree l x i n m old =
+    seated-noted tree l i n x (λ e. record e { phase = Some (says_phase x.generation n) }) m (λ e. refl) old
+
+pub child-seated : {P E : Type 0} (tree : List TreeNode) (l : Layout) (x child : Name) (i n : ℕ) (m : Seated P E) →
+    IsSeated tree l m → IsSeated tree l (reads_child x child i n m)
+child-seated {P} {E} tree l x child i n m old =
+    either (says_begun child.generation n)
+    (λ begun. subst (λ z. IsSeated tree l (logged i n z, m.1)) (sym (cond-true (says_begun child.generation n) m.0 (notes_idle x child.node m.0) begun))
+    (seated-logged tree l i n m old))
+    (λ idle. subst (λ z. IsSeated tree l (logged i n z, m.1)) (sym (cond-false (says_begun child.generation n) m.0 (notes_idle x child.node m.0) idle))
+    (seated-noted tree l i n x (λ (e : Held E). record e { idle = child.node ∷ e.idle }) m (λ e. refl) old))

@@ -1,0 +1,273 @@
+-- What the subtraction by which a child is reported owes, and what it tells.
+use Rattle.std.proofs.Common.{◌≡◌, ◌≢◌, ℕ, ◌-◌, ◌<◌, Bool, true, false, ◌||◌, ◌==◌, cond, List, [], ◌∷◌, length, Option, Some, refl, sym, ap, ◌∙◌, subst, arith, ◌≤◌}
+use Rattle.std.specs.Prelude.{slice_index}
+use Rattle.std.specs.List.{list_any}
+use Rattle.std.proofs.lemmas.Bool.{and_from, and_parts, eqb-true, cond-true, eq-eqb, lt-ltb}
+use Rattle.std.proofs.lemmas.Nat.{same_from_place}
+use mathlib.Core.Option.{some}
+use mathlib.Core.Option as maybe
+use mathlib.Core.Logic.{dite}
+use native.Mathlib.Decide.{ℕ_discrete}
+use lib.ListN.{get_elem?}
+use Rattle.life_rules.specs.declared.words.ControlWord.TheVariants.{Idle, Busy}
+use Rattle.life_rules.specs.declared.event.Name.{Name}
+use Rattle.node_tree.specs.Tree.{is_child}
+use Rattle.life_rules.specs.Words.{is_idle, is_done, pending}
+use Rattle.life_rules.specs.Views.{beside}
+use Rattle.life_rules.specs.States.{State, is_live, control_at}
+use Rattle.life_rules.specs.Callbacks.{nearest_is_requested}
+use Rattle.life_rules.proofs.Readings.{lives}
+use Rattle.table_words.specs.Stamps.{stamp_of}
+use Rattle.table_words.specs.Controls.{control_read}
+use Rattle.table_words.specs.Layouts.{OfControl, index, place_number}
+use Rattle.atomic_table.specs.Table.{Allows, step, takes, chain, keeps, stepped}
+use Rattle.atomic_table.specs.Table as table
+use Rattle.table_rules.specs.declared.cargo.Cargo.{Ghosts}
+use Rattle.table_rules.specs.declared.frame.Frame.{Frame}
+use Rattle.table_rules.specs.declared.view.View.{View}
+use Rattle.table_rules.specs.Named.{Each}
+use Rattle.table_rules.specs.ShownWords.{is_there, is_said, said_at}
+use Rattle.table_rules.specs.Scenes.{Empty, Full, home_in, shown, scene}
+use Rattle.table_rules.specs.Notes.{children_are_requested}
+use Rattle.table_rules.specs.Running.{Running}
+use Rattle.table_steps.specs.Claims.{logged, Seated}
+use Rattle.table_steps.specs.Slots.{Aim, slot_of, kids_of, is_of_family, has_slot, IsSeated}
+use Rattle.table_steps.specs.Reports.{CanReport, reports_off, holds_last, laid, LastAt, ReportsAt}
+use Rattle.table_kept.proofs.BeginTold.{aimed}
+use Rattle.table_kept.proofs.Entries.{each-map, each-both}
+use Rattle.table_kept.proofs.KidSlots.{kids-descend}
+use Rattle.table_kept.proofs.SlotsOut.{apart-home}
+use Rattle.table_kept.proofs.BeginSeats.{or-left, or-right, or-cases, kids-are, kid-of-family}
+use Rattle.table_kept.proofs.SeenStands.{noted-start}
+use Rattle.table_kept.proofs.TakeSeats.{full-home}
+use Rattle.table_kept.proofs.LaidSlots.{take_with, carries-laid, each-laid, apart-laid}
+use Rattle.table_kept.proofs.ReportWords.{less_one, IsExact, less-stamp, less-read}
+use Rattle.table_kept.proofs.Reporting.{above, waits, word-is, above-live}
+use Rattle.table_kept.proofs.ReportOn.{report-runs}
+use Rattle.table_kept.proofs.LastKids.{waits-before, counts-named, kid-ends, kid-fits, kid-below, kid-draws, kid-failed}
+use Rattle.table_kept.proofs.LastReported.{last-keeps, last-descends}
+use Rattle.table_kept.proofs.ReportLast.{place-b, place-n, lies, inside, kids-within, kids-lie, last-valid, last-runs}
+use Rattle.table_kept.proofs.Moving.{parent-differs}
+
+module _ {P E O : Type 0} (cargo : Ghosts P E O) (f : Frame O) (s : table.State (Option P) (View P E)) (id : ℕ) (c : Name) (v : View P E) (carried : List (ℕ × Option P)) (r : Running cargo f s) (at : get_elem? s.views id ≡ some v) (can : CanReport f.tree v c) (exact : IsExact) where
+  abbrev now : State
+  now = shown f s
+
+  abbrev x : Name
+  x = above cargo f s id c v r at can
+
+  abbrev k : ℕ
+  k = pending (control_at now x)
+
+  abbrev i : ℕ
+  i = index f.layout (OfControl x.block x.node)
+
+  abbrev n : ℕ
+  n = slice_index s.words i
+
+  not-idle : (b : Bool) → cond b (control_read n) Idle ≡ Busy k → b ≡ true
+  not-idle true e = refl
+  not-idle false e = cc
+
+  live-now : is_live now x ≡ true
+  live-now = above-live cargo f s id c v r at can
+
+  said-now : cond (is_said (now.block x.block) n) (control_read n) Idle ≡ Busy k
+  said-now =
+      let l = lives now x live-now in
+      let node = l.node in
+      let e = r.frame.nodes in
+      sym (cond-true (is_there f.layout x.block x.node) (said_at (now.block x.block) Idle control_read n) Idle
+      (and_from _ _ (lt-ltb x.block f.layout.blocks l.block) (lt-ltb x.node f.layout.nodes (omega (arith, node, e)))))
+      ∙ sym (cond-true (is_live now x) (now.control x.block x.node) Idle live-now) ∙ word-is cargo f s id c v r at can
+
+  is-said : is_said (now.block x.block) n ≡ true
+  is-said = not-idle (is_said (now.block x.block) n) said-now
+
+  -- the word that is read is the parent's
+  reads-now : control_read n ≡ Busy k
+  reads-now = sym (cond-true (is_said (now.block x.block) n) (control_read n) Idle is-said) ∙ said-now
+
+  stamp-now : stamp_of n ≡ c.generation
+  stamp-now =
+      eqb-true _ _ (and_parts _ _ is-said).1
+      ∙ sym (lives now x live-now).generation
+
+  module _ (small : n < 18446744073709551616) where
+    stamp-less : stamp_of (less_one n) ≡ c.generation
+    stamp-less = less-stamp exact n k small reads-now (waits cargo f s id c v r at can) ∙ stamp-now
+
+    low-now : stamp_of n ≤ stamp_of (less_one n)
+    low-now = let a = stamp-now in let b = stamp-less in omega (arith, a, b)
+
+    read-less : control_read (less_one n) ≡ Busy (k - 1)
+    read-less = less-read exact n k small reads-now (waits cargo f s id c v r at can)
+
+    pub on-now : k ≢ 1 → Running cargo f (stepped s i (less_one n) id carried (logged i n (reports_off c v)) keeps)
+    on-now more = report-runs cargo f s id (less_one n) c v r at can more stamp-less read-less n low-now
+
+    module _ (last : k ≡ 1) where
+      read-last : control_read (less_one n) ≡ Busy 0
+      read-last = read-less ∙ ap (λ j. Busy (j - 1)) last
+
+      abbrev told : Bool
+      told = nearest_is_requested now x
+
+      abbrev told_kids : Bool
+      told_kids = children_are_requested now x
+
+      abbrev mine : View P E
+      mine = logged i n (holds_last x (r.past.start x) (r.past.named x) told told_kids (r.past.lot x) (reports_off c v))
+
+      abbrev kids : List ℕ
+      kids = kids_of f.tree x.node
+
+      abbrev slot : ℕ
+      slot = place_number f.layout x.block x.node
+
+      abbrev lying : (item : P) × ((scene f s r.past).home x.block x.node ≡ Full item)
+      lying = lies cargo f s id (less_one n) c v carried r at can last stamp-less read-last
+
+      abbrev content : ℕ → Option P
+      content = inside cargo f s id (less_one n) c v carried r at can last stamp-less read-last
+
+      hb : x.block < f.layout.blocks
+      hb = place-b cargo f s id (less_one n) c v carried r at can last stamp-less read-last
+
+      hn : x.node < f.layout.nodes
+      hn = place-n cargo f s id (less_one n) c v carried r at can last stamp-less read-last
+
+      within : Each (λ n. n < f.layout.nodes) kids
+      within = kids-within cargo f s id (less_one n) c v carried r at can last stamp-less read-last
+
+      lie : Each (λ n. get_elem? s.homes (place_number f.layout x.block n) ≡ some (some (content n))) kids
+      lie = kids-lie cargo f s id (less_one n) c v carried r at can last stamp-less read-last
+
+      own-home : get_elem? s.homes slot ≡ some (some (Some lying.0))
+      own-home =
+          full-home s.homes slot lying.0
+          (sym (cond-true (is_there f.layout x.block x.node) (home_in (get_elem? s.homes slot)) Empty
+          (and_from _ _ (lt-ltb x.block f.layout.blocks hb) (lt-ltb x.node f.layout.nodes hn))) ∙ lying.1)
+
+      given-still : (d : ℕ) → has_slot f.tree f.layout v d ≡ true → has_slot f.tree f.layout mine d ≡ true
+      given-still d h =
+          let a = list_any (λ e. slot_of f.layout e.name == d) v.owed in
+          let b = list_any (λ e. is_of_family f.tree f.layout e.name d) v.held in
+          let z = list_any (λ y. slot_of f.layout y == d) v.finished in
+          let own = is_of_family f.tree f.layout x d in
+          or-cases a (b || z) h
+          (λ owed. or-left a ((own || b) || z) owed)
+          (λ more.
+          or-right a ((own || b) || z)
+          (or-cases b z more (λ held. or-left (own || b) z (or-right own b held)) (λ finished. or-right (own || b) z finished)))
+
+      family : (d : ℕ) → is_of_family f.tree f.layout x d ≡ true → has_slot f.tree f.layout mine d ≡ true
+      family d own = or-right _ _ (or-left _ _ (or-left _ _ own))
+
+      seated-last : IsSeated f.tree f.layout (v, carried) →
+          IsSeated f.tree f.layout (mine, (slot, Some lying.0) ∷ laid f.layout x.block kids content carried)
+      seated-last old =
+          record {
+            apart = (
+              each-laid (λ d. d.0 ≢ slot) f.layout x.block kids content carried
+                  (each-map (λ m. (m < f.layout.nodes) × (is_child f.tree x.node m ≡ true)) (λ m. place_number f.layout x.block m ≢ slot)
+                  (λ m both e.
+                  parent-differs f.tree r.stands.sound.tree x.node m both.1
+                  (sym (same_from_place x.block m x.block x.node f.layout.nodes both.0 hn e).1)) kids
+                  (each-both (λ m. m < f.layout.nodes) (λ m. is_child f.tree x.node m ≡ true) kids within (kids-are f.tree x.node (length f.tree))))
+                  (apart-home cargo f s id v r at slot (Some lying.0) carried own-home old.given),
+              apart-laid f.layout x.block kids content carried (kids-descend f.tree x.node (length f.tree)) within
+                  (each-map (λ m. get_elem? s.homes (place_number f.layout x.block m) ≡ some (some (content m)))
+                  (λ m. Each (λ d. d.0 ≢ place_number f.layout x.block m) carried)
+                  (λ m home. apart-home cargo f s id v r at (place_number f.layout x.block m) (content m) carried home old.given) kids lie)
+                  old.apart,
+            );
+            given = (
+              family slot (or-left (slot_of f.layout x == slot) _ (eq-eqb slot slot refl)),
+              each-laid (λ d. has_slot f.tree f.layout mine d.0 ≡ true) f.layout x.block kids content carried
+                  (each-map (λ m. is_child f.tree x.node m ≡ true)
+                  (λ m. has_slot f.tree f.layout mine (place_number f.layout x.block m) ≡ true)
+                  (λ m child. family (place_number f.layout x.block m) (kid-of-family f.tree f.layout x m child))
+                  kids (kids-are f.tree x.node (length f.tree)))
+                  (each-map (λ d. has_slot f.tree f.layout v d.0 ≡ true) (λ d. has_slot f.tree f.layout mine d.0 ≡ true)
+                  (λ d. given-still d.0) carried old.given),
+            );
+            itself = old.itself;
+          }
+
+      pub last-now : (w : View P E) × (a : table.Act (Option P)) × table.Valid s.homes carried a
+          × Running cargo f (stepped s i (less_one n) id carried w a)
+          × LastAt cargo (aimed f x) c (f.over.value ∷ []) i n (v, carried) (w, table.carried_after carried a)
+      last-now =
+          let is = carries-laid f.layout s.homes carried r.sized.homes x.block hb content kids in
+          let waiting = waits-before cargo f s id c v r at can last in (
+            mine,
+            chain (take_with f.layout x.block content kids) (takes slot (Some lying.0)),
+            last-valid cargo f s id (less_one n) c v carried r at can last stamp-less read-last,
+            last-runs cargo f s id (less_one n) c v carried r at can last stamp-less read-last n low-now,
+            record {
+              start = r.past.start x;
+              named = r.past.named x;
+              told = told;
+              told_children = told_kids;
+              lot = r.past.lot x;
+              item = lying.0;
+              content = content;
+              me_is = λ j. (mine, (slot, Some lying.0) ∷ is j);
+              shows = r.stands.starts.shows x lying.0 live-now lying.1;
+              fit = r.stands.items.fit x lying.0 live-now lying.1;
+              goes_on = r.stands.items.goes_on x lying.0 live-now lying.1 (ap is_done (word-is cargo f s id c v r at can));
+              bound = r.stands.items.bound x lying.0 live-now lying.1;
+              lot_is = r.stands.lots.own x lying.0 waiting lying.1;
+              key = (r.stands.starts.key x (ap is_idle (word-is cargo f s id c v r at can)), tt);
+              noted = noted-start cargo f s id v r at x live-now;
+              count = counts-named cargo f s id c v r at can last;
+              ends = kid-ends cargo f s id c v r at can last;
+              fits_child = kid-fits cargo f s id c v r at can last;
+              below = kid-below cargo f s id c v r at can last;
+              draws = kid-draws cargo f s id c v r at can last;
+              keeps = last-keeps cargo f s id c v r at can last;
+              descends = last-descends cargo f s id c v r at can last;
+              failure = kid-failed cargo f s id c v r at can last;
+              seated = λ old. subst (λ d. IsSeated f.tree f.layout (mine, (slot, Some lying.0) ∷ d)) (sym is) (seated-last old);
+            },
+          )
+
+-- what the subtraction owes
+pub reports_allowed : {P E O : Type 0} (cargo : Ghosts P E O) (f : Frame O) (slots id : ℕ) (c : Name) (m : Seated P E) (can : CanReport f.tree m.0 c) →
+    IsExact →
+    Allows (Running cargo f) slots id m (index f.layout (OfControl c.block can.parent)) less_one
+    (ReportsAt cargo (aimed f (beside c can.parent)) c (f.over.value ∷ []) (step slots (index f.layout (OfControl c.block can.parent)) 1 0 maybe.none) m)
+reports_allowed {P} {E} cargo f slots id c m can exact s r deep at small =
+    let i = index f.layout (OfControl c.block can.parent) in
+    let n = slice_index s.words i in
+    let is_k : pending (control_read n) ≡ pending (control_at (shown f s) (beside c can.parent)) =
+    ap pending (reads-now cargo f s id c m.0 m.1 r at can exact) in
+    dite (ℕ_discrete (pending (control_read n)) 1)
+    (λ hit.
+    let won = last-now cargo f s id c m.0 m.1 r at can exact small (sym is_k ∙ hit) in (
+      won.0,
+      won.1,
+      won.2,
+      won.3,
+      ((λ _. won.4), (λ miss. absurd (miss hit))),
+    ))
+    (λ miss. (
+      logged i n (reports_off c m.0),
+      keeps,
+      tt,
+      on-now cargo f s id c m.0 m.1 r at can exact small (λ one_left. miss (is_k ∙ one_left)),
+      ((λ hit. absurd (miss hit)), (λ _. refl)),
+    ))
+
+module _ {P E O : Type 0} (cargo : Ghosts P E O) where
+  -- the subtraction, by the frame that the table shows
+  pub reports-at : (board f : Frame O) (slots id i : ℕ) (c y : Name) (aim : Aim) (overs : List O) (m : Seated P E) (can : CanReport board.tree m.0 c) → board ≡ f →
+      i ≡ index board.layout (OfControl c.block can.parent) → aim ≡ aimed board (beside c can.parent) → y ≡ c → overs ≡ board.over.value ∷ [] → IsExact →
+      Allows (Running cargo f) slots id m i less_one (ReportsAt cargo aim y overs (step slots i 1 0 maybe.none) m)
+  reports-at board f slots id i c y aim overs m can same i_is aim_is y_is overs_is exact =
+      subst (λ z. Allows (Running cargo z) slots id m i less_one (ReportsAt cargo aim y overs (step slots i 1 0 maybe.none) m)) same
+      (subst (λ (z : ℕ × (Aim × (Name × List O))). Allows (Running cargo board) slots id m z.0 less_one
+      (ReportsAt cargo z.1.0 z.1.1.0 z.1.1.1 (step slots z.0 1 0 maybe.none) m))
+      (λ k. (sym i_is k, (sym aim_is k, (sym y_is k, sym overs_is k))))
+      (reports_allowed cargo board slots id c m can exact))

@@ -1,0 +1,245 @@
+-- The store by which a node is left at rest keeps the rule.
+use Rattle.std.proofs.Common.{◌≡◌, ℕ, ◌≤◌, Bool, true, false, ◌&&◌, ◌||◌, ◌==◌, List, set, refl, sym, ap, ◌∙◌, subst, inl, arith}
+use Rattle.std.specs.Prelude.{Option, Some}
+use Rattle.std.proofs.lemmas.Bool.{and_from, both_ways, eq-eqb}
+use mathlib.Core.Option.{some}
+use lib.ListN.{get_elem?}
+use Rattle.life_rules.specs.declared.words.ControlWord.{ControlWord}
+use Rattle.life_rules.specs.declared.event.Name.{Name}
+use Rattle.life_rules.specs.declared.event.Resting.{Resting}
+use Rattle.life_rules.specs.declared.event.Resting.TheVariants.{Loop, Pool, Parked}
+use Rattle.node_tree.specs.Tree.{is_child, is_root}
+use Rattle.life_rules.specs.Words.{is_idle, is_done, is_held, is_under_way, resting_at}
+use Rattle.life_rules.specs.Views.{View as PureView, lose}
+use Rattle.life_rules.specs.States.{State}
+use Rattle.life_rules.specs.LifeSteps.{may_leave_node}
+use Rattle.life_rules.specs.Callbacks.{nearest_is_requested}
+use Rattle.life_rules.specs.Sound.{Sound}
+use Rattle.life_kept.proofs.Puts.{put, IsPut}
+use Rattle.life_kept.proofs.Holding.{IsHeld}
+use Rattle.life_kept.proofs.RestTake.{sound-rest}
+use Rattle.table_words.specs.Stamps.{stamp_of}
+use Rattle.table_words.specs.Controls.{control_read}
+use Rattle.table_words.specs.Layouts.{OfControl, index}
+use Rattle.atomic_table.specs.Table.{Allows}
+use Rattle.atomic_table.specs.Table as table
+use Rattle.table_rules.specs.declared.cargo.Cargo.{Ghosts}
+use Rattle.table_rules.specs.declared.frame.Frame.{Frame}
+use Rattle.table_rules.specs.declared.view.View.{View}
+use Rattle.table_rules.specs.Named.{without}
+use Rattle.table_rules.specs.ShownWords.{block_of}
+use Rattle.table_rules.specs.ShownViews.{shown_view}
+use Rattle.table_rules.specs.Scenes.{Home, Empty, Full, is_out, is_full, Scene, shown, scene}
+use Rattle.table_rules.specs.Homes.{is_waiting}
+use Rattle.table_rules.specs.Running.{Stands, Running}
+use Rattle.table_steps.specs.Claims.{logged, LeftAt, Seated}
+use Rattle.table_steps.specs.Slots.{slot_of, is_of_family, IsSeated}
+use Rattle.table_steps.specs.Rests.{lets_go, CanRest, RestsAt}
+use Rattle.table_kept.proofs.Entries.{count-without}
+use Rattle.table_kept.proofs.Among.{among}
+use Rattle.table_kept.proofs.Loads.{known-logged}
+use Rattle.table_kept.proofs.Counts.{counts-moved}
+use Rattle.table_kept.proofs.ViewMoves.{views-moved}
+use Rattle.table_kept.proofs.ControlRuns.{place_of, place-live, name-live, control-runs, begun-renewed}
+use Rattle.table_kept.proofs.HeldNow.{start-so, named-so, fit-now, others-none}
+use Rattle.table_kept.proofs.BeginSeats.{or-left, kid-of-family}
+use Rattle.table_kept.proofs.Shedding.{sheds, carries-shed, deep-shed}
+use Rattle.table_kept.proofs.ShedHomes.{not-family, valid-shed, shed_homes}
+use Rattle.table_kept.proofs.Leaving.{is-held, is-below, shows-old, may-leave, place-n, home, home-given, kid-given, home-still, kid-left}
+use Rattle.table_kept.proofs.ShedSeats.{seated-shed}
+use Rattle.table_kept.proofs.Moving.{Moves, moved}
+use Rattle.table_kept.proofs.MovingHomes.{homes-moved}
+use Rattle.table_kept.proofs.MovingItems.{Remembers, Leaves, starts-moved, items-moved, lots-moved}
+use Rattle.table_kept.proofs.MovingViews.{known-moved, known-beside, others-held}
+
+-- the word of a node at rest
+record IsAtRest (c : ControlWord) : Type 0 where
+  begun : is_idle c ≡ false
+  held : is_held c ≡ false
+  done : is_done c ≡ false
+  waits : is_waiting c ≡ false
+
+at-rest : (to : Resting) → IsAtRest (resting_at to)
+at-rest Loop = record { begun = refl; held = refl; done = refl; waits = refl }
+at-rest Pool = record { begun = refl; held = refl; done = refl; waits = refl }
+at-rest Parked = record { begun = refl; held = refl; done = refl; waits = refl }
+
+same-full : {P : Type 0} (a b : P) → Full a ≡ Full b → a ≡ b
+same-full a b e = cc
+
+module _ {P E O : Type 0} (cargo : Ghosts P E O) (f : Frame O) (s : table.State (Option P) (View P E)) (id value : ℕ) (x : Name) (to : Resting) (v : View P E) (c : List (ℕ × Option P)) (r : Running cargo f s) (at : get_elem? s.views id ≡ some v) (seated : IsSeated f.tree f.layout (v, c)) (can : CanRest cargo f (v, c) x) (stamped : stamp_of value ≡ x.generation) (reads : control_read value ≡ resting_at to) where
+  abbrev now : State
+  now = shown f s
+
+  abbrev here : Scene P E
+  here = scene f s r.past
+
+  abbrev w : ControlWord
+  w = resting_at to
+
+  rest : IsAtRest w
+  rest = at-rest to
+
+  held-now : IsHeld now x
+  held-now = is-held cargo f s id x v c r at seated can.leave
+
+  abbrev u : PureView
+  u = record (now.view id) { holds = lose x (now.view id).holds }
+
+  is-put : IsPut now id x w u
+  is-put = record { sound = r.stands.sound; hand = is-below cargo f s id x v c r at seated can.leave; live = held-now.live; views = refl }
+
+  sound-now : Sound (put now id x w u)
+  sound-now =
+      let name = name-live now x held-now.live in
+      subst (λ z. Sound (put now id z w (record (now.view id) { holds = lose z (now.view id).holds }))) name
+      (sound-rest now id (place_of x) to r.stands.sound (is-below cargo f s id x v c r at seated can.leave)
+      (and_from _ _ (place-live now x held-now.live)
+      (subst (λ z. may_leave_node (now.view id) z ≡ true) (sym name) (may-leave cargo f s id x v c r at seated can.leave))))
+
+  abbrev gone : ℕ → Bool
+  gone = is_of_family f.tree f.layout x
+
+  abbrev homes_now : ℕ → ℕ → Home P
+  homes_now = home cargo f s id x v c r at seated can.leave gone
+
+  own-home : homes_now x.block x.node ≡ Full can.item
+  own-home =
+      home-given cargo f s id x v c r at seated can.leave gone x.node (Some can.item) (place-n cargo f s id x v c r at seated can.leave)
+      (or-left (slot_of f.layout x == slot_of f.layout x) _ (eq-eqb (slot_of f.layout x) (slot_of f.layout x) refl)) can.home
+
+  kid-home : (n : ℕ) → is_child f.tree x.node n ≡ true → homes_now x.block n ≡ Empty
+  kid-home n child = kid-given cargo f s id x v c r at seated can.leave gone n child (kid-of-family f.tree f.layout x n child)
+
+  full-own : is_full (homes_now x.block x.node) ≡ true
+  full-own = ap is_full own-home
+
+  moves : Moves here id x w u is-put homes_now r.past
+  moves =
+      record {
+        sound = sound-now;
+        under_way = ap is_under_way held-now.word;
+        begun = rest.begun;
+        owes = λ y apart. refl;
+        reports = λ y ne. omega arith;
+        named_other = λ y ne. refl;
+        far = λ j m own kid.
+            home-still cargo f s id x v c r at seated can.leave gone j m
+            (λ hm. not-family f.tree f.layout x j m (sym r.frame.nodes) (place-n cargo f s id x v c r at seated can.leave) hm own kid);
+        own = ap is_out own-home ∙ (λ k. sym rest.held k || (sym rest.done k && is_root f.tree x.node));
+        waits = λ _. full-own;
+        settled = λ _. full-own;
+        kids = λ n child.
+            kid-left cargo f s id x v c r at seated can.leave w u is-put homes_now r.past n child rest.held refl refl (kid-home n child);
+        named = λ waits. absurd (both_ways (is_waiting w) rest.waits waits);
+      }
+
+  remembers : Remembers cargo f.over.value here id x w u is-put homes_now r.past moves
+  remembers = record { start = λ y. refl; lot = λ y ne. refl; delivered = λ y ne. refl }
+
+  item-is : (item : P) → homes_now x.block x.node ≡ Full item → can.item ≡ item
+  item-is item e = same-full can.item item (sym own-home ∙ e)
+
+  leaves : Leaves cargo f.over.value here id x w u is-put homes_now r.past moves
+  leaves =
+      let e = can.leave.held in
+      let holds = can.leave.holds in
+      record {
+        start = λ item is. ap cargo.start (sym (item-is item is)) ∙ can.start ∙ start-so cargo f s id x v r at e holds;
+        fit = λ item is.
+            subst (λ i. cargo.fits i x.node (nearest_is_requested now x)) (item-is item is)
+            (fit-now cargo f s id x v r at e holds can.item can.fit);
+        goes_on = λ item is _. subst (λ i. ¬ cargo.ends i) (item-is item is) can.goes_on;
+        bound = λ item is.
+            subst (λ i. cargo.least i ≤ r.past.named x) (item-is item is)
+            (subst (λ n. cargo.least can.item ≤ n) (named-so cargo f s id x v r at e holds) can.bound);
+        ended = λ done _. absurd (both_ways (is_done w) rest.done done);
+        delivered = λ item done _ _. absurd (both_ways (is_done w) rest.done done);
+        lot = λ item waits _. absurd (both_ways (is_waiting w) rest.waits waits);
+        drawn = λ n waits _ _ _. absurd (both_ways (is_waiting w) rest.waits waits);
+      }
+
+  module _ (n : ℕ) where
+    abbrev i : ℕ
+    i = index f.layout (OfControl x.block x.node)
+
+    abbrev mine : View P E
+    mine = logged i n (lets_go x v)
+
+    abbrev after : Scene P E
+    after = moved here id x w u is-put homes_now r.past
+
+    shows-mine : shown_view (block_of f.layout s.words) mine ≡ u
+    shows-mine =
+        let old = shown_view (block_of f.layout s.words) v in
+        (λ k. record old { holds = λ y. count-without (λ e. e.name) v.held x y k })
+        ∙ ap (λ (z : PureView). record z { holds = lose x z.holds })
+        (sym (shows-old cargo f s id x v c r at seated can.leave))
+
+    stands-rest : Stands cargo f.over.value after (set s.views id mine)
+    stands-rest =
+        let e = can.leave.held in
+        let holds = can.leave.holds in
+        let known = r.stands.views.each id v at in
+        let mine-among = among f s id v r.sized.seats at in
+        record {
+          sound = sound-now;
+          homes = homes-moved here id x w u is-put homes_now r.past moves r.stands.homes;
+          starts = starts-moved cargo f.over.value here id x w u is-put homes_now r.past moves remembers leaves r.stands.starts;
+          items = items-moved cargo f.over.value here id x w u is-put homes_now r.past moves remembers leaves r.stands.items;
+          lots = lots-moved cargo f.over.value here id x w u is-put homes_now r.past moves remembers leaves r.stands.lots;
+          views = views-moved here after s.views id v mine at
+              (λ j z ne there.
+              known-moved here id x w u is-put homes_now r.past moves (λ y. refl) (λ y _. refl) (λ y _. refl) (inl refl) z
+              (among f s j z r.sized.seats there) (others-none cargo f s id x v r at e holds j z ne there))
+              (known-logged after i n (lets_go x v)
+              (known-beside here id x w u is-put homes_now r.past moves (λ y. refl) (λ y _. refl) (λ y _. refl) (inl refl) v
+              mine-among known (without (λ e. e.name) v.held x)
+              (others-held here id x w u is-put homes_now r.past moves (λ y. refl) (λ y _. refl) (λ y _. refl) (inl refl) v mine-among known)))
+              refl refl r.stands.views;
+          counts = counts-moved here.state after.state s.views id v mine at refl refl r.stands.counts;
+        }
+
+    pub rest-runs : stamp_of n ≤ stamp_of value → Running cargo f record {
+      words = set s.words i value;
+      homes = shed_homes cargo f s id v c r at seated gone;
+      views = set s.views id mine;
+    }
+    rest-runs low =
+        control-runs cargo f s id value x w v r at held-now.live stamped reads mine u shows-mine
+        (shed_homes cargo f s id v c r at seated gone) homes_now r.past (λ j m. refl)
+        (begun-renewed cargo f s x r held-now.live (ap is_idle held-now.word)) (record { word = n; steps = refl; low = low })
+        (deep-shed gone s.homes c) stands-rest
+
+  pub rests-now : (mine : View P E) × (a : table.Act (Option P)) × table.Valid s.homes c a
+      × Running cargo f (table.stepped s (index f.layout (OfControl x.block x.node)) value id c mine a)
+      × (RestsAt (record { tree = f.tree; layout = f.layout; name = x }) (index f.layout (OfControl x.block x.node)) (v, c) (mine, table.carried_after c a)
+      × LeftAt (index f.layout (OfControl x.block x.node)) value (v, c) (mine, table.carried_after c a))
+  rests-now =
+      let i = index f.layout (OfControl x.block x.node) in
+      let n = value in
+      let mine : View P E = logged i n (lets_go x v) in
+      let is = carries-shed gone c in (
+        mine,
+        sheds gone c,
+        valid-shed cargo f s id v c r at seated gone,
+        rest-runs n (omega arith),
+        (
+          record {
+            word = n;
+            me_is = λ k. (mine, is k);
+            seated = subst (λ d. IsSeated f.tree f.layout (mine, d)) (sym is)
+                (seated-shed f.tree f.layout x i n v c seated);
+          },
+          refl,
+        ),
+      )
+
+-- what the store owes
+pub rests_allowed : {P E O : Type 0} (cargo : Ghosts P E O) (f : Frame O) (slots id value : ℕ) (x : Name) (to : Resting) (m : Seated P E) →
+    IsSeated f.tree f.layout m → CanRest cargo f m x → stamp_of value ≡ x.generation → control_read value ≡ resting_at to →
+    Allows (Running cargo f) slots id m (index f.layout (OfControl x.block x.node)) (λ _. value)
+    (λ _ m'. RestsAt (record { tree = f.tree; layout = f.layout; name = x }) (index f.layout (OfControl x.block x.node)) m m'
+    × LeftAt (index f.layout (OfControl x.block x.node)) value m m')
+rests_allowed cargo f slots id value x to m seated can stamped reads s r deep at small =
+    rests-now cargo f s id value x to m.0 m.1 r at seated can stamped reads

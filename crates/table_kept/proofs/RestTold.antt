@@ -1,0 +1,87 @@
+-- What the steps of rest and take owe and tell, in the contract's words.
+use Rattle.std.proofs.Common.{◌≡◌, ◌≢◌, ℕ, ◌<◌, Bool, ◌==◌, List, [], ◌∷◌, refl, sym, ap, ◌∙◌, subst, eq-eqb, eqb-true}
+use Rattle.std.proofs.lemmas.Bool.{both_ways}
+use mathlib.Core.Option as maybe
+use prog.Atomic.{either}
+use Rattle.life_rules.specs.declared.words.ControlWord.TheVariants.{Busy}
+use Rattle.life_rules.specs.declared.event.Name.{Name}
+use Rattle.life_rules.specs.declared.event.Resting.{Resting}
+use Rattle.life_rules.specs.declared.event.Resting.TheVariants.{Loop, Pool, Parked}
+use Rattle.life_rules.specs.Words.{pending, resting_at}
+use Rattle.common_lemmas.proofs.Bool.{either as test}
+use Rattle.table_words.specs.Stamps.{stamp_of}
+use Rattle.table_words.specs.Controls.{control_read}
+use Rattle.table_words.specs.Layouts.{OfControl, index}
+use Rattle.atomic_table.specs.Table.{Allows, step}
+use Rattle.table_rules.specs.declared.cargo.Cargo.{Ghosts}
+use Rattle.table_rules.specs.declared.frame.Frame.{Frame}
+use Rattle.table_rules.specs.Running.{Running}
+use Rattle.table_steps.specs.Claims.{logged, LeftAt, Seated}
+use Rattle.table_steps.specs.Slots.{Aim, IsSeated}
+use Rattle.table_steps.specs.Rests.{CanRest, RestsAt}
+use Rattle.table_steps.specs.Takes.{MayServe, TakenAt, TakesAt, IsTaken, rest_word}
+use Rattle.table_kept.proofs.BeginTold.{aimed}
+use Rattle.table_kept.proofs.BeginSeats.{seated-logged}
+use Rattle.table_kept.proofs.RestRuns.{rests_allowed}
+use Rattle.table_kept.proofs.TakeAllowed.{takes_allowed}
+
+pub rest-pending : (to : Resting) → pending (resting_at to) ≡ 0
+rest-pending Loop = refl
+rest-pending Pool = refl
+rest-pending Parked = refl
+
+module _ {P E O : Type 0} (cargo : Ghosts P E O) where
+  -- the store, by the frame that the table shows
+  pub rests-at : (board f : Frame O) (slots id i value : ℕ) (x : Name) (to : Resting) (aim : Aim) (m : Seated P E) → board ≡ f →
+      i ≡ index board.layout (OfControl x.block x.node) → aim ≡ aimed board x → IsSeated board.tree board.layout m →
+      CanRest cargo board m x → stamp_of value ≡ x.generation → control_read value ≡ resting_at to →
+      Allows (Running cargo f) slots id m i (λ _. value) (λ _ m'. RestsAt aim i m m' × LeftAt i value m m')
+  rests-at board f slots id i value x to aim m same i_is aim_is seated can stamped reads =
+      subst (λ z. Allows (Running cargo z) slots id m i (λ _. value) (λ _ m'. RestsAt aim i m m' × LeftAt i value m m')) same
+      (subst (λ (z : ℕ × Aim). Allows (Running cargo board) slots id m z.0 (λ _. value)
+      (λ _ m'. RestsAt z.1 z.0 m m' × LeftAt z.0 value m m'))
+      (λ k. (sym i_is k, sym aim_is k))
+      (rests_allowed cargo board slots id value x to m seated can stamped reads))
+
+  pub rests-told : (board : Frame O) (i : ℕ) (x : Name) (aim : Aim) (m m' : Seated P E) →
+      i ≡ index board.layout (OfControl x.block x.node) → aim ≡ aimed board x → RestsAt aim i m m' →
+      RestsAt (aimed board x) (index board.layout (OfControl x.block x.node)) m m'
+  rests-told board i x aim m m' i_is aim_is told =
+      subst (λ (z : ℕ × Aim). RestsAt z.1 z.0 m m') (λ k. (i_is k, aim_is k)) told
+
+  -- the exchange, by the frame that the table shows
+  pub takes-at : (board f : Frame O) (slots id i old new : ℕ) (x : Name) (from : Resting) (aim : Aim) (overs : List O) (m : Seated P E) → board ≡ f →
+      i ≡ index board.layout (OfControl x.block x.node) → aim ≡ aimed board x → overs ≡ board.over.value ∷ [] →
+      x.block < board.layout.blocks → x.node < board.layout.nodes → MayServe from m.0 →
+      stamp_of old ≡ x.generation → control_read old ≡ resting_at from → stamp_of new ≡ x.generation → control_read new ≡ Busy 0 →
+      Allows (Running cargo f) slots id m i (λ n. either (n == old) new n) (TakesAt cargo aim overs (step slots i old new maybe.none) m)
+  takes-at board f slots id i old new x from aim overs m same i_is aim_is overs_is hb hn may stamp_old reads_old stamp_new reads_new =
+      subst (λ z. Allows (Running cargo z) slots id m i (λ n. either (n == old) new n) (TakesAt cargo aim overs (step slots i old new maybe.none) m)) same
+      (subst (λ (z : ℕ × (Aim × List O)). Allows (Running cargo board) slots id m z.0 (λ n. either (n == old) new n)
+      (TakesAt cargo z.1.0 z.1.1 (step slots z.0 old new maybe.none) m))
+      (λ k. (sym i_is k, (sym aim_is k, sym overs_is k)))
+      (takes_allowed cargo board slots id old new x from m hb hn may stamp_old reads_old stamp_new reads_new))
+
+  -- what it tells
+  pub takes-told : (board : Frame O) (slots i old new : ℕ) (x : Name) (from : Resting) (aim : Aim) (overs : List O) (m m' : Seated P E) (was : ℕ) (answer : Bool) →
+      i ≡ index board.layout (OfControl x.block x.node) → aim ≡ aimed board x → overs ≡ board.over.value ∷ [] → old ≡ rest_word x from →
+      answer ≡ (was == old) → TakesAt cargo aim overs (step slots i old new maybe.none) m was m' → IsTaken cargo board x from answer m m'
+  takes-told board slots i old new x from aim overs m m' was answer i_is aim_is overs_is old_is answer_is told = (
+    (λ yes.
+        let hit : was ≡ old = eqb-true was old (sym answer_is ∙ yes) in
+        subst (λ (z : Aim × (List O × (ℕ × ℕ))). TakenAt cargo z.0 z.1.0 z.1.1.0 z.1.1.1 m m')
+        (λ k. (aim_is k, (overs_is k, (i_is k, (hit ∙ old_is) k)))) (told.0 hit)),
+    (λ no.
+        let miss : was ≢ old = λ e. both_ways (was == old) (sym answer_is ∙ no) (eq-eqb was old e) in
+        (was, (λ e. miss (e ∙ sym old_is)), told.1 miss ∙ ap (λ j. (logged j was m.0, m.1)) i_is)),
+  )
+
+  -- the hand still carries each slot once
+  pub taken-seated : (aim : Aim) (overs : List O) (slots i old new : ℕ) (m m' : Seated P E) (was : ℕ) →
+      TakesAt cargo aim overs (step slots i old new maybe.none) m was m' → IsSeated aim.tree aim.layout m → IsSeated aim.tree aim.layout m'
+  taken-seated aim overs slots i old new m m' was told seated =
+      test (was == old)
+      (λ t. (told.0 (eqb-true was old t)).seated seated)
+      (λ f.
+      subst (IsSeated aim.tree aim.layout) (sym (told.1 (λ e. both_ways (was == old) f (eq-eqb was old e))))
+      (seated-logged aim.tree aim.layout i was m seated))

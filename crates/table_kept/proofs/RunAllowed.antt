@@ -1,0 +1,191 @@
+-- What the load and the exchanges of a run owe, and what they tell the hand.
+use Rattle.std.proofs.Common.{◌≡◌, ℕ, ◌<◌, ◌≤◌, true, false, ◌==◌, List, refl, sym, ap, ◌∙◌, subst, arith, eq-eqb, ne_eqb}
+use Rattle.std.specs.Prelude.{Option, Some, None, slice_index}
+use Rattle.std.specs.Option.{option_map_or}
+use Rattle.std.proofs.lemmas.Bool.{and_parts, cond-true, cond-false}
+use mathlib.Core.Option.{some}
+use mathlib.Core.Option as maybe
+use mathlib.Core.Logic.{dite}
+use native.Mathlib.Decide.{ℕ_discrete}
+use prog.Atomic.{either}
+use lib.ListN.{get_elem?}
+use Rattle.node_tree.specs.declared.node.TreeNode.{TreeNode}
+use Rattle.life_rules.specs.declared.words.CallbackPhase.TheVariants.{Running as Runs}
+use Rattle.life_rules.specs.declared.event.Name.{Name}
+use Rattle.life_rules.specs.declared.event.SourceRef.{SourceRef}
+use Rattle.life_rules.specs.Views.{same_source}
+use Rattle.life_rules.specs.States.{State, is_live, name_of, nearest_of}
+use Rattle.common_lemmas.proofs.Bool.{either as test}
+use Rattle.life_rules.proofs.Names.{same_source-true}
+use Rattle.table_words.specs.declared.layout.Layout.{Layout}
+use Rattle.table_words.specs.Stamps.{stamp_of}
+use Rattle.table_words.specs.Controls.{callback_read, callback_written}
+use Rattle.table_words.specs.Layouts.{OfCallback, index}
+use Rattle.atomic_table.specs.Table.{Allows, step, keeps, stepped}
+use Rattle.atomic_table.specs.Table as table
+use Rattle.table_rules.specs.declared.cargo.Cargo.{Ghosts}
+use Rattle.table_rules.specs.declared.frame.Frame.{Frame}
+use Rattle.table_rules.specs.declared.view.View.{View}
+use Rattle.table_rules.specs.Scenes.{shown}
+use Rattle.table_rules.specs.Running.{Running}
+use Rattle.table_steps.specs.Claims.{logged, Seated}
+use Rattle.table_steps.specs.Slots.{Aim, IsSeated}
+use Rattle.table_steps.specs.ScanOrders.{hears}
+use Rattle.table_steps.specs.Runs.{says_armed, place_named, node_named, runs_place, passes_place, meets_at, RunsAt, CanRun, IsOfScan, IsNewest}
+use Rattle.table_kept.proofs.BeginTold.{aimed}
+use Rattle.table_kept.proofs.BeginSeats.{seated-logged}
+use Rattle.table_kept.proofs.Stamping.{newest-risen}
+use Rattle.table_kept.proofs.Loads.{looks_keep}
+use Rattle.table_kept.proofs.ScanOrders.{heard}
+use Rattle.table_kept.proofs.ArmedWords.{armed-written, armed-later, armed-live, armed-phase, armed-stamp, unarmed-phase}
+use Rattle.table_kept.proofs.RunsLive.{runs-beside}
+use Rattle.table_kept.proofs.RunRuns.{present, scannable, run-runs, pass-runs}
+
+some-same : (source : SourceRef) (o : Option SourceRef) → option_map_or (same_source source) o false ≡ true → o ≡ Some source
+some-same source None h = cc
+some-same source (Some t) h = ap Some (sym (same_source-true source t h))
+
+module _ {P E O : Type 0} (cargo : Ghosts P E O) (f : Frame O) (s : table.State (Option P) (View P E)) (id slots : ℕ) (source : SourceRef) (b m : ℕ) (me : Seated P E) (r : Running cargo f s) (at : get_elem? s.views id ≡ some me.0) (can : CanRun f.tree me.0 source b m) (hb : b < f.layout.blocks) where
+  abbrev now : State
+  now = shown f s
+
+  abbrev x : Name
+  x = name_of now b m
+
+  abbrev i : ℕ
+  i = index f.layout (OfCallback b m)
+
+  abbrev n : ℕ
+  n = slice_index s.words i
+
+  hm : m < f.layout.nodes
+  hm = let l = can.within in let e = r.frame.nodes in omega (arith, l, e)
+
+  -- no word that the hand read there is greater
+  pub entry-rises : (word : ℕ) → IsNewest i word me.0 → word ≤ n
+  entry-rises word newest =
+      newest-risen f.layout s.words s.views id me.0 (record { index = i; word = word }) newest.earlier at newest.steps_are r.stamped.rises
+      (OfCallback b m) (hb, hm) refl
+
+  -- a word that isn't armed passes the place
+  pub met-runs : Running cargo f (stepped s i n id me.1 (meets_at (aimed f (place_named b m)) source i n me).0 keeps)
+  met-runs =
+      let to : View P E → View P E = λ z. logged i n z in
+      let passed : View P E = passes_place f.tree source b m me.0 in
+      test (says_armed n)
+      (λ armed.
+      subst (λ (z : View P E). Running cargo f (stepped s i n id me.1 (to z) keeps)) (sym (cond-true (says_armed n) me.0 passed armed))
+      (looks_keep cargo f s id i me.0 r at))
+      (λ unarmed.
+      subst (λ (z : View P E). Running cargo f (stepped s i n id me.1 (to z) keeps)) (sym (cond-false (says_armed n) me.0 passed unarmed))
+      (pass-runs cargo f s id source b m me.0 r at can hb i n (unarmed-phase cargo f s b m r hb hm unarmed) refl))
+
+  -- it is armed
+  module _ (armed : says_armed n ≡ true) where
+    live : is_live now x ≡ true
+    live = armed-live cargo f s b m r hb hm armed
+
+    named : x ≡ node_named b m n
+    named = let e = armed-stamp cargo f s b m r hb hm armed in λ k. record { block = b; generation = sym e k; node = m }
+
+    registered : nearest_of now x ≡ Some source
+    registered =
+        let there = present cargo f s id source b m me.0 r at can hb i n source
+        (scannable cargo f s id source b m me.0 r at can hb i n).requested in
+        some-same source (nearest_of now x) (heard now source there b m ∙ (and_parts (hears f.tree source b m) _ can.next).0)
+
+    pub of-scan : IsOfScan f.tree me.0 source (node_named b m n)
+    of-scan =
+        subst (IsOfScan f.tree me.0 source) named
+        (record { nearest_is = registered; beside_it = runs-beside cargo f s id me.0 r at x live })
+
+    pub won-runs : (new : ℕ) → new ≡ callback_written (stamp_of n) Runs → stamp_of new ≡ stamp_of n → callback_read new ≡ Runs →
+        Running cargo f (stepped s i new id me.1 (logged i n (runs_place (node_named b m n) me.0)) keeps)
+    won-runs new value stamped reads =
+        let own = armed-written n armed in
+        subst (λ y. Running cargo f (stepped s i new id me.1 (logged i n (runs_place y me.0)) keeps)) named
+        (run-runs cargo f s id source b m me.0 r at can hb i n new live (armed-phase cargo f s b m r hb hm armed)
+        (stamped ∙ armed-stamp cargo f s b m r hb hm armed) reads refl (omega (arith, own, value)))
+
+module _ {P E O : Type 0} (cargo : Ghosts P E O) (f : Frame O) (slots id : ℕ) (source : SourceRef) (b m : ℕ) (me : Seated P E) (can : CanRun f.tree me.0 source b m) (hb : b < f.layout.blocks) where
+  abbrev place : ℕ
+  place = index f.layout (OfCallback b m)
+
+  -- what the load owes
+  meets_allowed : Allows (Running cargo f) slots id me place (λ n. n) (λ n m'. m' ≡ meets_at (aimed f (place_named b m)) source place n me)
+  meets_allowed s r deep at small = (
+    (meets_at (aimed f (place_named b m)) source place (slice_index s.words place) me).0,
+    keeps,
+    tt,
+    met-runs cargo f s id slots source b m me r at can hb,
+    refl,
+  )
+
+  -- what the exchange owes, of a word that was read as armed
+  runs_allowed : (old new : ℕ) → says_armed old ≡ true → IsNewest place old me.0 → new ≡ callback_written (stamp_of old) Runs →
+      stamp_of new ≡ stamp_of old → callback_read new ≡ Runs →
+      Allows (Running cargo f) slots id me place (λ n. either (n == old) new n)
+      (RunsAt (aimed f (place_named b m)) source (step slots place old new maybe.none) me)
+  runs_allowed old new armed newest value stamped reads s r deep at small =
+      let n = slice_index s.words place in
+      dite (ℕ_discrete n old)
+      (λ hit.
+      let here : says_armed n ≡ true = ap says_armed hit ∙ armed in
+      let ran : View P E = logged place n (runs_place (node_named b m n) me.0) in (
+        ran,
+        keeps,
+        tt,
+        subst (λ k. Running cargo f (stepped s place k id me.1 ran keeps)) (sym (ap (λ t. either t new n) (eq-eqb n old hit)))
+            (won-runs cargo f s id slots source b m me r at can hb here new
+            (value ∙ ap (λ w. callback_written (stamp_of w) Runs) (sym hit)) (stamped ∙ ap stamp_of (sym hit)) reads),
+        ((λ _. (refl, of-scan cargo f s id slots source b m me r at can hb here)), (λ miss. absurd (miss hit))),
+      ))
+      (λ miss.
+      let met : View P E = (meets_at (aimed f (place_named b m)) source place n me).0 in (
+        met,
+        keeps,
+        tt,
+        subst (λ k. Running cargo f (stepped s place k id me.1 met keeps)) (sym (ap (λ t. either t new n) (ne_eqb n old miss)))
+            (met-runs cargo f s id slots source b m me r at can hb),
+        (
+          (λ hit. absurd (miss hit)),
+          (λ _. (
+            refl,
+            λ again. armed-later old n armed again (entry-rises cargo f s id slots source b m me r at can hb old newest) miss,
+          )),
+        ),
+      ))
+
+-- the same by the frame that the table shows
+module _ {P E O : Type 0} (cargo : Ghosts P E O) (board f : Frame O) (slots id i : ℕ) (source t : SourceRef) (b m : ℕ) (aim : Aim) (me : Seated P E) (same : board ≡ f) (i_is : i ≡ index board.layout (OfCallback b m)) (aim_is : aim ≡ aimed board (place_named b m)) (t_is : t ≡ source) (can : CanRun board.tree me.0 source b m) (hb : b < board.layout.blocks) where
+  pub meets-at : Allows (Running cargo f) slots id me i (λ n. n) (λ n m'. m' ≡ meets_at aim t i n me)
+  meets-at =
+      subst (λ z. Allows (Running cargo z) slots id me i (λ n. n) (λ n m'. m' ≡ meets_at aim t i n me)) same
+      (subst (λ (z : ℕ × Aim × SourceRef). Allows (Running cargo board) slots id me z.0 (λ n. n) (λ n m'. m' ≡ meets_at z.1 z.2 z.0 n me))
+      (λ k. (sym i_is k, sym aim_is k, sym t_is k))
+      (meets_allowed cargo board slots id source b m me can hb))
+
+  pub runs-at : (old new : ℕ) → says_armed old ≡ true → IsNewest (index board.layout (OfCallback b m)) old me.0 → new ≡ callback_written (stamp_of old) Runs →
+      stamp_of new ≡ stamp_of old → callback_read new ≡ Runs →
+      Allows (Running cargo f) slots id me i (λ n. either (n == old) new n) (RunsAt aim t (step slots i old new maybe.none) me)
+  runs-at old new armed newest value stamped reads =
+      subst (λ z. Allows (Running cargo z) slots id me i (λ n. either (n == old) new n) (RunsAt aim t (step slots i old new maybe.none) me)) same
+      (subst (λ (z : ℕ × Aim × SourceRef). Allows (Running cargo board) slots id me z.0 (λ n. either (n == old) new n) (RunsAt z.1 z.2 (step slots z.0 old new maybe.none) me))
+      (λ k. (sym i_is k, sym aim_is k, sym t_is k))
+      (runs_allowed cargo board slots id source b m me can hb old new armed newest value stamped reads))
+
+-- the hand still carries each slot once
+module _ {P E : Type 0} (tree : List TreeNode) (l : Layout) (i n : ℕ) (me : Seated P E) (old : IsSeated tree l me) where
+  pub run-seated : (x : Name) → IsSeated tree l (logged i n (runs_place x me.0), me.1)
+  run-seated x = record { apart = old.apart; given = old.given; itself = old.itself }
+
+  pub met-seated : (aim : Aim) (source : SourceRef) → IsSeated tree l (meets_at aim source i n me)
+  met-seated aim source =
+      let passed : View P E = passes_place aim.tree source aim.name.block aim.name.node me.0 in
+      test (says_armed n)
+      (λ armed.
+      subst (λ (z : View P E). IsSeated tree l (logged i n z, me.1)) (sym (cond-true (says_armed n) me.0 passed armed))
+      (seated-logged tree l i n me old))
+      (λ unarmed.
+      subst (λ (z : View P E). IsSeated tree l (logged i n z, me.1)) (sym (cond-false (says_armed n) me.0 passed unarmed))
+      (record { apart = old.apart; given = old.given; itself = old.itself }))

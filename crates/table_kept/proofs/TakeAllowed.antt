@@ -1,0 +1,124 @@
+-- What the exchange by which a node is taken owes, and what it tells.
+use Rattle.std.proofs.Common.{◌≡◌, ℕ, ◌<◌, true, ◌==◌, List, [], ◌∷◌, Option, Some, refl, sym, ap, ◌∙◌, subst, eq-eqb, ne_eqb, ◌≤◌, arith}
+use Rattle.std.specs.Prelude.{slice_index}
+use mathlib.Core.Option.{some}
+use mathlib.Core.Option as maybe
+use mathlib.Core.Logic.{dite}
+use native.Mathlib.Decide.{ℕ_discrete}
+use prog.Atomic.{either}
+use lib.ListN.{get_elem?}
+use Rattle.life_rules.specs.declared.words.ControlWord.{ControlWord}
+use Rattle.life_rules.specs.declared.words.ControlWord.TheVariants.{Busy}
+use Rattle.life_rules.specs.declared.event.Name.{Name}
+use Rattle.life_rules.specs.declared.event.Resting.{Resting}
+use Rattle.life_rules.specs.declared.event.Resting.TheVariants.{Loop, Pool, Parked}
+use Rattle.life_rules.specs.Words.{is_under_way, may_be_taken, resting_at}
+use Rattle.life_rules.specs.States.{State, control_at}
+use Rattle.life_rules.specs.Callbacks.{nearest_is_requested}
+use Rattle.table_words.specs.Stamps.{stamp_of}
+use Rattle.table_words.specs.Controls.{control_read}
+use Rattle.table_words.specs.Layouts.{OfControl, index, place_number}
+use Rattle.atomic_table.specs.Table.{Allows, step, takes, chain, keeps, stepped}
+use Rattle.atomic_table.specs.Table as table
+use Rattle.table_rules.specs.declared.cargo.Cargo.{Ghosts}
+use Rattle.table_rules.specs.declared.frame.Frame.{Frame}
+use Rattle.table_rules.specs.declared.view.View.{View}
+use Rattle.table_rules.specs.Scenes.{Full, shown, scene}
+use Rattle.table_rules.specs.Notes.{children_are_requested}
+use Rattle.table_rules.specs.Running.{Running}
+use Rattle.table_steps.specs.Claims.{logged, Seated}
+use Rattle.table_steps.specs.Slots.{kids_of, IsSeated}
+use Rattle.table_steps.specs.Takes.{takes_node, TakenAt, TakesAt}
+use Rattle.table_kept.proofs.Loads.{looks_keep}
+use Rattle.table_kept.proofs.SeenStands.{noted-start}
+use Rattle.table_kept.proofs.KidSlots.{take_each, carries}
+use Rattle.table_kept.proofs.WordsLive.{SaysLive, says-live}
+use Rattle.table_kept.proofs.TakeSeats.{seated-taken, take-valid}
+use Rattle.table_kept.proofs.TakeRuns.{IsTakeable, takeable, lies, place-b, take-runs}
+
+module _ {P E O : Type 0} (cargo : Ghosts P E O) (f : Frame O) (s : table.State (Option P) (View P E)) (id value : ℕ) (x : Name) (v : View P E) (c : List (ℕ × Option P)) (r : Running cargo f s) (at : get_elem? s.views id ≡ some v) (w : ControlWord) (says : SaysLive (shown f s) x w) (may : may_be_taken w id ≡ true) (stamped : stamp_of value ≡ x.generation) (reads : control_read value ≡ Busy 0) where
+  abbrev now : State
+  now = shown f s
+
+  may-now : may_be_taken (control_at now x) id ≡ true
+  may-now = ap (λ c. may_be_taken c id) says.word ∙ may
+
+  rests : IsTakeable (control_at now x)
+  rests = takeable (control_at now x) id may-now
+
+  lying : (item : P) × ((scene f s r.past).home x.block x.node ≡ Full item)
+  lying = lies cargo f s id value x v c r at says.live may-now stamped reads
+
+  abbrev i : ℕ
+  i = index f.layout (OfControl x.block x.node)
+
+  pub taken-now : (n : ℕ) → stamp_of n ≤ stamp_of value → (w : View P E) × (a : table.Act (Option P)) × table.Valid s.homes c a
+      × Running cargo f (stepped s i value id c w a)
+      × TakenAt cargo (record { tree = f.tree; layout = f.layout; name = x }) (f.over.value ∷ []) i n (v, c) (w, table.carried_after c a)
+  taken-now n low =
+      let told = nearest_is_requested now x in
+      let told_kids = children_are_requested now x in
+      let slot = place_number f.layout x.block x.node in
+      let kids = kids_of f.tree x.node in
+      let mine : View P E = logged i n (takes_node x (r.past.start x) (r.past.named x) told told_kids v) in
+      let is = carries f.layout s.homes c r.sized.homes x.block (place-b cargo f s id value x v c r at says.live may-now stamped reads) kids in (
+        mine,
+        chain (take_each f.layout x.block kids) (takes slot (Some lying.0)),
+        take-valid cargo f s id value x v c r at says.live may-now stamped reads lying.0 lying.1,
+        take-runs cargo f s id value x v c r at says.live may-now stamped reads n low,
+        record {
+          start = r.past.start x;
+          named = r.past.named x;
+          told = told;
+          told_children = told_kids;
+          item = lying.0;
+          me_is = λ k. (mine, (slot, Some lying.0) ∷ is k);
+          shows = r.stands.starts.shows x lying.0 says.live lying.1;
+          fit = r.stands.items.fit x lying.0 says.live lying.1;
+          goes_on = r.stands.items.goes_on x lying.0 says.live lying.1 rests.done;
+          bound = r.stands.items.bound x lying.0 says.live lying.1;
+          key = (r.stands.starts.key x rests.begun, tt);
+          noted = noted-start cargo f s id v r at x says.live;
+          seated = λ old. subst (λ d. IsSeated f.tree f.layout (mine, (slot, Some lying.0) ∷ d)) (sym is)
+              (seated-taken cargo f s id value x v c r at says.live may-now stamped reads lying.0 lying.1
+              (r.past.start x) (r.past.named x) told told_kids i n old);
+        },
+      )
+
+-- the word of a node at rest says that it is under way
+resting-busy : (to : Resting) → is_under_way (resting_at to) ≡ true
+resting-busy Loop = refl
+resting-busy Pool = refl
+resting-busy Parked = refl
+
+-- what the exchange owes
+pub takes_allowed : {P E O : Type 0} (cargo : Ghosts P E O) (f : Frame O) (slots id old new : ℕ) (x : Name) (from : Resting) (m : Seated P E) →
+    x.block < f.layout.blocks → x.node < f.layout.nodes → may_be_taken (resting_at from) m.0.number ≡ true →
+    stamp_of old ≡ x.generation → control_read old ≡ resting_at from → stamp_of new ≡ x.generation → control_read new ≡ Busy 0 →
+    Allows (Running cargo f) slots id m (index f.layout (OfControl x.block x.node)) (λ n. either (n == old) new n)
+    (TakesAt cargo (record { tree = f.tree; layout = f.layout; name = x }) (f.over.value ∷ [])
+    (step slots (index f.layout (OfControl x.block x.node)) old new maybe.none) m)
+takes_allowed {P} {E} cargo f slots id old new x from m hb hn may stamp_old reads_old stamp_new reads_new s r deep at small =
+    let i = index f.layout (OfControl x.block x.node) in
+    let n = slice_index s.words i in
+    dite (ℕ_discrete n old)
+    (λ hit.
+    let says = says-live cargo f s x (resting_at from) r hb hn (ap stamp_of hit ∙ stamp_old) (ap control_read hit ∙ reads_old) (resting-busy from) in
+    let mine : may_be_taken (resting_at from) id ≡ true = subst (λ h. may_be_taken (resting_at from) h ≡ true) (r.stands.views.number id m.0 at) may in
+    let same = ap stamp_of hit in
+    let won = taken-now cargo f s id new x m.0 m.1 r at (resting_at from) says mine stamp_new reads_new n (omega (arith, same, stamp_old, stamp_new)) in (
+      won.0,
+      won.1,
+      won.2,
+      subst (λ (k : ℕ). Running cargo f (stepped s i k id m.1 won.0 won.1)) (sym (ap (λ t. either t new n) (eq-eqb n old hit))) won.3,
+      ((λ _. won.4), (λ miss. absurd (miss hit))),
+    ))
+    (λ miss.
+    let w : View P E = logged i n m.0 in (
+      w,
+      keeps,
+      tt,
+      subst (λ (k : ℕ). Running cargo f (stepped s i k id m.1 w keeps))
+          (sym (ap (λ t. either t new n) (ne_eqb n old miss))) (looks_keep cargo f s id i m.0 r at),
+      ((λ hit. absurd (miss hit)), (λ _. refl)),
+    ))

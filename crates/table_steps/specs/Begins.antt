@@ -1,0 +1,105 @@
+-- What a begin needs, and what it does to the hand.
+use Rattle.std.specs.Prelude.{◌≡◌, ℕ, Bool, true, false, List, [], ◌∷◌, Option, Some, None}
+use Rattle.life_rules.specs.declared.event.Name.{Name}
+use Rattle.node_tree.specs.Tree.{is_root, has_source}
+use Rattle.table_words.specs.Layouts.{OfControl, OfSource, index}
+use Rattle.table_words.specs.Stamps.{stamp_of}
+use Rattle.table_rules.specs.declared.cargo.Cargo.{Ghosts}
+use Rattle.table_rules.specs.declared.frame.Frame.{Frame}
+use Rattle.table_rules.specs.declared.view.View.{View}
+use Rattle.table_rules.specs.declared.view.Owed.{Owed}
+use Rattle.table_rules.specs.declared.view.Rooted.{Rooted}
+use Rattle.table_rules.specs.declared.view.Seen.{Seen}
+use Rattle.table_rules.specs.Named.{find_by, without}
+use Rattle.table_steps.specs.Claims.{logged, Seated}
+use Rattle.table_steps.specs.Kids.{empty_slots}
+use Rattle.table_steps.specs.Slots.{Aim, slot_of, kids_of, kept, IsSeated, has_seen}
+
+-- the start of a root is noted
+abbrev pub notes_start : {E : Type 0} → Bool → Name → List E → List (Rooted E) → List (Rooted E)
+notes_start true x start noted = record { name = x; start = start } ∷ noted
+notes_start false x start noted = noted
+
+-- the hand owes the start no more, and holds the node with it; where it is the root, it notes the start.
+-- Told is whether a stop was requested on the node's nearest source at that step, and on the source that
+-- its children hear
+abbrev pub begins : {P E : Type 0} → Bool → Name → List E → Bool → Bool → View P E → View P E
+begins root x start told told_children v =
+    record v {
+      owed = without (λ e. e.name) v.owed x;
+      held = record {
+        name = x;
+        start = start;
+        named = 0;
+        told = told;
+        told_children = told_children;
+        lot = None;
+        phase = None;
+        idle = [];
+      } ∷ v.held;
+      noted = notes_start root x start v.noted;
+    }
+
+-- the hand owes the node's start, and has an item in its home, which is no completion. The start that the
+-- item shows goes on with that of the parent, has the table's key, and draws the lot with which the node is
+-- owed
+pub record CanBegin {P E O : Type 0} (cargo : Ghosts P E O) (f : Frame O) (m : Seated P E) (x : Name) : Type 0 where
+  pub owed : Owed E
+  pub owes : find_by (λ e. e.name) m.0.owed x ≡ Some owed
+  pub item : P
+  pub home : kept (slot_of f.layout x) m.1 ≡ Some (Some item)
+  pub entry : E
+  pub start : cargo.start item ≡ entry ∷ owed.above
+  pub key : cargo.key (cargo.start item) ≡ f.over.value
+  pub drawn : cargo.drawn (cargo.start item) ≡ owed.lot
+  pub goes_on : ¬ cargo.ends item
+
+module _ {P E O : Type 0} (cargo : Ghosts P E O) where
+  abbrev pub start_shown : Option (Option P) → List E
+  start_shown None = []
+  start_shown (Some None) = []
+  start_shown (Some (Some item)) = cargo.start item
+
+  -- the node's store: the hand holds the node with the start that the item in its home shows, and has
+  -- the empty homes of its children
+  pub record BeginsAt (aim : Aim) (i : ℕ) (m m' : Seated P E) : Type 0 where
+    pub word : ℕ
+    pub told : Bool
+    pub told_children : Bool
+    -- a request that the hand has seen still stands
+    pub seen : has_seen aim.tree m.0 aim.name ≡ true → told ≡ true
+    pub me_is : m' ≡ (
+      logged i word
+          (begins (is_root aim.tree aim.name.node) aim.name (start_shown (kept (slot_of aim.layout aim.name) m.1)) told
+          told_children m.0),
+      empty_slots aim.layout aim.name.block (kids_of aim.tree aim.name.node) m.1,
+    )
+    pub seated : IsSeated aim.tree aim.layout m → IsSeated aim.tree aim.layout m'
+
+-- the renewal: a store that writes the node's source as clear, as it read before
+abbrev pub Renews : {P E : Type 0} → ℕ → ℕ → Seated P E → Seated P E → Type 0
+Renews i word m m' = m' ≡ (logged i word m.0, m.1)
+
+-- the source of a node that has one is renewed, at the node's generation, before the node begins
+abbrev pub IsRenewed : {P E : Type 0} → Aim → Seated P E → Seated P E → Type 0
+IsRenewed aim m m' =
+    (has_source aim.tree aim.name.node ≡ true →
+    (word : ℕ) × Renews (index aim.layout (OfSource aim.name.block aim.name.node)) word m m'
+    × (stamp_of word ≡ aim.name.generation))
+    × (has_source aim.tree aim.name.node ≡ false → m' ≡ m)
+
+-- where the node has a source, the hand's newest step was its renewal
+abbrev pub HasRenewed : {P E : Type 0} → Aim → Seated P E → Type 0
+HasRenewed aim m =
+    has_source aim.tree aim.name.node ≡ true →
+    (word : ℕ) × (rest : List Seen) × (stamp_of word ≡ aim.name.generation)
+    × (m.0.steps
+    ≡ record { index = index aim.layout (OfSource aim.name.block aim.name.node); word = word } ∷ rest)
+
+-- a begin: the renewal, where the node has a source, and the store of its control word
+pub record Begins {P E O : Type 0} (cargo : Ghosts P E O) (aim : Aim) (m m' : Seated P E) : Type 0 where
+  pub middle : Seated P E
+  pub renewed : IsRenewed aim m middle
+  pub began : BeginsAt cargo aim (index aim.layout (OfControl aim.name.block aim.name.node)) middle m'
+  -- what lies in the node's home then is no completion
+  pub goes_on : (item : P) → kept (slot_of aim.layout aim.name) m'.1 ≡ Some (Some item) → ¬ cargo.ends item

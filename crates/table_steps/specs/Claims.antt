@@ -1,0 +1,110 @@
+-- What a claim does to the hand's view.
+use Rattle.std.specs.Prelude.{◌≡◌, ◌≢◌, ◌⊎◌, ℕ, ◌+◌, ◌-◌, true, false, [], ◌∷◌, length, Option, None, MatchOption}
+use Rattle.life_rules.specs.declared.event.Name.{Name}
+use Rattle.life_rules.specs.declared.words.BlockState.TheVariants.{Free}
+use Rattle.life_rules.specs.Words.{is_free}
+use Rattle.table_words.specs.Blocks.{block_read}
+use Rattle.table_words.specs.Layouts.{OfBlock, index, place_number}
+use Rattle.atomic_table.specs.Table.{Me, Step}
+use Rattle.table_rules.specs.declared.view.View.{View}
+use Rattle.atomic_table.specs.declared.shared.Seat.{Seat}
+use Rattle.table_steps.specs.declared.block.Block.{Block}
+use Rattle.table_steps.specs.Slots.{Aim, slot_of, IsSeated}
+use Rattle.table_steps.specs.Owing.{OwesNoneThere}
+use Rattle.table_steps.specs.Views.{Board}
+
+abbrev pub Seated : Type 0 → Type 0 → Type 0
+Seated P E = Me (Option P) (View P E)
+
+module _ {P E : Type 0} where
+  -- the view lists a step on the word of this index, which read this
+  abbrev pub logged : ℕ → ℕ → View P E → View P E
+  logged index read v = record v { steps = record { index = index; word = read } ∷ v.steps }
+
+  -- the step is the newest of the list, and left this word under this index
+  abbrev pub LeftAt : ℕ → ℕ → Seated P E → Seated P E → Type 0
+  LeftAt index word m m' = m'.0.steps ≡ record { index = index; word = word } ∷ m.0.steps
+
+  -- the hand claimed one block more, and owes the start of its root, with nothing above it and no lot
+  abbrev pub owes_root : Name → View P E → View P E
+  owes_root x v =
+      record v { owed = record { name = x; above = []; lot = [] } ∷ v.owed; claimed = v.claimed + 1 }
+
+  -- a load lists itself, and changes nothing else
+  abbrev pub looks : Step (Option P) → Seated P E → ℕ → Seated P E → Type 0
+  looks step m found m' = m' ≡ (logged step.word found m.0, m.1)
+
+  -- the exchange found what was expected: the hand owed no start in the block. It owes the root's now, and has its home. Or it found
+  -- another word, and changed nothing
+  abbrev pub claims : Aim → Step (Option P) → Seated P E → ℕ → Seated P E → Type 0
+  claims aim step m found m' =
+      (found ≡ step.first →
+      (m' ≡ (logged step.word found (owes_root aim.name m.0), (slot_of aim.layout aim.name, None) ∷ m.1))
+      × (IsSeated aim.tree aim.layout m → IsSeated aim.tree aim.layout m')
+      × OwesNoneThere m.0 aim.name)
+      × (found ≢ step.first → m' ≡ (logged step.word found m.0, m.1))
+
+-- the root of the block at this generation
+abbrev pub root_name : {O : Type 0} → Board O → ℕ → ℕ → Name
+root_name board block generation =
+    record { block = block; generation = generation; node = length board.frame.tree - 1 }
+
+-- the view owes no start in this block
+abbrev pub OwesNoneIn : {P E O : Type 0} → Board O → View P E → Block → Type 0
+OwesNoneIn board v b = OwesNoneThere v (root_name board b.index b.generation)
+
+-- the index of the block's word
+abbrev pub word_index : {O : Type 0} → Board O → ℕ → ℕ
+word_index board block = index board.frame.layout (OfBlock block)
+
+module _ {P E O : Type 0} (board : Board O) (block : ℕ) where
+  -- the exchange of this word, which was read as free, won
+  pub record ClaimedFrom (word : ℕ) (b : Block) (old new : Seat (Option P) (View P E)) : Type 0 where
+    pub block_is : b.index ≡ block
+    pub generation_is : b.generation ≡ (block_read word).generation
+    pub me_is : new.me ≡ (
+      logged (word_index board block) word (owes_root (root_name board block b.generation) old.me.0),
+      (place_number board.frame.layout block (length board.frame.tree - 1), None) ∷ old.me.1,
+    )
+
+  -- it found another word, and changed nothing
+  pub record MissedFrom (word : ℕ) (old new : Seat (Option P) (View P E)) : Type 0 where
+    pub other : ℕ
+    pub differs : other ≢ word
+    pub me_is : new.me ≡ (logged (word_index board block) other old.me.0, old.me.1)
+
+  -- the block's word was read as free, and the exchange won
+  pub record Claimed (b : Block) (old new : Seat (Option P) (View P E)) : Type 0 where
+    pub word : ℕ
+    pub free : block_read word ≡ record { generation = b.generation; state = Free }
+    pub block_is : b.index ≡ block
+    pub me_is : new.me ≡ (
+      logged (word_index board block) word (owes_root (root_name board block b.generation) (logged (word_index board block) word old.me.0)),
+      (place_number board.frame.layout block (length board.frame.tree - 1), None) ∷ old.me.1,
+    )
+
+  -- the word that the load read wasn't free
+  pub record WasTaken (old new : Seat (Option P) (View P E)) : Type 0 where
+    pub word : ℕ
+    pub taken : is_free (block_read word).state ≡ false
+    pub me_is : new.me ≡ (logged (word_index board block) word old.me.0, old.me.1)
+
+  -- it was free, and another hand moved it before this hand's exchange
+  pub record WasMoved (old new : Seat (Option P) (View P E)) : Type 0 where
+    pub word : ℕ
+    pub free : is_free (block_read word).state ≡ true
+    pub other : ℕ
+    pub differs : other ≢ word
+    pub me_is : new.me ≡ (logged (word_index board block) other (logged (word_index board block) word old.me.0), old.me.1)
+
+  abbrev pub Missed : Seat (Option P) (View P E) → Seat (Option P) (View P E) → Type 0
+  Missed old new = WasTaken old new ⊎ WasMoved old new
+
+  -- what a claim answers
+  abbrev pub IsAnswer : Option Block → Seat (Option P) (View P E) → Seat (Option P) (View P E) → Type 0
+  IsAnswer answer old new = MatchOption answer (Missed old new) (λ b. Claimed b old new)
+
+  -- what it answers from the word that was read as free
+  abbrev pub IsAnswerFrom : ℕ → Option Block → Seat (Option P) (View P E) → Seat (Option P) (View P E) → Type 0
+  IsAnswerFrom word answer old new =
+      MatchOption answer (MissedFrom word old new) (λ b. ClaimedFrom word b old new)

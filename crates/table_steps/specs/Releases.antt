@@ -1,0 +1,88 @@
+-- What a hand needs to give a block back, and what that does to the hand.
+use Rattle.std.specs.Prelude.{◌≡◌, ℕ, ◌+◌, ◌-◌, ◌<◌, Bool, true, false, ◌==◌, List, length, Option, Some, None}
+use mathlib.Core.Option.{some}
+use lib.ListN.{get_elem?}
+use Rattle.life_rules.specs.declared.words.BlockWord.{BlockWord}
+use Rattle.life_rules.specs.declared.words.BlockState.TheVariants.{Open}
+use Rattle.life_rules.specs.declared.event.Name.{Name}
+use Rattle.life_rules.specs.LifeSteps.{next_word}
+use Rattle.life_rules.specs.Words.{is_open}
+use Rattle.table_words.specs.declared.layout.Layout.{Layout}
+use Rattle.table_words.specs.Blocks.{block_read}
+use Rattle.table_words.specs.Layouts.{OfBlock, index, place_number}
+use Rattle.atomic_table.specs.Table as table
+use Rattle.table_rules.specs.declared.cargo.Cargo.{Ghosts}
+use Rattle.table_rules.specs.declared.frame.Frame.{Frame}
+use Rattle.table_rules.specs.declared.view.View.{View}
+use Rattle.table_rules.specs.Named.{without, Each}
+use Rattle.table_rules.specs.Running.{Running}
+use Rattle.table_rules.specs.ShownViews.{has_name}
+use Rattle.table_rules.specs.ShownWords.{block_of}
+use Rattle.table_steps.specs.Claims.{logged, LeftAt, Seated}
+use Rattle.table_steps.specs.Slots.{Aim, slot_of, kept, IsSeated}
+use Rattle.table_steps.specs.Sheds.{shed}
+
+-- the hand gave back one block more: it has the finished root no more, and forgets the start that it
+-- noted of it
+abbrev pub releases : {P E : Type 0} → Name → View P E → View P E
+releases root v =
+    record v {
+      finished = without (λ x. x) v.finished root;
+      noted = without (λ e. e.name) v.noted root;
+      released = v.released + 1;
+    }
+
+abbrev pub is_own_slot : Layout → Name → ℕ → Bool
+is_own_slot l root slot = slot_of l root == slot
+
+-- the hand has the finished root, and its home, which is empty
+pub record CanRelease {P E : Type 0} (l : Layout) (m : Seated P E) (root : Name) : Type 0 where
+  pub finished : has_name m.0.finished root ≡ true
+  pub home : kept (slot_of l root) m.1 ≡ Some None
+
+-- the store: the hand gave the root's home back
+pub record ReleasesAt {P E : Type 0} (aim : Aim) (i : ℕ) (m m' : Seated P E) : Type 0 where
+  pub word : ℕ
+  pub me_is : m' ≡ (logged i word (releases aim.name m.0), shed (is_own_slot aim.layout aim.name) m.1)
+  pub seated : IsSeated aim.tree aim.layout m'
+
+-- the word of an open block of this generation after it was given back
+abbrev pub word_after : ℕ → BlockWord
+word_after generation = next_word (record { generation = generation; state = Open })
+
+-- the hand's newest step left the block's word reading so
+pub record LeftBlock {P E : Type 0} (l : Layout) (block : ℕ) (now : BlockWord) (m m' : Seated P E) : Type 0 where
+  pub word : ℕ
+  pub reads : block_read word ≡ now
+  pub left : LeftAt (index l (OfBlock block)) word m m'
+
+-- what the hand needs, by the block
+abbrev pub CanReleaseBlock : {P E O : Type 0} → Frame O → ℕ → ℕ → Seated P E → Type 0
+CanReleaseBlock f block generation m =
+    CanRelease f.layout m (record { block = block; generation = generation; node = length f.tree - 1 })
+
+-- each home of the block is at home, and nothing lies in it
+abbrev pub AreHomesEmpty : {P E : Type 0} → Layout → ℕ → table.State (Option P) (View P E) → Type 0
+AreHomesEmpty l block s = (n : ℕ) → n < l.nodes → get_elem? s.homes (place_number l block n) ≡ some (some None)
+
+module _ {P E O : Type 0} (cargo : Ghosts P E O) where
+  -- the table as the newest step of the hand with this number left it: the rule holds, the block's word
+  -- reads so, and all its homes are empty
+  pub record LeftEmpty (f : Frame O) (hand block : ℕ) (now : BlockWord) (m' : Seated P E) : Type 0 where
+    pub left : table.State (Option P) (View P E)
+    pub runs : Running cargo f left
+    pub view : get_elem? left.views hand ≡ some m'.0
+    pub reads : block_of f.layout left.words block ≡ now
+    pub empty : AreHomesEmpty f.layout block left
+
+  -- what the store tells its hand, in each of these tables
+  abbrev pub TellsRelease : List (Frame O) → ℕ → Aim → ℕ → ℕ → Seated P E → Seated P E → Type 0
+  TellsRelease frames hand aim i word m m' =
+      ReleasesAt aim i m m' × LeftAt i word m m'
+      × Each (λ f. LeftEmpty f hand aim.name.block (word_after aim.name.generation) m') frames
+
+  -- they stay so: whenever the rule holds and the block isn't open, all its homes are empty
+  abbrev pub StayEmpty : Frame O → ℕ → Type 0
+  StayEmpty f block =
+      (s : table.State (Option P) (View P E)) → Running cargo f s → is_open (block_of f.layout s.words block).state ≡ false →
+      AreHomesEmpty f.layout block s

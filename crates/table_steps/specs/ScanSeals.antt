@@ -1,0 +1,35 @@
+-- What a hand needs to seal its scan of a source, and what that does to it.
+use Rattle.std.specs.Prelude.{◌≡◌, ℕ, ◌-◌, ◌*◌, true, if◌then◌else◌, List, [], ◌∷◌, length, Option, Some}
+use Rattle.life_rules.specs.declared.event.SourceRef.{SourceRef}
+use Rattle.life_rules.specs.Views.{same_source}
+use Rattle.table_words.specs.Layouts.{index}
+use Rattle.atomic_table.specs.declared.shared.Seat.{Seat}
+use Rattle.table_rules.specs.declared.frame.Frame.{Frame}
+use Rattle.table_rules.specs.declared.view.View.{View}
+use Rattle.table_rules.specs.declared.view.Scanning.{Scanning}
+use Rattle.table_rules.specs.ShownViews.{scan_in}
+use Rattle.table_steps.specs.Views.{Board}
+use Rattle.table_steps.specs.Claims.{logged}
+use Rattle.table_steps.specs.Sights.{spot_of}
+use Rattle.table_steps.specs.ScanOrders.{none_hears}
+
+-- the hand scans the source, and no place of it is left
+pub record CanSealScan {P E O : Type 0} (f : Frame O) (v : View P E) (source : SourceRef) : Type 0 where
+  pub from : ℕ
+  pub scans : scan_in v.scans source ≡ Some from
+  pub past : none_hears f.tree source from (length f.tree * f.layout.blocks - from) ≡ true
+
+-- the scans without those of the source
+abbrev pub drops : SourceRef → List Scanning → List Scanning
+drops source [] = []
+drops source (scan ∷ scans) =
+    if same_source scan.source source then drops source scans else scan ∷ drops source scans
+
+-- the hand no longer scans the source
+abbrev pub seals_scan : {P E : Type 0} → SourceRef → View P E → View P E
+seals_scan source v = record v { scans = drops source v.scans }
+
+-- some word was read, and the scan is sealed
+pub record IsScanSealed {P E O : Type 0} (board : Board O) (source : SourceRef) (old new : Seat (Option P) (View P E)) : Type 0 where
+  pub word : ℕ
+  pub me_is : new.me ≡ (logged (index board.frame.layout (spot_of source)) word (seals_scan source old.me.0), old.me.1)

@@ -1,0 +1,54 @@
+-- What a hand needs for the steps of the counting scope (P3149, [exec.scope]), and what they tell it.
+use Rattle.std.specs.Prelude.{◌≡◌, ◌≢◌, ℕ, ◌+◌, ◌-◌, ◌^◌, ◌<◌, ◌≤◌, nat_le, if◌then◌else◌, Option, Result, MatchResult}
+use Rattle.life_rules.specs.declared.scope.ScopeWord.{ScopeWord}
+use Rattle.table_words.specs.ScopeNumbers.{scope_read, scope_written}
+use Rattle.atomic_table.specs.declared.shared.Seat.{Seat}
+use Rattle.table_rules.specs.declared.view.View.{View}
+use Rattle.table_rules.specs.Grown.{KeepsBits}
+use Rattle.table_steps.specs.Claims.{logged, Seated}
+
+module _ {P E : Type 0} where
+  -- the hand has an association in the making
+  abbrev pub IsMaking : View P E → Type 0
+  IsMaking v = 1 ≤ v.making
+
+  -- the hand has an association that is made or being refused
+  abbrev pub MayLeaveScope : View P E → Type 0
+  MayLeaveScope v = 1 ≤ v.made + v.refused
+
+  -- the association in the making is made
+  abbrev pub makes : View P E → View P E
+  makes v = record v { making = v.making - 1; made = v.made + 1 }
+
+  -- an association is left: one that is being refused goes first
+  abbrev pub leaves_scope : View P E → View P E
+  leaves_scope v =
+      if nat_le 1 v.refused then record v { refused = v.refused - 1 } else record v { made = v.made - 1 }
+
+  -- the step read this of the scope's word, is listed, and changed so what the hand knows
+  pub record ReadsScope (change : View P E → View P E) (answer : ScopeWord) (old new : Seat (Option P) (View P E)) : Type 0 where
+    pub word : ℕ
+    pub answer_is : answer ≡ scope_read word
+    pub me_is : new.me ≡ (logged 0 word (change old.me.0), old.me.1)
+
+  -- some word was read, and the association is made
+  pub record IsMade (old new : Seat (Option P) (View P E)) : Type 0 where
+    pub word : ℕ
+    pub me_is : new.me ≡ (logged 0 word (makes old.me.0), old.me.1)
+
+  -- the exchange found this word, which has no bits but its four and the count, and each that the hand's
+  -- earlier steps read
+  pub record SealsAt (i found : ℕ) (m m' : Seated P E) : Type 0 where
+    pub me_is : m' ≡ (logged i found m.0, m.1)
+    pub narrow : found < 2 ^ 36
+    pub bits : KeepsBits m.0.steps (scope_read found)
+
+  -- the word that was read was the one that says what was expected, and the scope is joined; or it says
+  -- something else, which is told, and nothing changed
+  pub record IsSealedAs (expected : ScopeWord) (answer : Result (Unit {0}) ScopeWord) (old new : Seat (Option P) (View P E)) : Type 0 where
+    pub word : ℕ
+    pub me_is : new.me ≡ (logged 0 word old.me.0, old.me.1)
+    pub cause : MatchResult answer (λ _. word ≡ scope_written expected)
+        (λ read. (read ≢ expected) × (read ≡ scope_read word))
+    -- it has each bit that the hand's earlier steps read
+    pub bits : KeepsBits old.me.0.steps (scope_read word)

@@ -1,0 +1,60 @@
+-- The homes that a hand has: the slots that it carries, and those that its view gives it.
+use Rattle.std.specs.Prelude.{◌≡◌, ◌≢◌, ℕ, Bool, true, false, ◌||◌, ◌==◌, if◌then◌else◌, List, [], ◌∷◌, length, Option, Some, None}
+use Rattle.std.specs.List.{list_any}
+use Rattle.std.specs.Option.{option_map_or}
+use Rattle.node_tree.specs.declared.node.TreeNode.{TreeNode}
+use Rattle.life_rules.specs.declared.event.Name.{Name}
+use Rattle.node_tree.specs.Tree.{nearest}
+use Rattle.life_rules.specs.States.{source_for}
+use Rattle.table_words.specs.declared.layout.Layout.{Layout}
+use Rattle.table_words.specs.Layouts.{place_number}
+use Rattle.table_rules.specs.declared.view.View.{View}
+use Rattle.table_rules.specs.Named.{Each}
+use Rattle.table_rules.specs.ShownViews.{has_source_ref}
+use Rattle.table_steps.specs.Kids.{children_below}
+
+-- the node that a step is about, in a table over this tree
+pub record Aim : Type 0 where
+  pub tree : List TreeNode
+  pub layout : Layout
+  pub name : Name
+
+-- the slot of the node's home
+abbrev pub slot_of : Layout → Name → ℕ
+slot_of l x = place_number l x.block x.node
+
+abbrev pub kids_of : List TreeNode → ℕ → List ℕ
+kids_of tree n = children_below tree n (length tree)
+
+-- what the hand carries in this slot: none where it hasn't the slot
+abbrev pub kept : {A : Type 0} → ℕ → List (ℕ × A) → Option A
+kept slot [] = None
+kept slot (c ∷ cs) = if c.0 == slot then Some c.1 else kept slot cs
+
+-- the slot is that of the node, or of one of its children
+abbrev pub is_of_family : List TreeNode → Layout → Name → ℕ → Bool
+is_of_family tree l x slot =
+    slot_of l x == slot || list_any (λ n. place_number l x.block n == slot) (kids_of tree x.node)
+
+-- the view gives its hand the slot: that of a node whose start it owes, of a node that it holds, of a
+-- child of such a node, or of a finished root
+abbrev pub has_slot : {P E : Type 0} → List TreeNode → Layout → View P E → ℕ → Bool
+has_slot tree l v slot =
+    list_any (λ e. slot_of l e.name == slot) v.owed
+    || (list_any (λ e. is_of_family tree l e.name slot) v.held
+    || list_any (λ x. slot_of l x == slot) v.finished)
+
+-- no slot stands there twice
+abbrev pub AreApart : {A : Type 0} → List (ℕ × A) → Type 0
+AreApart [] = Unit {0}
+AreApart (c ∷ cs) = Each (λ d. d.0 ≢ c.0) cs × AreApart cs
+
+-- the hand stands for itself alone, and carries each slot once, and only such as its view gives it
+pub record IsSeated {P E : Type 0} (tree : List TreeNode) (l : Layout) (m : View P E × List (ℕ × Option P)) : Type 0 where
+  pub apart : AreApart m.1
+  pub given : Each (λ c. has_slot tree l m.0 c.0 ≡ true) m.1
+  pub itself : m.0.hands ≡ 1
+
+-- the hand has seen a request on the source that the node hears
+abbrev pub has_seen : {P E : Type 0} → List TreeNode → View P E → Name → Bool
+has_seen tree v x = option_map_or (has_source_ref v.seen) (source_for x (nearest tree x.node)) false

@@ -1,0 +1,3 @@
+mod Lone
+mod Stops
+mod Members

@@ -1,0 +1,9 @@
+//! Tests of the running table, over all of its crates: op_table, op_slot and table_use, stop_calls and
+//! stop_use, count_scope.
+//!
+//! They run what the contracts say of one hand, and what no contract says: hands in threads of their own.
+//! They stand in one crate, since a crate that has tests is proved twice.
+#![tactic(auto)]
+
+#[cfg(test)]
+mod tests;

@@ -1,0 +1,45 @@
+//! Hands of one table, each in a thread of its own, associate and leave. One closes and joins.
+ghost use Rattle.std.specs.Prelude.{◌≡◌, length, All};
+ghost use Rattle.table_tests.specs.Members.{MayAssociate};
+
+use super::lone::Token;
+use super::scopes::{join_now, look, next_of, opened, pass, shut};
+use count_scope::ScopeState;
+use op_table::{Hand, OpTable};
+use std::test::Fail;
+use std::thread::{Threads, for_each_mut};
+
+// So often each hand associates and leaves.
+const PASSES: u32 = 1_000;
+
+// Each hand associates and leaves. The first one does so half as often, and then closes and joins.
+fn turns(table: &OpTable<Token>, number: usize, hand: &mut Hand<Token>)
+    requires { MayAssociate table.now hand.old }
+    ensures { MayAssociate table.now hand.new }
+{
+    let passes = if number == 0 { PASSES / 2 } else { PASSES };
+    for _turn in 0..passes {
+        let _ = pass(table, hand);
+    }
+    if number == 0 {
+        shut(table, hand);
+        let _ = join_now(table, hand);
+    }
+}
+
+fn turns_beside<R: Threads + Sync>(rt: &R, table: &OpTable<Token>, hands: &mut [Hand<Token>])
+    requires { All (MayAssociate table.now) hands.old }
+    ensures { All (MayAssociate table.now) hands.new }
+{
+    for_each_mut(rt, hands, 5, &|number, hand| turns(table, number, hand));
+}
+
+#[test]
+fn four_threads_associate_while_one_closes_and_joins(rt: HostRuntime) -> Result<(), Fail> {
+    let (table, mut hands) = opened(rt.alloc(), 5, 3)?;
+    turns_beside(&rt, &table, hands.as_mut_slice());
+    let mut hand = next_of(&table, &mut hands)?;
+    assert!(rt; look(&table, &mut hand) == ScopeState::Joined);
+    assert!(rt; table.scope_step(&mut hand).count == 0);
+    Ok(())
+}

@@ -1,0 +1,84 @@
+//! What a new table tells and leaves, and two hands of one table, each in a thread of its own.
+ghost use Rattle.table_steps.specs.Views.{IsHandOf};
+
+use super::lone::{Token, lone};
+use super::pairs::shared;
+use life_rules::ScopeState;
+use node_tree::ScopeKind;
+use op_table::{Hand, OpTable};
+use std::test::Fail;
+use std::thread::{Threads, join};
+
+#[test]
+fn a_table_tells_with_what_it_was_opened_and_leaves_all_blocks_free(
+    rt: HostRuntime,
+) -> Result<(), Fail> {
+    let tree = lone(rt.alloc())?;
+    let (table, hands) = OpTable::<Token>::open(
+        rt.alloc(),
+        &tree,
+        &(),
+        3,
+        2,
+        ScopeKind::Simple,
+        5,
+    )?;
+    assert!(rt; table.blocks() == 3 && table.most() == 5);
+    assert!(rt; table.kind() == ScopeKind::Simple && table.tree().size() == 1);
+    assert!(rt; hands.len() == 2);
+    let closing = table.close_table(hands);
+    assert!(rt; closing.free == 3 && closing.retired == 0);
+    assert!(rt; closing.scope == ScopeState::Unused);
+    Ok(())
+}
+
+#[test]
+fn a_hand_that_claims_a_block_owes_its_root_and_runs_nothing(rt: HostRuntime) -> Result<(), Fail> {
+    let (table, mut first, second) = shared(rt.alloc(), 3)?;
+    assert!(rt; table.owed(&first).is_none());
+    let _claimed = table.claim(&mut first, 1);
+    assert!(rt; table.owed(&second).is_none());
+    let Some(name) = table.owed(&first) else {
+        return Ok(());
+    };
+    assert!(rt; name.block == 1 && name.generation == 0 && name.node == 0);
+    assert!(rt; !table.runs(&first, name));
+    Ok(())
+}
+
+// Claims each block that is free when the hand comes to it, and counts them.
+fn claim_each(table: &OpTable<Token>, mut hand: Hand<Token>) -> u32
+    requires { IsHandOf table.now hand }
+{
+    let mut claimed = 0u32;
+    for block in 0..table.blocks() {
+        if table.claim(&mut hand, block).is_some() {
+            claimed = claimed.wrapping_add(1);
+        }
+    }
+    claimed
+}
+
+// The same by two hands, each in a thread of its own.
+fn claim_beside<R: Threads>(
+    rt: &R,
+    table: &OpTable<Token>,
+    first: Hand<Token>,
+    second: Hand<Token>,
+) -> (u32, u32)
+    requires { IsHandOf table.now first × IsHandOf table.now second }
+{
+    join(
+        rt,
+        || claim_each(table, first),
+        || claim_each(table, second),
+    )
+}
+
+#[test]
+fn two_threads_claim_each_block_once(rt: HostRuntime) -> Result<(), Fail> {
+    let (table, first, second) = shared(rt.alloc(), 64)?;
+    let (a, b) = claim_beside(&rt, &table, first, second);
+    assert!(rt; a.wrapping_add(b) == 64);
+    Ok(())
+}
