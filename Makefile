@@ -1,13 +1,20 @@
-# `make run` builds exec_run and runs the sample; `make test` is the gate.
+# `make try` runs the sample before any proof, in a minute or two on a new machine.
+# `make run` proves the program and runs the sample: about an hour of processor time on a new machine, seconds later.
+# `make test` is the gate: everything is proved, and the proved program is tested.
 
 PROGRAM := crates/exec_run/out/exec_run
+PLAN := samples/add_one.json
+NUMBERS := samples/numbers.txt
 
-.PHONY: run test
+.PHONY: try run test
+try:
+	cd crates/exec_run && rt try --data add_one.json=../../$(PLAN) -- run add_one.json < ../../$(NUMBERS)
+
 run: $(PROGRAM)
-	$(PROGRAM) run samples/add_one.json < samples/numbers.txt
+	$(PROGRAM) run $(PLAN) < $(NUMBERS)
 
 $(PROGRAM): $(wildcard crates/*/src/*.rt crates/*/specs/*.antt)
 	cd crates/exec_run && rt run -- gen data/plan.json 1
 
 test:
-	rt ci
+	.ci/run

@@ -1,0 +1,75 @@
+#!/usr/bin/env python3
+"""Runs the tables of cases, the streams and spoilt plans over each build of the program, and checks the documents:
+docs/PLANS.md must be what docs/make_plans.py writes with that build.
+
+    tests/run_all.py [--gate STATUS] [PROGRAM..]
+
+Without a PROGRAM these are the builds that `rt ci` leaves: by LLVM, and by Rattle's own compiler where that compiled
+it. STATUS is how `rt ci` ended: where it isn't 0 that counts as one failure more, so that the last line tells it too.
+That line is `N passed, M failed`; the status is 1 where something failed.
+"""
+import argparse
+import os
+import shutil
+import subprocess
+import sys
+import tempfile
+
+import check_docs
+import mutate_plans
+import run_cases
+import streams
+
+BUILDS = ("", ".by-rattle")
+
+
+def builds():
+    """The program as it was built. The first build must be there."""
+    first, *others = (run_cases.PROGRAM + ending for ending in BUILDS)
+    return [first, *filter(os.path.isfile, others)]
+
+
+def cookbook(program):
+    """Writes docs/PLANS.md anew in a copy. The answer is how many checks passed and how many failed."""
+    kept = os.path.join("docs", "PLANS.md")
+    with tempfile.TemporaryDirectory() as folder:
+        for name in ("docs", "tests"):
+            shutil.copytree(os.path.join(check_docs.TOP, name), os.path.join(folder, name))
+        command = [sys.executable, "docs/make_plans.py", os.path.abspath(program)]
+        made = subprocess.run(command, cwd=folder, capture_output=True, check=False)
+        with open(os.path.join(folder, kept), encoding="utf-8") as file:
+            written = file.read()
+    if made.returncode:
+        print(f"FAILED  docs/make_plans.py: {made.stderr.decode(errors='replace').strip()[-400:]}")
+    elif written != check_docs.text_of(kept):
+        print(f"FAILED  {kept} isn't what docs/make_plans.py writes with {program}")
+    else:
+        return 1, 0
+    return 0, 1
+
+
+def main():
+    parser = argparse.ArgumentParser(description="Runs all tests over the program.")
+    parser.add_argument("--gate", type=int, default=0, metavar="STATUS")
+    parser.add_argument("programs", nargs="*", metavar="PROGRAM")
+    given = parser.parse_args()
+    counts = []
+    for program in given.programs or builds():
+        if not os.access(program, os.X_OK):
+            print(f"FAILED  there is no program {program}")
+            counts.append((0, 1))
+            continue
+        found = [run_cases.run(program), streams.run(program), mutate_plans.run(program), cookbook(program)]
+        print(f"{program}: {sum(it[0] for it in found)} tests passed, {sum(it[1] for it in found)} not")
+        counts += found
+    counts.append(check_docs.run())
+    if given.gate:
+        print(f"FAILED  rt ci ended with status {given.gate}: see its last lines above")
+        counts.append((0, 1))
+    passed, failed = (sum(column) for column in zip(*counts))
+    print(f"{passed} passed, {failed} failed")
+    return 1 if failed or not passed else 0
+
+
+if __name__ == "__main__":
+    sys.exit(main())
