@@ -3,7 +3,9 @@
 
     docs/make_plans.py crates/exec_run/out/exec_run
 
-Each plan is tried against docs/plan.schema.json where Python has the package jsonschema.
+Each plan is tried against docs/plan.schema.json where Python has the package jsonschema, and so are those of
+tests/cases/plan_files.json: the schema must pass what the program takes, and refuse what it refuses for its form,
+for an unknown name, or for settings that exclude each other.
 """
 import json
 import os
@@ -68,23 +70,22 @@ NODES = [
     ),
     (
         "schedule",
-        "[exec.schedule] A value with no data, once the context `on` took it up: `loop`, the "
-        "calling thread's run loop, or `pool`, the workers. Where a stop was requested it ends "
-        "stopped.",
+        "[exec.schedule] A value with no data, on the context `on`: `loop`, the run loop, or `pool`, "
+        "the workers. Stopped in a record that was started after a stop request.",
         plan_of({"do": "schedule", "on": "pool"}),
         ["0"],
     ),
     (
         "delay",
-        "A value with no data after at least so many turns of the run loop. A stop request ends "
-        "it early: stopped. Here a `when_all` stops it, since its other child failed.",
-        plan_of({"do": "when_all", "children": [{"do": "delay", "turns": 1000}, error("first")]}),
+        "A value with no data, of which `turns` turns of the run loop, at most 1,000,000, are asked; "
+        "none is waited for yet. Stopped in a record that was started after a stop request.",
+        plan_of({"do": "delay", "turns": 1000}),
         ["0"],
     ),
     (
         "read_env",
-        "[exec.read.env] `record` gives the record's number, `stop` gives 1 where a stop was "
-        "requested and else 0.",
+        "[exec.read.env] `record` gives the record's number, `stop` gives 1 in a record that was "
+        "started after a stop request, and else 0.",
         plan_of(
             {
                 "do": "when_all",
@@ -155,13 +156,15 @@ NODES = [
     ),
     (
         "starts_on",
-        "[exec.starts.on] The child, started in this context.",
+        "[exec.starts.on] The child, started in this context. Stopped in a record that was started "
+        "after a stop request.",
         plan_of({"do": "starts_on", "on": "pool", "child": then(INPUT, "neg")}),
         ["5"],
     ),
     (
         "continues_on",
-        "[exec.continues.on] The child, whose completion goes on in this context.",
+        "[exec.continues.on] The child, whose completion goes on in this context. Stopped in a record "
+        "that was started after a stop request, whatever the child does.",
         plan_of({"do": "continues_on", "child": then(INPUT, "neg"), "on": "pool"}),
         ["5"],
     ),
@@ -189,21 +192,21 @@ NODES = [
     (
         "bulk",
         "[exec.bulk] The child's row with the job applied to each number. Where some fail, the "
-        "failure of the least index, with `@` and the index behind its name. The row is cut into "
-        "eight parts.",
+        "failure of the least index, with `@` and the index behind its name.",
         plan_of({"do": "bulk", "child": INPUT, "job": job_of("within", lo=0, hi=9)}, "row"),
         ["[1,2,3]", "[]", "[4,70,80]"],
     ),
     (
         "when_all",
-        "[exec.when.all] Runs 2 to 64 children beside each other; then their data one after the "
-        "other. The first that fails stops the others.",
+        "[exec.when.all] The data of 2 to 64 children, one after the other. Where one has none, the "
+        "first error in the order of the children, and stopped where there is no error. Stopped in a "
+        "record that was started after a stop request.",
         plan_of({"do": "when_all", "children": [INPUT, just("and"), {"do": "read_env", "query": "record"}]}),
         ["5", "6"],
     ),
     (
         "unstoppable",
-        "[exec.unstoppable] The child, which no stop request reaches. Version 2.",
+        "[exec.unstoppable] The child, as if no stop was requested. Version 2.",
         plan_of(
             {"do": "unstoppable", "child": {"do": "starts_on", "on": "pool", "child": INPUT}},
             version=2,
@@ -213,9 +216,8 @@ NODES = [
     ),
     (
         "ahead",
-        "After `spawn_future` of P3149: the first is spawned as an operation of its own in the "
-        "scope, the second runs beside it; then the data of both, the first's before. Where the "
-        "second fails the first is abandoned: it runs to its end, and its completion is dropped. "
+        "After `spawn_future` of P3149: the data of the first and then of the second. Where the second "
+        "has no value, its completion, whatever the first does; else the first's, where that has none. "
         "Version 2; not below a `when_all`, an `unstoppable` or another `ahead`.",
         plan_of({"do": "ahead", "first": then(INPUT, "mul", n=2), "second": then(INPUT, "add", n=1)}, version=2),
         ["5"],
@@ -349,7 +351,8 @@ JOBS = [
 SETTINGS = [
     (
         "stop_after",
-        "A stop is requested once so many records were read, before the last of them is started.",
+        "A stop is requested once so many records were read, bad ones among them, before the last of "
+        "them is started.",
         plan_of({"do": "starts_on", "on": "loop", "child": INPUT}, stop_after=2),
         ["1", "2", "3"],
         "--window 1",
@@ -379,6 +382,10 @@ A plan is a sender expression in JSON. `exec_run run plan.json` runs it for each
 Every example below is a whole plan, and every output is what the program printed: docs/make_plans.py
 wrote this page. docs/plan.schema.json is a JSON Schema of plans, for editors.
 
+**Today each record is evaluated on the calling thread, whole, when it is started**: no worker takes part, both
+contexts are that thread, no turn of a loop is waited for, and children are evaluated one after the other. So a
+stop request reaches the records that are started after it, and no other.
+
 ## A plan
 
 | key | value |
@@ -393,7 +400,8 @@ wrote this page. docs/plan.schema.json is a JSON Schema of plans, for editors.
 A record of kind `int` is a decimal number of 64 bits, one of kind `text` is UTF-8 of at most 4,096 bytes,
 one of kind `row` is `[1,2,3]`, at most 4,096 numbers without blanks. A value is a list of at most 64
 numbers, texts and rows. The name of an error is 1 to 64 letters, digits, `-`, `_`, `.` or `@`. Plans have
-at most 256 nodes (1,024 in version 2), a `bulk` counting nine, and are at most 56 nodes deep.
+at most 256 nodes (1,024 in version 2), a `bulk` counting nine, and are at most 56 nodes deep. A number is a JSON
+integer of 64 bits: `1.0`, `1e2` and `-0` are none. Of a key that stands twice the last counts.
 
 ## Exit statuses
 
@@ -408,8 +416,8 @@ at most 256 nodes (1,024 in version 2), a `bulk` counting nine, and are at most 
 | 6 | a write failed | `write fault` |
 | 7 | more than 1,000,000 records or 268,435,456 bytes | `limit` |
 
-A plan is refused for the first of these that holds. A file of more than 1,048,576 bytes is refused by
-`plan refused: P1 too long`.
+A plan is refused for the first of these that holds, wherever in the file. A file of more than 1,048,576 bytes is
+refused by `plan refused: P1 too long`.
 
 | a plan | what notes say |
 |---|---|"""
@@ -427,10 +435,32 @@ def validator():
     try:
         import jsonschema
     except ImportError:
-        return lambda plan: []
+        return None
     with open(os.path.join(HERE, "plan.schema.json"), encoding="utf-8") as file:
-        schema = jsonschema.Draft7Validator(json.load(file))
+        schema = jsonschema.Draft4Validator(json.load(file))
+    sys.setrecursionlimit(20_000)
     return lambda plan: [error.message for error in schema.iter_errors(plan)]
+
+
+def parsed(text):
+    """The JSON value of a text, in which -0 is no integer; none where it is no JSON."""
+    try:
+        return json.loads(text, parse_int=lambda digits: -0.0 if digits == "-0" else int(digits))
+    except ValueError:
+        return None
+
+
+def try_schema(faults):
+    """Tries the schema on the plans of the program's cases, but for those that stand there in pieces."""
+    with open(os.path.join(HERE, "..", "tests", "cases", "plan_files.json"), encoding="utf-8") as file:
+        cases = [case for case in json.load(file) if "files" in case]
+    for case in cases:
+        plan = parsed(compact(case["files"]["plan.json"]))
+        wrong = plan is not None and faults(plan)
+        if wrong and case["status"] != 3:
+            sys.exit(f"the schema refuses: {case['name']}: {wrong}")
+        if plan is not None and not wrong and case["notes"][14:16] in ("P3", "P4", "P7"):
+            sys.exit(f"the schema passes: {case['name']}")
 
 
 def compact(plan):
@@ -454,7 +484,7 @@ def wrapped(text):
 
 def example(exe, faults, name, text, plan, records, words=()):
     status, out, notes = call(exe, plan, records, words)
-    wrong = faults(plan)
+    wrong = faults and faults(plan)
     if wrong or notes or status > 1:
         sys.exit(f"{name}: {wrong} {status} {notes}")
     shown = ", ".join(f"`{record}`" for record in records)
@@ -488,6 +518,8 @@ def summaries(exe):
 def main():
     exe = os.path.abspath(sys.argv[1])
     faults = validator()
+    if faults:
+        try_schema(faults)
     page = [FRONT]
     page += [refusal(exe, name, plan) for name, plan in REFUSED]
     page.append("\n## Nodes\n")
@@ -495,8 +527,9 @@ def main():
     page.append("## Jobs\n\nA job is an operation on the data of a value.\n")
     page += [example(exe, faults, name, text, plan, records) for name, plan, records, text in JOBS]
     page.append(
-        "## Stop rules\n\nA stop request ends what waits: `schedule`, `delay`, and each hop to a context. Whether a record that\n"
-        "was started before the request sees it depends on the moment, save with a window of one.\n"
+        "## Stop rules\n\nIn a record that is started after a stop request each `schedule`, `delay`, `when_all` and hop to a context\n"
+        "ends stopped, save below an `unstoppable`. Up to a window of records are started before the line of the first of\n"
+        "them is written; with a window of one each line is written before the next record is started.\n"
     )
     page += [example(exe, faults, name, text, plan, records, words.split()) for name, text, plan, records, words in SETTINGS]
     page.append(summaries(exe))
