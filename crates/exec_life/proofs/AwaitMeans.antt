@@ -1,9 +1,9 @@
 -- What the writes of an await mean.
-use Rattle.std.proofs.Common.{◌≡◌, ℕ, zero, suc, ◌+◌, ◌<◌, ◌≤◌, Bool, true, false, ◌&&◌, ◌||◌, cond, List, [], ◌∷◌, length, refl, sym, ap, ◌∙◌, get_or, take, arith}
+use Rattle.std.proofs.Common.{◌≡◌, ℕ, ◌+◌, ◌<◌, ◌≤◌, Bool, true, false, ◌&&◌, ◌||◌, cond, List, [], ◌∷◌, length, refl, sym, ap, ◌∙◌, get_or, take, arith}
 use Rattle.std.specs.List.{list_any, list_all}
 use Rattle.std.specs.Prelude.{◌==◌, nat_le, if◌then◌else◌}
-use Rattle.std.proofs.lemmas.Bool.{and_parts, cond-true, cond-false, eqb-true, eq-eqb, ne_eqb, false_from_ne_true, both_ways, or_from, true_from_ne_false}
-use Rattle.std.proofs.lemmas.List.Folds.{list_any_more, list_all_at}
+use Rattle.std.proofs.lemmas.Bool.{and_parts, cond-true, cond-false, eqb-true, eq-eqb, false_from_ne_true, both_ways, or_from}
+use Rattle.std.proofs.lemmas.List.Folds.{list_any_more}
 use Rattle.life_rules.specs.declared.event.Name.{Name}
 use Rattle.life_rules.specs.declared.event.Place.{Place}
 use Rattle.life_rules.specs.declared.words.ControlWord.TheVariants.{Idle, Busy}
@@ -17,9 +17,9 @@ use Rattle.common_lemmas.specs.Sums.{one}
 use Rattle.life_rules.specs.Words.{is_idle, pending}
 use Rattle.life_rules.specs.Owned.{weight}
 use Rattle.life_rules.proofs.Readings.{stand-at}
-use Rattle.common_lemmas.proofs.Bool.{either, one-true, one-false, one-most}
+use Rattle.common_lemmas.proofs.Bool.{either, one-true, one-false, one-most, eqb-sym}
 use Rattle.life_rules.proofs.Names.{same-true}
-use Rattle.common_lemmas.proofs.Totals.{total-most}
+use Rattle.common_lemmas.proofs.Totals.{total-most, total-ones}
 use Rattle.life_kept.proofs.Fitting.{Fits-along, idle-word}
 use Rattle.life_kept.proofs.Holding.{held-by, weight-most, leave-needs}
 use Rattle.life_kept.proofs.Members.{any-passes, any-beside, count-different}
@@ -38,12 +38,6 @@ use Rattle.exec_life.proofs.Roles.{role_changed, role-means, role-cells, control
 use Rattle.exec_life.proofs.ReportMeans.{stays-nothing}
 use Rattle.exec_life.proofs.StateMeans.{view-is, means-control}
 
--- a test that all pass, at one of them
-pub list_all-read : (test : ℕ → Bool) (nodes : List ℕ) (k e : ℕ) → k < length nodes → list_all test nodes ≡ true →
-    test (get_or nodes k e) ≡ true
-list_all-read test nodes k e within all =
-    true_from_ne_false (test (get_or nodes k e)) (λ f. both_ways _ (list_all_at test nodes k e within f) all)
-
 -- tests in a row
 in_row : {A : Type 0} (a b c e : Bool) (v x : A) → (c || b) ≡ e → cond (a && b) v (cond (a && c) v x) ≡ cond (a && e) v x
 in_row true true true e v x h = ap (λ t. cond t v x) h
@@ -51,16 +45,6 @@ in_row true true false e v x h = ap (λ t. cond t v x) h
 in_row true false true e v x h = ap (λ t. cond t v x) h
 in_row true false false e v x h = ap (λ t. cond t v x) h
 in_row false b c e v x h = refl
-
-turn : (a b : ℕ) → (a == b) ≡ (b == a)
-turn a b =
-    either (a == b)
-    (λ t. t ∙ sym (eq-eqb b a (sym (eqb-true a b t))))
-    (λ f. f ∙ sym (ne_eqb b a (λ e. both_ways _ f (eq-eqb a b (sym e)))))
-
-total-ones : (n : ℕ) → total (λ i. 1) n ≡ n
-total-ones zero = refl
-total-ones (suc n) = omega (arith, total-ones n)
 
 none-same : (x y : Name) (nodes : List ℕ) → ((n : ℕ) → beside x n ≡ y → ⊥) →
     list_any (λ n. same (beside x n) y) nodes ≡ false
@@ -105,7 +89,7 @@ owes-more f b i nodes node d within reads =
     let after : ℕ → Bool = λ n. list_any (λ m. m == n) (take (i + 1) nodes) in
     let more : (n : ℕ) → (before n || n == node) ≡ after n =
     λ n.
-    ap (λ t. before n || t) (turn n node)
+    ap (λ t. before n || t) (eqb-sym n node)
     ∙ ap (λ k. before n || k == n) reads
     ∙ sym (list_any_more (λ m. m == n) nodes i d within) in
     λ t k n. in_row (k == b) (n == node) (before n) (after n) OwesStart (f k n) (more n) t

@@ -1,7 +1,8 @@
 -- Functions of a name that change at one name.
-use Rattle.std.proofs.Common.{◌≡◌, ℕ, ◌+◌, ◌-◌, Bool, true, false, ◌&&◌, ◌||◌, cond, eqb, refl, sym, ap, ◌∙◌, arith}
+use Rattle.std.proofs.Common.{◌≡◌, ℕ, ◌+◌, ◌-◌, Bool, false, ◌&&◌, ◌||◌, cond, eqb, refl, sym, ap, ◌∙◌, arith}
 use Rattle.std.specs.Prelude.{if◌then◌else◌}
 use Rattle.std.proofs.lemmas.Bool.{and_parts, and_from, eqb-true, eq-eqb, false_from_ne_true, both_ways, cond-true, cond-false}
+use Rattle.std.proofs.Math.Bool.{or-false}
 use Rattle.life_rules.specs.declared.event.Name.{Name}
 use Rattle.life_rules.specs.declared.event.SourceRef.{SourceRef}
 use Rattle.life_rules.specs.declared.event.SourceRef.TheVariants.{Scope, Node}
@@ -126,14 +127,6 @@ turned_source-same s k f e =
     (λ here. cond-true (same_source s t) k (f t) here ∙ e ∙ ap f (same_source-true s t here))
     (λ apart. cond-false (same_source s t) k (f t) apart) in
     λ i t. each t i
-
-pub or-false : (b : Bool) → (b || false) ≡ b
-or-false true = refl
-or-false false = refl
-
-pub or-true : (b : Bool) → (b || true) ≡ true
-or-true true = refl
-or-true false = refl
 
 -- a request that was read, noted
 pub turned-note : (s : SourceRef) (b : Bool) (f : SourceRef → Bool) →

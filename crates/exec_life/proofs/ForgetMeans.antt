@@ -2,22 +2,19 @@
 use Rattle.std.proofs.Common.{◌≡◌, ℕ, Bool, true, false, not, ◌&&◌, cond, Option, None, refl, sym, ap, ◌∙◌}
 use Rattle.std.specs.Prelude.{◌==◌, if◌then◌else◌}
 use Rattle.std.proofs.lemmas.Bool.{cond-true, cond-false, eqb-true}
+use Rattle.std.proofs.Math.Bool.{and-true}
 use Rattle.life_rules.specs.declared.event.Name.{Name}
 use Rattle.life_rules.specs.declared.event.SourceRef.{SourceRef}
 use Rattle.life_rules.specs.declared.event.SourceRef.TheVariants.{Scope, Node}
 use Rattle.common_lemmas.specs.Sums.{one}
 use Rattle.life_rules.specs.Views.{same, forget, is_in_block}
-use Rattle.common_lemmas.proofs.Bool.{either}
+use Rattle.common_lemmas.proofs.Bool.{either, both-same}
 use Rattle.exec_life.specs.declared.view.Role.{Role}
 use Rattle.exec_life.specs.declared.view.Role.TheVariants.{Nothing}
 use Rattle.exec_life.specs.Grids.{row_at}
 use Rattle.exec_life.specs.StateLists.{view_of, said_of, said_of_source}
 use Rattle.exec_life.specs.ViewLists.{ViewLists, role_in, runs_in, unlooked_in, seen_after_in, seen_at, scan_of, is_holder, is_starter, is_reporter, is_finisher}
 use Rattle.exec_life.specs.ViewWrites.{Forgets}
-
-either_way : {A : Type 0} (t : Bool) (x : A) → cond t x x ≡ x
-either_way true x = refl
-either_way false x = refl
 
 -- what a cleared cell says of a name
 said-cleared : {A B : Type 0} (G H : ℕ → ℕ) (b : ℕ) (nothing : B) (g : A → B) (f : ℕ → ℕ → A) (v : A) → g v ≡ nothing →
@@ -30,7 +27,7 @@ said-cleared G H b nothing g f v dull same y =
     (λ here.
     ap (λ k. cond now (g k) nothing) (cond-true (y.block == b) v (f y.block y.node) here)
     ∙ ap (λ k. cond now k nothing) dull
-    ∙ either_way now nothing
+    ∙ both-same now nothing
     ∙ sym (cond-true (y.block == b) nothing _ here))
     (λ apart.
     ap (λ k. cond now (g k) nothing) (cond-false (y.block == b) v (f y.block y.node) apart)
@@ -47,10 +44,6 @@ and-not true true = refl
 and-not true false = refl
 and-not false true = refl
 and-not false false = refl
-
-and-true : (x : Bool) → x ≡ (x && not false)
-and-true true = refl
-and-true false = refl
 
 -- the view that forgot the block, where nothing that it has is in the block
 pub forgotten-view : (v u : ViewLists) (b : ℕ) (G H : ℕ → ℕ) (F : Name → ℕ) → Forgets v u b →
@@ -92,7 +85,7 @@ forgotten-view v u b G H F f same no_holds no_starts no_reports no_runs no_finis
     ∙ and-not (y.block == b) (old.seen_after y)) t) in
     let seen_each : (t : SourceRef) → said_of_source H false u.scope_seen (seen_at u) t ≡ (old.seen t && not (is_in_block b t)) =
     λ t. elim t as (λ z. said_of_source H false u.scope_seen (seen_at u) z ≡ (old.seen z && not (is_in_block b z))) [
-      | Scope ↦ ap (λ (z : ViewLists). z.scope_seen) f.rest ∙ and-true v.scope_seen
+      | Scope ↦ ap (λ (z : ViewLists). z.scope_seen) f.rest ∙ sym (and-true v.scope_seen)
       | Node y ↦
           ap (λ (c : ℕ → ℕ → Bool). said_of H false c y) f.seen_is
           ∙ said-cleared G H b false (λ (c : Bool). c) (seen_at v) false refl same y

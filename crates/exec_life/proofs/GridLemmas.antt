@@ -1,11 +1,12 @@
 -- What a grid reads after a write.
 use Rattle.std.proofs.Common.{◌≡◌, ℕ, Bool, ◌+◌, ◌*◌, ◌<◌, true, false, ◌&&◌, eqb, ltb, cond, List, length, refl, sym, ap, ◌∙◌, subst, inl, inr, ◌||◌, get_or, set, arith, replicate}
-use Rattle.std.proofs.lemmas.Bool.{and_parts, and_from, ltb-true, lt-ltb, eqb-true, eq-eqb, both_ways, cond-true, cond-false, cases_order, cases_lt, le-ltb, ne_eqb}
+use Rattle.std.proofs.lemmas.Bool.{and_parts, and_from, ltb-true, lt-ltb, eqb-true, eq-eqb, both_ways, cond-true, cond-false, cases_order, le-ltb, ne_eqb}
 use Rattle.std.proofs.lemmas.Nat.{mul-add-lt, same_from_place}
-use Rattle.std.proofs.lemmas.List.{get_or-set_same, get_or-set_other, get_or-replicate, get_or_past, length-replicate}
+use Rattle.std.proofs.lemmas.List.{get_or-set_same, get_or-set_other}
 use Rattle.std.specs.Prelude.{if◌then◌else◌, ◌==◌, nat_lt}
 use Rattle.life_rules.specs.States.{set_at}
-use Rattle.common_lemmas.proofs.Bool.{either}
+use Rattle.common_lemmas.proofs.Bool.{either, both-same}
+use Rattle.common_lemmas.proofs.Lists.{get_or-replicate_same}
 use Rattle.exec_life.specs.Grids.{Cells, at, row_at, SameSize, SetsCell, ClearsRow, IsBlank}
 
 module _ {A : Type 0} (d : A) (g : Cells A) where
@@ -61,17 +62,6 @@ without : {A : Type 0} (a : Bool) (v x : A) → cond (a && false) v x ≡ x
 without true v x = refl
 without false v x = refl
 
-always : {A : Type 0} (a : Bool) (v : A) → cond a v v ≡ v
-always true v = refl
-always false v = refl
-
--- a list of one value
-pub replicate-read : {A : Type 0} (n i : ℕ) (v : A) → get_or (replicate n v) i v ≡ v
-replicate-read n i v = elim (cases_lt i n) [
-  | inl within ↦ get_or-replicate n i v v within
-  | inr past ↦ get_or_past (replicate n v) i v (omega (arith, length-replicate n v))
-]
-
 -- f, but v at the first m nodes of b
 abbrev pub begun_at : {A : Type 0} → (ℕ → ℕ → A) → ℕ → ℕ → A → ℕ → ℕ → A
 begun_at f b m v i j = if i == b && nat_lt j m then v else f i j
@@ -115,8 +105,8 @@ begun-all g b v =
     (λ past.
     let dull : at v g i j ≡ v = at-past v g i j past in
     ap (λ w. cond (eqb i b && ltb j g.columns) v w) dull
-    ∙ always (eqb i b && ltb j g.columns) v
-    ∙ sym (ap (λ w. cond (eqb i b) v w) dull ∙ always (eqb i b) v)) in
+    ∙ both-same (eqb i b && ltb j g.columns) v
+    ∙ sym (ap (λ w. cond (eqb i b) v w) dull ∙ both-same (eqb i b) v)) in
     λ t i j. each i j t
 
 -- no node
@@ -133,7 +123,7 @@ IsBlank-made rows columns v =
     let g : Cells _ = record { rows = rows; columns = columns; cells = replicate (rows * columns) v } in
     let each : (i j : ℕ) → at v g i j ≡ v =
     λ i j. either (ltb j columns)
-    (λ within. at-within v g i j within ∙ replicate-read (rows * columns) (i * columns + j) v)
+    (λ within. at-within v g i j within ∙ get_or-replicate_same (rows * columns) (i * columns + j) v)
     (λ past. at-past v g i j past) in
     record { rows_are = refl; columns_are = refl; cells_are = λ t i j. each i j t }
 

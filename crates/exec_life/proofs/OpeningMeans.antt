@@ -1,5 +1,5 @@
 -- The state that the first lists mean.
-use Rattle.std.proofs.Common.{◌≡◌, ℕ, ◌<◌, ◌≤◌, ◌^◌, Bool, true, false, cond, length, Option, Some, None, refl, sym, ap, ◌∙◌, subst, get_or, slice_get, arith}
+use Rattle.std.proofs.Common.{◌≡◌, ℕ, ◌<◌, ◌≤◌, ◌^◌, Bool, false, length, Option, Some, None, refl, sym, ap, ◌∙◌, subst, get_or, slice_get, arith}
 use Rattle.std.specs.Option.{option_map_or}
 use Rattle.std.specs.Prelude.{◌==◌}
 use Rattle.std.proofs.lemmas.Option.{get_or_from_slice_get, slice_get_within}
@@ -14,18 +14,15 @@ use Rattle.common_lemmas.specs.Sums.{one}
 use Rattle.life_rules.specs.Views.{blank}
 use Rattle.life_rules.proofs.Opened.{sound-opening}
 use Rattle.common_lemmas.proofs.Options.{known}
+use Rattle.common_lemmas.proofs.Bool.{both-same}
 use Rattle.exec_life.specs.declared.view.Role.{Role}
 use Rattle.exec_life.specs.declared.view.Role.TheVariants.{Nothing}
 use Rattle.exec_life.specs.StateLists.{StateLists, machine, view_of, generations, said_of, said_of_source, IsState}
 use Rattle.exec_life.specs.ViewLists.{ViewLists, IsBlankView, AreBlankViews, role_in, runs_in, unlooked_in, seen_after_in, seen_at, scan_of, is_holder, is_starter, is_reporter, is_finisher}
 use Rattle.exec_life.specs.WordLists.{AreFirstWords}
 
-either_way : {A : Type 0} (b : Bool) (x : A) → cond b x x ≡ x
-either_way true x = refl
-either_way false x = refl
-
 said-blank : {A : Type 0} (present : ℕ → ℕ) (nothing : A) → said_of present nothing (λ b n. nothing) ≡ (λ x. nothing)
-said-blank present nothing = λ t x. either_way (x.generation == present x.block) nothing t
+said-blank present nothing = λ t x. both-same (x.generation == present x.block) nothing t
 
 -- a view with blank cells is that of a hand that has done nothing
 blank-view : (present : ℕ → ℕ) (blocks nodes : ℕ) (v : ViewLists) → IsBlankView blocks nodes v →

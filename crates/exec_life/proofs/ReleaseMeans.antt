@@ -1,7 +1,7 @@
 -- What the writes of a release mean: the block is given back, and nothing is known of its places.
-use Rattle.std.proofs.Common.{◌≡◌, ℕ, zero, suc, [], ◌∷◌, ◌-◌, ◌<◌, true, false, List, length, Option, Some, None, refl, sym, ap, ◌∙◌, subst, get_or, slice_get, inl, inr, arith}
+use Rattle.std.proofs.Common.{◌≡◌, ℕ, zero, suc, [], ◌∷◌, ◌-◌, ◌<◌, true, false, List, length, Some, None, sym, ap, ◌∙◌, subst, get_or, slice_get, inl, inr, arith}
 use Rattle.std.specs.Option.{option_map_or}
-use Rattle.std.specs.Prelude.{◌==◌, if◌then◌else◌, is_some}
+use Rattle.std.specs.Prelude.{◌==◌, if◌then◌else◌}
 use Rattle.std.proofs.lemmas.Bool.{cond-true, cond-false, eqb-true, eq-eqb, both_ways, cases_lt, ne_eqb}
 use Rattle.std.proofs.lemmas.Option.{slice_get-get_or, slice_get_past, get_or_from_slice_get, slice_get_within}
 use Rattle.life_rules.specs.declared.event.Name.{Name}
@@ -24,7 +24,7 @@ use Rattle.exec_life.specs.ViewLists.{ViewLists}
 use Rattle.exec_life.specs.ViewWrites.{Forgets, ForgetsFirst}
 use Rattle.exec_life.specs.WordLists.{WordLists, block_word, control_word, callback_word, source_word}
 use Rattle.exec_life.specs.WordWrites.{SetsBlock, ClearsWords}
-use Rattle.common_lemmas.proofs.Options.{known}
+use Rattle.common_lemmas.proofs.Options.{known, none-from}
 use Rattle.exec_life.proofs.StateMeans.{view-is}
 use Rattle.exec_life.proofs.ForgetMeans.{forgotten-view}
 use Rattle.exec_life.proofs.ReleasedNames.{no_holds, no_starts, no_reports, no_runs, no_scan, no_finished}
@@ -42,10 +42,6 @@ module _ (d : StateLists) (first w : WordLists) (b : ℕ)
 
   words-count : length w.blocks ≡ length d.words.blocks
   words-count = ap (λ (u : WordLists). length u.blocks) clears.rest ∙ set.count
-
-none-from : {A : Type 0} (o : Option A) → is_some o ≡ false → o ≡ None
-none-from None e = refl
-none-from (Some x) e = cc
 
 -- the view of each hand, after the release
 released-view : (d : StateLists) (h b i : ℕ) (v u : ViewLists) (w : WordLists) → IsState d → h < length d.views →

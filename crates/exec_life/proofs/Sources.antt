@@ -13,7 +13,7 @@ use Rattle.life_rules.specs.StopSteps.{source_of, is_source, may_look, may_run}
 use Rattle.node_tree.specs.Tree.{Nearest, TheScope, TheNode, Nowhere, nearest, has_source}
 use Rattle.life_rules.specs.Views.{beside, same_source}
 use Rattle.life_rules.proofs.Names.{same-true}
-use Rattle.life_kept.proofs.Trees.{some-maps}
+use Rattle.common_lemmas.proofs.Options.{map_or-some}
 use Rattle.node_tree.proofs.Walk.{nearest-source}
 
 near-by : (s : State) (p : Place) (source : SourceAt) (near : Nearest) → is_place s p ≡ true →
@@ -57,7 +57,7 @@ run-source s h source p may =
     let v = s.view h in
     let parts = and_parts (is_place s p) _ may in
     let next = and_parts (is_next_in s v (source_of s source) x) (v.runs x == 0) parts.1 in
-    let at = some-maps (v.scan (source_of s source)) (λ i. is_next s (source_of s source) i x) next.0 in
+    let at = map_or-some (λ i. is_next s (source_of s source) i x) (v.scan (source_of s source)) next.0 in
     near-source s p source parts.0 (and_parts (is_nearest s (source_of s source) x) _ at.2).0
 
 pub runs-none : (s : State) (h : ℕ) (source : SourceAt) (p : Place) → may_run s h source p ≡ true →

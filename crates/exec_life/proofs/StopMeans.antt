@@ -3,6 +3,7 @@ use Rattle.std.proofs.Common.{◌≡◌, ℕ, Bool, true, false, not, ◌&&◌, 
 use Rattle.std.specs.Option.{option_map_or}
 use Rattle.std.specs.Prelude.{if◌then◌else◌}
 use Rattle.std.proofs.lemmas.Bool.{and_parts, cond-true, cond-false}
+use Rattle.std.proofs.Math.Bool.{or-true, or-false}
 use Rattle.life_rules.specs.declared.event.Place.{Place}
 use Rattle.life_rules.specs.declared.event.SourceAt.{SourceAt}
 use Rattle.life_rules.specs.declared.event.SourceAt.TheVariants.{Scope as AtScope, At}
@@ -20,7 +21,7 @@ use Rattle.exec_life.specs.ViewLists.{ViewLists, KnowsSource, seen_in}
 use Rattle.exec_life.specs.ViewWrites.{SetsUnlooked, LooksAfter, SetsSeen, BeginsScan}
 use Rattle.exec_life.specs.WordLists.{WordLists}
 use Rattle.exec_life.specs.WordWrites.{SetsCallback, SetsSource}
-use Rattle.exec_life.proofs.Cases.{turned_source, turned-note, or-true, or-false}
+use Rattle.exec_life.proofs.Cases.{turned_source, turned-note}
 use Rattle.exec_life.proofs.Puts.{HasView, SameBlocks, blocks-stay, after_put, put-means, view-means, words-means, knows-place, still-knows}
 use Rattle.exec_life.proofs.SameCells.{SameCells}
 use Rattle.exec_life.proofs.StateMeans.{view-is, means-callback, means-source}

@@ -1,5 +1,6 @@
 -- What a write to a view's cells means.
 use Rattle.std.proofs.Common.{◌≡◌, ℕ, Bool, true, false, ◌||◌, Option, Some, None, refl, sym, ap, ◌∙◌}
+use Rattle.std.proofs.Math.Bool.{or-false, or-true}
 use Rattle.life_rules.specs.declared.event.Name.{Name}
 use Rattle.life_rules.specs.declared.event.Place.{Place}
 use Rattle.life_rules.specs.declared.event.SourceAt.{SourceAt}
@@ -14,7 +15,7 @@ use Rattle.exec_life.specs.StateLists.{said_of, said_of_source, view_of}
 use Rattle.exec_life.specs.ViewLists.{ViewLists, role_in, runs_in, unlooked_in, seen_after_in, seen_at, scan_of, seen_in, is_holder, is_starter, is_reporter, is_finisher}
 use Rattle.exec_life.specs.ViewWrites.{SetsRole, SetsRuns, SetsUnlooked, LooksAfter, SetsSeen, SetsScan, BeginsScan}
 use Rattle.exec_life.proofs.SameCells.{SameCells}
-use Rattle.exec_life.proofs.Cases.{turned, turned_source, named, said-set, said-set_source, said-scope, said-here, or-false, or-true}
+use Rattle.exec_life.proofs.Cases.{turned, turned_source, named, said-set, said-set_source, said-scope, said-here}
 
 -- the source at these generations
 abbrev pub source_named : (ℕ → ℕ) → SourceAt → SourceRef

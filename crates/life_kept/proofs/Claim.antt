@@ -1,6 +1,7 @@
 -- The step claim.
 use Rattle.std.proofs.Common.{◌≡◌, ℕ, ◌+◌, ◌-◌, ◌<◌, ◌≤◌, Bool, true, false, ◌&&◌, ◌||◌, ◌==◌, nat_lt, cond, if◌then◌else◌, refl, sym, ap, ◌∙◌, subst, arith}
 use Rattle.std.proofs.lemmas.Bool.{and_parts, cond-true, cond-false, both_ways, eqb-true, eq-eqb, ltb-true, false_from_ne_true}
+use Rattle.std.proofs.Math.Bool.{and-true}
 use Rattle.life_rules.specs.declared.words.BlockWord.{BlockWord}
 use Rattle.life_rules.specs.declared.words.BlockState.{BlockState}
 use Rattle.life_rules.specs.declared.words.BlockState.TheVariants.{Free, Open, Retired}
@@ -37,10 +38,6 @@ free-closed Retired h = cc
 pub cond-dull : {A : Type 0} (b : Bool) (v dull : A) → v ≡ dull → cond b v dull ≡ dull
 cond-dull true v dull e = e
 cond-dull false v dull e = refl
-
-pub and-one : (b : Bool) → (b && true) ≡ b
-and-one true = refl
-and-one false = refl
 
 -- what claim needs
 pub record MayClaim (s : State) (h b : ℕ) : Type 0 where
@@ -197,7 +194,7 @@ module _ (s : State) (h b : ℕ) (needs : MayClaim s h b) where
       let alone : (is_root s.tree y.node && is_live claimed y) ≡ false =
       false_from_ne_true (is_root s.tree y.node && is_live claimed y) (λ t. ne (root-alone y at t)) in
       let none : one (is_root s.tree y.node && (is_live claimed y && true)) ≡ 0 =
-      (λ k. one (is_root s.tree y.node && and-one (is_live claimed y) k)) ∙ ap one alone in
+      (λ k. one (is_root s.tree y.node && and-true (is_live claimed y) k)) ∙ ap one alone in
       let new : Fits (stand s (λ v. v.holds) y) (stand claimed (λ v. v.starts) y) (stand s (λ v. v.reports) y)
       (stand s (λ v. v.finished) y) (is_live claimed y) (is_root s.tree y.node) Idle =
       record {

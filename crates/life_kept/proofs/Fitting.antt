@@ -1,16 +1,15 @@
 -- Counts of a name against its word, over plain numbers.
-use Rattle.std.proofs.Common.{◌≡◌, ℕ, ◌+◌, ◌-◌, ◌≤◌, Bool, true, false, not, ◌&&◌, refl, sym, ap, subst, arith}
+use Rattle.std.proofs.Common.{◌≡◌, ℕ, ◌≤◌, Bool, true, false, not, ◌&&◌, refl, sym, ap, arith}
 use Rattle.std.proofs.Math.Path.{transport}
-use Rattle.std.proofs.lemmas.Bool.{and_right, and_left, eqb-true, both_ways}
+use Rattle.std.proofs.lemmas.Bool.{and_right, and_left, eqb-true}
 use Rattle.life_rules.specs.declared.words.ControlWord.{ControlWord}
 use Rattle.life_rules.specs.declared.words.ControlWord.TheVariants.{Idle, Busy, ReadyLoop, ReadyPool, Parked, Done}
 use Rattle.life_rules.specs.declared.event.Name.{Name}
 use Rattle.life_rules.specs.Words.{is_idle, is_held, is_done, is_under_way, pending}
 use Rattle.common_lemmas.specs.Sums.{one}
-use Rattle.life_rules.specs.Views.{same, gain, lose}
+use Rattle.life_rules.specs.Views.{gain}
 use Rattle.life_rules.specs.Owned.{Fits}
-use Rattle.common_lemmas.proofs.Bool.{either, one-false}
-use Rattle.life_rules.proofs.Names.{same-refl, same-true, same-other}
+use Rattle.common_lemmas.proofs.Bool.{one-false}
 
 pub gain-least : (x y : Name) (f : Name → ℕ) → f y ≤ gain x f y
 gain-least x y f = omega arith

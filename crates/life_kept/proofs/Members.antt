@@ -9,6 +9,7 @@ use Rattle.common_lemmas.specs.Sums.{total}
 use Rattle.common_lemmas.specs.Lists.{are_different}
 use Rattle.life_rules.proofs.Names.{same-true}
 use Rattle.common_lemmas.proofs.Totals.{total-zero, total-same, total-plus, total-moved}
+use Rattle.common_lemmas.proofs.Bool.{one-or}
 
 -- a name of the list is of a node that passes the test of all
 pub any-passes : (x y : Name) (test : ℕ → Bool) (nodes : List ℕ) →
@@ -40,10 +41,6 @@ one-equal m size below =
     let none : total (λ n. 0) size ≡ 0 = total-zero (λ n. 0) size (λ n l. refl) in
     let here : one (m == m) ≡ 1 = ap one (eq-eqb m m refl) in
     omega (arith, moved, none, here)
-
-one-or : (a b : Bool) → (a ≡ true → b ≡ false) → one (a || b) ≡ one a + one b
-one-or true b e = let none : one b ≡ 0 = ap one (e refl) in omega (arith, none)
-one-or false b e = omega arith
 
 -- a list without repeats has as many numbers as are in it
 pub count-different : (nodes : List ℕ) (size : ℕ) (test : ℕ → Bool) → ((n : ℕ) → test n ≡ true → n < size) →

@@ -16,7 +16,7 @@ use Rattle.life_rules.specs.LifeSteps.{root_of, may_release}
 use Rattle.life_rules.specs.Requests.{may_scan}
 use Rattle.life_rules.specs.Quiet.{IsQuietAt, Quiet}
 use Rattle.life_rules.specs.Sound.{Sound}
-use Rattle.common_lemmas.proofs.Bool.{either, one-is, one-true, one-false}
+use Rattle.common_lemmas.proofs.Bool.{either, one-is, one-true, one-false, one-none}
 use Rattle.common_lemmas.proofs.Totals.{total-zero}
 use Rattle.life_rules.proofs.Readings.{stand-at, name_of-live, lives}
 use Rattle.life_kept.proofs.Trees.{parent-above}
@@ -30,9 +30,6 @@ unheld ReadyLoop h = cc
 unheld ReadyPool h = cc
 unheld Parked h = cc
 unheld Done h = refl
-
-one-none : (b : Bool) → one b ≤ 0 → b ≡ false
-one-none b h = either b (λ t. let e : one b ≡ 1 = one-true t in absurd (omega (arith, e, h))) (λ f. f)
 
 -- what release needs
 pub record MayRelease (s : State) (h b : ℕ) : Type 0 where
@@ -83,7 +80,7 @@ module _ (s : State) (h b : ℕ) (needs : MayRelease s h b) where
       none-under_way steps up.0 up.3 (omega (arith, up.2, last)) in
       let most = weight-most s (name_of s b up.0) n needs.sound below up.1 in
       let none = pending-none (control_at s (name_of s b up.0)) rest in
-      one-none (is_under_way (control_at s (name_of s b n))) (omega (arith, most, none)))
+      one-none (omega (arith, most, none)))
 
   at-rest : (n : ℕ) → n < size s → is_under_way (control_at s (name_of s b n)) ≡ false
   at-rest n below = none-under_way (size s) n below (omega arith)

@@ -15,18 +15,15 @@ use Rattle.life_rules.specs.States.{State, size, is_live, is_place, control_at, 
 use Rattle.life_rules.specs.LifeSteps.{may_report, after_report, reported_to}
 use Rattle.life_rules.specs.Owned.{Fits, IsOwned, weight, owed_below, Counted}
 use Rattle.life_rules.specs.Sound.{Sound}
-use Rattle.common_lemmas.proofs.Bool.{either, one-is, one-most}
+use Rattle.common_lemmas.proofs.Bool.{either, one-is, one-most, one-and_false}
 use Rattle.common_lemmas.proofs.Totals.{total-moved}
+use Rattle.common_lemmas.proofs.Options.{map_or-some}
 use Rattle.life_rules.proofs.Readings.{begun-live, stand-at}
-use Rattle.life_kept.proofs.Trees.{parent-child, child-within, parent-same, some-maps}
+use Rattle.life_kept.proofs.Trees.{parent-child, child-within, parent-same}
 use Rattle.life_rules.proofs.Names.{by_name, gain-here, gain-other, lose-here, lose-other}
 use Rattle.life_kept.proofs.Fitting.{Fits-along, done-word, pending-word, gain-least}
 use Rattle.life_kept.proofs.Puts.{put, IsPut, reads-here, reads-other, moves, stays, owned-other, counted-at, sound-put, scan-more, times-same}
 use Rattle.life_kept.proofs.Holding.{leave-other, weight-most, weight-other, weight-stays, parent-begun, owned-busy}
-
-no-one : (b : Bool) → one (b && false) ≡ 0
-no-one true = refl
-no-one false = refl
 
 -- what report needs: c is a child of x, whose report the hand owes, and x's source isn't scanned
 record MayReport (s : State) (h : ℕ) (x : Name) (n : ℕ) : Type 0 where
@@ -141,7 +138,7 @@ module _ (s : State) (h : ℕ) (x : Name) (n : ℕ) (needs : MayReport s h x n) 
         let start : stand s (λ v. v.starts) c ≤ one (is_live s c && is_idle (control_at s c)) =
         (needs.sound.owned.names c).start in
         let none : one (is_live s c && is_idle (control_at s c)) ≡ 0 =
-        (λ k. one (is_live s c && is_idle (word k))) ∙ no-one (is_live s c) in
+        (λ k. one (is_live s c && is_idle (word k))) ∙ one-and_false (is_live s c) in
         let was : one (is_under_way (control_at s c)) ≡ 0 = ap (λ w. one (is_under_way w)) word in
         let now : one (is_under_way (control_at reported c)) ≡ 0 =
         ap (λ w. one (is_under_way w)) (reads-other s h x (one_less (control_at s x)) u step c ne ∙ word) in
@@ -248,7 +245,7 @@ sound-report s h p sound below may =
     let free : ℕ → Bool = λ q. not (is_scanning (s.view h) (Node (name_of s p.block q))) in
     let parts = and_parts (is_place s p) (owes && option_map_or free (parent_of s.tree p.node) false) may in
     let more = and_parts owes (option_map_or free (parent_of s.tree p.node) false) parts.1 in
-    let at = some-maps (parent_of s.tree p.node) free more.1 in
+    let at = map_or-some free (parent_of s.tree p.node) more.1 in
     let x : Name = name_of s p.block at.0 in
     let needs : MayReport s h x p.node = record {
       sound = sound;

@@ -7,6 +7,7 @@ use Rattle.node_tree.specs.declared.node.TreeNode.{TreeNode}
 use Rattle.life_rules.specs.declared.event.Name.{Name}
 use Rattle.life_rules.specs.Views.{beside}
 use Rattle.node_tree.specs.Tree.{parent_of, is_child, is_root, has_place, IsTree}
+use Rattle.common_lemmas.proofs.Options.{map_or-some}
 
 some-from : (o : Option ℕ) (p : ℕ) → option_map_or (λ q. q == p) o false ≡ true → o ≡ Some p
 some-from None p h = cc
@@ -15,11 +16,6 @@ some-from (Some q) p h = ap Some (eqb-true q p h)
 none-maps : (o : Option ℕ) (f : ℕ → Bool) → is_none o ≡ true → option_map_or f o false ≡ false
 none-maps None f h = refl
 none-maps (Some q) f h = cc
-
-pub some-maps : (o : Option ℕ) (f : ℕ → Bool) → option_map_or f o false ≡ true →
-    (q : ℕ) × (o ≡ Some q) × (f q ≡ true)
-some-maps None f h = cc
-some-maps (Some q) f h = (q, refl, h)
 
 pub child-parent : (tree : List TreeNode) (p n : ℕ) → is_child tree p n ≡ true → parent_of tree n ≡ Some p
 child-parent tree p n h = some-from (parent_of tree n) p h
@@ -45,7 +41,7 @@ root-orphan tree is p n below root =
 pub parent-above : (tree : List TreeNode) → IsTree tree → (n : ℕ) → n < length tree → is_root tree n ≡ false →
     (p : ℕ) × (is_child tree p n ≡ true) × (n < p) × (p < length tree)
 parent-above tree is n below root =
-    let at = some-maps (parent_of tree n) (λ p. nat_lt n p && nat_lt p (length tree))
+    let at = map_or-some (λ p. nat_lt n p && nat_lt p (length tree)) (parent_of tree n)
     (sym (cond-false (is_root tree n) _ _ root) ∙ placed tree is n below) in
     let parts = and_parts _ _ at.2 in
     (at.0, parent-child tree at.0 n at.1, ltb-true _ _ parts.0, ltb-true _ _ parts.1)

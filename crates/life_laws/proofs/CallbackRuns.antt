@@ -20,7 +20,7 @@ use Rattle.life_rules.specs.LifeSteps.{reported_to}
 use Rattle.life_rules.specs.StopSteps.{may_arm, after_arm}
 use Rattle.life_rules.specs.Steps.{Move, is_step, moved, run, may_happen, after}
 use Rattle.life_rules.specs.Sound.{Sound}
-use Rattle.common_lemmas.proofs.Bool.{either, one-most, one-true, one-false}
+use Rattle.common_lemmas.proofs.Bool.{either, one-most, one-true, one-false, one-below}
 use Rattle.life_rules.proofs.Names.{same-true}
 use Rattle.life_rules.proofs.Readings.{read-here}
 use Rattle.life_laws.specs.Histories.{times, runs_callback, is_run_of}
@@ -44,9 +44,6 @@ written-spent s p w x stays =
     marked-from Never is_gone refl s (with_callback s p.block p.node w) s.callback
     (with_callback s p.block p.node w).callback x refl
     (passes-written Never is_gone refl s s.callback p.block p.node w x stays)
-
-one-below : (a b : Bool) → (a ≡ true → b ≡ true) → one a ≤ one b
-one-below a b h = either a (λ t. omega (arith, one-true t, one-true (h t))) (λ f. omega (arith, one-false f))
 
 -- a step that doesn't begin to run x's callback, and leaves it spent where it was
 kept-spent : (s : State) (h : ℕ) (e : Event) (x : Name) → is_run_of s x e ≡ false →

@@ -1,6 +1,6 @@
 -- What a sound state tells at once.
 use Rattle.std.specs.Prelude.{nat_le}
-use Rattle.std.proofs.Common.{◌≡◌, ℕ, ◌+◌, ◌*◌, ◌<◌, ◌≤◌, Bool, true, false, not, ◌||◌, zero, suc, refl, sym, ap₂, ◌∙◌, subst, inl, inr, arith}
+use Rattle.std.proofs.Common.{◌≡◌, ℕ, ◌+◌, ◌*◌, ◌<◌, ◌≤◌, Bool, true, false, not, ◌||◌, refl, sym, ap₂, ◌∙◌, subst, inl, inr, arith}
 use Rattle.std.proofs.lemmas.Bool.{and_parts, leb-true, eqb-true, cases_Bool}
 use Rattle.life_rules.specs.declared.event.Name.{Name}
 use Rattle.life_rules.specs.declared.event.Place.{Place}
@@ -11,12 +11,11 @@ use Rattle.life_rules.specs.Words.{is_idle, is_held, is_done, is_under_way, pend
 use Rattle.common_lemmas.specs.Sums.{one}
 use Rattle.life_rules.specs.Views.{beside}
 use Rattle.life_rules.specs.States.{State, size, is_place, name_at, control_at, phase_at, stand}
-use Rattle.common_lemmas.specs.Sums.{total}
 use Rattle.life_rules.specs.LifeSteps.{may_finish, may_leave_node}
 use Rattle.life_rules.specs.Owned.{weight, owed_below}
 use Rattle.life_rules.specs.Sound.{Sound}
 use Rattle.common_lemmas.proofs.Bool.{one-is, one-true}
-use Rattle.common_lemmas.proofs.Totals.{total-at, total-most}
+use Rattle.common_lemmas.proofs.Totals.{total-at, total-most, total-ones}
 use Rattle.life_rules.proofs.Readings.{stand-at}
 use Rattle.scope_kept.proofs.Counts.{all_refused, count-parts}
 
@@ -40,16 +39,12 @@ begun-done w begun still =
 times-one : (a b : ℕ) → a ≡ 1 → a * b ≤ 0 → b ≡ 0
 times-one a b e h = let g : 1 * b ≤ 0 = subst (λ k. k * b ≤ 0) e h in omega (arith, g)
 
-ones : (n : ℕ) → total (λ _. 1) n ≡ n
-ones zero = refl
-ones (suc n) = omega (arith, ones n)
-
 -- a hand has at most one association that is being refused
 each-one : (s : State) → Sound s → all_refused s ≤ s.hands
 each-one s sound =
     let below = total-most (λ h. (s.view h).refused) (λ _. 1) s.hands
     (λ h l. let single = sound.associations.single h l in omega (arith, single)) in
-    omega (arith, below, ones s.hands)
+    omega (arith, below, total-ones s.hands)
 
 -- a node is finished only when each child that has begun is done and has reported
 pub parents-wait : (s : State) (h : ℕ) (p : Place) (n : ℕ) → Sound s → h < s.hands →

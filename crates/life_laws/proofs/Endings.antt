@@ -20,7 +20,7 @@ use Rattle.life_rules.specs.LifeSteps.{may_leave_node, may_be_awaited, reported_
 use Rattle.common_lemmas.specs.Lists.{are_different}
 use Rattle.life_rules.specs.Steps.{Move, is_step, moved, run, may_happen, after}
 use Rattle.life_rules.specs.Sound.{Sound}
-use Rattle.common_lemmas.proofs.Bool.{either, one-is, one-most, one-true, one-false}
+use Rattle.common_lemmas.proofs.Bool.{either, one-is, one-most, one-true, one-false, one-below}
 use Rattle.life_rules.proofs.Names.{same-true}
 use Rattle.life_rules.proofs.Readings.{begun-live, stand-at, read-here}
 use Rattle.life_laws.specs.Histories.{times, finishes, is_finish_of, is_over}
@@ -31,9 +31,6 @@ use Rattle.life_laws.proofs.Marks.{is_marked, passes-written, marked-from, marke
 -- x is done, or its generation is over
 abbrev pub is_ended : State → Name → Bool
 is_ended s x = is_marked Idle is_done refl s s.control x
-
-one-below : (a b : Bool) → (a ≡ true → b ≡ true) → one a ≤ one b
-one-below a b h = either a (λ t. omega (arith, one-true t, one-true (h t))) (λ f. omega (arith, one-false f))
 
 -- a step that isn't a finish of x, and leaves it ended where it was
 kept-ended : (s : State) (h : ℕ) (e : Event) (x : Name) → is_finish_of s x e ≡ false →

@@ -1,25 +1,25 @@
 -- What holds along a schedule.
-use Rattle.std.proofs.Common.{◌≡◌, ℕ, zero, suc, ◌+◌, ◌-◌, ◌%◌, ◌<◌, ◌≤◌, Bool, true, false, ◌&&◌, List, [], ◌∷◌, ◌++◌, map, length, take, drop, get_or, Option, Some, None, IsTrue, refl, sym, ap, subst, ◌∙◌, append_assoc, length-append, add-one, drop-cons, inl, inr, arith}
+use Rattle.std.proofs.Common.{◌≡◌, ℕ, zero, suc, ◌+◌, ◌-◌, ◌%◌, ◌<◌, ◌≤◌, Bool, true, false, List, [], ◌∷◌, ◌++◌, length, take, drop, get_or, Option, Some, None, refl, sym, ap, subst, ◌∙◌, append_assoc, length-append, drop-cons, inl, inr, arith}
 use Rattle.std.specs.Prelude.{nat_lt, MatchOption}
 use Rattle.std.specs.List.{filter, list_all, slice_get}
 use Rattle.std.specs.Option.{option_map_or}
 use Rattle.std.proofs.lemmas.Bool.{and_parts, and_from, cond-true, cond-false, lt-ltb, ltb-true, both_ways, cases_lt}
 use Rattle.std.proofs.lemmas.List.{append-nil, drop_all, take_at, take-append-le}
 use Rattle.std.proofs.lemmas.List.Folds.{list_all-append, list_all_at}
-use Rattle.std.proofs.lemmas.Option.{slice_get-get_or, slice_get_read}
 use Rattle.common_lemmas.proofs.Bool.{either}
 use Rattle.life_rules.specs.declared.event.Event.{Event}
 use Rattle.life_rules.specs.States.{State}
 use Rattle.life_rules.specs.Steps.{is_step, may_happen, moved}
 use Rattle.exec_life.specs.Reading.{SameTable}
 use Rattle.common_lemmas.proofs.Options.{known}
+use Rattle.common_lemmas.proofs.Lists.{slice_get-append_left, slice_get-append_middle}
 use Rattle.trace_text.specs.declared.entry.Choice.{Choice}
 use Rattle.trace_text.specs.declared.entry.Entry.{Entry}
 use Rattle.trace_text.specs.Setups.{Setup}
-use Rattle.trace_text.specs.Values.{TraceValue, has_entry, has_event, has_choice}
+use Rattle.trace_text.specs.Values.{has_entry, has_event, has_choice}
 use Rattle.replay_core.specs.Candidates.{candidates, life_events, stop_events, scope_events}
 use Rattle.replay_core.specs.Replays.{chosen, entry_of, entries_from, Follows}
-use Rattle.replay_core.specs.Traces.{first_state, move_of, state_after, state_at, is_taken, AreTaken}
+use Rattle.replay_core.specs.Traces.{first_state, move_of, state_after, is_taken, AreTaken}
 use Rattle.replay_core.proofs.Along.{state_after-more}
 use Rattle.replay_core.proofs.There.{setup_in, step-there}
 
@@ -85,21 +85,12 @@ kept-passes p (x ∷ xs) i e is =
     (ap (λ (l : List _). slice_get l i) (sym (cond-true (p x) (x ∷ filter p xs) (filter p xs) passes)) ∙ is))
     (λ fails. kept-passes p xs i e (ap (λ (l : List _). slice_get l i) (sym (cond-false (p x) (x ∷ filter p xs) (filter p xs) fails)) ∙ is))
 
-slice_get-before : {X : Type 0} (xs ys : List X) (k : ℕ) → k < length xs → slice_get (xs ++ ys) k ≡ slice_get xs k
-slice_get-before [] ys k below = absurd (omega arith)
-slice_get-before (x ∷ xs) ys zero below = refl
-slice_get-before (x ∷ xs) ys (suc k) below = slice_get-before xs ys k (omega (arith, below))
-
-slice_get-last : {X : Type 0} (xs : List X) (x : X) → slice_get (xs ++ x ∷ []) (length xs) ≡ Some x
-slice_get-last [] x = refl
-slice_get-last (y ∷ xs) x = slice_get-last xs x
-
 -- an entry before the last one is a step with it as without it
 taken-before : (o : Setup) (es : List Entry) (e : Entry) (k : ℕ) → k < length es → is_taken (record { opening = o; entries = es ++ e ∷ [] }) k ≡ is_taken (record { opening = o; entries = es }) k
 taken-before o es e k below =
     let front : take k (es ++ e ∷ []) ≡ take k es = take-append-le k es (e ∷ []) (omega arith) in
     let here : slice_get (es ++ e ∷ []) k ≡ slice_get es k =
-    slice_get-before es (e ∷ []) k below in
+    slice_get-append_left es (e ∷ []) k below in
     ap (λ (l : List Entry). option_map_or (λ x. is_step (state_after o l) (move_of x)) (slice_get (es ++ e ∷ []) k) false) front
     ∙ ap (λ (w : Option Entry). option_map_or (λ x. is_step (state_after o (take k es)) (move_of x)) w false) here
 
@@ -107,7 +98,7 @@ taken-before o es e k below =
 taken-last : (o : Setup) (s : State) (es : List Entry) (e : Entry) → s ≡ state_after o es → is_step s (move_of e) ≡ true → is_taken (record { opening = o; entries = es ++ e ∷ [] }) (length es) ≡ true
 taken-last o s es e is step =
     let front : take (length es) (es ++ e ∷ []) ≡ es = take_at es (e ∷ []) (length es) refl in
-    let here : slice_get (es ++ e ∷ []) (length es) ≡ Some e = slice_get-last es e in
+    let here : slice_get (es ++ e ∷ []) (length es) ≡ Some e = slice_get-append_middle es e [] in
     ap (λ (l : List Entry). option_map_or (λ x. is_step (state_after o l) (move_of x)) (slice_get (es ++ e ∷ []) (length es)) false) front
     ∙ ap (λ (w : Option Entry). option_map_or (λ x. is_step (state_after o es) (move_of x)) w false) here
     ∙ ap (λ (u : State). is_step u (move_of e)) (sym is)

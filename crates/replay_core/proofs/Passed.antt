@@ -1,12 +1,13 @@
 -- Which looks and runs needn't be tried.
-use Rattle.std.proofs.Common.{◌≡◌, ℕ, ◌+◌, ◌<◌, ◌≤◌, Bool, true, false, ◌&&◌, cond, List, [], ◌∷◌, ◌++◌, length, take, get_or, Option, Some, None, refl, sym, ap, subst, ◌∙◌}
-use Rattle.std.specs.Prelude.{nat_lt, is_some}
+use Rattle.std.proofs.Common.{◌≡◌, ℕ, ◌+◌, ◌<◌, ◌≤◌, Bool, true, false, cond, List, [], ◌∷◌, ◌++◌, length, take, get_or, Option, Some, None, refl, sym, ap, subst, ◌∙◌}
+use Rattle.std.specs.Prelude.{is_some}
 use Rattle.std.specs.List.{filter, flat_map}
 use Rattle.std.specs.Option.{option_map_or}
 use Rattle.std.proofs.lemmas.Bool.{and_parts, and_left, and_right, cond-true, cond-false, false_from_ne_true, both_ways, false≢true}
 use Rattle.std.proofs.lemmas.List.{append-nil, take_all}
 use Rattle.std.proofs.lemmas.List.Elements.{filter_more}
 use Rattle.common_lemmas.proofs.Bool.{either}
+use Rattle.common_lemmas.proofs.Options.{none-from}
 use Rattle.life_rules.proofs.Names.{same-true}
 use Rattle.life_rules.specs.declared.event.Event.{Event}
 use Rattle.life_rules.specs.declared.event.Event.TheVariants.{Look, Run}
@@ -88,17 +89,13 @@ run-none s h source p none =
     ap (λ (o : Option ℕ). option_map_or (λ i. is_next s (source_of s source) i (name_at s p)) o false) none in
     and_right (is_place s p) _ (and_left (is_next_in s (s.view h) (source_of s source) (name_at s p)) _ next)
 
-some-none : {A : Type 0} (o : Option A) → is_some o ≡ false → o ≡ None
-some-none None e = refl
-some-none (Some x) e = absurd (false≢true (sym e))
-
 pub keeps_no_run : (s : State) (h : ℕ) (old : List Event) (source : SourceAt) (scan : Option ℕ) → (s.view h).scan (source_of s source) ≡ scan → is_some scan ≡ false → Keeps s h old old (runs_at s source)
 keeps_no_run s h old source scan is none =
     record {
       added =
           sym (append-nil old)
           ∙ ap (λ (l : List Event). old ++ l)
-          (sym (kept-nothing (may_happen s h) (λ p. Run source p) (λ p. run-none s h source p (is ∙ some-none scan none)) (places_of s)));
+          (sym (kept-nothing (may_happen s h) (λ p. Run source p) (λ p. run-none s h source p (is ∙ none-from scan none)) (places_of s)));
     }
 
 -- the waiting places among the first, and among one more

@@ -1,13 +1,13 @@
 -- What a step names is there.
-use Rattle.std.proofs.Common.{◌≡◌, ℕ, zero, suc, ◌+◌, ◌<◌, ◌≤◌, ◌^◌, Bool, true, false, ◌&&◌, List, [], ◌∷◌, length, get_or, Option, Some, None, refl, sym, ap, subst, ◌∙◌, arith}
+use Rattle.std.proofs.Common.{◌≡◌, ℕ, zero, suc, ◌+◌, ◌<◌, ◌≤◌, ◌^◌, true, false, ◌&&◌, List, [], ◌∷◌, length, get_or, Option, Some, None, refl, sym, ap, subst, ◌∙◌, arith}
 use Rattle.std.specs.Prelude.{nat_lt, nat_le, ◌==◌, not}
 use Rattle.std.specs.List.{list_all, slice_get, flat_map, range_with_len}
-use Rattle.std.proofs.lemmas.List.Folds.{list_all-append, list_all_at}
+use Rattle.std.proofs.lemmas.List.Folds.{list_all-append}
 use Rattle.std.specs.Option.{option_map_or, option_and_then}
-use Rattle.std.proofs.lemmas.Bool.{and_parts, and_from, eqb-true, lt-ltb, ltb-true, false≢true, both_ways}
+use Rattle.std.proofs.lemmas.Bool.{and_parts, and_from, eqb-true, lt-ltb, ltb-true, false≢true}
 use Rattle.std.proofs.lemmas.Option.{slice_get_within}
 use Rattle.life_rules.proofs.Names.{same-true}
-use Rattle.common_lemmas.proofs.Bool.{either}
+use Rattle.common_lemmas.proofs.Lists.{list_all-read}
 use Rattle.life_rules.specs.declared.event.Event.{Event}
 use Rattle.life_rules.specs.declared.event.Event.TheVariants.{Claim, Begin, Await, Rest, Take, Finish, Report, Release, Arm, Look, Request, Run, EndRun, Withdraw, WithdrawOwn, SealScan, Skip, Rouse, Enter, MarkUsed, Leave, Close, Join, Seal}
 use Rattle.life_rules.specs.declared.event.Name.{Name}
@@ -15,25 +15,24 @@ use Rattle.life_rules.specs.declared.event.Place.{Place}
 use Rattle.life_rules.specs.declared.event.SourceAt.{SourceAt}
 use Rattle.life_rules.specs.declared.event.SourceAt.TheVariants.{Scope as AtScope, At}
 use Rattle.life_rules.specs.declared.event.SourceRef.{SourceRef}
-use Rattle.life_rules.specs.declared.event.SourceRef.TheVariants.{Scope, Node}
 use Rattle.node_tree.specs.declared.node.TreeNode.{TreeNode}
 use Rattle.life_rules.specs.LifeSteps.{may_be_awaited, may_leave_node}
 use Rattle.common_lemmas.specs.Lists.{are_different}
 use Rattle.life_rules.specs.Scans.{is_nearest, is_next, is_next_in}
 use Rattle.life_rules.specs.Scopes.{may_seal}
 use Rattle.life_rules.specs.ScopeSteps.{same_word}
-use Rattle.life_rules.specs.States.{State, size, is_place, name_at, nearest_of, source_for}
+use Rattle.life_rules.specs.States.{State, size, is_place, name_at, source_for}
 use Rattle.life_rules.specs.Steps.{may_happen}
 use Rattle.life_rules.specs.StopSteps.{source_of, is_source, may_end_run}
-use Rattle.node_tree.specs.Tree.{Nearest, TheScope, TheNode, Nowhere, nearest, is_child, parent_of}
-use Rattle.life_rules.specs.Views.{View, same, same_source, beside}
+use Rattle.node_tree.specs.Tree.{Nearest, TheScope, TheNode, Nowhere, nearest, is_child}
+use Rattle.life_rules.specs.Views.{same, same_source, beside}
 use Rattle.node_tree.proofs.Walk.{nearest-source}
 use Rattle.replay_core.specs.Candidates.{place_of, places_in, places_of, sources_of}
 use Rattle.replay_core.specs.Listings.{is_known}
 use Rattle.exec_life.specs.Reading.{TellsView}
 use Rattle.exec_life.specs.ViewLists.{ViewLists, KnowsSource}
 use Rattle.trace_text.specs.Setups.{Setup}
-use Rattle.trace_text.specs.Values.{has_node, has_block, has_place, has_source, has_children, has_event}
+use Rattle.trace_text.specs.Values.{has_node, has_source, has_children, has_event}
 
 -- what a state is of
 abbrev pub setup_in : State → Setup
@@ -131,12 +130,6 @@ step-there s h (Seal w) e =
     let seals = and_parts (same_word s.scope w) (may_seal w) e in
     let parts = and_parts (w.joining && not w.joined) (w.count == 0) seals.1 in
     lt-ltb w.count (2 ^ 32) (omega (arith, eqb-true w.count 0 parts.1))
-
--- a test that all pass, at one of them
-pub list_all-read : {X : Type 0} (p : X → Bool) (xs : List X) (k : ℕ) (d : X) → k < length xs → list_all p xs ≡ true → p (get_or xs k d) ≡ true
-list_all-read p xs k d here all =
-    either (p (get_or xs k d)) (λ passes. passes)
-    (λ fails. absurd (both_ways (list_all p xs) (list_all_at p xs k d here fails) all))
 
 -- all places that are listed are there
 nodes-there : (s : State) (b a n : ℕ) → b < s.blocks → a + n ≤ size s → list_all (is_place s) (flat_map (λ m. place_of b m ∷ []) (range_with_len a n)) ≡ true

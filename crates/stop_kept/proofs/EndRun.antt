@@ -16,11 +16,12 @@ use Rattle.life_rules.specs.Scans.{index, is_next_in}
 use Rattle.life_rules.specs.StopSteps.{passed, run_over, may_end_run, after_end_run, may_withdraw_own, after_withdraw_own}
 use Rattle.life_rules.specs.Sound.{Sound}
 use Rattle.common_lemmas.proofs.Bool.{one-true, one-most, one-false}
-use Rattle.life_rules.proofs.Names.{same-refl, same-other, by_name, lose-here, lose-other}
+use Rattle.common_lemmas.proofs.Options.{map_or-some}
+use Rattle.life_rules.proofs.Names.{by_name, lose-here, lose-other}
 use Rattle.life_rules.proofs.Readings.{stand-at, stand-with_view}
 use Rattle.stop_kept.proofs.Standing.{runs-running}
 use Rattle.stop_kept.proofs.Phases.{Writes, writes, set_at-shut, begins-written, armed-written}
-use Rattle.stop_kept.proofs.ScanAt.{map_or-some, armed-live, passed-but, Next, next_of, place-node, runs-other}
+use Rattle.stop_kept.proofs.ScanAt.{armed-live, passed-but, Next, next_of, place-node, runs-other}
 use Rattle.stop_kept.proofs.Passes.{passer, after_passing, Passes, sound-passing}
 
 -- a phase in which a callback is at rest for good

@@ -1,7 +1,7 @@
 -- What a step leaves alone that changes only callback words and what a view noted.
-use Rattle.std.specs.Prelude.{MatchOption, ◌⊎◌}
-use Rattle.std.proofs.Common.{◌≡◌, ℕ, ◌<◌, ◌≤◌, Bool, true, false, ◌||◌, Option, Some, None, is_some, inl, inr, refl, sym, ap, ◌∙◌, subst}
-use Rattle.std.proofs.lemmas.Bool.{and_parts, or_cases}
+use Rattle.std.specs.Prelude.{◌⊎◌}
+use Rattle.std.proofs.Common.{◌≡◌, ℕ, ◌<◌, ◌≤◌, Bool, true, false, ◌||◌, Some, inl, inr, refl, sym, ap, ◌∙◌, subst}
+use Rattle.std.proofs.lemmas.Bool.{and_parts, or_cases, some_since}
 use Rattle.life_rules.specs.declared.event.Name.{Name}
 use Rattle.life_rules.specs.declared.event.SourceRef.{SourceRef}
 use Rattle.life_rules.specs.declared.event.SourceRef.TheVariants.{Scope}
@@ -103,10 +103,6 @@ pub passed-kept : (s : State) (c : ℕ → ℕ → CallbackPhase) (w : ℕ → V
 passed-kept s c w source x same passed =
     subst (λ t. WasPassed t source x) (sym (same_aside s w same)) passed
 
-matched-some : {A : Type 0} (o : Option A) (P : A → Type 0) → MatchOption o ⊥ P → is_some o ≡ true
-matched-some None P h = absurd h
-matched-some (Some a) P h = refl
-
 -- a source that was scanned, or whose scan has passed a place, is requested
 pub passed-requested : (s : State) (source : SourceRef) (x : Name) → ScansStand s →
     WasPassed s source x →
@@ -116,7 +112,7 @@ passed-requested s source x a passed =
       | inl scanned ↦ a.sealed source scanned
       | inr by ↦
           (a.cause by.0 source by.1
-          (matched-some ((s.view by.0).scan source) (λ i. index s x < i) by.2)).requested
+          (some_since ((s.view by.0).scan source) ⊥ (λ i. index s x < i) by.2 (λ none. none))).requested
     ]
 
 -- a step that only changes what views noted

@@ -6,12 +6,10 @@ use Rattle.life_rules.specs.declared.event.Place.{Place}
 use Rattle.life_rules.specs.declared.words.CallbackPhase.{CallbackPhase}
 use Rattle.life_rules.specs.declared.words.CallbackPhase.TheVariants.{Ran, Removed, Never, Armed, Running}
 use Rattle.life_rules.specs.Words.{is_never, is_armed, is_running, is_open, is_idle, is_under_way}
-use Rattle.life_rules.specs.Views.{View, same}
-use Rattle.common_lemmas.specs.Sums.{one}
+use Rattle.life_rules.specs.Views.{View}
 use Rattle.life_rules.specs.States.{State, phase_at, control_at, name_at, set_at, is_live}
 use Rattle.life_rules.specs.Callbacks.{BeginsInOrder, ArmedLives}
 use Rattle.life_rules.proofs.Names.{by_name}
-use Rattle.common_lemmas.proofs.Bool.{either}
 use Rattle.life_rules.proofs.Readings.{begun-live, lives, read-here, read-other}
 use Rattle.stop_kept.proofs.StopFrames.{changed}
 use Rattle.stop_kept.proofs.Standing.{begun}

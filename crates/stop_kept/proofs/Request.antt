@@ -2,6 +2,7 @@
 use Rattle.std.specs.Prelude.{MatchOption}
 use Rattle.std.proofs.Common.{◌≡◌, ℕ, ◌<◌, ◌≤◌, Bool, true, false, ◌||◌, Option, Some, inl, inr, refl, sym, ap, ◌∙◌, subst, arith, not, ◌&&◌}
 use Rattle.std.proofs.lemmas.Bool.{and_parts, or_cases, both_ways, or_left, or_right, cond_both}
+use Rattle.std.proofs.Math.Bool.{or-false, not-not}
 use Rattle.life_rules.specs.declared.event.Name.{Name}
 use Rattle.life_rules.specs.declared.event.SourceAt.{SourceAt}
 use Rattle.life_rules.specs.declared.event.SourceAt.TheVariants.{Scope as AtScope, At}
@@ -61,10 +62,6 @@ passed-before source false f a P none p = p
 passed-before source true f a P none passed =
     cond_both (same_source source a) (Some 0) (f a) (λ o. MatchOption o ⊥ P → MatchOption (f a) ⊥ P)
     (λ at p. absurd (none p)) (λ other p. p) passed
-
-or-false : (b : Bool) → (b || false) ≡ b
-or-false false = refl
-or-false true = refl
 
 -- a view made the scope's request only where the step made it
 requested-same : (s : State) (h : ℕ) (source : SourceRef) (new : Bool) →
@@ -173,15 +170,11 @@ sound-asking s h source failure new sound l g known =
     (λ y a near armed was. passed-asking s h source failure new g.begun y a was)
     (scope-asking s h source failure new sound.scope g known)
 
-not-not : (b : Bool) → b ≡ not (not b)
-not-not false = refl
-not-not true = refl
-
 pub sound-request : (s : State) (h : ℕ) (at : SourceAt) (failure : Bool) → Sound s → h < s.hands →
     may_request s h at failure ≡ true → Sound (after_request s h at failure)
 sound-request s h AtScope failure sound l may =
     sound-asking s h Scope failure (not (bits_at s Scope).requested) sound l
-    (scope-grounds s h failure sound l may) (not-not _)
+    (scope-grounds s h failure sound l may) (sym (not-not _))
 sound-request s h (At p) failure sound l may =
     let x = name_at s p in
     let a = and_parts _ _ may in
@@ -193,4 +186,4 @@ sound-request s h (At p) failure sound l may =
           let d = and_parts _ _ b.1 in
           repeat-grounds s h x failure sound l d.0
     ] in
-    sound-asking s h (Node x) failure (not (bits_at s (Node x)).requested) sound l g (not-not _)
+    sound-asking s h (Node x) failure (not (bits_at s (Node x)).requested) sound l g (sym (not-not _))

@@ -1,7 +1,7 @@
 -- Where a view's scan stands, and what it has passed.
 use Rattle.std.specs.Option.{option_map_or}
 use Rattle.std.specs.Prelude.{MatchOption}
-use Rattle.std.proofs.Common.{◌≡◌, ℕ, ◌<◌, ◌≤◌, Bool, true, false, Option, Some, None, inl, inr, refl, sym, ap, ◌∙◌, subst, arith, ◌+◌, ◌-◌}
+use Rattle.std.proofs.Common.{◌≡◌, ℕ, ◌<◌, ◌≤◌, true, false, Option, Some, None, inl, inr, sym, ap, ◌∙◌, subst, arith, ◌+◌, ◌-◌}
 use Rattle.std.proofs.lemmas.Bool.{and_parts, both_ways, leb-true, ltb-true, cases_lt}
 use Rattle.std.proofs.lemmas.Nat.{same_from_place}
 use Rattle.life_rules.specs.declared.event.Name.{Name}
@@ -19,11 +19,7 @@ use Rattle.life_rules.proofs.Readings.{lives, name_of-live}
 use Rattle.life_rules.proofs.ScanOrder.{has_none-at, place_at-index, next-first}
 use Rattle.stop_kept.proofs.Standing.{phase-live, runs-running}
 use Rattle.stop_kept.proofs.Phases.{armed-is, running-is}
-
-pub map_or-some : {A : Type 0} (f : A → Bool) (o : Option A) → option_map_or f o false ≡ true →
-    (x : A) × (o ≡ Some x) × (f x ≡ true)
-map_or-some f None e = cc
-map_or-some f (Some x) e = (x, refl, e)
+pub use Rattle.common_lemmas.proofs.Options.{map_or-some}
 
 pub armed-live : (s : State) (x : Name) → is_armed (phase_at s x) ≡ true → is_live s x ≡ true
 armed-live s x e = phase-live s x (ap is_never (armed-is (phase_at s x) e))

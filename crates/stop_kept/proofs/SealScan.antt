@@ -22,12 +22,13 @@ use Rattle.life_rules.specs.Associations.{ScopeRequested}
 use Rattle.life_rules.specs.Sound.{Sound}
 use Rattle.common_lemmas.proofs.Bool.{one-true}
 use Rattle.common_lemmas.proofs.Totals.{total-most, total-single}
+use Rattle.common_lemmas.proofs.Options.{map_or-some}
 use Rattle.life_rules.proofs.ScanOrder.{past_all-behind}
 use Rattle.stop_kept.proofs.StopFrames.{related, related_at, SameRoles, next-frame}
 use Rattle.stop_kept.proofs.Standing.{runs-running}
 use Rattle.stop_kept.proofs.Notes.{is_noted}
 use Rattle.stop_kept.proofs.Sources.{source_cases, scan_at-here, scan_at-other, words_with, scope_with, asked, has_begun, Reads, reads, requested-begun, requested-more, sound-source}
-use Rattle.stop_kept.proofs.ScanAt.{map_or-some, armed-live, running-live, nearest-for, next-at, next-from, passed-from}
+use Rattle.stop_kept.proofs.ScanAt.{armed-live, running-live, nearest-for, next-at, next-from, passed-from}
 
 -- the hand's scan of the source stands at i, and no place of the source is left from there on
 record Finishes (s : State) (h : ℕ) (source : SourceRef) : Type 0 where

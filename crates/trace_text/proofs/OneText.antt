@@ -3,8 +3,9 @@ use Rattle.std.proofs.Common.{◌≡◌, ℕ, zero, suc, ◌+◌, Bool, ◌&&◌
 use Rattle.std.specs.Option.{option_map_or}
 use Rattle.std.specs.Str.{bytes_eq}
 use Rattle.std.proofs.lemmas.Bool.{and_parts, cond-true, cond-false, eqb-true}
-use Rattle.std.proofs.lemmas.List.{append-nil, flat_map_more}
+use Rattle.std.proofs.lemmas.List.{append-nil, flat_map_more, nil_from_length}
 use Rattle.std.proofs.lemmas.Slice.Eq.{bytes_eq-Decides}
+use Rattle.std.proofs.lemmas.Option.{same_Some}
 use Rattle.common_lemmas.proofs.Bool.{either}
 use Rattle.node_tree.specs.declared.node.TreeNode.{TreeNode}
 use Rattle.common_lemmas.proofs.Options.{known}
@@ -15,7 +16,7 @@ use Rattle.trace_text.specs.Setups.{Setup}
 use Rattle.trace_text.specs.Texts.{line_feed, lines, node_text, entry_text, choice_text, numbers_text, setup_text, trace_text, schedule_text}
 use Rattle.trace_text.specs.Values.{TraceValue, ScheduleValue, has_entry, has_choice}
 use Rattle.trace_text.specs.Words.{entry_in, choice_in, node_in, header_in}
-use Rattle.trace_text.proofs.ReadLaws.{some-same, none-some}
+use Rattle.trace_text.proofs.ReadLaws.{none-some}
 
 -- these lines, each with its line feed
 abbrev joined : List (List ℕ) → List ℕ
@@ -51,7 +52,7 @@ said-line text good None line x e = none-some x e
 said-line text good (Some y) line x e =
     either (good y && bytes_eq (text y) line)
     (λ is.
-    let same : y ≡ x = some-same y x (sym (cond-true (good y && bytes_eq (text y) line) (Some y) None is) ∙ e) in
+    let same : y ≡ x = same_Some y x (sym (cond-true (good y && bytes_eq (text y) line) (Some y) None is) ∙ e) in
     ap text (sym same) ∙ (bytes_eq-Decides (text y) line).0 (and_parts (good y) (bytes_eq (text y) line) is).1)
     (λ other. none-some x (sym (cond-false (good y && bytes_eq (text y) line) (Some y) None other) ∙ e))
 
@@ -77,10 +78,6 @@ known_result : {A G : Type 0} (r : Result A ℕ) → ((x : A) → r ≡ Ok x →
 known_result (Ok x) is_ok is_err = is_ok x refl
 known_result (Err n) is_ok is_err = is_err n refl
 
-empty : (bytes : List ℕ) → length bytes ≡ 0 → bytes ≡ []
-empty [] none = refl
-empty (b ∷ bs) none = absurd (omega (arith, none))
-
 -- the lines of entries are their texts
 entries-text : {X : Type 0} (one : List ℕ → Option X) (text : X → List ℕ) → Tells one text → (base : ℕ) (ls : List (List ℕ)) (rest : List ℕ) (so_far xs : List X) →
     entries_of one base ls rest so_far ≡ Ok xs → lines text xs ≡ lines text so_far ++ (joined ls ++ rest)
@@ -90,7 +87,7 @@ entries-text one text tells base [] rest so_far xs e =
     let same = ok-same so_far xs (sym (cond-true (eqb (length rest) 0) (Ok so_far) (Err (base + length so_far)) none) ∙ e) in
     ap (lines text) (sym same)
     ∙ sym (append-nil (lines text so_far))
-    ∙ ap (λ (l : List ℕ). lines text so_far ++ l) (sym (empty rest (eqb-true (length rest) 0 none))))
+    ∙ ap (λ (l : List ℕ). lines text so_far ++ l) (sym (nil_from_length rest (eqb-true (length rest) 0 none))))
     (λ some. err-ok (base + length so_far) xs (sym (cond-false (eqb (length rest) 0) (Ok so_far) (Err (base + length so_far)) some) ∙ e))
 entries-text one text tells base (line ∷ ls) rest so_far xs e =
     let fault : Result (List _) ℕ = Err (base + length so_far) in

@@ -6,6 +6,7 @@ use Rattle.std.specs.List.{find, range_with_len, list_all}
 use Rattle.std.specs.Str.{bytes_eq}
 use Rattle.std.proofs.lemmas.Bool.{cond-true, cond-false, ne_eqb, eq-eqb, and_parts, and_from, leb-true, not_from_true, not_from_false, cases_eq}
 use Rattle.std.proofs.lemmas.List.Folds.{list_all-append}
+use Rattle.std.proofs.lemmas.Option.{same_Some}
 use Rattle.common_lemmas.proofs.Bool.{either}
 use Rattle.node_tree.specs.declared.node.TreeNode.{TreeNode}
 use Rattle.common_lemmas.proofs.Options.{known}
@@ -25,9 +26,6 @@ with_byte b h = record { front = b ∷ h.front; rest = h.rest }
 abbrev after_line : Halves → Lines
 after_line h = record { ended = h.front ∷ (lines_in h.rest).ended; rest = (lines_in h.rest).rest }
 
-pub some-same : {A : Type 0} (x y : A) → Some x ≡ Some y → x ≡ y
-some-same x y e = cc
-
 pub none-some : {A G : Type 0} (x : A) → None ≡ Some x → G
 none-some x e = cc
 
@@ -39,7 +37,7 @@ lines_in-cut (b ∷ bs) h e =
     either (eqb b line_feed)
     (λ ends.
     let same : record { front = []; rest = bs } ≡ h =
-    some-same (record { front = []; rest = bs }) h (sym (cond-true (eqb b line_feed) (Some (record { front = []; rest = bs })) (option_map (with_byte b) (cut_at line_feed bs)) ends) ∙ e) in
+    same_Some (record { front = []; rest = bs }) h (sym (cond-true (eqb b line_feed) (Some (record { front = []; rest = bs })) (option_map (with_byte b) (cut_at line_feed bs)) ends) ∙ e) in
     cond-true (eqb b line_feed) (record { ended = [] ∷ (lines_in bs).ended; rest = (lines_in bs).rest }) (byte_before b (lines_in bs).ended (lines_in bs).rest) ends
     ∙ ap after_line same)
     (λ other.
@@ -50,7 +48,7 @@ lines_in-cut (b ∷ bs) h e =
     (λ none. none-some h (sym (ap (option_map (with_byte b)) none) ∙ later))
     (λ k some.
     ap (λ (l : Lines). byte_before b l.ended l.rest) (lines_in-cut bs k some)
-    ∙ ap after_line (some-same (with_byte b k) h (sym (ap (option_map (with_byte b)) some) ∙ later))))
+    ∙ ap after_line (same_Some (with_byte b k) h (sym (ap (option_map (with_byte b)) some) ∙ later))))
 
 -- what no line feed ends is the rest
 pub lines_in-none : (bytes : List ℕ) → cut_at line_feed bytes ≡ None → lines_in bytes ≡ record { ended = []; rest = bytes }
@@ -74,7 +72,7 @@ cut-shorter (b ∷ bs) h e =
     either (eqb b line_feed)
     (λ ends.
     let same : record { front = []; rest = bs } ≡ h =
-    some-same (record { front = []; rest = bs }) h (sym (cond-true (eqb b line_feed) (Some (record { front = []; rest = bs })) (option_map (with_byte b) (cut_at line_feed bs)) ends) ∙ e) in
+    same_Some (record { front = []; rest = bs }) h (sym (cond-true (eqb b line_feed) (Some (record { front = []; rest = bs })) (option_map (with_byte b) (cut_at line_feed bs)) ends) ∙ e) in
     let rest : bs ≡ h.rest = ap (λ (k : Halves). k.rest) same in
     let long : length bs ≡ length h.rest = ap length rest in
     omega arith)
@@ -84,7 +82,7 @@ cut-shorter (b ∷ bs) h e =
     known (cut_at line_feed bs)
     (λ none. none-some h (sym (ap (option_map (with_byte b)) none) ∙ later))
     (λ k some.
-    let same : with_byte b k ≡ h = some-same (with_byte b k) h (sym (ap (option_map (with_byte b)) some) ∙ later) in
+    let same : with_byte b k ≡ h = same_Some (with_byte b k) h (sym (ap (option_map (with_byte b)) some) ∙ later) in
     let long : length k.rest ≡ length h.rest = ap (λ (u : Halves). length u.rest) same in
     let below = cut-shorter bs k some in
     omega arith))
@@ -128,7 +126,7 @@ said-good text good None line x e = none-some x e
 said-good text good (Some y) line x e =
     either (good y && bytes_eq (text y) line)
     (λ is.
-    let same : y ≡ x = some-same y x (sym (cond-true (good y && bytes_eq (text y) line) (Some y) None is) ∙ e) in
+    let same : y ≡ x = same_Some y x (sym (cond-true (good y && bytes_eq (text y) line) (Some y) None is) ∙ e) in
     subst (λ z. good z ≡ true) same (and_parts (good y) (bytes_eq (text y) line) is).0)
     (λ other. none-some x (sym (cond-false (good y && bytes_eq (text y) line) (Some y) None other) ∙ e))
 

@@ -6,7 +6,7 @@ ghost use Rattle.trace_text.specs.Cuts.{IsCutAt};
 use memchr::memchr;
 
 /// Bytes in two, without the byte at which they were cut.
-#[derive(Clone, Copy, Debug)]
+#[derive(Clone, Copy)]
 pub struct Cut<'a> {
     pub front: &'a [u8],
     pub rest: &'a [u8],

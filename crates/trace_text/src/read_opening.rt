@@ -13,7 +13,7 @@ use node_tree::{Tree, TreeFault, TreeNode};
 use std::alloc::Global;
 
 /// A text that is read line by line: what is left of it.
-#[derive(Clone, Copy, Debug)]
+#[derive(Clone, Copy)]
 pub struct Lines<'a> {
     pub rest: &'a [u8],
 }

@@ -5,10 +5,11 @@ use Rattle.life_rules.specs.LifeSteps.{may_be_awaited}
 use Rattle.exec_life.specs.declared.view.Role.TheVariants.{Nothing}
 use Rattle.exec_life.specs.Parts.{lists_of, shown}
 use Rattle.exec_life.proofs.Puts.{hand-view, knows-place}
-use Rattle.exec_life.proofs.AwaitMeans.{await-means, few, child-within, awaited, list_all-read}
+use Rattle.exec_life.proofs.AwaitMeans.{await-means, few, child-within, awaited}
 use Rattle.exec_life.proofs.Bounds.{tree-most}
 use Rattle.exec_life.proofs.Roles.{role-cells}
 use Rattle.exec_life.proofs.parts.Parts.await_children.Goals as goal
+use Rattle.common_lemmas.proofs.Lists.{list_all-read}
 
 pub overflow_cast-pending : goal.overflow_cast-pending
 overflow_cast-pending c =

@@ -2,7 +2,7 @@ use Rattle.std.proofs.Common.{refl, ◌∙◌, ap, get_or, List, length}
 use Rattle.std.proofs.lemmas.List.{length-replicate}
 use Rattle.life_rules.specs.declared.words.BlockWord.{BlockWord}
 use Rattle.exec_life.specs.WordLists.{first_word}
-use Rattle.exec_life.proofs.GridLemmas.{replicate-read}
+use Rattle.common_lemmas.proofs.Lists.{get_or-replicate_same}
 use Rattle.exec_life.proofs.words.Words.new.Goals as goal
 
 pub returns : goal.returns
@@ -13,7 +13,7 @@ returns c =
       nodes_are = refl;
       block_is =
           (λ t b. (ap (λ (xs : List BlockWord). get_or xs b first_word) filled
-          ∙ replicate-read c.args.blocks b first_word) t);
+          ∙ get_or-replicate_same c.args.blocks b first_word) t);
       control_is = c.in_ok-new.ensures.cells_are;
       callback_is = c.in_ok-new-2.ensures.cells_are;
       source_is = c.in_ok-new-3.ensures.cells_are;
