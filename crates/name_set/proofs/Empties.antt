@@ -30,7 +30,7 @@ module _ (l : Layout) (bits generations : List ℕ) (words : ℕ) (dull : bits �
         generations = ap length first ∙ length-replicate l.blocks 0;
       }
 
-  unmarked : (k : ℕ) → is_marked bits k ≡ false
+  pub unmarked : (k : ℕ) → is_marked bits k ≡ false
   unmarked k =
       ap (λ b. bit_at (slice_index b (k / 64)) (k % 64) == 1) dull
       ∙ ap (λ w. bit_at w (k % 64) == 1) (zeros words (k / 64)) ∙ ap (λ b. b == 1) (bit_at-zero (k % 64))

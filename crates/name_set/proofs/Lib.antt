@@ -2,3 +2,4 @@ mod Bits
 pub mod Places
 mod Changes
 mod Empties
+mod Windows

@@ -1,5 +1,5 @@
 -- A set of names of a table's places, those of one block at one generation.
-use Rattle.std.specs.Prelude.{◌≡◌, ℕ, ◌+◌, ◌/◌, ◌%◌, ◌<◌, ◌≤◌, Bool, true, false, ◌&&◌, ◌==◌, nat_lt, List, length, slice_index}
+use Rattle.std.specs.Prelude.{◌≡◌, ℕ, ◌+◌, ◌*◌, ◌/◌, ◌%◌, ◌<◌, ◌≤◌, Bool, true, false, ◌&&◌, ◌==◌, nat_lt, List, length, slice_index}
 use Rattle.std.specs.Int.{bit_at}
 use Rattle.node_tree.specs.declared.node.TheConstants.{MOST_NODES}
 use Rattle.life_rules.specs.declared.limits.TheConstants.{MOST_BLOCKS}
@@ -55,6 +55,18 @@ pub record IsLowest (m : Marks) (x : Name) : Type 0 where
 -- no place below this number is marked
 abbrev pub NoneBelow : List ℕ → ℕ → Type 0
 NoneBelow bits n = (k : ℕ) → k < n → is_marked bits k ≡ false
+
+-- no place is marked but in the words from the one number on and below the other
+pub record IsWithin (bits : List ℕ) (low high : ℕ) : Type 0 where
+  pub order : low ≤ high
+  pub most : high ≤ length bits
+  pub below : NoneBelow bits (64 * low)
+  pub above : (k : ℕ) → 64 * high ≤ k → is_marked bits k ≡ false
+
+-- there is room for all places, and none is marked outside of these words
+pub record IsKept (l : Layout) (words stamps : List ℕ) (low high : ℕ) : Type 0 where
+  pub sized : IsSized l words stamps
+  pub within : IsWithin words low high
 
 -- this place is the first that is marked
 pub record IsFirst (bits : List ℕ) (place : ℕ) : Type 0 where

@@ -6,7 +6,5 @@
 
 mod marks;
 mod set;
-#[cfg(test)]
-mod tests;
 
 pub use set::NameSet;

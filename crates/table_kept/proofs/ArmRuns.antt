@@ -1,6 +1,6 @@
 -- The store by which a callback is registered keeps the rule.
 use Rattle.std.proofs.Common.{◌≡◌, ℕ, ◌<◌, ◌≤◌, true, not, ◌&&◌, ◌||◌, List, ◌∷◌, set, refl, sym, ap, ◌∙◌, subst, arith}
-use Rattle.std.specs.Prelude.{Option, Some, MatchOption, is_some, nat_le}
+use Rattle.std.specs.Prelude.{Option, Some, MatchOption, is_some, nat_le, slice_index}
 use Rattle.std.proofs.lemmas.Bool.{and_from, or_left, cond-true, cond-false, eq-eqb, le-leb}
 use mathlib.Core.Option.{some}
 use lib.ListN.{get_elem?}
@@ -26,21 +26,23 @@ use Rattle.table_words.specs.Controls.{callback_read, callback_code}
 use Rattle.table_words.specs.Layouts.{OfCallback, index}
 use Rattle.atomic_table.specs.Table.{Allows, keeps}
 use Rattle.atomic_table.specs.Table as table
+use Rattle.listed_steps.specs.Lists.{entry}
 use Rattle.table_rules.specs.declared.cargo.Cargo.{Ghosts}
 use Rattle.table_rules.specs.declared.frame.Frame.{Frame}
 use Rattle.table_rules.specs.declared.view.View.{View}
 use Rattle.table_rules.specs.declared.view.Held.{Held}
 use Rattle.table_rules.specs.Named.{count_by}
-use Rattle.table_rules.specs.ShownWords.{block_of, is_present}
+use Rattle.table_rules.specs.ShownWords.{block_of, is_present, word_of}
 use Rattle.table_rules.specs.ShownViews.{shown_view, has_name}
 use Rattle.table_rules.specs.Scenes.{Scene, shown, scene}
 use Rattle.table_rules.specs.Notes.{is_still, IsHeldSo, IsKnown}
 use Rattle.table_rules.specs.Running.{Stands, Running}
-use Rattle.table_steps.specs.Claims.{logged, Seated}
+use Rattle.table_steps.specs.Claims.{with_step, Seated}
 use Rattle.table_steps.specs.Slots.{IsSeated}
 use Rattle.table_steps.specs.Callbacks.{CanArm, arms}
+use Rattle.table_kept.proofs.Listing.{AllowsListed, allows-listed, lists-one}
 use Rattle.table_kept.proofs.Among.{among}
-use Rattle.table_kept.proofs.Loads.{known-logged}
+use Rattle.table_kept.proofs.Loads.{known-listed}
 use Rattle.table_kept.proofs.Counts.{counts-moved}
 use Rattle.table_kept.proofs.Noting.{count-at, seated-noted}
 use Rattle.table_kept.proofs.HeldNotes.{each-changed}
@@ -101,7 +103,7 @@ module _ {P E O : Type 0} (cargo : Ghosts P E O) (f : Frame O) (s : table.State 
 
   module _ (i n : ℕ) where
     abbrev mine : View P E
-    mine = logged i n (arms x v)
+    mine = with_step i n value (arms x v)
 
     present : is_present blocks x ≡ true
     present =
@@ -146,7 +148,7 @@ module _ {P E O : Type 0} (cargo : Ghosts P E O) (f : Frame O) (s : table.State 
         let fit = (r.stands.sound.owned.names x).held in
         let single = one-most (is_held (control_at now x)) in
         omega (arith, most, fit, single)) in
-        known-logged after i n (arms x v) (record {
+        known-listed after i n value (arms x v) (record {
           held = each-changed (λ (e : Held E). e.name) noted x (IsHeldSo here) (IsHeldSo after)
               (λ e is so. record {
                 start = so.start;
@@ -189,43 +191,45 @@ module _ {P E O : Type 0} (cargo : Ghosts P E O) (f : Frame O) (s : table.State 
           counts = counts-moved now written s.views id v mine at refl refl r.stands.counts;
         }
 
-    pub arm-runs : i ≡ index f.layout (OfCallback x.block x.node) → n ≤ value → Running cargo f record {
+    pub arm-runs : i ≡ index f.layout (OfCallback x.block x.node) → n ≡ word_of f.layout s.words (OfCallback x.block x.node) → Running cargo f record {
       words = set s.words (index f.layout (OfCallback x.block x.node)) value;
       homes = s.homes;
       views = set s.views id mine;
     }
-    arm-runs is low =
+    arm-runs is was =
         callback-runs cargo f s id value x Armed v r at held-now.live stamped reads mine u shows-mine
         (subst (λ p. callback_code p < callback_code Armed) (sym never) (omega arith))
-        (record { word = n; steps = (λ k. record { index = is k; word = n } ∷ v.steps); low = low }) stands-armed
+        (λ k. entry (is k) (was k) value ∷ v.steps) stands-armed
 
 -- what the store owes
 arms_allowed : {P E O : Type 0} (cargo : Ghosts P E O) (f : Frame O) (slots id value : ℕ) (x : Name) (m : Seated P E) →
     CanArm f.tree m.0 x → stamp_of value ≡ x.generation → callback_read value ≡ Armed →
     Allows (Running cargo f) slots id m (index f.layout (OfCallback x.block x.node)) (λ _. value)
-    (λ _ m'. m' ≡ (logged (index f.layout (OfCallback x.block x.node)) value (arms x m.0), m.1))
+    (λ n m'. m' ≡ (with_step (index f.layout (OfCallback x.block x.node)) n value (arms x m.0), m.1))
 arms_allowed cargo f slots id value x m can stamped reads s r deep at small =
     let i = index f.layout (OfCallback x.block x.node) in (
-      logged i value (arms x m.0),
+      with_step i (slice_index s.words i) value (arms x m.0),
       keeps,
       tt,
-      arm-runs cargo f s id value x m.0 r at can stamped reads i value refl (omega arith),
+      arm-runs cargo f s id value x m.0 r at can stamped reads i (slice_index s.words i) refl refl,
       refl,
     )
 
 -- the same by the frame that the table shows
 pub arms-at : {P E O : Type 0} (cargo : Ghosts P E O) (board f : Frame O) (slots id i value : ℕ) (x y : Name) (m : Seated P E) → board ≡ f →
     i ≡ index board.layout (OfCallback x.block x.node) → y ≡ x → CanArm board.tree m.0 x → stamp_of value ≡ x.generation → callback_read value ≡ Armed →
-    Allows (Running cargo f) slots id m i (λ _. value) (λ _ m'. m' ≡ (logged i value (arms y m.0), m.1))
+    AllowsListed cargo f slots id m i (λ _. value) (λ n m'. m' ≡ (with_step i n value (arms y m.0), m.1))
 arms-at cargo board f slots id i value x y m same i_is y_is can stamped reads =
-    subst (λ z. Allows (Running cargo z) slots id m i (λ _. value) (λ _ m'. m' ≡ (logged i value (arms y m.0), m.1))) same
-    (subst (λ (z : ℕ × Name). Allows (Running cargo board) slots id m z.0 (λ _. value) (λ _ m'. m' ≡ (logged z.0 value (arms z.1 m.0), m.1)))
+    allows-listed cargo f slots id m i (λ _. value) (λ n m'. m' ≡ (with_step i n value (arms y m.0), m.1))
+    (λ n m' told. lists-one i n value m m' (arms y m.0) (ap (λ z. z.0) told) refl refl refl refl)
+    (subst (λ z. Allows (Running cargo z) slots id m i (λ _. value) (λ n m'. m' ≡ (with_step i n value (arms y m.0), m.1))) same
+    (subst (λ (z : ℕ × Name). Allows (Running cargo board) slots id m z.0 (λ _. value) (λ n m'. m' ≡ (with_step z.0 n value (arms z.1 m.0), m.1)))
     (λ k. (sym i_is k, sym y_is k))
-    (arms_allowed cargo board slots id value x m can stamped reads))
+    (arms_allowed cargo board slots id value x m can stamped reads)))
 
 -- the hand still carries each slot once
-pub arm-seated : {P E : Type 0} (tree : List TreeNode) (l : Layout) (i n : ℕ) (x : Name) (m : Seated P E) → IsSeated tree l m →
-    IsSeated tree l (logged i n (arms x m.0), m.1)
-arm-seated tree l i n x m old =
-    let kept = seated-noted tree l i n x noted m (λ e. refl) old in
+pub arm-seated : {P E : Type 0} (tree : List TreeNode) (l : Layout) (i n left : ℕ) (x : Name) (m : Seated P E) → IsSeated tree l m →
+    IsSeated tree l (with_step i n left (arms x m.0), m.1)
+arm-seated tree l i n left x m old =
+    let kept = seated-noted tree l i n left x noted m (λ e. refl) old in
     record { apart = kept.apart; given = kept.given; itself = kept.itself }

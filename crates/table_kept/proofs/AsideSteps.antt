@@ -19,6 +19,7 @@ use Rattle.table_words.specs.Layouts.{OfCallback, index}
 use Rattle.atomic_table.specs.Table as table
 use Rattle.table_rules.specs.declared.cargo.Cargo.{Ghosts}
 use Rattle.table_rules.specs.declared.frame.Frame.{Frame}
+use Rattle.listed_steps.specs.Lists.{entry}
 use Rattle.table_rules.specs.declared.view.View.{View}
 use Rattle.table_rules.specs.ShownWords.{block_of}
 use Rattle.table_rules.specs.ShownViews.{shown_view}
@@ -75,7 +76,7 @@ module _ {P E O : Type 0} (cargo : Ghosts P E O) (f : Frame O) (s : table.State 
     abbrev pub written : State
     written = with_view (with_callback now x.block x.node phase) id u
 
-    pub callback-keeps : callback_code (phase_at now x) < callback_code phase → Lists f.layout (OfCallback x.block x.node) value v mine → Sound written →
+    pub callback-keeps : callback_code (phase_at now x) < callback_code phase → Lists f.layout s.words (OfCallback x.block x.node) value v mine → Sound written →
         ((j : ℕ) (z : View P E) → (j ≡ id → ⊥) → get_elem? s.views j ≡ some z → IsKnown here z →
         IsKnown (record here { state = written }) z) → IsKnown (record here { state = written }) mine →
         Running cargo f record {
@@ -88,7 +89,7 @@ module _ {P E O : Type 0} (cargo : Ghosts P E O) (f : Frame O) (s : table.State 
         (stands-aside written.callback sound others own)
 
   -- a step that leaves all words as they are
-  pub view-keeps : (i : ℕ) → mine.steps ≡ record { index = i; word = slice_index s.words i } ∷ v.steps → Sound (with_view now id u) →
+  pub view-keeps : (i : ℕ) → mine.steps ≡ entry i (slice_index s.words i) (slice_index s.words i) ∷ v.steps → Sound (with_view now id u) →
       ((j : ℕ) (z : View P E) → (j ≡ id → ⊥) → get_elem? s.views j ≡ some z → IsKnown here z →
       IsKnown (record here { state = with_view now id u }) z) → IsKnown (record here { state = with_view now id u }) mine →
       Running cargo f record { words = set s.words i (slice_index s.words i); homes = s.homes; views = set s.views id mine }

@@ -55,6 +55,7 @@ module _ {P E : Type 0} (s : Scene P E) (c : ℕ → ℕ → CallbackPhase) (q :
         reported = old.reported;
         resting = old.resting;
         named = old.named;
+        met = old.met;
       } in
       let moved : HomesStand (with_views (λ i. owning (w i))) = subst (λ u. HomesStand (with_views u)) (λ j i. same i j) bare in
       record {
@@ -66,6 +67,7 @@ module _ {P E : Type 0} (s : Scene P E) (c : ℕ → ℕ → CallbackPhase) (q :
         reported = moved.reported;
         resting = moved.resting;
         named = moved.named;
+        met = moved.met;
       }
 
   module _ {O : Type 0} (cargo : Ghosts P E O) where
@@ -84,11 +86,13 @@ module _ {P E : Type 0} (s : Scene P E) (c : ℕ → ℕ → CallbackPhase) (q :
         record {
           fit = λ y item live is. subst (cargo.fits item y.node) (near y) (old.fit y item live is);
           goes_on = old.goes_on;
+          rests = old.rests;
           bound = old.bound;
           ended = λ y done below.
               let so = old.ended y done below in
               (so.0, so.1, so.2, subst (cargo.fits so.0 y.node) (near y) so.3);
           delivered = old.delivered;
+          enough = old.enough;
           failures = λ y asked calm. old.failures y (sym (same (Node y)) ∙ asked) (near y ∙ calm);
         }
 

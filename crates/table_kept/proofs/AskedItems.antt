@@ -46,11 +46,13 @@ module _ {P E O : Type 0} (cargo : Ghosts P E O) (s : Scene P E) (c : ℕ → �
         fit = λ y item live is.
             wider item y.node (nearest_is_requested base y) (nearest_is_requested after y) (near-more y) (old.fit y item live is);
         goes_on = old.goes_on;
+        rests = old.rests;
         bound = old.bound;
         ended = λ y done below.
             let so = old.ended y done below in
             (so.0, so.1, so.2, wider so.0 y.node (nearest_is_requested base y) (nearest_is_requested after y) (near-more y) so.3);
         delivered = old.delivered;
+        enough = old.enough;
         failures = λ y asked calm.
             either ((bits_at base (Node y)).requested)
             (λ was.

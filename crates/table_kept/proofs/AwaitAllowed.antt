@@ -1,6 +1,6 @@
 -- What the store by which a node awaits children owes, and what it tells.
-use Rattle.std.proofs.Common.{◌≡◌, ℕ, ◌≤◌, Bool, true, false, not, ◌||◌, List, [], length, set, refl, sym, ap, ◌∙◌, subst, inr, arith}
-use Rattle.std.specs.Prelude.{Option, MatchOption}
+use Rattle.std.proofs.Common.{◌≡◌, ℕ, ◌≤◌, Bool, true, false, not, ◌||◌, List, [], length, set, refl, sym, ap, ◌∙◌, subst, inr, ◌∷◌}
+use Rattle.std.specs.Prelude.{Option, MatchOption, slice_index}
 use Rattle.std.proofs.lemmas.Bool.{both_ways}
 use mathlib.Core.Option.{some}
 use lib.ListN.{get_elem?}
@@ -19,6 +19,7 @@ use Rattle.table_words.specs.Controls.{control_read}
 use Rattle.table_words.specs.Layouts.{OfControl, index}
 use Rattle.atomic_table.specs.Table.{Allows}
 use Rattle.atomic_table.specs.Table as table
+use Rattle.listed_steps.specs.Lists.{entry}
 use Rattle.table_rules.specs.declared.cargo.Cargo.{Ghosts}
 use Rattle.table_rules.specs.declared.frame.Frame.{Frame}
 use Rattle.table_rules.specs.declared.view.View.{View}
@@ -28,12 +29,14 @@ use Rattle.table_rules.specs.ShownViews.{shown_view}
 use Rattle.table_rules.specs.Scenes.{Home, Full, is_full, Past, Scene, shown, scene}
 use Rattle.table_rules.specs.Notes.{IsOwedSo}
 use Rattle.table_rules.specs.Running.{Stands, Running}
-use Rattle.table_steps.specs.Claims.{logged, Seated}
+use Rattle.table_steps.specs.Claims.{with_step, Seated}
+use Rattle.table_steps.specs.Lefts.{LeavesControl}
 use Rattle.table_steps.specs.Slots.{Aim, IsSeated}
 use Rattle.table_steps.specs.Awaits.{awaits, CanAwait, AwaitsAt}
+use Rattle.table_kept.proofs.Listing.{AllowsListed, allows-listed, lists-one}
 use Rattle.table_kept.proofs.Entries.{count-without}
 use Rattle.table_kept.proofs.Among.{among}
-use Rattle.table_kept.proofs.Loads.{known-logged}
+use Rattle.table_kept.proofs.Loads.{known-listed}
 use Rattle.table_kept.proofs.Counts.{counts-moved}
 use Rattle.table_kept.proofs.ViewMoves.{views-moved}
 use Rattle.table_kept.proofs.ControlRuns.{begun-renewed, control-runs}
@@ -98,11 +101,13 @@ module _ {P E O : Type 0} (cargo : Ghosts P E O) (f : Frame O) (s : table.State 
             subst (λ i. cargo.fits i x.node (nearest_is_requested now x)) (item-is item is)
             (fit-now cargo f s id x v r at e holds can.item can.fit);
         goes_on = λ item is _. subst (λ i. ¬ cargo.ends i) (item-is item is) can.goes_on;
+        rests = λ item _ none. cc;
         bound = λ item is.
             subst (λ i. cargo.least i ≤ past_now.named x) (item-is item is)
             (subst (λ n. cargo.least can.item ≤ n) (sym (named-here cargo f s id x nodes v c r at seated can)) can.bound);
         ended = λ done _. cc;
         delivered = λ item done _ _. cc;
+        enough = λ item none _ _. cc;
         lot = λ item _ is. ap cargo.lot (sym (item-is item is)) ∙ sym (lot-here cargo f s id x nodes v c r at seated can);
         drawn = λ n _ child begun so.
             absurd (done-else (control_at now (beside x n)) (is_full (homes_after_it x.block n)) begun
@@ -118,7 +123,7 @@ module _ {P E O : Type 0} (cargo : Ghosts P E O) (f : Frame O) (s : table.State 
     owing = awaits x (cargo.start can.item) (cargo.lot can.item) nodes v
 
     abbrev mine : View P E
-    mine = logged i n owing
+    mine = with_step i n value owing
 
     abbrev after : Scene P E
     after = moved here id x (Busy (length nodes)) view_now put_now homes_after_it past_now
@@ -164,7 +169,7 @@ module _ {P E O : Type 0} (cargo : Ghosts P E O) (f : Frame O) (s : table.State 
               (λ j z ne there.
               known-moved here id x (Busy (length nodes)) view_now put_now homes_after_it past_now moves_now (λ y. refl) lots (λ y _. refl) (inr none) z
               (among f s j z r.sized.seats there) (others-none cargo f s id x v r at e holds j z ne there))
-              (known-logged after i n owing (record {
+              (known-listed after i n value owing (record {
                 held = known.held;
                 owed = each-owes (IsOwedSo after) x (cargo.start can.item) (cargo.lot can.item) nodes v.owed
                     (λ m named. owed-so m (named-child f.tree x nodes can.leave.held.idle can.idle m named)) known.owed;
@@ -178,41 +183,40 @@ module _ {P E O : Type 0} (cargo : Ghosts P E O) (f : Frame O) (s : table.State 
           counts = counts-moved here.state after.state s.views id v mine at refl refl r.stands.counts;
         }
 
-    pub await-runs : stamp_of n ≤ stamp_of value → Running cargo f record {
+    pub await-runs : n ≡ slice_index s.words i → Running cargo f record {
       words = set s.words i value;
       homes = shed_homes cargo f s id v c r at seated (gone cargo f s id x nodes v c r at seated can);
       views = set s.views id mine;
     }
-    await-runs low =
+    await-runs was =
         let own = is-held cargo f s id x v c r at seated can.leave in
         control-runs cargo f s id value x (Busy (length nodes)) v r at own.live stamped reads mine view_now shows-mine
         (shed_homes cargo f s id v c r at seated (gone cargo f s id x nodes v c r at seated can)) homes_after_it past_now (λ j m. refl)
-        (begun-renewed cargo f s x r own.live (ap is_idle own.word)) (record { word = n; steps = refl; low = low })
+        (ap is_done own.word) (begun-renewed cargo f s x r own.live (ap is_idle own.word)) (ap (λ k. entry i k value ∷ v.steps) was)
         (deep-shed (gone cargo f s id x nodes v c r at seated can) s.homes c) stands-awaiting
 
 -- what the store owes
 pub awaits_allowed : {P E O : Type 0} (cargo : Ghosts P E O) (f : Frame O) (slots id value : ℕ) (x : Name) (nodes : List ℕ) (m : Seated P E) →
     IsSeated f.tree f.layout m → CanAwait cargo f m x nodes → stamp_of value ≡ x.generation → control_read value ≡ Busy (length nodes) →
     Allows (Running cargo f) slots id m (index f.layout (OfControl x.block x.node)) (λ _. value)
-    (λ _. AwaitsAt cargo (aimed f x) nodes (index f.layout (OfControl x.block x.node)) m)
+    (λ n. AwaitsAt cargo (aimed f x) nodes (index f.layout (OfControl x.block x.node)) n value m)
 awaits_allowed {P} {E} cargo f slots id value x nodes m seated can stamped reads s r deep at small =
     let i = index f.layout (OfControl x.block x.node) in
-    let n = value in
+    let n = slice_index s.words i in
     let c = m.1 in
     let away = gone cargo f s id x nodes m.0 c r at seated can in
-    let mine : View P E = logged i n (awaits x (cargo.start can.item) (cargo.lot can.item) nodes m.0) in
+    let mine : View P E = with_step i n value (awaits x (cargo.start can.item) (cargo.lot can.item) nodes m.0) in
     let is = carries-shed away c in (
       mine,
       sheds away c,
       valid-shed cargo f s id m.0 c r at seated away,
-      await-runs cargo f s id value x nodes m.0 c r at seated can stamped reads n (omega arith),
+      await-runs cargo f s id value x nodes m.0 c r at seated can stamped reads n refl,
       record {
-        word = n;
         item = can.item;
         home = can.home;
         me_is = λ k. (mine, is k);
         seated = subst (λ d. IsSeated f.tree f.layout (mine, d)) (sym is)
-            (seated-awaited f.tree f.layout x nodes (cargo.start can.item) (cargo.lot can.item) i n m.0 c seated);
+            (seated-awaited f.tree f.layout x nodes (cargo.start can.item) (cargo.lot can.item) i n value m.0 c seated);
         unowed = λ k named.
             let child = named-child f.tree x nodes can.leave.held.idle can.idle k named in
             owes-not cargo f s id m.0 r at (beside x k) (quiet cargo f s id x m.0 c r at seated can.leave k child).starts;
@@ -225,15 +229,23 @@ module _ {P E O : Type 0} (cargo : Ghosts P E O) where
   pub awaits-at : (board f : Frame O) (slots id i value : ℕ) (x : Name) (nodes names : List ℕ) (aim : Aim) (m : Seated P E) → board ≡ f →
       i ≡ index board.layout (OfControl x.block x.node) → aim ≡ aimed board x → names ≡ nodes → IsSeated board.tree board.layout m →
       CanAwait cargo board m x nodes → stamp_of value ≡ x.generation → control_read value ≡ Busy (length nodes) →
-      Allows (Running cargo f) slots id m i (λ _. value) (λ _. AwaitsAt cargo aim names i m)
+      AllowsListed cargo f slots id m i (λ _. value) (λ n. AwaitsAt cargo aim names i n value m)
   awaits-at board f slots id i value x nodes names aim m same i_is aim_is names_are seated can stamped reads =
-      subst (λ z. Allows (Running cargo z) slots id m i (λ _. value) (λ _. AwaitsAt cargo aim names i m)) same
-      (subst (λ (z : List ℕ × (ℕ × Aim)). Allows (Running cargo board) slots id m z.1.0 (λ _. value) (λ _. AwaitsAt cargo z.1.1 z.0 z.1.0 m))
+      allows-listed cargo f slots id m i (λ _. value) (λ n. AwaitsAt cargo aim names i n value m)
+      (λ n m' told. lists-one i n value m m' _ (ap (λ z. z.0) told.me_is) refl refl refl refl)
+      (subst (λ z. Allows (Running cargo z) slots id m i (λ _. value) (λ n. AwaitsAt cargo aim names i n value m)) same
+      (subst (λ (z : List ℕ × (ℕ × Aim)). Allows (Running cargo board) slots id m z.1.0 (λ _. value) (λ n. AwaitsAt cargo z.1.1 z.0 z.1.0 n value m))
       (λ k. (sym names_are k, (sym i_is k, sym aim_is k)))
-      (awaits_allowed cargo board slots id value x nodes m seated can stamped reads))
+      (awaits_allowed cargo board slots id value x nodes m seated can stamped reads)))
 
-  pub awaits-told : (board : Frame O) (i : ℕ) (x : Name) (nodes names : List ℕ) (aim : Aim) (m m' : Seated P E) →
-      i ≡ index board.layout (OfControl x.block x.node) → aim ≡ aimed board x → names ≡ nodes → AwaitsAt cargo aim names i m m' →
-      AwaitsAt cargo (aimed board x) nodes (index board.layout (OfControl x.block x.node)) m m'
-  awaits-told board i x nodes names aim m m' i_is aim_is names_are told =
-      subst (λ (z : List ℕ × (ℕ × Aim)). AwaitsAt cargo z.1.1 z.0 z.1.0 m m') (λ k. (names_are k, (i_is k, aim_is k))) told
+  pub awaits-told : (board : Frame O) (i read value : ℕ) (x : Name) (nodes names : List ℕ) (aim : Aim) (m m' : Seated P E) →
+      i ≡ index board.layout (OfControl x.block x.node) → aim ≡ aimed board x → names ≡ nodes → stamp_of value ≡ x.generation →
+      control_read value ≡ Busy (length nodes) → AwaitsAt cargo aim names i read value m m' →
+      LeavesControl (aimed board x) (Busy (length nodes)) (AwaitsAt cargo (aimed board x) nodes) m m'
+  awaits-told board i read value x nodes names aim m m' i_is aim_is names_are stamped reads told =
+      record {
+        read = read;
+        left = value;
+        says = record { stamp_is = stamped; reads = reads };
+        did = subst (λ (z : List ℕ × (ℕ × Aim)). AwaitsAt cargo z.1.1 z.0 z.1.0 read value m m') (λ k. (names_are k, (i_is k, aim_is k))) told;
+      }

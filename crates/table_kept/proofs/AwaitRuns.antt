@@ -31,7 +31,7 @@ use Rattle.table_rules.specs.declared.cargo.Cargo.{Ghosts}
 use Rattle.table_rules.specs.declared.frame.Frame.{Frame}
 use Rattle.table_rules.specs.declared.view.View.{View}
 use Rattle.table_rules.specs.Scenes.{Home, Out, Empty, Full, is_out, is_full, Past, Scene, shown, scene}
-use Rattle.table_rules.specs.Homes.{named_below, seats_of}
+use Rattle.table_rules.specs.Homes.{named_below, seats_of, is_waiting}
 use Rattle.table_rules.specs.Running.{Running}
 use Rattle.table_steps.specs.Slots.{slot_of, IsSeated}
 use Rattle.table_steps.specs.Awaits.{is_named, is_unnamed, CanAwait}
@@ -263,4 +263,5 @@ module _ {P E O : Type 0} (cargo : Ghosts P E O) (f : Frame O) (s : table.State 
         settled = λ none. cc;
         kids = kid-moves;
         named = λ _. names-all ∙ sym named-here;
+        met = λ none. absurd (both_ways (is_waiting w) none (le-leb 1 (length nodes) can.some_child));
       }

@@ -19,7 +19,7 @@ use Rattle.table_words.specs.Layouts.{place_number}
 use Rattle.table_rules.specs.declared.view.View.{View}
 use Rattle.table_rules.specs.declared.view.Owed.{Owed}
 use Rattle.table_rules.specs.Named.{count_by, without, Each}
-use Rattle.table_steps.specs.Claims.{logged}
+use Rattle.table_steps.specs.Claims.{with_step}
 use Rattle.table_steps.specs.Slots.{slot_of, kids_of, is_of_family, has_slot, IsSeated}
 use Rattle.table_steps.specs.Sheds.{shed}
 use Rattle.table_steps.specs.Awaits.{owes_each, awaits, is_named, is_unnamed}
@@ -134,9 +134,9 @@ module _ (tree : List TreeNode) (l : Layout) (x : Name) (nodes : List ℕ) where
       both_ways (is_named nodes q.0) (not-true (is_named nodes q.0) both.0) (subst (λ k. is_named nodes k ≡ true) (sym is.1) named)))
 
   -- what isn't given back is still given to the hand that owes the starts
-  given-awaited : {P E : Type 0} (start : List E) (lot : List ℤ) (i n : ℕ) (v : View P E) (slot : ℕ) → is_unnamed tree l x nodes slot ≡ false →
-      has_slot tree l v slot ≡ true → has_slot tree l (logged i n (awaits x start lot nodes v)) slot ≡ true
-  given-awaited {P} {E} start lot i n v slot stays h =
+  given-awaited : {P E : Type 0} (start : List E) (lot : List ℤ) (i n left : ℕ) (v : View P E) (slot : ℕ) → is_unnamed tree l x nodes slot ≡ false →
+      has_slot tree l v slot ≡ true → has_slot tree l (with_step i n left (awaits x start lot nodes v)) slot ≡ true
+  given-awaited {P} {E} start lot i n left v slot stays h =
       let test : Owed E → Bool = λ e. slot_of l e.name == slot in
       let a = list_any test v.owed in
       let a2 = list_any test (owes_each x start lot nodes v.owed) in
@@ -164,12 +164,12 @@ module _ (tree : List TreeNode) (l : Layout) (x : Name) (nodes : List ℕ) where
       ])
       (λ finished. or-right a2 (b2 || c) (or-right b2 c finished)))
 
-  pub seated-awaited : {P E : Type 0} (start : List E) (lot : List ℤ) (i n : ℕ) (v : View P E) (c : List (ℕ × Option P)) → IsSeated tree l (v, c) →
-      IsSeated tree l (logged i n (awaits x start lot nodes v), shed (is_unnamed tree l x nodes) c)
-  seated-awaited start lot i n v c old =
+  pub seated-awaited : {P E : Type 0} (start : List E) (lot : List ℤ) (i n left : ℕ) (v : View P E) (c : List (ℕ × Option P)) → IsSeated tree l (v, c) →
+      IsSeated tree l (with_step i n left (awaits x start lot nodes v), shed (is_unnamed tree l x nodes) c)
+  seated-awaited start lot i n left v c old =
       record {
         apart = apart-shed (is_unnamed tree l x nodes) c old.apart;
-        given = each-shed (λ d. has_slot tree l v d.0 ≡ true) (λ d. has_slot tree l (logged i n (awaits x start lot nodes v)) d.0 ≡ true)
-            (is_unnamed tree l x nodes) c (λ d stays. given-awaited start lot i n v d.0 stays) old.given;
+        given = each-shed (λ d. has_slot tree l v d.0 ≡ true) (λ d. has_slot tree l (with_step i n left (awaits x start lot nodes v)) d.0 ≡ true)
+            (is_unnamed tree l x nodes) c (λ d stays. given-awaited start lot i n left v d.0 stays) old.given;
         itself = old.itself;
       }

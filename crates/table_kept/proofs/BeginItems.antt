@@ -13,7 +13,7 @@ use Rattle.life_rules.proofs.Names.{same-refl, same-other, by_name}
 use Rattle.life_kept.proofs.Trees.{child-parent, parent-child}
 use Rattle.table_rules.specs.declared.cargo.Cargo.{Ghosts}
 use Rattle.table_rules.specs.Scenes.{Full, is_full, Past, Scene}
-use Rattle.table_rules.specs.Homes.{is_waiting, home_of, HomesStand}
+use Rattle.table_rules.specs.Homes.{is_waiting, is_resting, home_of, HomesStand}
 use Rattle.table_rules.specs.Starts.{StartsStand}
 use Rattle.table_rules.specs.Items.{HasFailedChild, ItemsStand}
 use Rattle.table_rules.specs.Lots.{LotsStand}
@@ -131,6 +131,9 @@ module _ {P E : Type 0} (s : Scene P E) (h : ℕ) (x : Name) (may : MayBegin s.s
           goes_on = λ y item live e d.
               let was = item-before y.block y.node item e in
               old.goes_on y item live was (sym (still is_done y (full-other y item was)) ∙ d);
+          rests = λ y item live e rest.
+              let was = item-before y.block y.node item e in
+              old.rests y item live was (sym (still is_resting y (full-other y item was)) ∙ rest);
           bound = λ y item live e.
               let was = item-before y.block y.node item e in
               subst (λ n. cargo.least item ≤ n)
@@ -139,6 +142,10 @@ module _ {P E : Type 0} (s : Scene P E) (h : ℕ) (x : Name) (may : MayBegin s.s
           ended = λ y d r. old.ended y (sym (still is_done y (other-by is_done refl y d)) ∙ d) r;
           delivered = λ y item d r e.
               old.delivered y item (sym (still is_done y (other-by is_done refl y d)) ∙ d) r (item-before y.block y.node item e);
+          enough = λ y item d r is.
+              let ne = other-by is_done refl y d in
+              subst (λ n. cargo.least item ≤ n) (sym (cond-false (same x y) 0 (s.past.named y) (same-other x y ne)))
+              (old.enough y item (sym (still is_done y ne) ∙ d) r is);
           failures = λ y r n. failed-begun y (old.failures y r n);
         }
 

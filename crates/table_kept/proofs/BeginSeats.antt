@@ -19,7 +19,7 @@ use Rattle.table_rules.specs.declared.frame.Frame.{Frame}
 use Rattle.table_rules.specs.declared.view.View.{View}
 use Rattle.table_rules.specs.Named.{without, Each}
 use Rattle.table_rules.specs.Running.{Running}
-use Rattle.table_steps.specs.Claims.{logged, owes_root}
+use Rattle.table_steps.specs.Claims.{with_step, logged, owes_root}
 use Rattle.table_steps.specs.Kids.{children_below, empty_slots}
 use Rattle.table_steps.specs.Slots.{slot_of, kids_of, is_of_family, has_slot, AreApart, IsSeated}
 use Rattle.table_steps.specs.Begins.{begins}
@@ -101,14 +101,18 @@ apart-slots l b (n ∷ ns) c down within others apart = (
     )
 
 -- a step that is listed changes nothing of it
+pub seated-listed : {P E : Type 0} (tree : List TreeNode) (l : Layout) (i n left : ℕ) (m : View P E × List (ℕ × Option P)) →
+    IsSeated tree l m → IsSeated tree l (with_step i n left m.0, m.1)
+seated-listed tree l i n left m old = record { apart = old.apart; given = old.given; itself = old.itself }
+
 pub seated-logged : {P E : Type 0} (tree : List TreeNode) (l : Layout) (i n : ℕ) (m : View P E × List (ℕ × Option P)) →
     IsSeated tree l m → IsSeated tree l (logged i n m.0, m.1)
 seated-logged tree l i n m old = record { apart = old.apart; given = old.given; itself = old.itself }
 
 -- what the view gave its hand it still gives it after it came to owe a root's start
-pub given-owed : {P E : Type 0} (tree : List TreeNode) (l : Layout) (x : Name) (i n : ℕ) (v : View P E) (slot : ℕ) →
-    has_slot tree l v slot ≡ true → has_slot tree l (logged i n (owes_root x v)) slot ≡ true
-given-owed tree l x i n v slot h =
+pub given-owed : {P E : Type 0} (tree : List TreeNode) (l : Layout) (x : Name) (i n left : ℕ) (v : View P E) (slot : ℕ) →
+    has_slot tree l v slot ≡ true → has_slot tree l (with_step i n left (owes_root x v)) slot ≡ true
+given-owed tree l x i n left v slot h =
     let a = list_any (λ e. slot_of l e.name == slot) v.owed in
     let b = list_any (λ e. is_of_family tree l e.name slot) v.held in
     let c = list_any (λ y. slot_of l y == slot) v.finished in
@@ -117,9 +121,9 @@ given-owed tree l x i n v slot h =
     (λ more. or-right (slot_of l x == slot || a) (b || c) more)
 
 -- what the view gave its hand it still gives it after the node was begun
-given-begun : {P E : Type 0} (tree : List TreeNode) (l : Layout) (root : Bool) (x : Name) (start : List E) (told kids : Bool) (i n : ℕ) (v : View P E) (slot : ℕ) →
-    has_slot tree l v slot ≡ true → has_slot tree l (logged i n (begins root x start told kids v)) slot ≡ true
-given-begun tree l root x start told kids i n v slot h =
+given-begun : {P E : Type 0} (tree : List TreeNode) (l : Layout) (x : Name) (start : List E) (told kids : Bool) (i n left : ℕ) (v : View P E) (slot : ℕ) →
+    has_slot tree l v slot ≡ true → has_slot tree l (with_step i n left (begins tree x start told kids v)) slot ≡ true
+given-begun tree l x start told kids i n left v slot h =
     let a = list_any (λ e. slot_of l e.name == slot) v.owed in
     let a2 = list_any (λ e. slot_of l e.name == slot) (without (λ e. e.name) v.owed x) in
     let own = is_of_family tree l x slot in
@@ -144,11 +148,11 @@ module _ {P E O : Type 0} (cargo : Ghosts P E O) (f : Frame O) (s : table.State 
   abbrev kids : List ℕ
   kids = kids_of f.tree x.node
 
-  pub seated-begun : (root : Bool) (start : List E) (told told_kids : Bool) (i n : ℕ) → Descends kids → Each (λ m. m < f.layout.nodes) kids →
+  pub seated-begun : (start : List E) (told told_kids : Bool) (i n left : ℕ) → Descends kids → Each (λ m. m < f.layout.nodes) kids →
       Each (λ m. get_elem? s.homes (place_number f.layout x.block m) ≡ some (some None)) kids → IsSeated f.tree f.layout (v, c) →
-      IsSeated f.tree f.layout (logged i n (begins root x start told told_kids v), empty_slots f.layout x.block kids c)
-  seated-begun root start told told_kids i n down within homes old =
-      let mine = logged i n (begins root x start told told_kids v) in
+      IsSeated f.tree f.layout (with_step i n left (begins f.tree x start told told_kids v), empty_slots f.layout x.block kids c)
+  seated-begun start told told_kids i n left down within homes old =
+      let mine = with_step i n left (begins f.tree x start told told_kids v) in
       record {
         apart = apart-slots f.layout x.block kids c down within
             (each-map (λ m. get_elem? s.homes (place_number f.layout x.block m) ≡ some (some None))
@@ -161,6 +165,6 @@ module _ {P E O : Type 0} (cargo : Ghosts P E O) (f : Frame O) (s : table.State 
             (λ m child. or-right _ _ (or-left _ _ (or-left _ _ (kid-of-family f.tree f.layout x m child))))
             kids (kids-are f.tree x.node (length f.tree)))
             (each-map (λ d. has_slot f.tree f.layout v d.0 ≡ true) (λ d. has_slot f.tree f.layout mine d.0 ≡ true)
-            (λ d. given-begun f.tree f.layout root x start told told_kids i n v d.0) c old.given);
+            (λ d. given-begun f.tree f.layout x start told told_kids i n left v d.0) c old.given);
         itself = old.itself;
       }

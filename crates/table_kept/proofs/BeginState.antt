@@ -10,7 +10,7 @@ use Rattle.life_rules.specs.States.{State, is_live, control_at, stand}
 use Rattle.life_rules.specs.Sound.{Sound}
 use Rattle.life_rules.proofs.Readings.{lives, is_live-from, stand-at}
 use Rattle.life_kept.proofs.Trees.{child-within}
-use Rattle.life_rules.proofs.Names.{by_name, gain-here, gain-other, lose-here, lose-other}
+use Rattle.life_rules.proofs.Names.{gain-here, gain-other, lose-here, lose-other}
 use Rattle.life_kept.proofs.Puts.{put, IsPut, reads-here, reads-other, moves}
 use Rattle.life_kept.proofs.Holding.{owed-start, weight-most}
 use Rattle.table_rules.specs.Scenes.{Home, Out, Empty, Full, is_out, is_full}

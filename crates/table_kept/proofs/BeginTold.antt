@@ -1,5 +1,5 @@
 -- What the two stores of a begin owe and tell, in the contract's words.
-use Rattle.std.proofs.Common.{◌≡◌, ◌≢◌, ℕ, false, ◌==◌, List, [], ◌∷◌, Some, sym, ap, ◌∙◌, subst}
+use Rattle.std.proofs.Common.{◌≡◌, ◌≢◌, ℕ, false, ◌==◌, List, [], ◌∷◌, Some, sym, ap, ◌∙◌, subst, refl}
 use Rattle.std.specs.Prelude.{slice_get, Option, None}
 use Rattle.std.specs.Option.{option_map_or}
 use Rattle.std.proofs.lemmas.Bool.{cond-false, ne_eqb}
@@ -17,10 +17,12 @@ use Rattle.atomic_table.specs.Table.{Allows}
 use Rattle.table_rules.specs.declared.cargo.Cargo.{Ghosts}
 use Rattle.table_rules.specs.declared.frame.Frame.{Frame}
 use Rattle.table_rules.specs.Running.{Running}
-use Rattle.table_steps.specs.Claims.{logged, Seated}
+use Rattle.table_steps.specs.Claims.{with_step, Seated}
+use Rattle.table_steps.specs.Lefts.{LeavesControl}
 use Rattle.table_steps.specs.Kids.{empty_slots}
 use Rattle.table_steps.specs.Slots.{Aim, slot_of, kids_of, kept, AreApart, IsSeated}
 use Rattle.table_steps.specs.Begins.{CanBegin, BeginsAt, Renews, IsRenewed, HasRenewed}
+use Rattle.table_kept.proofs.Listing.{AllowsListed, allows-listed, lists-one}
 use Rattle.table_kept.proofs.Begins.{begins_allowed}
 use Rattle.table_kept.proofs.ShedHomes.{kept-each}
 use Rattle.table_kept.proofs.Renewing.{renews_allowed}
@@ -43,9 +45,9 @@ kept-beside l b slot inside (n ∷ ns) c apart is =
 
 module _ {P E O : Type 0} (cargo : Ghosts P E O) where
   -- the hand can begin the node after a step that was listed
-  can-logged : (f : Frame O) (x : Name) (i n : ℕ) (m : Seated P E) → CanBegin cargo f m x →
-      CanBegin cargo f (logged i n m.0, m.1) x
-  can-logged f x i n m can =
+  can-listed : (f : Frame O) (x : Name) (i n left : ℕ) (m : Seated P E) → CanBegin cargo f m x →
+      CanBegin cargo f (with_step i n left m.0, m.1) x
+  can-listed f x i n left m can =
       record {
         owed = can.owed;
         owes = can.owes;
@@ -64,46 +66,63 @@ module _ {P E O : Type 0} (cargo : Ghosts P E O) where
       either (has_source f.tree x.node)
       (λ t.
       let did = renewed.0 t in
-      subst (λ z. CanBegin cargo f z x) (sym did.1)
-      (can-logged f x (index f.layout (OfSource x.block x.node)) did.0 m can))
+      subst (λ z. CanBegin cargo f z x) (sym did.did)
+      (can-listed f x (index f.layout (OfSource x.block x.node)) did.read did.left m can))
       (λ none. subst (λ z. CanBegin cargo f z x) (sym (renewed.1 none)) can)
 
   -- and its newest step is the renewal, where the node has a source
   pub has-renewed : (aim : Aim) (m m' : Seated P E) → IsRenewed aim m m' → HasRenewed aim m'
   has-renewed aim m m' renewed has =
-      let did = renewed.0 has in (did.0, m.0.steps, did.2, ap (λ (z : Seated P E). z.0.steps) did.1)
+      let did = renewed.0 has in
+      record {
+        read = did.read;
+        left = did.left;
+        earlier = m.0.steps;
+        says = did.says;
+        steps_are = ap (λ (z : Seated P E). z.0.steps) did.did;
+      }
 
   -- the renewal, by the frame that the table shows
   pub renews-at : (board f : Frame O) (slots id i value : ℕ) (x : Name) (m : Seated P E) → board ≡ f →
       i ≡ index board.layout (OfSource x.block x.node) → CanBegin cargo board m x → stamp_of value ≡ x.generation →
-      source_read value ≡ clear → Allows (Running cargo f) slots id m i (λ _. value) (λ _. Renews i value m)
+      source_read value ≡ clear → AllowsListed cargo f slots id m i (λ _. value) (λ n. Renews i n value m)
   renews-at board f slots id i value x m same i_is can stamped reads =
-      subst (λ z. Allows (Running cargo z) slots id m i (λ _. value) (λ _. Renews i value m)) same
-      (subst (λ j. Allows (Running cargo board) slots id m j (λ _. value) (λ _. Renews j value m)) (sym i_is)
-      (renews_allowed cargo board slots id value x can.owed m can.owes stamped reads))
+      allows-listed cargo f slots id m i (λ _. value) (λ n. Renews i n value m)
+      (λ n m' told. lists-one i n value m m' m.0 (ap (λ z. z.0) told) refl refl refl refl)
+      (subst (λ z. Allows (Running cargo z) slots id m i (λ _. value) (λ n. Renews i n value m)) same
+      (subst (λ j. Allows (Running cargo board) slots id m j (λ _. value) (λ n. Renews j n value m)) (sym i_is)
+      (renews_allowed cargo board slots id value x can.owed m can.owes stamped reads)))
 
   -- the store, by the frame that the table shows
   pub begins-at : (board f : Frame O) (slots id i value : ℕ) (x : Name) (aim : Aim) (m : Seated P E) → board ≡ f →
       i ≡ index board.layout (OfControl x.block x.node) → aim ≡ aimed board x → CanBegin cargo board m x →
       HasRenewed (aimed board x) m → stamp_of value ≡ x.generation → control_read value ≡ Busy 0 →
-      Allows (Running cargo f) slots id m i (λ _. value) (λ _. BeginsAt cargo aim i m)
+      AllowsListed cargo f slots id m i (λ _. value) (λ n. BeginsAt cargo aim i n value m)
   begins-at board f slots id i value x aim m same i_is aim_is can renewed stamped reads =
-      subst (λ z. Allows (Running cargo z) slots id m i (λ _. value) (λ _. BeginsAt cargo aim i m)) same
-      (subst (λ (z : ℕ × Aim). Allows (Running cargo board) slots id m z.0 (λ _. value) (λ _. BeginsAt cargo z.1 z.0 m))
+      allows-listed cargo f slots id m i (λ _. value) (λ n. BeginsAt cargo aim i n value m)
+      (λ n m' told. lists-one i n value m m' _ (ap (λ z. z.0) told.me_is) refl refl refl refl)
+      (subst (λ z. Allows (Running cargo z) slots id m i (λ _. value) (λ n. BeginsAt cargo aim i n value m)) same
+      (subst (λ (z : ℕ × Aim). Allows (Running cargo board) slots id m z.0 (λ _. value) (λ n. BeginsAt cargo z.1 z.0 n value m))
       (λ k. (sym i_is k, sym aim_is k))
-      (begins_allowed cargo board slots id value x m can renewed stamped reads))
+      (begins_allowed cargo board slots id value x m can renewed stamped reads)))
 
-  pub begins-told : (board : Frame O) (i : ℕ) (x : Name) (aim : Aim) (m m' : Seated P E) →
-      i ≡ index board.layout (OfControl x.block x.node) → aim ≡ aimed board x → BeginsAt cargo aim i m m' →
-      BeginsAt cargo (aimed board x) (index board.layout (OfControl x.block x.node)) m m'
-  begins-told board i x aim m m' i_is aim_is told =
-      subst (λ (z : ℕ × Aim). BeginsAt cargo z.1 z.0 m m') (λ k. (i_is k, aim_is k)) told
+  pub begins-told : (board : Frame O) (i read value : ℕ) (x : Name) (aim : Aim) (m m' : Seated P E) →
+      i ≡ index board.layout (OfControl x.block x.node) → aim ≡ aimed board x → stamp_of value ≡ x.generation →
+      control_read value ≡ Busy 0 → BeginsAt cargo aim i read value m m' →
+      LeavesControl (aimed board x) (Busy 0) (BeginsAt cargo (aimed board x)) m m'
+  begins-told board i read value x aim m m' i_is aim_is stamped reads told =
+      record {
+        read = read;
+        left = value;
+        says = record { stamp_is = stamped; reads = reads };
+        did = subst (λ (z : ℕ × Aim). BeginsAt cargo z.1 z.0 read value m m') (λ k. (i_is k, aim_is k)) told;
+      }
 
   -- what lies in the home of the node that was begun is what lay there, and no completion
-  pub begun-goes-on : (f : Frame O) (i : ℕ) (x : Name) (m middle m' : Seated P E) → CanBegin cargo f m x →
-      IsRenewed (aimed f x) m middle → BeginsAt cargo (aimed f x) i middle m' → IsSeated f.tree f.layout m' → (item : P) →
+  pub begun-goes-on : (f : Frame O) (i read left : ℕ) (x : Name) (m middle m' : Seated P E) → CanBegin cargo f m x →
+      IsRenewed (aimed f x) m middle → BeginsAt cargo (aimed f x) i read left middle m' → IsSeated f.tree f.layout m' → (item : P) →
       kept (slot_of f.layout x) m'.1 ≡ Some (Some item) → ¬ cargo.ends item
-  begun-goes-on f i x m middle m' can renewed did seated item home =
+  begun-goes-on f i read left x m middle m' can renewed did seated item home =
       let was = can-renewed f x m middle renewed can in
       let slot = slot_of f.layout x in
       let slots = ap (λ (z : Seated P E). z.1) did.me_is in

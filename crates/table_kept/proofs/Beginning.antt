@@ -14,13 +14,14 @@ use Rattle.common_lemmas.specs.Sums.{one}
 use Rattle.life_rules.specs.Views.{beside, same}
 use Rattle.life_rules.specs.States.{State, size, is_live, control_at, stand}
 use Rattle.common_lemmas.proofs.Bool.{either}
-use Rattle.life_rules.proofs.Names.{same-other, by_name}
+use Rattle.life_rules.proofs.Names.{same-refl, same-other, by_name}
 use Rattle.common_lemmas.proofs.Totals.{total-same}
 use Rattle.life_rules.proofs.Readings.{lives, is_live-from, stand-at}
 use Rattle.life_kept.proofs.Trees.{child-parent, parent-child, child-within}
 use Rattle.life_kept.proofs.Puts.{times-same}
 use Rattle.table_rules.specs.Scenes.{Out, Empty, Full, is_out, is_full, Past, Scene}
-use Rattle.table_rules.specs.Homes.{is_waiting, is_resting, home_of, seats_of, named_below, HomesStand}
+use Rattle.table_rules.specs.Homes.{is_waiting, is_resting, home_of, seats_of, named_below, done_below, HomesStand}
+use Rattle.table_kept.proofs.DoneBelow.{done-more}
 use Rattle.table_kept.proofs.BeginState.{empty-from, MayBegin, held_state, x-live, x-idle, word-here, word-other, reports-same, finished-same, holds-other, holds-here, starts-other, starts-here, kid-idle, kid-weightless, kid-live, unheld, unfinished}
 
 module _ {P E : Type 0} (s : Scene P E) (h : ℕ) (x : Name) (may : MayBegin s.state h x) (homes : HomesStand s) (start : List E) where
@@ -217,6 +218,16 @@ module _ {P E : Type 0} (s : Scene P E) (h : ℕ) (x : Name) (may : MayBegin s.s
       λ k. one (is_under_way (word-other base h x may (beside y n) ne k)) + starts-other base h x may (beside y n) ne k
       + one (is_done (word-other base h x may (beside y n) ne k) && full-same (beside y n) there k))))
 
+  -- a child that is done isn't this node, and is done still
+  done-begun : (y : Name) → done_below base y ≤ done_below begun_scene.state y
+  done-begun y =
+      done-more (is_child base.tree y.node) (λ n. is_done (control_at base (beside y n)))
+      (λ n. is_done (control_at begun_scene.state (beside y n))) (size base) (λ n child done.
+      by_name x (beside y n)
+      (λ e. absurd (both_ways (is_done (control_at base (beside y n)))
+      (ap (λ z. is_done (control_at base z)) (sym e) ∙ ap is_done (x-idle base h x may)) done))
+      (λ ne. still is_done (beside y n) ne ∙ done))
+
   pub homes-begun : HomesStand begun_scene
   homes-begun =
       record {
@@ -268,4 +279,12 @@ module _ {P E : Type 0} (s : Scene P E) (h : ℕ) (x : Name) (may : MayBegin s.s
             let was = sym (still is_waiting y ne) ∙ w in
             let live = live-waiting y (ap (λ b. b || is_resting (control_at base y)) was) in
             named-same y live ∙ homes.named y was ∙ sym (cond-false (same x y) 0 (s.past.named y) (same-other x y ne));
+        met = λ y begun rests.
+            by_name x y
+            (λ e. subst (λ z. begun_past.named z ≤ done_below begun_scene.state z) e
+            (let none : begun_past.named x ≡ 0 = cond-true (same x x) 0 (s.past.named x) (same-refl x) in omega (arith, none)))
+            (λ ne.
+            let was = homes.met y (sym (still is_idle y ne) ∙ begun) (sym (still is_waiting y ne) ∙ rests) in
+            let named : begun_past.named y ≡ s.past.named y = cond-false (same x y) 0 (s.past.named y) (same-other x y ne) in
+            let more = done-begun y in omega (arith, was, named, more));
       }

@@ -1,10 +1,11 @@
 -- A begin keeps what the hands know.
-use Rattle.std.proofs.Common.{◌≡◌, ℕ, ◌≤◌, Bool, true, false, not, ◌&&◌, List, [], Option, Some, None, refl, sym, ap, ◌∙◌, subst, arith}
+use Rattle.std.proofs.Common.{◌≡◌, ℕ, ◌≤◌, Bool, true, false, not, ◌&&◌, List, [], length, Option, Some, None, refl, sym, ap, ◌∙◌, subst, arith}
 use Rattle.std.specs.Prelude.{MatchOption}
 use Rattle.std.proofs.lemmas.Bool.{cond-true, cond-false}
 use Rattle.life_rules.specs.declared.words.BlockWord.{BlockWord}
 use Rattle.life_rules.specs.declared.event.Name.{Name}
-use Rattle.node_tree.specs.Tree.{is_child, parent_of}
+use Rattle.node_tree.specs.declared.node.TreeNode.{TreeNode}
+use Rattle.node_tree.specs.Tree.{is_root, is_child, parent_of}
 use Rattle.life_rules.specs.Words.{is_idle, is_done, pending}
 use Rattle.common_lemmas.specs.Sums.{one}
 use Rattle.life_rules.specs.Views.{same, beside}
@@ -25,17 +26,19 @@ use Rattle.table_rules.specs.ShownViews.{shown_view}
 use Rattle.table_rules.specs.Scenes.{Scene}
 use Rattle.table_rules.specs.Homes.{HomesStand}
 use Rattle.table_rules.specs.Notes.{IsHeldSo, IsOwedSo, IsReportedSo, IsRootedSo, IsKnown, children_are_requested}
+use Rattle.table_steps.specs.Slots.{kids_of}
 use Rattle.table_steps.specs.Begins.{begins, notes_start}
 use Rattle.table_kept.proofs.Entries.{each-map, count-without, each-without, each-by}
 use Rattle.table_kept.proofs.Among.{IsAmong}
-use Rattle.table_kept.proofs.BeginState.{MayBegin, beginning, x-live, x-idle, kid-weightless, word-here, word-other}
+use Rattle.table_kept.proofs.BeginState.{MayBegin, beginning, x-live, x-idle, kid-idle, kid-weightless, word-here, word-other}
 use Rattle.table_kept.proofs.Beginning.{begun_scene}
+use Rattle.table_kept.proofs.BeginSeats.{kids-are}
 use Rattle.table_kept.proofs.BeginItems.{begun-other, start-other, start-here}
 
 -- what is shown of the hand that began the node
-pub begins-shown : {P E : Type 0} (blocks : ℕ → BlockWord) (root : Bool) (x : Name) (start : List E) (told kids : Bool) (v : View P E) →
-    shown_view blocks (begins root x start told kids v) ≡ beginning x (shown_view blocks v)
-begins-shown blocks root x start told kids v =
+pub begins-shown : {P E : Type 0} (blocks : ℕ → BlockWord) (tree : List TreeNode) (x : Name) (start : List E) (told kids : Bool) (v : View P E) →
+    shown_view blocks (begins tree x start told kids v) ≡ beginning x (shown_view blocks v)
+begins-shown blocks tree x start told kids v =
     λ k. record (beginning x (shown_view blocks v)) { starts = λ y. count-without (λ e. e.name) v.owed x y k }
 
 module _ {P E : Type 0} (s : Scene P E) (h : ℕ) (x : Name) (may : MayBegin s.state h x) (homes : HomesStand s) (start : List E) where
@@ -156,11 +159,27 @@ module _ {P E : Type 0} (s : Scene P E) (h : ℕ) (x : Name) (may : MayBegin s.s
   noted-begun true noted all = (rooted-here, all)
   noted-begun false noted all = all
 
+  -- no child of the node has begun
+  kids-idle : Each (λ n. (is_child old.tree x.node n ≡ true) × (is_idle (control_at now.state (beside x n)) ≡ true))
+      (kids_of old.tree x.node)
+  kids-idle =
+      each-map (λ n. is_child old.tree x.node n ≡ true) _
+      (λ n child.
+      let ne : x ≡ beside x n → ⊥ =
+      λ e.
+      let none = kid-weightless old h x may n child in
+      let all = Rattle.life_rules.proofs.Readings.stand-at old (λ v. v.starts) h x may.below in
+      let owes = may.owes in
+      let here : stand old (λ v. v.starts) x ≡ stand old (λ v. v.starts) (beside x n) = ap (stand old (λ v. v.starts)) e in
+      absurd (omega (arith, none, all, owes, here)) in
+      (child, ap is_idle (word-other old h x may (beside x n) ne) ∙ kid-idle old h x may n child))
+      (kids_of old.tree x.node) (kids-are old.tree x.node (length old.tree))
+
   -- and what the hand that began the node knows of it is so
-  pub mine-begun : (root : Bool) (u : View P E) (told kids : Bool) → (told ≡ true → nearest_is_requested old x ≡ true) →
+  pub mine-begun : (u : View P E) (told kids : Bool) → (told ≡ true → nearest_is_requested old x ≡ true) →
       (kids ≡ true → children_are_requested old x ≡ true) → IsAmong old u → IsKnown s u →
-      IsKnown now (begins root x start told kids u)
-  mine-begun root u told kids told_so kids_so among was =
+      IsKnown now (begins old.tree x start told kids u)
+  mine-begun u told kids told_so kids_so among was =
       let k = known-begun u among was in
       record {
         held = (
@@ -170,14 +189,14 @@ module _ {P E : Type 0} (s : Scene P E) (h : ℕ) (x : Name) (may : MayBegin s.s
             told = told_so;
             told_children = kids_so;
             lot = tt;
-            phase = tt;
-            idle = tt;
+            phase = (may.sound.begins x (ap is_idle (x-idle old h x may))).callback;
+            idle = kids-idle;
           },
           k.held,
         );
         owed = each-without (IsOwedSo now) (λ e. e.name) u.owed x k.owed;
         reported = k.reported;
-        noted = noted-begun root u.noted k.noted;
+        noted = noted-begun (is_root old.tree x.node) u.noted k.noted;
         unlooked = k.unlooked;
         seen_after = k.seen_after;
         seen = k.seen;

@@ -1,14 +1,15 @@
 -- The store by which a node is begun keeps the rule.
 use Rattle.std.proofs.Common.{◌≡◌, ℕ, ◌<◌, ◌≤◌, Bool, true, false, ◌&&◌, ◌==◌, nat_lt, cond, List, [], ◌∷◌, length, set, refl, sym, ap, ◌∙◌, subst, arith}
-use Rattle.std.specs.Prelude.{Option, Some, None, MatchOption}
+use Rattle.std.specs.Prelude.{Option, Some, None, MatchOption, slice_index}
 use Rattle.std.specs.List.{list_any}
 use Rattle.std.proofs.lemmas.Bool.{and_from, cond-true, lt-ltb, le-leb}
 use mathlib.Core.Option.{some}
 use lib.ListN.{get_elem?}
+use Rattle.life_rules.specs.Words.{is_done}
 use Rattle.life_rules.specs.declared.words.ControlWord.TheVariants.{Busy}
 use Rattle.node_tree.specs.declared.node.TreeNode.{TreeNode}
 use Rattle.life_rules.specs.declared.event.Name.{Name}
-use Rattle.node_tree.specs.Tree.{is_root, is_child, parent_of, has_source}
+use Rattle.node_tree.specs.Tree.{is_child, parent_of, has_source}
 use Rattle.life_rules.specs.Views.{View as PureView, beside}
 use Rattle.life_rules.specs.States.{State}
 use Rattle.life_rules.specs.Callbacks.{nearest_is_requested}
@@ -24,6 +25,7 @@ use Rattle.table_words.specs.Layouts.{OfControl, OfSource, index, place_number}
 use Rattle.table_words.proofs.Spots.{place-within}
 use Rattle.atomic_table.specs.Table.{Allows, homes_after}
 use Rattle.atomic_table.specs.Table as table
+use Rattle.listed_steps.specs.Lists.{entry}
 use Rattle.table_rules.specs.declared.cargo.Cargo.{Ghosts}
 use Rattle.table_rules.specs.declared.frame.Frame.{Frame}
 use Rattle.table_rules.specs.declared.view.View.{View}
@@ -34,13 +36,13 @@ use Rattle.table_rules.specs.ShownViews.{shown_view}
 use Rattle.table_rules.specs.Scenes.{Out, Empty, home_in, Scene, shown, scene}
 use Rattle.table_rules.specs.Notes.{IsOwedSo, children_are_requested}
 use Rattle.table_rules.specs.Running.{Stands, Running}
-use Rattle.table_steps.specs.Claims.{logged, Seated}
+use Rattle.table_steps.specs.Claims.{with_step, Seated}
 use Rattle.table_steps.specs.Slots.{slot_of, kids_of, kept, IsSeated}
 use Rattle.table_steps.specs.Begins.{begins, CanBegin, HasRenewed, BeginsAt, start_shown}
 use Rattle.table_kept.proofs.Entries.{each-map, each-both, found, each-found}
 use Rattle.table_kept.proofs.Seats.{at_within}
 use Rattle.table_kept.proofs.Among.{among}
-use Rattle.table_kept.proofs.Loads.{known-logged}
+use Rattle.table_kept.proofs.Loads.{known-listed}
 use Rattle.table_kept.proofs.Stamping.{newest-risen}
 use Rattle.table_kept.proofs.Counts.{counts-moved}
 use Rattle.table_kept.proofs.ViewMoves.{view-here, views-moved}
@@ -48,8 +50,9 @@ use Rattle.table_kept.proofs.ControlRuns.{place_of, place-live, name-live, contr
 use Rattle.table_kept.proofs.HomeMoves.{home_of_place, empty-home}
 use Rattle.table_kept.proofs.KidSlots.{take_each, each-out, each-valid, deep-after, carries, has-kid, kids-below, kids-descend}
 use Rattle.table_kept.proofs.SeenStands.{seen-stands}
+use Rattle.table_kept.proofs.Hearing.{hears-as}
 use Rattle.table_kept.proofs.BeginSeats.{kids-are, seated-begun}
-use Rattle.table_kept.proofs.BeginState.{MayBegin, beginning, x-live}
+use Rattle.table_kept.proofs.BeginState.{MayBegin, beginning, x-live, x-idle}
 use Rattle.table_kept.proofs.Beginning.{begun_scene, kid-empty, homes-begun}
 use Rattle.table_kept.proofs.BeginItems.{starts-begun, items-begun, lots-begun, FitsAbove}
 use Rattle.table_kept.proofs.BeginningViews.{begins-shown, known-begun, mine-begun}
@@ -96,9 +99,6 @@ module _ {P E O : Type 0} (cargo : Ghosts P E O) (f : Frame O) (s : table.State 
         below = (let l = at_within s.views id v at in let m = r.sized.seats in omega (arith, l, m));
         owes = subst (λ (u : PureView). 1 ≤ u.starts x) (sym shows) entry-found.1;
       }
-
-  abbrev root : Bool
-  root = is_root f.tree x.node
 
   abbrev start : List E
   start = start_shown cargo (kept (slot_of f.layout x) c)
@@ -147,7 +147,7 @@ module _ {P E O : Type 0} (cargo : Ghosts P E O) (f : Frame O) (s : table.State 
     i = index f.layout (OfControl x.block x.node)
 
     abbrev mine : View P E
-    mine = logged i n (begins root x start told told_kids v)
+    mine = with_step i n value (begins f.tree x start told told_kids v)
 
     abbrev after : Scene P E
     after = begun_scene here id x may r.stands.homes start
@@ -162,8 +162,8 @@ module _ {P E O : Type 0} (cargo : Ghosts P E O) (f : Frame O) (s : table.State 
           lots = lots-begun here id x may r.stands.homes start cargo f.over.value fits r.stands.lots;
           views = views-moved here after s.views id v mine at
               (λ j u ne e. known-begun here id x may r.stands.homes start u (among f s j u r.sized.seats e))
-              (known-logged after i n (begins root x start told told_kids v)
-              (mine-begun here id x may r.stands.homes start root v told told_kids told_so kids_so
+              (known-listed after i n value (begins f.tree x start told told_kids v)
+              (mine-begun here id x may r.stands.homes start v told told_kids told_so kids_so
               (among f s id v r.sized.seats at) (r.stands.views.each id v at)))
               refl refl r.stands.views;
           counts = counts-moved here.state after.state s.views id v mine at refl refl r.stands.counts;
@@ -177,26 +177,27 @@ module _ {P E O : Type 0} (cargo : Ghosts P E O) (f : Frame O) (s : table.State 
         let l = lives now x (x-live now id x may) in
         let n = l.node in
         let e = r.frame.nodes in
-        let least = newest-risen f.layout s.words s.views id v (record { index = i; word = did.0 }) did.1 at did.3 r.stamped.rises
+        let risen = newest-risen f.layout s.words s.views id v (entry i did.read did.left) did.earlier at did.steps_are r.stamped.rises
         (OfSource x.block x.node) (l.block, omega (arith, n, e)) refl in
+        let least = risen.1.stamp in
         let most = r.stamped.source x.block x.node l.block (omega (arith, n, e)) in
-        let stamp = did.2 in
+        let stamp = did.says.stamp_is in
         let own = l.generation in
         omega (arith, least, most, stamp, own)
 
-    pub begin-runs : stamp_of n ≤ stamp_of value → Running cargo f record {
+    pub begin-runs : n ≡ slice_index s.words i → Running cargo f record {
       words = set s.words i value;
       homes = homes_after s.homes c (take_each f.layout x.block kids);
       views = set s.views id mine;
     }
-    begin-runs low =
+    begin-runs was =
         let old = block_of f.layout s.words in
         control-runs cargo f s id value x (Busy 0) v r at (x-live now id x may) stamped reads mine
-        (beginning x (now.view id)) (begins-shown old root x start told told_kids v ∙ ap (beginning x) (sym shows))
+        (beginning x (now.view id)) (begins-shown old f.tree x start told told_kids v ∙ ap (beginning x) (sym shows))
         (homes_after s.homes c (take_each f.layout x.block kids)) after.home after.past
         (λ j m. each-out f.layout s.homes c r.sized.homes x.block place-b kids kids-within j m
         ∙ ap (λ b. cond (j == x.block && b) Out (home_of_place f.layout s.homes j m)) (kid-test m))
-        renewed-now (record { word = n; steps = refl; low = low })
+        (ap is_done (x-idle now id x may)) renewed-now (ap (λ k. entry i k value ∷ v.steps) was)
         (deep-after f.layout s.homes c r.sized.homes x.block place-b kids ∙ sym r.sized.homes) stands-begun
 
   kids-home : Each (λ n. get_elem? s.homes (place_number f.layout x.block n) ≡ some (some None)) kids
@@ -214,27 +215,28 @@ module _ {P E O : Type 0} (cargo : Ghosts P E O) (f : Frame O) (s : table.State 
   -- the store may be made, and tells what it does
   pub begins-now : (w : View P E) × (a : table.Act (Option P)) × table.Valid s.homes c a
       × Running cargo f (table.stepped s (index f.layout (OfControl x.block x.node)) value id c w a)
-      × BeginsAt cargo (record { tree = f.tree; layout = f.layout; name = x }) (index f.layout (OfControl x.block x.node)) (v, c) (w, table.carried_after c a)
+      × BeginsAt cargo (record { tree = f.tree; layout = f.layout; name = x }) (index f.layout (OfControl x.block x.node))
+      (slice_index s.words (index f.layout (OfControl x.block x.node))) value (v, c) (w, table.carried_after c a)
   begins-now =
       let told = nearest_is_requested now x in
       let told_kids = children_are_requested now x in
       let i = index f.layout (OfControl x.block x.node) in
-      let n = value in
-      let w : View P E = logged i n (begins root x start told told_kids v) in
+      let n = slice_index s.words i in
+      let w : View P E = with_step i n value (begins f.tree x start told told_kids v) in
       let is = carries f.layout s.homes c r.sized.homes x.block place-b kids in (
         w,
         take_each f.layout x.block kids,
         each-valid f.layout s.homes c r.sized.homes x.block place-b kids kids-within
             (kids-descend f.tree x.node (length f.tree)) kids-empty,
-        begin-runs told told_kids (λ t. t) (λ t. t) n (omega arith),
+        begin-runs told told_kids (λ t. t) (λ t. t) n refl,
         record {
-          word = n;
           told = told;
           told_children = told_kids;
           seen = seen-stands cargo f s id v r at x (x-live now id x may);
+          hears = hears-as cargo f s id v r at x;
           me_is = λ k. (w, is k);
           seated = λ old. subst (λ d. IsSeated f.tree f.layout (w, d)) (sym is)
-              (seated-begun cargo f s id x v c r at root start told told_kids i n (kids-descend f.tree x.node (length f.tree)) kids-within kids-home old);
+              (seated-begun cargo f s id x v c r at start told told_kids i n value (kids-descend f.tree x.node (length f.tree)) kids-within kids-home old);
         },
       )
 
@@ -243,6 +245,6 @@ pub begins_allowed : {P E O : Type 0} (cargo : Ghosts P E O) (f : Frame O) (slot
     CanBegin cargo f m x → HasRenewed (record { tree = f.tree; layout = f.layout; name = x }) m → stamp_of value ≡ x.generation →
     control_read value ≡ Busy 0 →
     Allows (Running cargo f) slots id m (index f.layout (OfControl x.block x.node)) (λ _. value)
-    (λ _. BeginsAt cargo (record { tree = f.tree; layout = f.layout; name = x }) (index f.layout (OfControl x.block x.node)) m)
+    (λ n. BeginsAt cargo (record { tree = f.tree; layout = f.layout; name = x }) (index f.layout (OfControl x.block x.node)) n value m)
 begins_allowed cargo f slots id value x m can renewed stamped reads s r deep at small =
     begins-now cargo f s id value x m.0 m.1 r at can renewed stamped reads

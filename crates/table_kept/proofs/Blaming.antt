@@ -10,6 +10,7 @@ use lib.ListN.{get_elem?}
 use Rattle.node_tree.specs.declared.node.TreeNode.{TreeNode}
 use Rattle.life_rules.specs.declared.event.Name.{Name}
 use Rattle.life_rules.specs.declared.event.SourceRef.TheVariants.{Node}
+use Rattle.node_tree.proofs.Walk.{parent_within}
 use Rattle.node_tree.specs.Tree.{TheScope, TheNode, is_child, is_root, has_source, parent_of, given_by, source_above, nearest}
 use Rattle.life_rules.specs.Words.{is_done}
 use Rattle.life_rules.specs.Views.{View as PureView, beside}
@@ -85,4 +86,5 @@ module _ {P E O : Type 0} (cargo : Ghosts P E O) (f : Frame O) (s : table.State 
       let same : e.item ≡ so.0 = same_Some e.item so.0 (sym delivered ∙ so.1) in
       let own : cargo.fits e.item n (nearest_is_requested now y) = subst (λ i. cargo.fits i n (nearest_is_requested now y)) (sym same) so.3 in
       let quiet : cargo.fits e.item n false = subst (cargo.fits e.item n) calm-above own in
-      (n, e.item, child, done.0, delivered, cargo.blames e.item n x.node quiet failed)
+      let later : n < x.node = (parent_within f.tree n x.node r.stands.sound.tree (child-parent f.tree x.node n child)).0 in
+      (n, e.item, child, done.0, delivered, cargo.blames e.item n x.node later quiet failed)

@@ -198,7 +198,7 @@ module _ {P E O : Type 0} (cargo : Ghosts P E O) (f : Frame O) (s : table.State 
         }
 
     -- the rule is kept, where what is said of the scene is
-    pub callback-runs : callback_code (phase_at now x) < callback_code phase → Lists f.layout (OfCallback x.block x.node) value v mine →
+    pub callback-runs : callback_code (phase_at now x) < callback_code phase → Lists f.layout s.words (OfCallback x.block x.node) value v mine →
         Stands cargo f.over.value written_scene (set s.views id mine) →
         Running cargo f record { words = words; homes = s.homes; views = set s.views id mine }
     callback-runs rises lists stands =

@@ -23,9 +23,11 @@ use Rattle.table_rules.specs.ShownWords.{block_of}
 use Rattle.table_rules.specs.Running.{Running}
 use Rattle.table_steps.specs.Slots.{Aim, IsSeated}
 use Rattle.table_steps.specs.Owing.{OwesNoneThere}
-use Rattle.table_steps.specs.Claims.{logged, owes_root, claims}
+use Rattle.table_steps.specs.Claims.{IsUnnoted, with_step, logged, ListsOne, owes_root, claims}
+use Rattle.table_kept.proofs.Listing.{AllowsListed, allows-listed, lists-one}
 use Rattle.table_kept.proofs.Loads.{looks_keep}
 use Rattle.table_kept.proofs.OwedLive.{owes-none_there}
+use Rattle.table_kept.proofs.Unnoted.{unnoted-free}
 use Rattle.table_kept.proofs.Claims.{root-empty, claim-runs, seated-claimed}
 
 -- the exchange wins
@@ -40,7 +42,7 @@ claim-won {P} {E} cargo f s slots id b old new v c r at hb free reads itself x n
     let i = index f.layout (OfBlock b) in
     let n = slice_index s.words i in
     let slot = place_number f.layout b (length f.tree - 1) in
-    let w : View P E = logged i n (owes_root x v) in (
+    let w : View P E = with_step i n new (owes_root x v) in (
       w,
       takes (place_number f.layout x.block x.node) None,
       subst (λ (y : Name). get_elem? s.homes (place_number f.layout y.block y.node) ≡ some (some None)) name
@@ -50,15 +52,17 @@ claim-won {P} {E} cargo f s slots id b old new v c r at hb free reads itself x n
           (subst (λ (y : Name). Running cargo f record {
             words = set s.words i new;
             homes = set s.homes (place_number f.layout y.block y.node) maybe.none;
-            views = set s.views id (logged i n (owes_root y v));
+            views = set s.views id (with_step i n new (owes_root y v));
           }) name (claim-runs cargo f s id b new v r at hb free reads itself n refl)),
       (
         (λ _. (
           refl,
-          (λ seated. subst (λ (y : Name). IsSeated f.tree f.layout (logged i n (owes_root y v), (place_number f.layout y.block y.node, None) ∷ c)) name
+          (λ seated. subst (λ (y : Name). IsSeated f.tree f.layout (with_step i n new (owes_root y v), (place_number f.layout y.block y.node, None) ∷ c)) name
               (seated-claimed cargo f s id b new v r at hb free reads itself n c seated)),
           subst (λ (y : Name). OwesNoneThere v y) name
               (owes-none_there cargo f s id v r at (record { block = b; generation = (block_of f.layout s.words b).generation; node = length f.tree - 1 }) free),
+          subst (IsUnnoted v) name
+              (unnoted-free cargo f s id v r at (record { block = b; generation = (block_of f.layout s.words b).generation; node = length f.tree - 1 }) free refl),
         )),
         (λ miss. absurd (miss hit)),
       ),
@@ -101,10 +105,19 @@ pub claims_at : {P E O : Type 0} (cargo : Ghosts P E O) (board f : Frame O) (slo
     is_free (block_read old).state ≡ true → block_read new ≡ record (block_read old) { state = Open } →
     x ≡ record { block = b; generation = (block_read old).generation; node = length board.tree - 1 } →
     aim ≡ record { tree = board.tree; layout = board.layout; name = x } →
-    Allows (Running cargo f) slots id me i (λ n. either (n == old) new n) (claims aim (step slots i old new maybe.none) me)
+    AllowsListed cargo f slots id me i (λ n. either (n == old) new n) (claims aim (step slots i old new maybe.none) me)
 claims_at cargo board f slots id b i old new me x aim same itself hb i_is free reads is aim_is =
-    subst (λ z. Allows (Running cargo z) slots id me i (λ n. either (n == old) new n) (claims aim (step slots i old new maybe.none) me))
+    allows-listed cargo f slots id me i (λ n. either (n == old) new n) (claims aim (step slots i old new maybe.none) me)
+    (λ n m' told.
+    dite (ℕ_discrete n old)
+    (λ hit.
+    subst (λ k. ListsOne i n k me m') (sym (ap (λ t. either t new n) (eq-eqb n old hit)))
+    (lists-one i n new me m' (owes_root aim.name me.0) (ap (λ z. z.0) (told.0 hit).0) refl refl refl refl))
+    (λ miss.
+    subst (λ k. ListsOne i n k me m') (sym (ap (λ t. either t new n) (ne_eqb n old miss)))
+    (lists-one i n n me m' me.0 (ap (λ z. z.0) (told.1 miss)) refl refl refl refl)))
+    (subst (λ z. Allows (Running cargo z) slots id me i (λ n. either (n == old) new n) (claims aim (step slots i old new maybe.none) me))
     same
     (subst (λ (z : ℕ × Aim). Allows (Running cargo board) slots id me z.0 (λ n. either (n == old) new n) (claims z.1 (step slots z.0 old new maybe.none) me))
     (λ k. (sym i_is k, sym aim_is k))
-    (claims_allowed cargo board slots id b old new me.0 me.1 x itself hb free reads is))
+    (claims_allowed cargo board slots id b old new me.0 me.1 x itself hb free reads is)))

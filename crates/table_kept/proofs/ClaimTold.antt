@@ -1,5 +1,5 @@
 -- What the two steps of a claim tell, in the contract's words.
-use Rattle.std.proofs.Common.{◌≡◌, ℕ, ◌-◌, ◌∷◌, length, true, Option, Some, None, inr, refl, sym, ap, ◌∙◌}
+use Rattle.std.proofs.Common.{◌≡◌, ℕ, ◌-◌, ◌∷◌, length, true, Option, Some, None, inr, refl, sym, ap, ◌∙◌, subst}
 use Rattle.std.specs.Prelude.{MatchOption}
 use Rattle.life_rules.specs.declared.words.BlockState.{BlockState}
 use Rattle.life_rules.specs.declared.words.BlockState.TheVariants.{Free, Open, Retired}
@@ -11,21 +11,26 @@ use Rattle.table_rules.specs.declared.view.View.{View}
 use Rattle.table_steps.specs.declared.block.Block.{Block}
 use Rattle.table_steps.specs.Slots.{Aim, slot_of}
 use Rattle.table_steps.specs.Views.{Board, aim_at}
-use Rattle.table_steps.specs.Claims.{logged, owes_root, root_name, word_index, Claimed, ClaimedFrom, Missed, MissedFrom}
+use Rattle.table_steps.specs.Claims.{Seated, IsUnnoted, logged, owes_root, root_name, word_index, Claimed, ClaimedFrom, Missed, MissedFrom, with_step}
 
-pub won : (P E : Type 0) {O : Type 0} (board : Board O) (block found generation i was : ℕ) (aim : Aim) (old new : Seat (Option P) (View P E)) →
+pub won : (P E : Type 0) {O : Type 0} (board : Board O) (block found generation i was left : ℕ) (aim : Aim) (old new : Seat (Option P) (View P E)) →
     generation ≡ (block_read found).generation → i ≡ word_index board block → was ≡ found →
     aim ≡ aim_at board (root_name board block (block_read found).generation) →
-    new.me ≡ (logged i was (owes_root aim.name old.me.0), (slot_of aim.layout aim.name, None) ∷ old.me.1) →
+    block_read left ≡ record { generation = generation; state = Open } →
+    IsUnnoted old.me.0 aim.name →
+    new.me ≡ (with_step i was left (owes_root aim.name old.me.0), (slot_of aim.layout aim.name, None) ∷ old.me.1) →
     ClaimedFrom board block found (record { index = block; generation = generation }) old new
-won P E board block found generation i was aim old new g e w a me =
+won P E board block found generation i was left aim old new g e w a opened unnoted me =
     let name = ap (λ z. z.name) a ∙ ap (root_name board block) (sym g) in
     record {
       block_is = refl;
       generation_is = g;
+      left = left;
+      opened = opened;
+      unnoted = subst (IsUnnoted old.me.0) name unnoted;
       me_is = me
           ∙ (λ k. (
-            logged (e k) (w k) (owes_root (name k) old.me.0),
+            with_step (e k) (w k) left (owes_root (name k) old.me.0),
             (ap (λ z. slot_of z.layout z.name) a k, None) ∷ old.me.1,
           ));
     }
@@ -52,9 +57,12 @@ module _ (P E : Type 0) {O : Type 0} (board : Board O) (block found : ℕ) (old 
         word = found;
         free = λ k. record { generation = sym m.generation_is k; state = is-free (block_read found).state free k };
         block_is = m.block_is;
+        left = m.left;
+        opened = m.opened;
+        unnoted = subst (λ (z : Seated P E). IsUnnoted z.0 (root_name board block b.generation)) seen m.unnoted;
         me_is = m.me_is
             ∙ ap (λ z. (
-              logged (word_index board block) found (owes_root (root_name board block b.generation) z.0),
+              with_step (word_index board block) found m.left (owes_root (root_name board block b.generation) z.0),
               (place_number board.frame.layout block (length board.frame.tree - 1), None) ∷ z.1,
             )) seen;
       }

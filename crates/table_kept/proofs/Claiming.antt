@@ -1,6 +1,6 @@
 -- A claim keeps what is said of homes, starts, items and lots: the pure state moves by the claim, and
 -- the root's home goes out.
-use Rattle.std.proofs.Common.{◌≡◌, ℕ, ◌+◌, ◌-◌, ◌<◌, ◌≤◌, true, false, not, ◌&&◌, ◌||◌, ◌==◌, refl, sym, ap, ◌∙◌, subst, arith}
+use Rattle.std.proofs.Common.{◌≡◌, ℕ, ◌+◌, ◌-◌, ◌<◌, ◌≤◌, true, false, not, ◌&&◌, ◌||◌, ◌==◌, refl, sym, ap, ◌∙◌, subst, arith, ◌*◌}
 use Rattle.std.specs.Prelude.{nat_le}
 use Rattle.std.specs.Option.{option_map_or}
 use Rattle.std.proofs.lemmas.Bool.{and_parts, and_from, cond-true, cond-false, both_ways, eqb-true, eq-eqb, false_from_ne_true}
@@ -31,7 +31,7 @@ use Rattle.life_kept.proofs.Fitting.{Fits-along}
 use Rattle.life_kept.proofs.Puts.{times-same}
 use Rattle.table_rules.specs.declared.cargo.Cargo.{Ghosts}
 use Rattle.table_rules.specs.Scenes.{Out, Empty, Full, is_out, is_full, Scene}
-use Rattle.table_rules.specs.Homes.{is_waiting, is_resting, home_of, seats_of, named_below, HomesStand}
+use Rattle.table_rules.specs.Homes.{is_waiting, is_resting, home_of, seats_of, named_below, done_below, HomesStand}
 use Rattle.table_rules.specs.Starts.{StartsStand}
 use Rattle.table_rules.specs.Items.{HasFailedChild, ItemsStand}
 use Rattle.table_rules.specs.Lots.{LotsStand}
@@ -220,6 +220,10 @@ module _ {P E : Type 0} (s : Scene P E) (h b : ℕ) (may : MayClaim s.state h b)
       + starts-other base h b may (beside x n) (root-no_child base h b may x n below child) k
       + one (is_done (control-same base h b may (beside x n) k) && full-same x.block n k)))
 
+  done-same : (x : Name) → done_below claimed.state x ≡ done_below base x
+  done-same x =
+      total-same _ _ (size base) (λ n below k. one (is_child base.tree x.node n) * one (is_done (like (beside x n) k)))
+
   pub homes-claimed : HomesStand claimed
   homes-claimed =
       record {
@@ -253,6 +257,9 @@ module _ {P E : Type 0} (s : Scene P E) (h b : ℕ) (may : MayClaim s.state h b)
         resting = λ x n r child.
             full-same x.block n ∙ homes.resting x n (ap is_resting (sym (like x)) ∙ r) child;
         named = λ x w. named-same x ∙ homes.named x (ap is_waiting (sym (like x)) ∙ w);
+        met = λ x begun rests.
+            let was = homes.met x (ap is_idle (sym (like x)) ∙ begun) (ap is_waiting (sym (like x)) ∙ rests) in
+            let same = done-same x in omega (arith, was, same);
       }
 
   module _ {O : Type 0} (cargo : Ghosts P E O) (over : O) where
@@ -279,6 +286,9 @@ module _ {P E : Type 0} (s : Scene P E) (h b : ℕ) (may : MayClaim s.state h b)
           goes_on = λ x item live e d.
               let was = item-same x.block x.node item e in
               old.goes_on x item (live-full x (ap is_full was) live) was (ap is_done (sym (like x)) ∙ d);
+          rests = λ x item live e rest.
+              let was = item-same x.block x.node item e in
+              old.rests x item (live-full x (ap is_full was) live) was (ap is_resting (sym (like x)) ∙ rest);
           bound = λ x item live e.
               let was = item-same x.block x.node item e in
               old.bound x item (live-full x (ap is_full was) live) was;
@@ -287,6 +297,7 @@ module _ {P E : Type 0} (s : Scene P E) (h b : ℕ) (may : MayClaim s.state h b)
               (t.0, t.1, t.2, subst (cargo.fits t.0 x.node) (sym (nearest-same base h b may x)) t.3);
           delivered = λ x item d r e.
               old.delivered x item (ap is_done (sym (like x)) ∙ d) r (item-same x.block x.node item e);
+          enough = λ x item d r is. old.enough x item (ap is_done (sym (like x)) ∙ d) r is;
           failures = λ x r n.
               failed-claimed x (old.failures x
               ((λ k. (sym (bits-same base h b may (Node x)) k).requested) ∙ r) (sym (nearest-same base h b may x) ∙ n));

@@ -24,7 +24,7 @@ use Rattle.table_rules.specs.ShownWords.{is_retired, is_present}
 use Rattle.table_rules.specs.Scenes.{Scene}
 use Rattle.table_rules.specs.Homes.{HomesStand}
 use Rattle.table_rules.specs.Notes.{is_still, IsPast, IsPastSource, IsHeldSo, IsRootedSo, IsKnown, ViewsStand, children_are_requested}
-use Rattle.table_steps.specs.Claims.{logged, owes_root}
+use Rattle.table_steps.specs.Claims.{with_step, owes_root}
 use Rattle.table_kept.proofs.Entries.{each-map}
 use Rattle.table_kept.proofs.ViewMoves.{views-moved}
 use Rattle.table_kept.proofs.Claiming.{MayClaim, later, root, control-same, phase-same, bits-same, nearest-same, last-root, claimed}
@@ -116,9 +116,9 @@ module _ {P E : Type 0} (s : Scene P E) (h b : ℕ) (may : MayClaim s.state h b)
         seen = each-map _ _ (source-claimed s.state h b may) v.seen old.seen;
       }
 
-  owing-claimed : (i n : ℕ) (v : View P E) → IsKnown s v →
-      IsKnown after_it (logged i n (owes_root (root s.state h b may) v))
-  owing-claimed i n v old =
+  owing-claimed : (i n left : ℕ) (v : View P E) → IsKnown s v →
+      IsKnown after_it (with_step i n left (owes_root (root s.state h b may) v))
+  owing-claimed i n left v old =
       let now = known-claimed v old in
       let above : List E = [] in
       let lot : List ℤ = [] in
@@ -139,9 +139,9 @@ module _ {P E : Type 0} (s : Scene P E) (h b : ℕ) (may : MayClaim s.state h b)
         seen = now.seen;
       }
 
-  pub views-claimed : (i n : ℕ) (vs : List (View P E)) (v : View P E) → get_elem? vs h ≡ some v →
-      ViewsStand s vs → ViewsStand after_it (set vs h (logged i n (owes_root (root s.state h b may) v)))
-  views-claimed i n vs v at old =
-      views-moved s after_it vs h v (logged i n (owes_root (root s.state h b may) v)) at
+  pub views-claimed : (i n left : ℕ) (vs : List (View P E)) (v : View P E) → get_elem? vs h ≡ some v →
+      ViewsStand s vs → ViewsStand after_it (set vs h (with_step i n left (owes_root (root s.state h b may) v)))
+  views-claimed i n left vs v at old =
+      views-moved s after_it vs h v (with_step i n left (owes_root (root s.state h b may) v)) at
       (λ j u _ _. known-claimed u)
-      (owing-claimed i n v (old.each h v at)) refl refl old
+      (owing-claimed i n left v (old.each h v at)) refl refl old

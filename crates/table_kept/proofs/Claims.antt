@@ -23,6 +23,7 @@ use Rattle.table_words.proofs.Spots.{place-within}
 use Rattle.atomic_table.specs.Table as table
 use Rattle.table_rules.specs.declared.cargo.Cargo.{Ghosts}
 use Rattle.table_rules.specs.declared.frame.Frame.{Frame}
+use Rattle.listed_steps.specs.Lists.{entry}
 use Rattle.table_rules.specs.declared.view.View.{View}
 use Rattle.table_rules.specs.ShownWords.{block_of, word_of, is_there, is_present}
 use Rattle.table_rules.specs.ShownViews.{view_at}
@@ -30,7 +31,7 @@ use Rattle.table_rules.specs.Scenes.{Empty, home_in, Scene, shown, scene}
 use Rattle.table_rules.specs.Counts.{AreCounted}
 use Rattle.table_rules.specs.Running.{Stands, Running}
 use Rattle.table_steps.specs.Slots.{slot_of, has_slot, IsSeated}
-use Rattle.table_steps.specs.Claims.{logged, owes_root}
+use Rattle.table_steps.specs.Claims.{with_step, owes_root}
 use Rattle.table_kept.proofs.Seats.{at_within}
 use Rattle.table_kept.proofs.Codes.{free-code}
 use Rattle.table_kept.proofs.Stamping.{is_on, written-risen, renewed-kept}
@@ -84,20 +85,20 @@ module _ {P E O : Type 0} (cargo : Ghosts P E O) (f : Frame O) (s : table.State 
   abbrev owing : View P E
   owing = owes_root (root now id b may) v
 
-  view-claimed : (n h : ℕ) → view_at (block_of f.layout words) (set s.views id (logged i n owing)) h
+  view-claimed : (n h : ℕ) → view_at (block_of f.layout words) (set s.views id (with_step i n new owing)) h
       ≡ (later now id b may).view h
   view-claimed n h =
       let old = block_of f.layout s.words in
       let more : PureView → PureView = λ u. record u { starts = gain (root now id b may) u.starts } in
-      views-same old (block_of f.layout words) present-same (set s.views id (logged i n owing)) h
-      ∙ view-set old s.views id v (logged i n owing) at h
+      views-same old (block_of f.layout words) present-same (set s.views id (with_step i n new owing)) h
+      ∙ view-set old s.views id v (with_step i n new owing) at h
       ∙ ap (λ u. cond (h == id) (more u) (view_at old s.views h)) (sym (view-here old s.views id v at))
 
   place-same : (x : Spot) → IsSpot f.layout x → (OfBlock b ≡ x → ⊥) →
       word_of f.layout words x ≡ word_of f.layout s.words x
   place-same = place-after f.layout s.words r.sized.words b new hb free reads
 
-  scene-claimed : (n : ℕ) → scene f record { words = words; homes = set s.homes slot maybe.none; views = set s.views id (logged i n owing) } r.past
+  scene-claimed : (n : ℕ) → scene f record { words = words; homes = set s.homes slot maybe.none; views = set s.views id (with_step i n new owing) } r.past
       ≡ claimed here id b may r.stands.homes
   scene-claimed n =
       λ k. record {
@@ -143,10 +144,10 @@ module _ {P E O : Type 0} (cargo : Ghosts P E O) (f : Frame O) (s : table.State 
       (subst (λ w. stamp_of w ≤ (block_of f.layout s.words j).generation) (sym word) old)
 
   -- one block more is open, and claimed
-  claim-counts : (n : ℕ) → AreCounted (later now id b may) (set s.views id (logged i n owing))
+  claim-counts : (n : ℕ) → AreCounted (later now id b may) (set s.views id (with_step i n new owing))
   claim-counts n =
       let more = one-opened now id b may in
-      counts-stepped now (later now id b may) s.views id v (logged i n owing) at refl
+      counts-stepped now (later now id b may) s.views id v (with_step i n new owing) at refl
       (λ none. absurd (omega (arith, none, itself))) (omega (arith, more)) r.stands.counts
 
   -- the number that is written is no smaller than the one before
@@ -159,14 +160,14 @@ module _ {P E O : Type 0} (cargo : Ghosts P E O) (f : Frame O) (s : table.State 
       let none = free-code (code_of w) (ap (λ (z : BlockWord). is_free z.state) (sym old) ∙ free) in
       omega (arith, stamp, none)
 
-  pub claim-runs : (n : ℕ) → n ≡ slice_index s.words i → Running cargo f record { words = words; homes = set s.homes slot maybe.none; views = set s.views id (logged i n owing) }
+  pub claim-runs : (n : ℕ) → n ≡ slice_index s.words i → Running cargo f record { words = words; homes = set s.homes slot maybe.none; views = set s.views id (with_step i n new owing) }
   claim-runs n is =
       record {
         frame = r.frame;
         sized = record {
           words = length-set s.words i new ∙ r.sized.words;
           homes = length-set s.homes slot maybe.none ∙ r.sized.homes;
-          seats = subst (λ n. n ≤ f.hands) (sym (length-set s.views id (logged i n owing))) r.sized.seats;
+          seats = subst (λ n. n ≤ f.hands) (sym (length-set s.views id (with_step i n new owing))) r.sized.seats;
         };
         stamped = record {
           control = λ j m hj hm. stamped-after (OfControl j m) j (hj, hm) (λ e. cc) (r.stamped.control j m hj hm);
@@ -189,35 +190,35 @@ module _ {P E O : Type 0} (cargo : Ghosts P E O) (f : Frame O) (s : table.State 
               (said-after f.layout s.words r.sized.words b new hb free reads Idle control_read OfControl (λ j m x y. (x, y)) (λ j m e. cc) j m)
               (place-same (OfSource j m) (hj, hm) (λ e. cc)) (generation-after f.layout s.words r.sized.words b new hb free reads j)
               (r.stamped.renewed j m hj hm has);
-          rises = written-risen f.layout s.views id v (logged i n owing) at s.words new (OfBlock b) r.sized.words hb number-more
-              (record { word = n; steps = refl; low = let more = number-more in omega (arith, is, more) }) r.stamped.rises;
+          rises = written-risen f.layout s.views id v (with_step i n new owing) at s.words new (OfBlock b) r.sized.words hb number-more
+              (ap (λ k. entry i k new ∷ v.steps) is) r.stamped.rises;
           scope = subst (λ w. w < 2 ^ 36) (sym (place-same TheScope tt (λ e. cc))) r.stamped.scope;
         };
         past = r.past;
-        stands = subst (λ z. Stands cargo f.over.value z (set s.views id (logged i n owing))) (sym (scene-claimed n))
+        stands = subst (λ z. Stands cargo f.over.value z (set s.views id (with_step i n new owing))) (sym (scene-claimed n))
             (record {
               sound = sound-claim now id b r.stands.sound may.below (and_from _ _ (lt-ltb b f.layout.blocks hb) free);
               homes = homes-claimed here id b may r.stands.homes;
               starts = starts-claimed here id b may r.stands.homes cargo f.over.value r.stands.starts;
               items = items-claimed here id b may r.stands.homes cargo f.over.value r.stands.items;
               lots = lots-claimed here id b may r.stands.homes cargo f.over.value r.stands.lots;
-              views = views-claimed here id b may r.stands.homes i n s.views v at r.stands.views;
+              views = views-claimed here id b may r.stands.homes i n new s.views v at r.stands.views;
               counts = claim-counts n;
             });
       }
 
   -- the hand carries what its view gives it, each once
   pub seated-claimed : (n : ℕ) (c : List (ℕ × Option P)) → IsSeated f.tree f.layout (v, c) →
-      IsSeated f.tree f.layout (logged i n owing, (slot, None) ∷ c)
+      IsSeated f.tree f.layout (with_step i n new owing, (slot, None) ∷ c)
   seated-claimed n c old =
       let x = root now id b may in
-      let more : (d : ℕ) → has_slot f.tree f.layout v d ≡ true → has_slot f.tree f.layout (logged i n owing) d ≡ true =
-      λ d h. given-owed f.tree f.layout x i n v d h in
+      let more : (d : ℕ) → has_slot f.tree f.layout v d ≡ true → has_slot f.tree f.layout (with_step i n new owing) d ≡ true =
+      λ d h. given-owed f.tree f.layout x i n new v d h in
       record {
         apart = (apart-home cargo f s id v r at slot None c root-empty old.given, old.apart);
         given = (
           or-left _ _ (or-left (slot_of f.layout x == slot) _ (eq-eqb (slot_of f.layout x) slot refl)),
-          each-map (λ d. has_slot f.tree f.layout v d.0 ≡ true) (λ d. has_slot f.tree f.layout (logged i n owing) d.0 ≡ true)
+          each-map (λ d. has_slot f.tree f.layout v d.0 ≡ true) (λ d. has_slot f.tree f.layout (with_step i n new owing) d.0 ≡ true)
               (λ d. more d.0) c old.given,
         );
         itself = old.itself;

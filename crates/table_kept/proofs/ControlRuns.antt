@@ -9,12 +9,12 @@ use lib.ListN.{get_elem?}
 use Rattle.life_rules.specs.declared.words.BlockState.{BlockState}
 use Rattle.life_rules.specs.declared.words.BlockState.TheVariants.{Free, Open, Retired}
 use Rattle.life_rules.specs.declared.words.ControlWord.{ControlWord}
-use Rattle.life_rules.specs.declared.words.ControlWord.TheVariants.{Idle}
+use Rattle.life_rules.specs.declared.words.ControlWord.TheVariants.{Idle, Done}
 use Rattle.life_rules.specs.declared.words.CallbackPhase.TheVariants.{Never}
 use Rattle.life_rules.specs.declared.event.Name.{Name}
 use Rattle.life_rules.specs.declared.event.Place.{Place}
 use Rattle.node_tree.specs.Tree.{has_source}
-use Rattle.life_rules.specs.Words.{is_open, is_idle, is_under_way, clear}
+use Rattle.life_rules.specs.Words.{is_open, is_idle, is_done, is_under_way, clear}
 use Rattle.life_rules.specs.Views.{View as PureView}
 use Rattle.life_rules.specs.States.{State, is_live, is_place, control_at, name_at}
 use Rattle.common_lemmas.proofs.Bool.{either}
@@ -28,9 +28,10 @@ use Rattle.atomic_table.specs.Table as table
 use Rattle.table_rules.specs.declared.cargo.Cargo.{Ghosts}
 use Rattle.table_rules.specs.declared.frame.Frame.{Frame}
 use Rattle.table_rules.specs.declared.view.View.{View}
-use Rattle.table_rules.specs.ShownWords.{block_of, word_of, control_of, is_retired, is_said}
+use Rattle.table_rules.specs.ShownWords.{block_of, word_of, control_of, is_retired, is_said, is_there, said_at}
 use Rattle.table_rules.specs.ShownViews.{view_at, shown_view}
 use Rattle.table_rules.specs.Scenes.{Home, Past, Scene, shown, scene}
+use Rattle.table_rules.specs.Grown.{IsLaterControl}
 use Rattle.table_rules.specs.Running.{Stands, Running}
 use Rattle.table_kept.proofs.Stamping.{is_on, Lists, written-risen, unsaid-kept, renewed-kept}
 use Rattle.table_kept.proofs.ViewMoves.{view-set, views-same}
@@ -161,6 +162,28 @@ module _ {P E O : Type 0} (cargo : Ghosts P E O) (f : Frame O) (s : table.State 
       unsaid-kept (block_of f.layout s.words j) (block_of f.layout words j) (word_of f.layout s.words (OfCallback j m)) (word_of f.layout words (OfCallback j m))
       is_on (block-kept j) (spot-kept (OfCallback j m) (hj, hm) (λ e. cc)) (r.stamped.quiet j m hj hm)
 
+  -- the word that is written is of no earlier generation, and the one before said of no node of its generation
+  -- that it is done
+  grows : is_done (control_at now x) ≡ false → IsLaterControl (word_of f.layout s.words (OfControl x.block x.node)) value
+  grows undone =
+      let old = word_of f.layout s.words (OfControl x.block x.node) in
+      let most = r.stamped.control x.block x.node place-b place-n in
+      let e = present in
+      record {
+        stamp = omega (arith, most, e);
+        done = λ same done.
+            let said : is_said (block_of f.layout s.words x.block) old ≡ true =
+            and_from _ _ (ap not kept) (eq-eqb (stamp_of old) (block_of f.layout s.words x.block).generation (same ∙ e)) in
+            let there : is_there f.layout x.block x.node ≡ true =
+            and_from _ _ (lt-ltb x.block f.layout.blocks place-b) (lt-ltb x.node f.layout.nodes place-n) in
+            let says : control_at now x ≡ Done =
+            cond-true (is_live now x) (now.control x.block x.node) Idle live
+            ∙ cond-true (is_there f.layout x.block x.node) (said_at (block_of f.layout s.words x.block) Idle control_read old) Idle there
+            ∙ cond-true (is_said (block_of f.layout s.words x.block) old) (control_read old) Idle said
+            ∙ done in
+            absurd (both_ways (is_done (control_at now x)) undone (ap is_done says));
+      }
+
   -- the node's source was renewed where it has one
   abbrev pub IsRenewedNow : Type 0
   IsRenewedNow =
@@ -226,10 +249,10 @@ module _ {P E O : Type 0} (cargo : Ghosts P E O) (f : Frame O) (s : table.State 
           }
 
       -- the rule is kept, where what is said of the scene is
-      pub control-runs : IsRenewedNow → Lists f.layout (OfControl x.block x.node) value v mine → length homes ≡ length s.homes →
+      pub control-runs : is_done (control_at now x) ≡ false → IsRenewedNow → Lists f.layout s.words (OfControl x.block x.node) value v mine → length homes ≡ length s.homes →
           Stands cargo f.over.value put_scene (set s.views id mine) →
           Running cargo f record { words = words; homes = homes; views = set s.views id mine }
-      control-runs renewed lists deep stands =
+      control-runs undone renewed lists deep stands =
           record {
             frame = r.frame;
             sized = record {
@@ -245,7 +268,7 @@ module _ {P E O : Type 0} (cargo : Ghosts P E O) (f : Frame O) (s : table.State 
               quiet = quiet-still;
               renewed = renewed-control renewed;
               rises = written-risen f.layout s.views id v mine at s.words value (OfControl x.block x.node) r.sized.words (place-b, place-n)
-                  (let old = r.stamped.control x.block x.node place-b place-n in let e = present in omega (arith, old, e)) lists r.stamped.rises;
+                  (grows undone) lists r.stamped.rises;
               scope = subst (λ k. k < 2 ^ 36) (sym (spot-kept TheScope tt (λ e. cc))) r.stamped.scope;
             };
             past = past;

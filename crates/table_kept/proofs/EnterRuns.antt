@@ -1,5 +1,5 @@
 -- The step by which the scope is entered keeps the rule.
-use Rattle.std.proofs.Common.{◌≡◌, ℕ, zero, suc, ◌+◌, ◌-◌, ◌%◌, ◌^◌, ◌<◌, ◌≤◌, cond, List, set, refl, sym, ◌∙◌, subst, arith}
+use Rattle.std.proofs.Common.{◌≡◌, ℕ, ◌+◌, ◌-◌, ◌%◌, ◌^◌, ◌<◌, ◌≤◌, cond, List, set, refl, sym, ◌∙◌, subst, arith, ap}
 use Rattle.std.specs.Prelude.{Option, slice_index}
 use Rattle.std.proofs.lemmas.Bool.{cond-true, cond-false, eq-eqb}
 use mathlib.Core.Option.{some}
@@ -29,13 +29,16 @@ use Rattle.table_rules.specs.ShownWords.{block_of}
 use Rattle.table_rules.specs.ShownViews.{shown_view}
 use Rattle.table_rules.specs.Scenes.{shown}
 use Rattle.table_rules.specs.Running.{Running}
-use Rattle.table_steps.specs.Claims.{logged, Seated}
+use Rattle.table_steps.specs.Claims.{with_step, ListsOne, Seated}
+use Rattle.table_steps.specs.Lefts.{plus_one}
+use Rattle.table_steps.specs.ScopeMoves.{MovesScopeAt, with_one_more}
 use Rattle.table_steps.specs.Slots.{IsSeated}
-use Rattle.table_steps.specs.ScopeEntries.{MayEnter, enters, enters_at}
+use Rattle.table_steps.specs.ScopeEntries.{MayEnter, enters}
 use Rattle.table_kept.proofs.Seats.{at_within}
 use Rattle.table_kept.proofs.Stamping.{bits-counted}
 use Rattle.table_kept.proofs.ViewMoves.{view-here}
 use Rattle.table_kept.proofs.Masks.{reads-more}
+use Rattle.table_kept.proofs.Listing.{AllowsListed, allows-listed, lists-one}
 use Rattle.table_kept.proofs.ScopeRuns.{scope-runs}
 
 module _ {P E O : Type 0} (cargo : Ghosts P E O) (f : Frame O) (s : table.State (Option P) (View P E)) (id : ℕ) (v : View P E) (r : Running cargo f s) (at : get_elem? s.views id ≡ some v) (few : f.most ≤ MOST_ASSOCIATIONS) (may : MayEnter v) (small : slice_index s.words 0 < 18446744073709551616) where
@@ -69,6 +72,10 @@ module _ {P E O : Type 0} (cargo : Ghosts P E O) (f : Frame O) (s : table.State 
       let hands : f.hands ≤ 32 = r.frame.hands in
       omega (arith, parts, keeps, each, all, hands, few)
 
+  -- the word that is left counts one more
+  pub counts-more : scope_read more ≡ with_one_more (scope_read n)
+  counts-more = reads-more n room (omega (arith, small))
+
   narrow : more < 2 ^ 36
   narrow = let wide = r.stamped.scope in let few_more = room in omega (arith, wide, few_more)
 
@@ -81,13 +88,13 @@ module _ {P E O : Type 0} (cargo : Ghosts P E O) (f : Frame O) (s : table.State 
       (eq-eqb (old_view.making + old_view.refused) 0 (subst (λ (z : PureView). z.making + z.refused ≡ 0) (sym is-shown) may))
 
   enter-by : (made making refused : ℕ) → entered (scope_read n) f.most old_view ≡ record old_view { made = made; making = making; refused = refused } →
-      Running cargo f record { words = set s.words 0 more; homes = s.homes; views = set s.views id (logged 0 n (record v { made = made; making = making; refused = refused })) }
+      Running cargo f record { words = set s.words 0 more; homes = s.homes; views = set s.views id (with_step 0 n more (record v { made = made; making = making; refused = refused })) }
   enter-by made making refused is =
-      scope-runs cargo f s id more v r at word (reads-more n room (omega (arith, small))) narrow (bits-counted (scope_read n) (code_of n + 1)) made making refused
+      scope-runs cargo f s id more v r at word counts-more narrow (bits-counted (scope_read n) (code_of n + 1)) made making refused
       (subst (λ (z : PureView). Sound (with_view (with_scope now word) id z)) is sound-now)
 
   abbrev Kept : View P E → Type 0
-  Kept z = Running cargo f record { words = set s.words 0 more; homes = s.homes; views = set s.views id (logged 0 n z) }
+  Kept z = Running cargo f record { words = set s.words 0 more; homes = s.homes; views = set s.views id (with_step 0 n more z) }
 
   pub enter-runs : Kept (enters f.most (scope_read n) v)
   enter-runs =
@@ -119,32 +126,55 @@ module _ {P E O : Type 0} (cargo : Ghosts P E O) (f : Frame O) (s : table.State 
       (cond-false (is_refused w f.most) (refuse old_view) other kept ∙ cond-false w.used (make old_view) (start old_view) unused
       ∙ (λ k. record old_view { made = (is-shown k).made; making = (is-shown k).making + 1; refused = (is-shown k).refused })))))
 
--- what the step owes, by the frame that the table shows
-pub enters-at : {P E O : Type 0} (cargo : Ghosts P E O) (board f : Frame O) (slots id most : ℕ) (m : Seated P E) → board ≡ f →
-    most ≡ board.most → board.most ≤ MOST_ASSOCIATIONS → MayEnter m.0 →
-    Allows (Running cargo f) slots id m 0 (λ n. (n + 1) % 2 ^ 64) (λ n m'. m' ≡ enters_at most 0 n m)
-enters-at cargo board f slots id most m same most_is few may =
-    subst (λ z. Allows (Running cargo z) slots id m 0 (λ n. (n + 1) % 2 ^ 64) (λ n m'. m' ≡ enters_at most 0 n m)) same
-    (subst (λ k. Allows (Running cargo board) slots id m 0 (λ n. (n + 1) % 2 ^ 64) (λ n m'. m' ≡ enters_at k 0 n m)) (sym most_is)
-    (λ s r deep at small. (
-      logged 0 (slice_index s.words 0) (enters board.most (scope_read (slice_index s.words 0)) m.0),
-      keeps,
-      tt,
-      enter-runs cargo board s id m.0 r at few may small,
-      refl,
-    )))
-
--- the hand still carries each slot once
-pub entered-seated : {P E : Type 0} (tree : List TreeNode) (l : Layout) (most i n : ℕ) (m : Seated P E) → IsSeated tree l m →
-    IsSeated tree l (enters_at most i n m)
-entered-seated {P} {E} tree l most i n m old =
+-- the step is listed, whatever it tells
+enters-list : {P E : Type 0} (most i n left : ℕ) (m m' : Seated P E) → m'.0 ≡ with_step i n left (enters most (scope_read n) m.0) → ListsOne i n left m m'
+enters-list {P} {E} most i n left m m' is =
     let v : View P E = m.0 in
     let w = scope_read n in
     let refuses : View P E = record v { refused = v.refused + 1 } in
     let made_now : View P E = record v { made = v.made + 1 } in
     let started : View P E = record v { making = v.making + 1 } in
     let other_now : View P E = cond w.used made_now started in
-    let Stays : View P E → Type 0 = λ z. IsSeated tree l (logged i n z, m.1) in
+    let Same : View P E → Type 0 = λ z. (z.steps ≡ v.steps) × (z.splits ≡ v.splits) × (z.joined ≡ v.joined) × (z.hands ≡ v.hands) in
+    let same : Same (enters most w v) =
+    either (is_refused w most)
+    (λ t. subst Same (sym (cond-true (is_refused w most) refuses other_now t)) (refl, refl, refl, refl))
+    (λ kept.
+    either w.used
+    (λ t. subst Same (sym (cond-false (is_refused w most) refuses other_now kept ∙ cond-true w.used made_now started t)) (refl, refl, refl, refl))
+    (λ unused.
+    subst Same (sym (cond-false (is_refused w most) refuses other_now kept ∙ cond-false w.used made_now started unused)) (refl, refl, refl, refl))) in
+    lists-one i n left m m' (enters most w v) is same.0 same.1 same.2 same.3
+
+-- what the step owes, by the frame that the table shows
+pub enters-at : {P E O : Type 0} (cargo : Ghosts P E O) (board f : Frame O) (slots id most : ℕ) (m : Seated P E) → board ≡ f →
+    most ≡ board.most → board.most ≤ MOST_ASSOCIATIONS → MayEnter m.0 →
+    AllowsListed cargo f slots id m 0 plus_one
+    (λ n. MovesScopeAt with_one_more (enters most) 0 n (plus_one n) m)
+enters-at cargo board f slots id most m same most_is few may =
+    allows-listed cargo f slots id m 0 plus_one (λ n. MovesScopeAt with_one_more (enters most) 0 n (plus_one n) m)
+    (λ n m' told. enters-list most 0 n (plus_one n) m m' (ap (λ z. z.0) told.me_is))
+    (subst (λ z. Allows (Running cargo z) slots id m 0 plus_one (λ n. MovesScopeAt with_one_more (enters most) 0 n (plus_one n) m)) same
+    (subst (λ k. Allows (Running cargo board) slots id m 0 plus_one (λ n. MovesScopeAt with_one_more (enters k) 0 n (plus_one n) m)) (sym most_is)
+    (λ s r deep at small. (
+      with_step 0 (slice_index s.words 0) (plus_one (slice_index s.words 0)) (enters board.most (scope_read (slice_index s.words 0)) m.0),
+      keeps,
+      tt,
+      enter-runs cargo board s id m.0 r at few may small,
+      record { me_is = refl; left_is = counts-more cargo board s id m.0 r at few may small },
+    ))))
+
+-- the hand still carries each slot once
+pub entered-seated : {P E : Type 0} (tree : List TreeNode) (l : Layout) (most i n left : ℕ) (m : Seated P E) → IsSeated tree l m →
+    IsSeated tree l (with_step i n left (enters most (scope_read n) m.0), m.1)
+entered-seated {P} {E} tree l most i n left m old =
+    let v : View P E = m.0 in
+    let w = scope_read n in
+    let refuses : View P E = record v { refused = v.refused + 1 } in
+    let made_now : View P E = record v { made = v.made + 1 } in
+    let started : View P E = record v { making = v.making + 1 } in
+    let other_now : View P E = cond w.used made_now started in
+    let Stays : View P E → Type 0 = λ z. IsSeated tree l (with_step i n left z, m.1) in
     either (is_refused w most)
     (λ t.
     subst Stays (sym (cond-true (is_refused w most) refuses other_now t))

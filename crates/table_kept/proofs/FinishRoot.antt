@@ -1,6 +1,6 @@
 -- The store by which a root is finished keeps the rule. The hand keeps the root's home.
-use Rattle.std.proofs.Common.{◌≡◌, ℕ, ◌<◌, Bool, true, false, not, ◌||◌, ◌==◌, List, length, set, refl, sym, ap, ◌∙◌, subst, inl, arith, ◌≤◌}
-use Rattle.std.specs.Prelude.{Option}
+use Rattle.std.proofs.Common.{◌≡◌, ℕ, ◌<◌, Bool, true, false, not, ◌||◌, ◌==◌, List, length, set, refl, sym, ap, ◌∙◌, subst, inl, arith, ◌∷◌}
+use Rattle.std.specs.Prelude.{Option, slice_index}
 use Rattle.std.proofs.lemmas.Bool.{and_parts, both_ways, cond-true, eqb-true, false_from_ne_true}
 use Rattle.std.proofs.lemmas.Nat.{same_from_place}
 use mathlib.Core.Option.{some}
@@ -9,7 +9,7 @@ use Rattle.node_tree.specs.declared.node.TreeNode.{TreeNode}
 use Rattle.life_rules.specs.declared.words.ControlWord.TheVariants.{Done}
 use Rattle.life_rules.specs.declared.event.Name.{Name}
 use Rattle.node_tree.specs.Tree.{is_child, is_root}
-use Rattle.life_rules.specs.Words.{is_held, is_under_way, is_idle}
+use Rattle.life_rules.specs.Words.{is_held, is_under_way, is_idle, is_done}
 use Rattle.life_rules.specs.Views.{View as PureView, gain, lose}
 use Rattle.common_lemmas.specs.Sums.{one}
 use Rattle.life_rules.specs.States.{State, name_at, stand}
@@ -21,6 +21,7 @@ use Rattle.table_words.specs.Stamps.{stamp_of}
 use Rattle.table_words.specs.Controls.{control_read}
 use Rattle.table_words.specs.Layouts.{OfControl, index, place_number}
 use Rattle.atomic_table.specs.Table as table
+use Rattle.listed_steps.specs.Lists.{entry}
 use Rattle.table_rules.specs.declared.cargo.Cargo.{Ghosts}
 use Rattle.table_rules.specs.declared.frame.Frame.{Frame}
 use Rattle.table_rules.specs.declared.view.View.{View}
@@ -28,14 +29,14 @@ use Rattle.table_rules.specs.Named.{without}
 use Rattle.table_rules.specs.ShownWords.{block_of}
 use Rattle.table_rules.specs.ShownViews.{shown_view}
 use Rattle.table_rules.specs.Scenes.{Home, Empty, Full, is_out, Scene, shown, scene}
-use Rattle.table_rules.specs.Homes.{seats_of}
+use Rattle.table_rules.specs.Homes.{seats_of, is_waiting}
 use Rattle.table_rules.specs.Running.{Stands, Running}
-use Rattle.table_steps.specs.Claims.{logged}
+use Rattle.table_steps.specs.Claims.{with_step}
 use Rattle.table_steps.specs.Slots.{slot_of, kids_of, IsSeated}
 use Rattle.table_steps.specs.Finishes.{is_of_kids, CanEnd, has_root}
 use Rattle.table_kept.proofs.Entries.{count-without}
 use Rattle.table_kept.proofs.Among.{among}
-use Rattle.table_kept.proofs.Loads.{known-logged}
+use Rattle.table_kept.proofs.Loads.{known-listed}
 use Rattle.table_kept.proofs.Counts.{counts-moved}
 use Rattle.table_kept.proofs.ViewMoves.{views-moved}
 use Rattle.table_kept.proofs.ControlRuns.{place_of, name-live, begun-renewed, control-runs}
@@ -136,6 +137,7 @@ module _ {P E O : Type 0} (cargo : Ghosts P E O) (f : Frame O) (s : table.State 
         kids = λ n child.
             kid-left cargo f s id x v c r at seated end.leave Done u is-put homes_now r.past n child refl refl refl (kid-home n child);
         named = λ none. cc;
+        met = λ _. r.stands.homes.met x (ap is_idle (is-held cargo f s id x v c r at seated end.leave).word) (ap is_waiting (is-held cargo f s id x v c r at seated end.leave).word);
       }
 
   remembers : Remembers cargo f.over.value here id x Done u is-put homes_now r.past moves
@@ -150,9 +152,11 @@ module _ {P E O : Type 0} (cargo : Ghosts P E O) (f : Frame O) (s : table.State 
         start = λ item is. none-left item is;
         fit = λ item is. none-left item is;
         goes_on = λ item is _. none-left item is;
+        rests = λ item is _. none-left item is;
         bound = λ item is. none-left item is;
         ended = λ _ other. absurd (both_ways (is_root f.tree x.node) other root);
         delivered = λ item _ _ is. none-left item is;
+        enough = λ item _ other _. absurd (both_ways (is_root f.tree x.node) other root);
         lot = λ item _ is. none-left item is;
         drawn = λ n waits _ _ _. cc;
       }
@@ -162,7 +166,7 @@ module _ {P E O : Type 0} (cargo : Ghosts P E O) (f : Frame O) (s : table.State 
     i = index f.layout (OfControl x.block x.node)
 
     abbrev mine : View P E
-    mine = logged i n (has_root x v)
+    mine = with_step i n value (has_root x v)
 
     abbrev after : Scene P E
     after = moved here id x Done u is-put homes_now r.past
@@ -191,7 +195,7 @@ module _ {P E O : Type 0} (cargo : Ghosts P E O) (f : Frame O) (s : table.State 
               (λ j z ne there.
               known-moved here id x Done u is-put homes_now r.past moves (λ y. refl) (λ y _. refl) (λ y _. refl) (inl refl) z
               (among f s j z r.sized.seats there) (others-none cargo f s id x v r at end.leave.held end.leave.holds j z ne there))
-              (known-logged after i n (has_root x v) (record {
+              (known-listed after i n value (has_root x v) (record {
                 held = known.held;
                 owed = known.owed;
                 reported = known.reported;
@@ -204,14 +208,14 @@ module _ {P E O : Type 0} (cargo : Ghosts P E O) (f : Frame O) (s : table.State 
           counts = counts-moved here.state after.state s.views id v mine at refl refl r.stands.counts;
         }
 
-    pub root-runs : stamp_of n ≤ stamp_of value → Running cargo f record {
+    pub root-runs : n ≡ slice_index s.words i → Running cargo f record {
       words = set s.words i value;
       homes = shed_homes cargo f s id v c r at seated gone;
       views = set s.views id mine;
     }
-    root-runs low =
+    root-runs was =
         let own = is-held cargo f s id x v c r at seated end.leave in
         control-runs cargo f s id value x Done v r at own.live stamped reads mine u shows-mine
         (shed_homes cargo f s id v c r at seated gone) homes_now r.past (λ j m. refl)
-        (begun-renewed cargo f s x r own.live (ap is_idle own.word)) (record { word = n; steps = refl; low = low })
+        (ap is_done own.word) (begun-renewed cargo f s x r own.live (ap is_idle own.word)) (ap (λ k. entry i k value ∷ v.steps) was)
         (deep-shed gone s.homes c) stands-done

@@ -1,6 +1,6 @@
 -- The store by which a node below the root is finished keeps the rule.
-use Rattle.std.proofs.Common.{◌≡◌, ℕ, ◌≤◌, Bool, true, false, not, ◌&&◌, ◌||◌, ◌==◌, cond, List, set, refl, sym, ap, ◌∙◌, subst, inl, arith}
-use Rattle.std.specs.Prelude.{Option, Some, None, MatchOption}
+use Rattle.std.proofs.Common.{◌≡◌, ℕ, ◌≤◌, Bool, true, false, not, ◌&&◌, ◌||◌, ◌==◌, cond, List, set, refl, sym, ap, ◌∙◌, subst, inl, arith, ◌∷◌}
+use Rattle.std.specs.Prelude.{Option, Some, None, MatchOption, slice_index}
 use Rattle.std.proofs.lemmas.Bool.{and_from, cond-true, cond-false, eq-eqb}
 use mathlib.Core.Option.{some}
 use lib.ListN.{get_elem?}
@@ -9,7 +9,7 @@ use Rattle.life_rules.specs.declared.words.CallbackPhase.TheVariants.{Never, Arm
 use Rattle.life_rules.specs.declared.words.ControlWord.TheVariants.{Done}
 use Rattle.life_rules.specs.declared.event.Name.{Name}
 use Rattle.node_tree.specs.Tree.{is_child, is_root}
-use Rattle.life_rules.specs.Words.{is_armed, is_running, is_under_way, is_idle}
+use Rattle.life_rules.specs.Words.{is_armed, is_running, is_under_way, is_idle, is_done}
 use Rattle.life_rules.specs.Views.{View as PureView, same, beside, gain, lose}
 use Rattle.life_rules.specs.States.{State, phase_at, name_at}
 use Rattle.life_rules.specs.LifeSteps.{may_leave_node, after_finish}
@@ -22,6 +22,7 @@ use Rattle.table_words.specs.Stamps.{stamp_of}
 use Rattle.table_words.specs.Controls.{control_read}
 use Rattle.table_words.specs.Layouts.{OfControl, index}
 use Rattle.atomic_table.specs.Table as table
+use Rattle.listed_steps.specs.Lists.{entry}
 use Rattle.table_rules.specs.declared.cargo.Cargo.{Ghosts}
 use Rattle.table_rules.specs.declared.frame.Frame.{Frame}
 use Rattle.table_rules.specs.declared.view.View.{View}
@@ -31,12 +32,13 @@ use Rattle.table_rules.specs.ShownViews.{shown_view}
 use Rattle.table_rules.specs.Scenes.{Home, Empty, Full, is_out, is_full, Past, Scene, shown, scene}
 use Rattle.table_rules.specs.Notes.{is_still}
 use Rattle.table_rules.specs.Running.{Stands, Running}
-use Rattle.table_steps.specs.Claims.{logged}
+use Rattle.table_rules.specs.Homes.{is_waiting}
+use Rattle.table_steps.specs.Claims.{with_step}
 use Rattle.table_steps.specs.Slots.{slot_of, is_of_family, IsSeated}
 use Rattle.table_steps.specs.Finishes.{is_settled, CanEnd, Completes, owes_report}
 use Rattle.table_kept.proofs.Entries.{count-without}
 use Rattle.table_kept.proofs.Among.{among}
-use Rattle.table_kept.proofs.Loads.{known-logged}
+use Rattle.table_kept.proofs.Loads.{known-listed}
 use Rattle.table_kept.proofs.Counts.{counts-moved}
 use Rattle.table_kept.proofs.ViewMoves.{views-moved}
 use Rattle.table_kept.proofs.ControlRuns.{place_of, place-live, name-live, begun-renewed, control-runs}
@@ -153,6 +155,7 @@ module _ {P E O : Type 0} (cargo : Ghosts P E O) (f : Frame O) (s : table.State 
             (gain-other x (beside x n) (now.view id).reports
             (λ e. parent-differs f.tree r.stands.sound.tree x.node n child (λ k. (e k).node))) (kid-home n child);
         named = λ none. cc;
+        met = λ _. r.stands.homes.met x (ap is_idle (is-held cargo f s id x v c r at seated end.leave).word) (ap is_waiting (is-held cargo f s id x v c r at seated end.leave).word);
       }
 
   remembers : Remembers cargo f.over.value here id x Done u is-put homes_now past moves
@@ -172,11 +175,16 @@ module _ {P E O : Type 0} (cargo : Ghosts P E O) (f : Frame O) (s : table.State 
         start = λ item is. ap cargo.start (sym (item-is item is)) ∙ can.start ∙ start-so cargo f s id x v r at e holds;
         fit = λ item is. subst (λ i. cargo.fits i x.node (nearest_is_requested now x)) (item-is item is) fits-now;
         goes_on = λ item is going. cc;
+        rests = λ item _ none. cc;
         bound = λ item is.
             subst (λ i. cargo.least i ≤ r.past.named x) (item-is item is)
             (subst (λ n. cargo.least can.item ≤ n) (named-so cargo f s id x v r at e holds) (end.bound can.item can.home));
         ended = λ _ _. (can.item, delivered-here, can.ends, fits-now);
         delivered = λ item _ _ is. delivered-here ∙ ap Some (item-is item is);
+        enough = λ item _ _ is.
+            let same : can.item ≡ item = (let both : Some can.item ≡ Some item = sym delivered-here ∙ is in cc) in
+            subst (λ i. cargo.least i ≤ r.past.named x) same
+            (subst (λ n. cargo.least can.item ≤ n) (named-so cargo f s id x v r at e holds) (end.bound can.item can.home));
         lot = λ item waits _. cc;
         drawn = λ n waits _ _ _. cc;
       }
@@ -186,7 +194,7 @@ module _ {P E O : Type 0} (cargo : Ghosts P E O) (f : Frame O) (s : table.State 
     i = index f.layout (OfControl x.block x.node)
 
     abbrev mine : View P E
-    mine = logged i n (owes_report x (cargo.start can.item) can.item v)
+    mine = with_step i n value (owes_report x (cargo.start can.item) can.item v)
 
     abbrev after : Scene P E
     after = moved here id x Done u is-put homes_now past
@@ -217,7 +225,7 @@ module _ {P E O : Type 0} (cargo : Ghosts P E O) (f : Frame O) (s : table.State 
               (λ j z ne there.
               known-moved here id x Done u is-put homes_now past moves (λ y. refl) (λ y _. refl) delivered-other (inl refl) z
               (among f s j z r.sized.seats there) (others-none cargo f s id x v r at e holds j z ne there))
-              (known-logged after i n (owes_report x (cargo.start can.item) can.item v) (record {
+              (known-listed after i n value (owes_report x (cargo.start can.item) can.item v) (record {
                 held = known.held;
                 owed = known.owed;
                 reported = ((can.start ∙ start-so cargo f s id x v r at e holds, delivered-here), known.reported);
@@ -230,14 +238,14 @@ module _ {P E O : Type 0} (cargo : Ghosts P E O) (f : Frame O) (s : table.State 
           counts = counts-moved here.state after.state s.views id v mine at refl refl r.stands.counts;
         }
 
-    pub finish-runs : stamp_of n ≤ stamp_of value → Running cargo f record {
+    pub finish-runs : n ≡ slice_index s.words i → Running cargo f record {
       words = set s.words i value;
       homes = shed_homes cargo f s id v c r at seated gone;
       views = set s.views id mine;
     }
-    finish-runs low =
+    finish-runs was =
         let own = is-held cargo f s id x v c r at seated end.leave in
         control-runs cargo f s id value x Done v r at own.live stamped reads mine u shows-mine
         (shed_homes cargo f s id v c r at seated gone) homes_now past (λ j m. refl)
-        (begun-renewed cargo f s x r own.live (ap is_idle own.word)) (record { word = n; steps = refl; low = low })
+        (ap is_done own.word) (begun-renewed cargo f s x r own.live (ap is_idle own.word)) (ap (λ k. entry i k value ∷ v.steps) was)
         (deep-shed gone s.homes c) stands-done

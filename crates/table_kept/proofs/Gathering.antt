@@ -1,5 +1,6 @@
 -- All hands are joined to one.
-use Rattle.std.proofs.Common.{◌≡◌, ℕ, zero, suc, ◌+◌, ◌≤◌, true, false, List, [], ◌∷◌, ◌++◌, length, refl, sym, ap, ◌∙◌, subst, arith, length-append}
+use Rattle.std.proofs.Common.{◌≡◌, ℕ, zero, suc, ◌+◌, ◌≤◌, true, false, List, [], ◌∷◌, ◌++◌, length, refl, sym, ap, ◌∙◌, subst, arith, length-append, append_assoc}
+use Rattle.std.proofs.lemmas.List.{append-nil}
 use Rattle.std.specs.Prelude.{Option}
 use Rattle.std.proofs.lemmas.Bool.{both_ways}
 use mathlib.Core.Option.{some, some-injective, some-ne-none}
@@ -12,7 +13,8 @@ use Rattle.table_rules.specs.Named.{Each}
 use Rattle.table_rules.specs.Counts.{over_all, CountsItself}
 use Rattle.table_steps.specs.Slots.{has_slot}
 use Rattle.table_steps.specs.Views.{Board, knows, IsHandOf}
-use Rattle.table_steps.specs.Closings.{HasNothing, AreAllBack, claimed_by, released_by, gathered, IsGathering}
+use Rattle.table_rules.specs.Traces.{all_steps}
+use Rattle.table_steps.specs.Closings.{HasNothing, AreAllBack, claimed_by, released_by, steps_of, gathered, IsGathering}
 use Rattle.table_kept.proofs.Counts.{over-more}
 
 -- a view that gives no slot
@@ -38,6 +40,14 @@ module _ {A : Type 0} where
   each-last Q [] a all = (tt, all.0)
   each-last Q (x ∷ xs) a all = let rest = each-last Q xs a all.1 in ((all.0, rest.0), rest.1)
 
+-- the steps of the last hand come first
+steps-last : {P E : Type 0} (left : List (Seat (Option P) (View P E))) (hand : Seat (Option P) (View P E)) →
+    steps_of (left ++ hand ∷ []) ≡ all_steps (knows hand) ++ steps_of left
+steps-last [] hand = sym (append-nil (all_steps (knows hand)))
+steps-last (x ∷ xs) hand =
+    ap (λ l. l ++ all_steps (knows x)) (steps-last xs hand)
+    ∙ append_assoc (all_steps (knows hand)) (steps_of xs) (all_steps (knows x))
+
 module _ {P E O : Type 0} (board : Board O) (all : List (Seat (Option P) (View P E))) where
   abbrev IsBack : Seat (Option P) (View P E) → Type 0
   IsBack hand = IsHandOf board hand × HasNothing (knows hand)
@@ -60,6 +70,7 @@ module _ {P E O : Type 0} (board : Board O) (all : List (Seat (Option P) (View P
         claimed = omega (arith, claims, more);
         released = omega (arith, releases, gone);
         hands = omega (arith, itself, long, count);
+        steps = sym (ap steps_of is ∙ steps-last left hand);
         each = last.0;
       }
 
@@ -89,6 +100,11 @@ module _ {P E O : Type 0} (board : Board O) (all : List (Seat (Option P) (View P
         claimed = omega (arith, claims, more, claimed, old_claimed);
         released = omega (arith, releases, gone, released, old_released);
         hands = omega (arith, itself, long, count, hands, old_hands);
+        steps = ap (λ z. all_steps z ++ steps_of left) me
+            ∙ ap (λ l. l ++ steps_of left) (sym (append_assoc (knows hand).steps (knows hand).joined (all_steps (knows next))))
+            ∙ append_assoc (all_steps (knows hand)) (all_steps (knows next)) (steps_of left)
+            ∙ ap (λ l. all_steps (knows hand) ++ l) (sym (ap steps_of is ∙ steps-last left next))
+            ∙ old.steps;
         each = last.0;
       }
 
@@ -100,15 +116,33 @@ module _ {P E O : Type 0} (board : Board O) (all : List (Seat (Option P) (View P
       let last = (each-last IsBack left next (subst (Each IsBack) is old.each)).1 in
       (last.0.table_is, carries-none board next last.0 last.1)
 
+-- a view stands for no more hands than all
+view-most : {P E : Type 0} (w : View P E) (vs : List (View P E)) (j : ℕ) → get_elem? vs j ≡ some w →
+    w.hands ≤ over_all (λ (z : View P E). z.hands) vs
+view-most w [] j at = absurd (some-ne-none w (sym at))
+view-most w (x ∷ xs) zero at =
+    let same : x.hands ≡ w.hands = ap (λ z. z.hands) (some-injective x w at) in omega (arith, same)
+view-most w (x ∷ xs) (suc j) at = let most = view-most w xs j at in omega (arith, most)
+
 -- where one view stands for all hands, no other counts anything
 module _ {P E : Type 0} (v : View P E) where
   abbrev hands_of : View P E → ℕ
   hands_of z = z.hands
 
-  member-most : (vs : List (View P E)) (id : ℕ) → get_elem? vs id ≡ some v → v.hands ≤ over_all hands_of vs
-  member-most [] id at = absurd (some-ne-none v (sym at))
-  member-most (x ∷ xs) zero at = let same : x.hands ≡ v.hands = ap hands_of (some-injective x v at) in omega (arith, same)
-  member-most (x ∷ xs) (suc id) at = let most = member-most xs id at in omega (arith, most)
+  -- and no other stands for any
+  pub only : (vs : List (View P E)) (id j : ℕ) (w : View P E) → get_elem? vs id ≡ some v → get_elem? vs j ≡ some w →
+      over_all hands_of vs ≤ v.hands → 1 ≤ w.hands → w ≡ v
+  only [] id j w at there few itself = absurd (some-ne-none v (sym at))
+  only (x ∷ xs) zero zero w at there few itself = some-injective w v (sym there ∙ at)
+  only (x ∷ xs) zero (suc j) w at there few itself =
+      let same : x.hands ≡ v.hands = ap hands_of (some-injective x v at) in
+      let most = view-most w xs j there in
+      absurd (omega (arith, same, most, few, itself))
+  only (x ∷ xs) (suc id) zero w at there few itself =
+      let same : x.hands ≡ w.hands = ap hands_of (some-injective x w there) in
+      let most = view-most v xs id at in
+      absurd (omega (arith, same, most, few, itself))
+  only (x ∷ xs) (suc id) (suc j) w at there few itself = only xs id j w at there (omega (arith, few)) itself
 
   spent-none : (f : View P E → ℕ) → ((z : View P E) → CountsItself z → z.hands ≡ 0 → f z ≡ 0) → (vs : List (View P E)) →
       over_all hands_of vs ≤ 0 → Each CountsItself vs → over_all f vs ≡ 0
@@ -128,7 +162,7 @@ module _ {P E : Type 0} (v : View P E) where
       let rest = spent-none f none xs (omega (arith, few, same)) all.1 in
       omega (arith, here, rest)
   alone f none (x ∷ xs) (suc id) at few all =
-      let most = member-most xs id at in
+      let most = view-most v xs id at in
       let here : f x ≡ 0 = none x all.0 (omega (arith, few, most)) in
       let rest = alone f none xs id at (omega (arith, few)) all.1 in
       omega (arith, here, rest)

@@ -57,7 +57,7 @@ module _ {P E : Type 0} (vs : List (View P E)) (id other : ℕ) (v w : View P E)
   risen-joined l words all =
       same-risen l once other w (spent w) there words refl (same-risen l vs id v (gathered v w) at words refl all)
 
-  known-same : (t : Scene P E) (a b : View P E) → b ≡ record a { claimed = b.claimed; released = b.released; hands = b.hands } →
+  known-same : (t : Scene P E) (a b : View P E) → b ≡ record a { claimed = b.claimed; released = b.released; hands = b.hands; joined = b.joined } →
       IsKnown t a → IsKnown t b
   known-same t a b same k =
       subst (IsKnown t) (sym same)

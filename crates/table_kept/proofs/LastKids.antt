@@ -2,14 +2,14 @@
 use Rattle.std.proofs.Common.{◌≡◌, ℕ, ◌*◌, ◌≤◌, Bool, true, false, not, ◌&&◌, ◌||◌, ◌==◌, ◌∷◌, Option, Some, None, refl, sym, ap, ◌∙◌, subst, ⊎_elim, arith}
 use Rattle.std.specs.Prelude.{nat_le, is_some}
 use Rattle.std.specs.Option.{option_map_or}
-use Rattle.std.proofs.lemmas.Bool.{both_ways, false_from_ne_true, leb-true, leb-false, cases_eq, cond-true, cond-false}
+use Rattle.std.proofs.lemmas.Bool.{both_ways, false_from_ne_true, leb-true, leb-false, cases_eq, cond-true}
 use mathlib.Core.Option.{some}
 use lib.ListN.{get_elem?}
 use Rattle.life_rules.specs.declared.words.ControlWord.{ControlWord}
 use Rattle.life_rules.specs.declared.words.ControlWord.TheVariants.{Idle, Busy, ReadyLoop, ReadyPool, Parked, Done}
 use Rattle.life_rules.specs.declared.event.Name.{Name}
 use Rattle.life_rules.specs.declared.event.SourceRef.TheVariants.{Node}
-use Rattle.node_tree.specs.Tree.{is_child, is_root, parent_of, has_source, is_unstoppable, given_by, nearest, TheNode, Nowhere}
+use Rattle.node_tree.specs.Tree.{is_child, is_root, parent_of, has_source, is_unstoppable, TheNode}
 use Rattle.life_rules.specs.Words.{is_idle, is_done, is_held, is_under_way, pending}
 use Rattle.common_lemmas.specs.Sums.{one}
 use Rattle.life_rules.specs.Views.{beside}
@@ -29,11 +29,13 @@ use Rattle.table_rules.specs.declared.cargo.Cargo.{Ghosts}
 use Rattle.table_rules.specs.declared.frame.Frame.{Frame}
 use Rattle.table_rules.specs.declared.view.View.{View}
 use Rattle.table_rules.specs.Scenes.{Full, is_out, is_full, Scene, shown, scene}
-use Rattle.table_rules.specs.Homes.{is_waiting, seats_of}
+use Rattle.table_rules.specs.Homes.{is_waiting, seats_of, done_below}
 use Rattle.table_rules.specs.Notes.{children_are_requested}
 use Rattle.table_rules.specs.Running.{Running}
 use Rattle.table_steps.specs.Reports.{CanReport}
+use Rattle.table_kept.proofs.Hearing.{children-pass, children-sheltered}
 use Rattle.table_kept.proofs.LaidSlots.{content_of, content-full, content-some}
+use Rattle.table_kept.proofs.DoneBelow.{done-more}
 use Rattle.table_kept.proofs.Moving.{some-seat, no-seat}
 use Rattle.table_kept.proofs.Reporting.{above, below, child, owes-now, waits, word-is, above-live}
 
@@ -189,6 +191,12 @@ module _ {P E O : Type 0} (cargo : Ghosts P E O) (f : Frame O) (s : table.State 
       omega (arith, a, b, d, e)))
       ∙ r.stands.homes.named x waits-before
 
+  -- and as many of the children are done
+  pub full-kids-done : total (λ n. one (is_child f.tree x.node n) * one (is_some (content n))) (size now) ≤ done_below now x
+  full-kids-done =
+      done-more (is_child f.tree x.node) (λ n. is_some (content n)) (λ n. is_done (control_at now (beside x n))) (size now)
+      (λ n own full. full-done n own (sym (content-some (here.home x.block n)) ∙ full))
+
   -- what lies in a child's home
   pub record IsKid (n : ℕ) (item : P) : Type 0 where
     pub full : here.home x.block n ≡ Full item
@@ -251,18 +259,8 @@ module _ {P E O : Type 0} (cargo : Ghosts P E O) (f : Frame O) (s : table.State 
       (sym (cond-true (has_source f.tree x.node) (TheNode x.node) _ has)) ∙ kids)
       (λ none.
       either (is_unstoppable f.tree x.node)
-      (λ deaf.
-      let same : given_by f.tree x.node (nearest f.tree x.node) ≡ Nowhere =
-      cond-false (has_source f.tree x.node) (TheNode x.node) _ none
-      ∙ cond-true (is_unstoppable f.tree x.node) Nowhere (nearest f.tree x.node) deaf in
-      absurd (both_ways (children_are_requested now x)
-      (ap (λ near. option_map_or (λ source. (bits_at now source).requested) (source_for x near) false) same) kids))
-      (λ hears.
-      let same : given_by f.tree x.node (nearest f.tree x.node) ≡ nearest f.tree x.node =
-      cond-false (has_source f.tree x.node) (TheNode x.node) _ none
-      ∙ cond-false (is_unstoppable f.tree x.node) Nowhere (nearest f.tree x.node) hears in
-      absurd (both_ways (children_are_requested now x)
-      (ap (λ near. option_map_or (λ source. (bits_at now source).requested) (source_for x near) false) same ∙ calm) kids)))
+      (λ deaf. absurd (both_ways (children_are_requested now x) (children-sheltered now x none deaf) kids))
+      (λ hears. absurd (both_ways (children_are_requested now x) (children-pass now x none hears ∙ calm) kids)))
 
   -- then a child failed that saw no request, and its item lies in its home where all are full
   pub kid-failed : children_are_requested now x ≡ true → nearest_is_requested now x ≡ false →

@@ -6,12 +6,16 @@ pub mod Splitting
 pub mod Stamping
 pub mod Codes
 pub mod FreshHands
+pub mod AsOpened
 pub mod PoppedHands
 pub mod Entries
 pub mod Counts
 pub mod ViewMoves
 pub mod Among
 pub mod Loads
+pub mod AnyOf
+pub mod Tracing
+pub mod Listing
 pub mod Claiming
 pub mod OpenBlocks
 pub mod ClaimingViews
@@ -24,6 +28,7 @@ pub mod ControlRuns
 pub mod KidSlots
 pub mod SlotsOut
 pub mod OwedLive
+pub mod Unnoted
 pub mod Remembering
 pub mod RememberTold
 pub mod RememberRuns
@@ -35,6 +40,8 @@ pub mod Beginning
 pub mod BeginItems
 pub mod BeginningViews
 pub mod SeenStands
+pub mod PartsLive
+pub mod Hearing
 pub mod BeginSeats
 pub mod Hands
 pub mod Claims
@@ -44,6 +51,7 @@ pub mod Renewing
 pub mod BeginTold
 pub mod WordsLive
 pub mod HeldNow
+pub mod DoneBelow
 pub mod Moving
 pub mod MovingSeats
 pub mod MovingHomes
@@ -66,6 +74,7 @@ pub mod Swapping
 pub mod Noting
 pub mod ReadAllowed
 pub mod Joining
+pub mod TracedHands
 pub mod Gathering
 pub mod Closings
 pub mod Sights
@@ -97,6 +106,7 @@ pub mod CallbackRuns
 pub mod ArmRuns
 pub mod AsideSteps
 pub mod Learning
+pub mod ScopeCallbacks
 pub mod WithdrawRuns
 pub mod WithdrawAllowed
 pub mod Scans

@@ -1,10 +1,10 @@
 -- A load changes nothing but the list of the hand's steps.
-use Rattle.std.proofs.Common.{◌≡◌, ◌≤◌, ℕ, List, ◌∷◌, length, set, refl, sym, ap, ◌∙◌, subst, length-set}
+use Rattle.std.proofs.Common.{◌≡◌, ◌≤◌, ℕ, List, length, set, refl, sym, ap, subst, length-set}
 use Rattle.std.specs.Prelude.{Option, slice_index}
 use mathlib.Core.Option.{some}
 use lib.ListN.{get_elem?}
 use lib.Seq.{set-get_or}
-use Rattle.atomic_table.specs.Table.{Allows, keeps}
+use Rattle.atomic_table.specs.Table.{keeps}
 use Rattle.atomic_table.specs.Table as table
 use Rattle.table_rules.specs.declared.cargo.Cargo.{Ghosts}
 use Rattle.table_rules.specs.declared.frame.Frame.{Frame}
@@ -16,14 +16,15 @@ use Rattle.table_rules.specs.Notes.{IsKnown, ViewsStand}
 use Rattle.table_rules.specs.Counts.{AreCounted}
 use Rattle.table_rules.specs.Grown.{HaveRisen}
 use Rattle.table_rules.specs.Running.{Stands, Running}
-use Rattle.table_steps.specs.Claims.{logged, LeftAt, Seated}
+use Rattle.table_steps.specs.Claims.{with_step, logged}
+use Rattle.table_kept.proofs.Listing.{AllowsListed, allows-listed, lists-one}
 use Rattle.table_kept.proofs.Stamping.{looked-risen}
 use Rattle.table_kept.proofs.Counts.{counts-moved}
 use Rattle.table_kept.proofs.ViewMoves.{view-kept, views-moved}
 
 -- what a hand knows it knows after a step was listed
-pub known-logged : {P E : Type 0} (t : Scene P E) (i n : ℕ) (v : View P E) → IsKnown t v → IsKnown t (logged i n v)
-known-logged t i n v k =
+pub known-listed : {P E : Type 0} (t : Scene P E) (i n left : ℕ) (v : View P E) → IsKnown t v → IsKnown t (with_step i n left v)
+known-listed t i n left v k =
     record {
       held = k.held;
       owed = k.owed;
@@ -33,6 +34,9 @@ known-logged t i n v k =
       seen_after = k.seen_after;
       seen = k.seen;
     }
+
+pub known-logged : {P E : Type 0} (t : Scene P E) (i n : ℕ) (v : View P E) → IsKnown t v → IsKnown t (logged i n v)
+known-logged t i n v k = known-listed t i n n v k
 
 -- other views may stand for these, where they show the same and what is said of them is so
 pub relisted : {P E O : Type 0} (cargo : Ghosts P E O) (f : Frame O) (s : table.State (Option P) (View P E)) (vs : List (View P E)) →
@@ -95,15 +99,14 @@ looks_keep cargo f s id i v r at =
     (looked-risen f.layout s.views id v w at s.words i refl r.stamped.rises))
 
 pub looks_allowed : {P E O : Type 0} (cargo : Ghosts P E O) (f : Frame O) (slots id i : ℕ) (v : View P E) (c : List (ℕ × Option P)) →
-    Allows (Running cargo f) slots id (v, c) i (λ n. n) (λ n m. m ≡ (logged i n v, c))
-looks_allowed cargo f slots id i v c s r deep at small = (
-  logged i (slice_index s.words i) v,
-  keeps,
-  tt,
-  looks_keep cargo f s id i v r at,
-  refl,
-)
-
--- the same step by another name of its index
-pub left-under : {P E : Type 0} (i j word : ℕ) (m m' : Seated P E) → i ≡ j → LeftAt i word m m' → LeftAt j word m m'
-left-under i j word m m' same left = left ∙ ap (λ k. record { index = k; word = word } ∷ m.0.steps) same
+    AllowsListed cargo f slots id (v, c) i (λ n. n) (λ n m. m ≡ (logged i n v, c))
+looks_allowed cargo f slots id i v c =
+    allows-listed cargo f slots id (v, c) i (λ n. n) (λ n m. m ≡ (logged i n v, c))
+    (λ n m told. lists-one i n n (v, c) m v (ap (λ z. z.0) told) refl refl refl refl)
+    (λ s r deep at small. (
+      logged i (slice_index s.words i) v,
+      keeps,
+      tt,
+      looks_keep cargo f s id i v r at,
+      refl,
+    ))

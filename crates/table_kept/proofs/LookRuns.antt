@@ -1,6 +1,7 @@
 -- What a look at a stop source owes and tells.
-use Rattle.std.proofs.Common.{◌≡◌, ℕ, ◌≤◌, true, ◌==◌, List, ◌∷◌, set, refl, sym, subst, length-set}
+use Rattle.std.proofs.Common.{◌≡◌, ℕ, ◌≤◌, true, false, ◌==◌, List, ◌∷◌, set, refl, sym, subst, length-set, ap, ◌∙◌}
 use Rattle.std.specs.Prelude.{Option, Some, None, slice_index}
+use Rattle.std.specs.Option.{option_map_or}
 use Rattle.std.proofs.lemmas.Bool.{and_parts, cond-true, cond-false, eqb-true}
 use mathlib.Core.Option.{some}
 use lib.ListN.{get_elem?}
@@ -9,7 +10,10 @@ use Rattle.node_tree.specs.declared.node.TreeNode.{TreeNode}
 use Rattle.life_rules.specs.declared.event.Name.{Name}
 use Rattle.life_rules.specs.declared.event.SourceRef.{SourceRef}
 use Rattle.life_rules.specs.declared.event.SourceRef.TheVariants.{Scope, Node}
-use Rattle.life_rules.specs.Views.{View as PureView, beside}
+use Rattle.node_tree.specs.Tree.{nearest, given_by}
+use Rattle.life_rules.specs.Views.{View as PureView}
+use Rattle.life_rules.specs.States.{bits_at, source_for}
+use Rattle.life_rules.specs.Callbacks.{nearest_is_requested}
 use Rattle.common_lemmas.proofs.Bool.{either}
 use Rattle.stop_kept.proofs.Notes.{plain}
 use Rattle.table_words.specs.declared.layout.Layout.{Layout}
@@ -23,20 +27,20 @@ use Rattle.table_rules.specs.declared.frame.Frame.{Frame}
 use Rattle.table_rules.specs.declared.view.View.{View}
 use Rattle.table_rules.specs.declared.view.Held.{Held}
 use Rattle.table_rules.specs.Named.{Each}
-use Rattle.table_rules.specs.Scenes.{Scene, scene}
+use Rattle.table_rules.specs.Scenes.{Scene, shown, scene}
 use Rattle.table_rules.specs.Homes.{HomesStand}
-use Rattle.table_rules.specs.Notes.{IsPast, IsPastSource, IsHeldSo, IsKnown}
+use Rattle.table_rules.specs.Notes.{IsPast, IsPastSource, IsHeldSo, IsKnown, children_are_requested}
 use Rattle.table_rules.specs.Running.{Stands, Running}
 use Rattle.table_steps.specs.Claims.{Seated}
 use Rattle.table_steps.specs.Slots.{IsSeated}
-use Rattle.table_steps.specs.Sights.{spot_of, says_requested, seen_after_now, unlooked_now, looks_at, LooksAt, MayLookAfter, StillAsked}
-use Rattle.table_kept.proofs.Entries.{each-map, each-has}
+use Rattle.table_steps.specs.Sights.{spot_of, says_requested, seen_after_now, unlooked_now, looks_at, LooksAt, MayLookAfter, StillAsked, AgreesWithTold, sees}
+use Rattle.table_kept.proofs.Listing.{AllowsListed, allows-listed, lists-one}
+use Rattle.table_kept.proofs.Entries.{each-map, each-has, found, each-found}
 use Rattle.table_kept.proofs.Stamping.{looked-risen}
 use Rattle.table_kept.proofs.Counts.{counts-moved}
 use Rattle.table_kept.proofs.ViewMoves.{views-moved}
 use Rattle.table_kept.proofs.Sights.{each-but}
-use Rattle.table_kept.proofs.HeldNow.{held}
-use Rattle.table_kept.proofs.SeenStands.{seen-anywhere, seen-at, beside-present}
+use Rattle.table_kept.proofs.PartsLive.{seen-stays}
 use Rattle.table_kept.proofs.Looking as looking
 
 module _ {P E O : Type 0} (cargo : Ghosts P E O) (f : Frame O) (s : table.State (Option P) (View P E)) (source : SourceRef) (r : Running cargo f s) (spot : IsSpot f.layout (spot_of source)) (id : ℕ) (after : Option Name) (v : View P E) (at : get_elem? s.views id ≡ some v) (may : MayLookAfter f.tree v source after) where
@@ -77,6 +81,7 @@ module _ {P E O : Type 0} (cargo : Ghosts P E O) (f : Frame O) (s : table.State 
         reported = old.reported;
         resting = old.resting;
         named = old.named;
+        met = old.met;
       } in
       let moved : HomesStand (beside_views (plain_views views)) =
       subst (λ w. HomesStand (beside_views w))
@@ -90,6 +95,7 @@ module _ {P E O : Type 0} (cargo : Ghosts P E O) (f : Frame O) (s : table.State 
         reported = moved.reported;
         resting = moved.resting;
         named = moved.named;
+        met = moved.met;
       }
 
   held-still : (e : Held E) → IsHeldSo before e → IsHeldSo looked e
@@ -163,9 +169,11 @@ module _ {P E O : Type 0} (cargo : Ghosts P E O) (f : Frame O) (s : table.State 
         items = record {
           fit = r.stands.items.fit;
           goes_on = r.stands.items.goes_on;
+          rests = r.stands.items.rests;
           bound = r.stands.items.bound;
           ended = r.stands.items.ended;
           delivered = r.stands.items.delivered;
+          enough = r.stands.items.enough;
           failures = r.stands.items.failures;
         };
         lots = record { own = r.stands.lots.own; below = r.stands.lots.below };
@@ -203,36 +211,57 @@ module _ {P E O : Type 0} (cargo : Ghosts P E O) (f : Frame O) (s : table.State 
 still-asked : {P E O : Type 0} (cargo : Ghosts P E O) (f : Frame O) (s : table.State (Option P) (View P E)) (source : SourceRef) → Running cargo f s →
     IsSpot f.layout (spot_of source) → (id : ℕ) (v : View P E) → get_elem? s.views id ≡ some v →
     StillAsked v source (says_requested source (slice_index s.words (index f.layout (spot_of source))))
-still-asked cargo f s Scope r spot id v at seen alive =
-    looking.stands-read cargo f s Scope r spot (seen-anywhere cargo f s id v r at seen)
-still-asked cargo f s (Node x) r spot id v at seen alive =
-    let live = (held cargo f s id (beside x alive.0) v r at alive.1 alive.2).live in
-    looking.stands-read cargo f s (Node x) r spot
-    (seen-at cargo f s id v r at (beside x alive.0) live (Node x) (beside-present cargo f s id v r at (beside x alive.0) live x.node) seen)
+still-asked cargo f s source r spot id v at seen alive =
+    looking.stands-read cargo f s source r spot (seen-stays cargo f s id v r at source seen alive)
+
+-- and so does one of which it was told when it came to hold a node
+agrees-told : {P E O : Type 0} (cargo : Ghosts P E O) (f : Frame O) (s : table.State (Option P) (View P E)) (source : SourceRef) → Running cargo f s →
+    IsSpot f.layout (spot_of source) → (id : ℕ) (v : View P E) → get_elem? s.views id ≡ some v →
+    AgreesWithTold f.tree v source (says_requested source (slice_index s.words (index f.layout (spot_of source))))
+agrees-told cargo f s source r spot id v at x e holds =
+    let so : IsHeldSo (scene f s r.past) e =
+    each-found (IsHeldSo (scene f s r.past)) (λ e. e.name) v.held x e holds (r.stands.views.each id v at).held in
+    let name = (found (λ e. e.name) v.held x e holds).name_is in
+    let stands : (near : Option SourceRef) → near ≡ Some source →
+    option_map_or (λ t. (bits_at (shown f s) t).requested) near false ≡ true →
+    says_requested source (slice_index s.words (index f.layout (spot_of source))) ≡ true =
+    λ near is asked.
+    looking.stands-read cargo f s source r spot
+    (ap (λ o. option_map_or (λ t. (bits_at (shown f s) t).requested) o false) (sym is) ∙ asked) in
+    record {
+      told = λ near told.
+          stands (source_for x (nearest f.tree x.node)) near
+          (subst (λ z. nearest_is_requested (shown f s) z ≡ true) name (so.told told));
+      told_children = λ near told.
+          stands (source_for x (given_by f.tree x.node (nearest f.tree x.node))) near
+          (subst (λ z. children_are_requested (shown f s) z ≡ true) name (so.told_children told));
+    }
 
 -- what the load owes
 pub look_allowed : {P E O : Type 0} (cargo : Ghosts P E O) (f : Frame O) (slots id : ℕ) (source : SourceRef) (after : Option Name) (m : Seated P E) →
     IsSpot f.layout (spot_of source) → MayLookAfter f.tree m.0 source after →
     Allows (Running cargo f) slots id m (index f.layout (spot_of source)) (λ n. n)
-    (λ n m'. LooksAt source after (index f.layout (spot_of source)) n m m')
+    (λ n m'. LooksAt f.tree source after (index f.layout (spot_of source)) n m m')
 look_allowed cargo f slots id source after m spot may s r deep at small = (
   looking.mine cargo f s source r spot id after m.0 at may,
   keeps,
   tt,
   look-keeps cargo f s source r spot id after m.0 at may,
-  (refl, still-asked cargo f s source r spot id m.0 at),
+  (refl, still-asked cargo f s source r spot id m.0 at, agrees-told cargo f s source r spot id m.0 at),
 )
 
 -- the same by the frame that the table shows
-pub look-at : {P E O : Type 0} (cargo : Ghosts P E O) (board f : Frame O) (slots id i : ℕ) (source t : SourceRef) (after a : Option Name) (m : Seated P E) →
-    board ≡ f → i ≡ index board.layout (spot_of source) → t ≡ source → a ≡ after → IsSpot board.layout (spot_of source) →
+pub look-at : {P E O : Type 0} (cargo : Ghosts P E O) (board f : Frame O) (slots id i : ℕ) (tree : List TreeNode) (source t : SourceRef) (after a : Option Name) (m : Seated P E) →
+    board ≡ f → tree ≡ board.tree → i ≡ index board.layout (spot_of source) → t ≡ source → a ≡ after → IsSpot board.layout (spot_of source) →
     MayLookAfter board.tree m.0 source after →
-    Allows (Running cargo f) slots id m i (λ n. n) (λ n m'. LooksAt t a i n m m')
-look-at cargo board f slots id i source t after a m same i_is t_is a_is spot may =
-    subst (λ z. Allows (Running cargo z) slots id m i (λ n. n) (λ n m'. LooksAt t a i n m m')) same
-    (subst (λ (z : ℕ × (SourceRef × Option Name)). Allows (Running cargo board) slots id m z.0 (λ n. n) (λ n m'. LooksAt z.1.0 z.1.1 z.0 n m m'))
-    (λ k. (sym i_is k, (sym t_is k, sym a_is k)))
-    (look_allowed cargo board slots id source after m spot may))
+    AllowsListed cargo f slots id m i (λ n. n) (λ n m'. LooksAt tree t a i n m m')
+look-at cargo board f slots id i tree source t after a m same tree_is i_is t_is a_is spot may =
+    allows-listed cargo f slots id m i (λ n. n) (λ n m'. LooksAt tree t a i n m m')
+    (λ n m' told. lists-one i n n m m' (sees t a (says_requested t n) m.0) (ap (λ z. z.0) told.0) refl refl refl refl)
+    (subst (λ z. Allows (Running cargo z) slots id m i (λ n. n) (λ n m'. LooksAt tree t a i n m m')) same
+    (subst (λ (z : ℕ × List TreeNode × SourceRef × Option Name). Allows (Running cargo board) slots id m z.0 (λ n. n) (λ n m'. LooksAt z.1 z.2 z.3 z.0 n m m'))
+    (λ k. (sym i_is k, sym tree_is k, sym t_is k, sym a_is k))
+    (look_allowed cargo board slots id source after m spot may)))
 
 -- the hand still carries each slot once
 pub look-seated : {P E : Type 0} (tree : List TreeNode) (l : Layout) (source : SourceRef) (after : Option Name) (i n : ℕ) (m : Seated P E) →

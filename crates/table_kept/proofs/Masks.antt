@@ -2,13 +2,15 @@
 use Rattle.std.proofs.Common.{◌≡◌, ℕ, ◌+◌, ◌-◌, ◌*◌, ◌/◌, ◌%◌, ◌^◌, ◌≤◌, true, ◌==◌, refl, ap, ◌∙◌, arith, max, ◌<◌, Bool, false, ◌≢◌, inl, inr, sym}
 use Rattle.std.specs.Prelude.{bit_or, Result, Ok, Err, MatchResult}
 use Rattle.std.specs.Int.Bits.{or_zero_r}
-use Rattle.std.proofs.lemmas.Bool.{eq-eqb, cond-true, cond-false, both_ways, eqb-true, cases_eq}
+use Rattle.std.proofs.lemmas.Bool.{eq-eqb, ne_eqb, cond-true, cond-false, both_ways, eqb-true, cases_eq}
 use Rattle.std.proofs.lemmas.Nat.{or_mod, or_shr}
 use lib.Bits.{or_step}
+use prog.Atomic as atomic
 use Rattle.common_lemmas.proofs.Bool.{either}
 use Rattle.life_rules.specs.declared.scope.ScopeWord.{ScopeWord}
 use Rattle.table_words.specs.Stamps.{stamp_of, code_of, bit}
 use Rattle.table_words.specs.ScopeNumbers.{scope_read, scope_written}
+use Rattle.table_steps.specs.ScopeMoves.{as_joined}
 
 -- the number with its lowest, its second or its third bit set
 pub or-one : (s : ℕ) → bit_or s 1 ≡ s / 2 * 2 + 1
@@ -67,6 +69,19 @@ pub seal-cause : (w : ℕ) (expected : ScopeWord) → w < 2 ^ 36 → (answer : R
     MatchResult answer (λ _. w ≡ scope_written expected) (λ read. (read ≢ expected) × (read ≡ scope_read w))
 seal-cause w expected narrow (Ok done) is = is
 seal-cause w expected narrow (Err read) is = ((λ same. says-other w expected narrow is.0 (sym is.1 ∙ same)), is.1)
+
+-- and what the exchange left says that the scope is joined, or is what it found
+pub seal-left : (w old new : ℕ) (expected : ScopeWord) → old ≡ scope_written expected → scope_read new ≡ as_joined expected → w < 2 ^ 36 →
+    (answer : Result (Unit {0}) ScopeWord) → MatchResult answer (λ _. w ≡ old) (λ read. (w ≢ old) × (read ≡ scope_read w)) →
+    MatchResult answer (λ _. (w ≡ scope_written expected) × (scope_read (atomic.either (w == old) new w) ≡ as_joined expected))
+    (λ read. (read ≢ expected) × (read ≡ scope_read w) × (atomic.either (w == old) new w ≡ w))
+seal-left w old new expected old_is says narrow (Ok done) is = (
+  is ∙ old_is,
+  ap (λ b. scope_read (atomic.either b new w)) (eq-eqb w old is) ∙ says,
+)
+seal-left w old new expected old_is says narrow (Err read) is =
+    let told = seal-cause w expected narrow (Err read) ((λ e. is.0 (e ∙ sym old_is)), is.1) in
+    (told.0, told.1, ap (λ b. atomic.either b new w) (ne_eqb w old is.0))
 
 module _ (w : ℕ) where
   -- a mask of bits above the count leaves the count

@@ -22,7 +22,7 @@ use Rattle.life_rules.proofs.Names.{by_name}
 use Rattle.life_kept.proofs.Puts.{put, IsPut, reads-here, reads-other}
 use Rattle.life_kept.proofs.Holding.{weight-most}
 use Rattle.table_rules.specs.Scenes.{Home, Full, is_out, is_full, Past, Scene}
-use Rattle.table_rules.specs.Homes.{is_waiting, is_resting, named_below}
+use Rattle.table_rules.specs.Homes.{is_waiting, is_resting, named_below, done_below}
 
 pub some-seat : (n : ℕ) → 1 ≤ n → nat_le 1 n ≡ true
 some-seat n l = grind (arith, nat_tests)
@@ -114,6 +114,8 @@ module _ {P E : Type 0} (s : Scene P E) (h : ℕ) (x : Name) (w : ControlWord) (
     pub kids : (n : ℕ) → is_child base.tree x.node n ≡ true → KidMoves n
     -- where it waits, none of the children is forgotten that its last await named
     pub named : is_waiting w ≡ true → named_below moved x ≡ past.named x
+    -- and where it doesn't, as many of them are done
+    pub met : is_waiting w ≡ false → past.named x ≤ done_below base x
 
   module _ (mv : Moves) where
     pub word-here : control_at put_state x ≡ w

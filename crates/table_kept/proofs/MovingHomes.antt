@@ -17,7 +17,8 @@ use Rattle.life_rules.proofs.Names.{by_name}
 use Rattle.life_kept.proofs.Fitting.{Fits-busy, under_way-parts, done-word}
 use Rattle.life_kept.proofs.Puts.{IsPut, moves, times-same}
 use Rattle.table_rules.specs.Scenes.{Home, is_full, Past, Scene}
-use Rattle.table_rules.specs.Homes.{is_waiting, is_resting, named_below, HomesStand}
+use Rattle.table_rules.specs.Homes.{is_waiting, is_resting, named_below, done_below, HomesStand}
+use Rattle.table_kept.proofs.DoneBelow.{done-more}
 use Rattle.table_kept.proofs.Moving as moving
 use Rattle.table_kept.proofs.Moving.{Moves, KidMoves}
 use Rattle.table_kept.proofs.MovingSeats.{starts-same, starts-none, out-moved}
@@ -212,6 +213,16 @@ module _ {P E : Type 0} (s : Scene P E) (h : ℕ) (x : Name) (w : ControlWord) (
       (λ apart.
       ap is_done (word-other (beside y q) apart) ∙ homes.above y q live (full-before y live ne full) is))
 
+  -- a child that is done is another node, and is done still
+  done-moved : (y : Name) → done_below base y ≤ done_below put_state y
+  done-moved y =
+      done-more (is_child base.tree y.node) (λ n. is_done (control_at base (beside y n)))
+      (λ n. is_done (control_at put_state (beside y n))) (size base) (λ n child done.
+      by_name x (beside y n)
+      (λ e. absurd (both_ways (is_done (control_at base (beside y n)))
+      (ap (λ z. is_done (control_at base z)) (sym e) ∙ (under_way-parts (control_at base x) mv.under_way).1) done))
+      (λ ne. ap is_done (word-other (beside y n) ne) ∙ done))
+
   pub homes-moved : HomesStand moved
   homes-moved =
       record {
@@ -238,4 +249,14 @@ module _ {P E : Type 0} (s : Scene P E) (h : ℕ) (x : Name) (w : ControlWord) (
             let was = ap is_waiting (sym (word-other y ne)) ∙ is in
             let live = live-waits y (ap (λ b. b || is_resting (control_at base y)) was) in
             named-same y live ne ∙ homes.named y was ∙ sym (mv.named_other y ne));
+        met = λ y begun still.
+            let more = done-moved y in
+            by_name x y
+            (λ e. subst (λ z. past.named z ≤ done_below put_state z) e
+            (let own = mv.met (ap is_waiting (sym word-here ∙ ap (control_at put_state) e) ∙ still) in
+            let grown = done-moved x in omega (arith, own, grown)))
+            (λ ne.
+            let word = sym (word-other y ne) in
+            let was = homes.met y (ap is_idle word ∙ begun) (ap is_waiting word ∙ still) in
+            let named = mv.named_other y ne in omega (arith, was, named, more));
       }

@@ -15,7 +15,7 @@ use Rattle.life_kept.proofs.Fitting.{under_way-parts, done-word}
 use Rattle.life_kept.proofs.Puts.{IsPut}
 use Rattle.table_rules.specs.declared.cargo.Cargo.{Ghosts}
 use Rattle.table_rules.specs.Scenes.{Home, Full, is_full, Past, Scene}
-use Rattle.table_rules.specs.Homes.{is_waiting}
+use Rattle.table_rules.specs.Homes.{is_waiting, is_resting}
 use Rattle.table_rules.specs.Starts.{StartsStand}
 use Rattle.table_rules.specs.Items.{HasFailedChild, ItemsStand}
 use Rattle.table_rules.specs.Lots.{LotsStand}
@@ -43,11 +43,14 @@ module _ {P E O : Type 0} (cargo : Ghosts P E O) (over : O) (s : Scene P E) (h :
     pub start : (item : P) → home x.block x.node ≡ Full item → cargo.start item ≡ s.past.start x
     pub fit : (item : P) → home x.block x.node ≡ Full item → cargo.fits item x.node (nearest_is_requested base x)
     pub goes_on : (item : P) → home x.block x.node ≡ Full item → is_done w ≡ false → ¬ cargo.ends item
+    pub rests : (item : P) → home x.block x.node ≡ Full item → is_resting w ≡ true → cargo.rests item x.node
     pub bound : (item : P) → home x.block x.node ≡ Full item → cargo.least item ≤ past.named x
     pub ended : is_done w ≡ true → is_root base.tree x.node ≡ false →
         (item : P) × (past.delivered x ≡ Some item) × cargo.ends item × cargo.fits item x.node (nearest_is_requested base x)
     pub delivered : (item : P) → is_done w ≡ true → is_root base.tree x.node ≡ false → home x.block x.node ≡ Full item →
         past.delivered x ≡ Some item
+    pub enough : (item : P) → is_done w ≡ true → is_root base.tree x.node ≡ false → past.delivered x ≡ Some item →
+        cargo.least item ≤ past.named x
     pub lot : (item : P) → is_waiting w ≡ true → home x.block x.node ≡ Full item → cargo.lot item ≡ past.lot x
     pub drawn : (n : ℕ) → is_waiting w ≡ true → is_child base.tree x.node n ≡ true →
         is_idle (control_at base (beside x n)) ≡ false →
@@ -113,6 +116,10 @@ module _ {P E O : Type 0} (cargo : Ghosts P E O) (over : O) (s : Scene P E) (h :
               by_own (λ z. home z.block z.node ≡ Full item → is_done (control_at put_state z) ≡ false → ¬ cargo.ends item) y
               (λ full going. lv.goes_on item full (ap is_done (sym word-here) ∙ going))
               (λ ne full going. old.goes_on y item live (item-before y live ne item full) (ap is_done (sym (word-other y ne)) ∙ going)) e d;
+          rests = λ y item live e is.
+              by_own (λ z. home z.block z.node ≡ Full item → is_resting (control_at put_state z) ≡ true → cargo.rests item z.node) y
+              (λ full rest. lv.rests item full (ap is_resting (sym word-here) ∙ rest))
+              (λ ne full rest. old.rests y item live (item-before y live ne item full) (ap is_resting (sym (word-other y ne)) ∙ rest)) e is;
           bound = λ y item live e.
               by_own (λ z. home z.block z.node ≡ Full item → cargo.least item ≤ past.named z) y
               (lv.bound item)
@@ -129,6 +136,13 @@ module _ {P E O : Type 0} (cargo : Ghosts P E O) (over : O) (s : Scene P E) (h :
               (λ done other full. lv.delivered item (ap is_done (sym word-here) ∙ done) other full)
               (λ ne done other full.
               rem.delivered y ne ∙ old.delivered y item (done-before y ne done) other (item-before y (done-live y done) ne item full)) d root e;
+          enough = λ y item d root at.
+              by_own (λ z. is_done (control_at put_state z) ≡ true → is_root base.tree z.node ≡ false → past.delivered z ≡ Some item →
+              cargo.least item ≤ past.named z) y
+              (λ done other is. lv.enough item (ap is_done (sym word-here) ∙ done) other is)
+              (λ ne done other is.
+              subst (λ n. cargo.least item ≤ n) (sym (mv.named_other y ne))
+              (old.enough y item (done-before y ne done) other (sym (rem.delivered y ne) ∙ is))) d root at;
           failures = λ y r n. failed-moved y (old.failures y r n);
         }
 

@@ -24,7 +24,7 @@ use Rattle.table_rules.specs.ShownViews.{shown_view}
 use Rattle.table_rules.specs.Scenes.{shown, scene}
 use Rattle.table_rules.specs.Notes.{IsHeldSo}
 use Rattle.table_rules.specs.Running.{Stands, Running}
-use Rattle.table_steps.specs.Claims.{logged}
+use Rattle.table_steps.specs.Claims.{with_step, logged}
 use Rattle.table_steps.specs.Slots.{slot_of, is_of_family, has_slot, IsSeated}
 use Rattle.table_steps.specs.Readings.{at_entry}
 use Rattle.table_kept.proofs.Entries.{each-map}
@@ -133,11 +133,11 @@ module _ {P E O : Type 0} (cargo : Ghosts P E O) (f : Frame O) (s : table.State 
       })
 
 -- the hand carries what its view gives it, as before
-pub seated-noted : {P E : Type 0} (tree : List TreeNode) (l : Layout) (i n : ℕ) (x : Name) (change : Held E → Held E) (m : View P E × List (ℕ × Option P)) →
+pub seated-noted : {P E : Type 0} (tree : List TreeNode) (l : Layout) (i n left : ℕ) (x : Name) (change : Held E → Held E) (m : View P E × List (ℕ × Option P)) →
     ((e : Held E) → (change e).name ≡ e.name) → IsSeated tree l m →
-    IsSeated tree l (logged i n (record m.0 { held = at_entry (λ (e : Held E). e.name) change x m.0.held }), m.1)
-seated-noted {P} {E} tree l i n x change m same_name old =
-    let mine : View P E = logged i n (record m.0 { held = at_entry (λ (e : Held E). e.name) change x m.0.held }) in
+    IsSeated tree l (with_step i n left (record m.0 { held = at_entry (λ (e : Held E). e.name) change x m.0.held }), m.1)
+seated-noted {P} {E} tree l i n left x change m same_name old =
+    let mine : View P E = with_step i n left (record m.0 { held = at_entry (λ (e : Held E). e.name) change x m.0.held }) in
     record {
       apart = old.apart;
       given = each-map (λ d. has_slot tree l m.0 d.0 ≡ true) (λ d. has_slot tree l mine d.0 ≡ true)

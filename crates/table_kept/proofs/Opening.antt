@@ -1,5 +1,5 @@
 -- A table that was just opened keeps the rule.
-use Rattle.std.proofs.Common.{◌≡◌, ℕ, zero, suc, ◌+◌, ◌<◌, ◌≤◌, Bool, true, false, not, ◌&&◌, ◌||◌, ◌==◌, cond, List, [], ◌∷◌, map, length, replicate, refl, sym, ap, ◌∙◌, subst, arith}
+use Rattle.std.proofs.Common.{◌≡◌, inl, ℕ, zero, suc, ◌+◌, ◌<◌, ◌≤◌, Bool, true, false, not, ◌&&◌, ◌||◌, ◌==◌, cond, List, [], ◌∷◌, map, length, replicate, refl, sym, ap, ◌∙◌, subst, arith}
 use Rattle.std.specs.Prelude.{slice_index, nat_lt, Option, None}
 use Rattle.std.proofs.lemmas.Bool.{cond-false, both_ways}
 use Rattle.std.proofs.lemmas.List.{length-replicate}
@@ -43,6 +43,7 @@ use Rattle.table_rules.specs.Notes.{IsKnown}
 use Rattle.table_rules.specs.Named.{Each}
 use Rattle.table_rules.specs.Grown.{HasRisen}
 use Rattle.table_rules.specs.Running.{IsFrame, Stands, Running}
+use Rattle.table_rules.specs.Traces.{IsMadeBySome, Traced}
 use Rattle.table_steps.specs.Views.{fresh}
 use Rattle.table_kept.proofs.Stamping.{is_on}
 use Rattle.table_kept.proofs.Seats.{single}
@@ -71,13 +72,13 @@ as-deep P (suc n) = ap suc (as-deep P n)
 
 -- the words of a new table are zeros, and say nothing
 module _ (l : Layout) (words : List ℕ) (dull : (i : ℕ) → slice_index words i ≡ 0) where
-  block-first : (b : ℕ) → block_of l words b ≡ record { generation = 0; state = Free }
+  pub block-first : (b : ℕ) → block_of l words b ≡ record { generation = 0; state = Free }
   block-first b =
       let first : BlockWord = record { generation = 0; state = Free } in
       ap (λ w. cond (nat_lt b l.blocks) (block_read w) first) (dull (index l (OfBlock b)))
       ∙ both-same (nat_lt b l.blocks) first
 
-  said-first : {A : Type 0} (first : A) (read : ℕ → A) (spot : ℕ → ℕ → Spot) → read 0 ≡ first → (b n : ℕ) →
+  pub said-first : {A : Type 0} (first : A) (read : ℕ → A) (spot : ℕ → ℕ → Spot) → read 0 ≡ first → (b n : ℕ) →
       said l words first read spot b n ≡ first
   said-first first read spot is b n =
       let there = is_there l b n in
@@ -133,6 +134,7 @@ module _ {P E O : Type 0} (cargo : Ghosts P E O) (over : O) (nodes : List TreeNo
               let none = total-zero (λ _. 0) hands (λ _ _. refl) in absurd (omega (arith, r, none));
           resting = λ x n r child. unlike x is_resting refl r;
           named = λ x w. unlike x is_waiting refl w;
+          met = λ x b rests. begun x b;
         };
         starts = record {
           shows = λ x item live e. unlive x live;
@@ -142,9 +144,11 @@ module _ {P E O : Type 0} (cargo : Ghosts P E O) (over : O) (nodes : List TreeNo
         items = record {
           fit = λ x item live e. unlive x live;
           goes_on = λ x item live e d. unlive x live;
+          rests = λ x item live e rest. unlive x live;
           bound = λ x item live e. unlive x live;
           ended = λ x d root. unlike x is_done refl d;
           delivered = λ x item d root e. unlike x is_done refl d;
+          enough = λ x item d root is. unlike x is_done refl d;
           failures = λ x r above.
               absurd (both_ways _ (ap (λ b. b.requested) (cond-false (is_live first_state x) _ clear (dead x))) r);
         };
@@ -238,11 +242,17 @@ framed f nodes is size most blocks hands =
       most_nodes = subst (λ t. length t ≤ MOST_NODES) (sym is) most;
     }
 
--- the same of a list of words that are zeros
+-- and of a list of words that are zeros: the table can be traced, since no hand has made a step
 pub opens_with : {P E O : Type 0} (cargo : Ghosts P E O) (f : Frame O) (words : List ℕ) (w n : ℕ) →
     words ≡ replicate w 0 → IsFrame f → IsTree f.tree → 0 < f.hands → w ≡ words_in f.layout →
     n ≡ places_in f.layout →
-    Running cargo f (table.opening words (replicate n None) (fresh {P = P} {E = E} 0))
+    Traced cargo f (table.opening words (replicate n None) (fresh {P = P} {E = E} 0))
 opens_with {P} {E} cargo f words w n dull frame tree some_hand wide deep =
-    subst (λ ws. Running cargo f (table.opening ws (replicate n None) (fresh {P = P} {E = E} 0))) (sym dull)
-    (opens cargo f w n frame tree some_hand wide deep)
+    subst (λ ws. Traced cargo f (table.opening ws (replicate n None) (fresh {P = P} {E = E} 0))) (sym dull)
+    (record {
+      runs = opens cargo f w n frame tree some_hand wide deep;
+      words = λ i below. inl (zeros w i);
+      homes = λ i. inl (all-empty P n i);
+      joined = λ h v e.
+          subst (λ (u : View P E). Each (IsMadeBySome (fresh {P = P} {E = E} 0 ∷ [])) u.joined) (single (fresh 0) v h e).1 tt;
+    })

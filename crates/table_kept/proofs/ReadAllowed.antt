@@ -31,9 +31,10 @@ use Rattle.table_rules.specs.ShownWords.{is_there, is_said, said_at, word_of}
 use Rattle.table_rules.specs.Scenes.{shown}
 use Rattle.table_rules.specs.Notes.{is_still}
 use Rattle.table_rules.specs.Running.{Running}
-use Rattle.table_steps.specs.Claims.{logged, Seated}
+use Rattle.table_steps.specs.Claims.{logged, Seated, ListsOne}
 use Rattle.table_steps.specs.Slots.{IsSeated}
-use Rattle.table_steps.specs.Readings.{above_it, says_begun, says_phase, notes_idle, reads_child, reads_phase, HoldsAbove, Holds}
+use Rattle.table_steps.specs.Readings.{notes_phase, above_it, says_begun, says_phase, notes_idle, reads_child, reads_phase, HoldsAbove, Holds}
+use Rattle.table_kept.proofs.Listing.{AllowsListed, allows-listed, lists-one}
 use Rattle.table_kept.proofs.ControlRuns.{open-kept}
 use Rattle.table_kept.proofs.Loads.{looks_keep}
 use Rattle.table_kept.proofs.BeginSeats.{seated-logged}
@@ -167,32 +168,44 @@ child_allowed {P} {E} cargo f slots id x n m h child s r deep at small =
       refl,
     )
 
+-- the load is listed, whatever it tells
+child-lists : {P E : Type 0} (x child : Name) (i n : ℕ) (m : Seated P E) → ListsOne i n n m (reads_child x child i n m)
+child-lists {P} {E} x child i n m =
+    let idle : View P E = notes_idle x child.node m.0 in
+    either (says_begun child.generation n)
+    (λ begun. lists-one i n n m _ m.0 (ap (logged i n) (cond-true (says_begun child.generation n) m.0 idle begun)) refl refl refl refl)
+    (λ none. lists-one i n n m _ idle (ap (logged i n) (cond-false (says_begun child.generation n) m.0 idle none)) refl refl refl refl)
+
 module _ {P E O : Type 0} (cargo : Ghosts P E O) where
   -- the loads, by the frame that the table shows
   pub phase-at : (board f : Frame O) (slots id i : ℕ) (x y : Name) (m : Seated P E) → board ≡ f →
       i ≡ index board.layout (OfCallback x.block x.node) → y ≡ x → Holds m.0 x →
-      Allows (Running cargo f) slots id m i (λ n. n) (λ n m'. m' ≡ reads_phase y i n m)
+      AllowsListed cargo f slots id m i (λ n. n) (λ n m'. m' ≡ reads_phase y i n m)
   phase-at board f slots id i x y m same i_is name holds =
-      subst (λ z. Allows (Running cargo z) slots id m i (λ n. n) (λ n m'. m' ≡ reads_phase y i n m)) same
+      allows-listed cargo f slots id m i (λ n. n) (λ n m'. m' ≡ reads_phase y i n m)
+      (λ n m' told. lists-one i n n m m' (notes_phase y (says_phase y.generation n) m.0) (ap (λ z. z.0) told) refl refl refl refl)
+      (subst (λ z. Allows (Running cargo z) slots id m i (λ n. n) (λ n m'. m' ≡ reads_phase y i n m)) same
       (subst (λ (z : ℕ × Name). Allows (Running cargo board) slots id m z.0 (λ n. n) (λ n m'. m' ≡ reads_phase z.1 z.0 n m))
       (λ k. (sym i_is k, sym name k))
-      (phase_allowed cargo board slots id x m holds))
+      (phase_allowed cargo board slots id x m holds)))
 
   pub child-at : (board f : Frame O) (slots id i : ℕ) (child x c : Name) (m : Seated P E) → board ≡ f →
       i ≡ index board.layout (OfControl child.block child.node) → x ≡ above_it board.tree child → c ≡ child → HoldsAbove board.tree m.0 child →
-      Allows (Running cargo f) slots id m i (λ n. n) (λ n m'. m' ≡ reads_child x c i n m)
+      AllowsListed cargo f slots id m i (λ n. n) (λ n m'. m' ≡ reads_child x c i n m)
   child-at board f slots id i child x c m same i_is name child_is holds =
-      subst (λ z. Allows (Running cargo z) slots id m i (λ n. n) (λ n m'. m' ≡ reads_child x c i n m)) same
+      allows-listed cargo f slots id m i (λ n. n) (λ n m'. m' ≡ reads_child x c i n m)
+      (λ n m' told. subst (ListsOne i n n m) (sym told) (child-lists x c i n m))
+      (subst (λ z. Allows (Running cargo z) slots id m i (λ n. n) (λ n m'. m' ≡ reads_child x c i n m)) same
       (subst (λ (z : ℕ × (Name × Name)). Allows (Running cargo board) slots id m z.0 (λ n. n) (λ n m'. m' ≡ reads_child z.1.0 z.1.1 z.0 n m))
       (λ k. (sym i_is k, (sym (name ∙ above-is board.tree m.0 child holds) k, sym child_is k)))
       (child_allowed cargo board slots id (beside child holds.parent) child.node m (record { held = holds.held; holds = holds.holds })
-      (parent-child board.tree holds.parent child.node holds.parent_is)))
+      (parent-child board.tree holds.parent child.node holds.parent_is))))
 
 -- the hand still carries each slot once
 pub phase-seated : {P E : Type 0} (tree : List TreeNode) (l : Layout) (x : Name) (i n : ℕ) (m : Seated P E) →
     IsSeated tree l m → IsSeated tree l (reads_phase x i n m)
 phase-seated tree l x i n m old =
-    seated-noted tree l i n x (λ e. record e { phase = Some (says_phase x.generation n) }) m (λ e. refl) old
+    seated-noted tree l i n n x (λ e. record e { phase = Some (says_phase x.generation n) }) m (λ e. refl) old
 
 pub child-seated : {P E : Type 0} (tree : List TreeNode) (l : Layout) (x child : Name) (i n : ℕ) (m : Seated P E) →
     IsSeated tree l m → IsSeated tree l (reads_child x child i n m)
@@ -201,4 +214,4 @@ child-seated {P} {E} tree l x child i n m old =
     (λ begun. subst (λ z. IsSeated tree l (logged i n z, m.1)) (sym (cond-true (says_begun child.generation n) m.0 (notes_idle x child.node m.0) begun))
     (seated-logged tree l i n m old))
     (λ idle. subst (λ z. IsSeated tree l (logged i n z, m.1)) (sym (cond-false (says_begun child.generation n) m.0 (notes_idle x child.node m.0) idle))
-    (seated-noted tree l i n x (λ (e : Held E). record e { idle = child.node ∷ e.idle }) m (λ e. refl) old))
+    (seated-noted tree l i n n x (λ (e : Held E). record e { idle = child.node ∷ e.idle }) m (λ e. refl) old))

@@ -1,10 +1,12 @@
 -- What the store by which a block is given back owes, and what it tells.
-use Rattle.std.proofs.Common.{◌≡◌, inl, inr, ℕ, ◌+◌, ◌-◌, ◌<◌, true, false, ◌||◌, ◌==◌, List, [], ◌∷◌, length, set, Option, arith, refl, sym, ap, ◌∙◌, subst}
+use Rattle.std.specs.Prelude.{slice_index}
+use Rattle.std.proofs.Common.{◌≡◌, inl, inr, ℕ, ◌-◌, ◌<◌, true, false, ◌||◌, ◌==◌, List, [], ◌∷◌, length, set, Option, arith, refl, sym, ap, ◌∙◌, subst}
 use Rattle.std.specs.List.{list_any}
 use Rattle.std.proofs.lemmas.Bool.{both_ways, and_from, cond-true, eq-eqb, lt-ltb}
 use mathlib.Core.Option.{some}
 use mathlib.Core.Option as maybe
 use lib.ListN.{get_elem?}
+use Rattle.life_rules.specs.declared.words.BlockWord.{BlockWord}
 use Rattle.life_rules.specs.declared.words.BlockState.TheVariants.{Open}
 use Rattle.node_tree.specs.declared.node.TreeNode.{TreeNode}
 use Rattle.life_rules.specs.declared.event.Name.{Name}
@@ -23,10 +25,11 @@ use Rattle.table_rules.specs.Named.{without}
 use Rattle.table_rules.specs.Running.{Running}
 use Rattle.table_rules.specs.Scenes.{Empty, home_in}
 use Rattle.table_rules.specs.ShownWords.{block_of, is_there}
-use Rattle.table_steps.specs.Claims.{logged, Seated}
+use Rattle.table_steps.specs.Claims.{with_step, Seated}
 use Rattle.table_steps.specs.Slots.{Aim, slot_of, is_of_family, has_slot, IsSeated}
 use Rattle.table_steps.specs.Sheds.{shed}
-use Rattle.table_steps.specs.Releases.{releases, is_own_slot, CanRelease, ReleasesAt, word_after, LeftEmpty, StayEmpty, TellsRelease}
+use Rattle.table_steps.specs.Releases.{releases, is_own_slot, CanRelease, ReleasesAt, word_after, LeftEmpty, StayEmpty, TellsRelease, LeavesBlock}
+use Rattle.table_kept.proofs.Listing.{AllowsListed, allows-listed, lists-one}
 use Rattle.table_kept.proofs.Entries.{any-without}
 use Rattle.table_kept.proofs.BeginTold.{aimed}
 use Rattle.table_kept.proofs.BeginSeats.{or-left, or-right, or-cases}
@@ -40,9 +43,9 @@ use Rattle.table_kept.proofs.ReleaseMoves.{block-released}
 use Rattle.table_kept.proofs.ReleaseRuns.{hb, word-next, release-runs}
 
 -- another slot is still given to the hand
-given-released : {P E : Type 0} (tree : List TreeNode) (l : Layout) (x : Name) (i n : ℕ) (v : View P E) (slot : ℕ) →
-    is_own_slot l x slot ≡ false → has_slot tree l v slot ≡ true → has_slot tree l (logged i n (releases x v)) slot ≡ true
-given-released tree l x i n v slot stays h =
+given-released : {P E : Type 0} (tree : List TreeNode) (l : Layout) (x : Name) (i n left : ℕ) (v : View P E) (slot : ℕ) →
+    is_own_slot l x slot ≡ false → has_slot tree l v slot ≡ true → has_slot tree l (with_step i n left (releases x v)) slot ≡ true
+given-released tree l x i n left v slot stays h =
     let a = list_any (λ e. slot_of l e.name == slot) v.owed in
     let b = list_any (λ e. is_of_family tree l e.name slot) v.held in
     let c = list_any (λ y. slot_of l y == slot) v.finished in
@@ -59,13 +62,13 @@ given-released tree l x i n v slot stays h =
       | inr here ↦ absurd (both_ways (is_own_slot l x slot) stays (ap (λ y. slot_of l y == slot) (sym here.1) ∙ here.2))
     ])))
 
-seated-released : {P E : Type 0} (tree : List TreeNode) (l : Layout) (x : Name) (i n : ℕ) (v : View P E) (c : List (ℕ × Option P)) →
-    IsSeated tree l (v, c) → IsSeated tree l (logged i n (releases x v), shed (is_own_slot l x) c)
-seated-released tree l x i n v c old =
+seated-released : {P E : Type 0} (tree : List TreeNode) (l : Layout) (x : Name) (i n left : ℕ) (v : View P E) (c : List (ℕ × Option P)) →
+    IsSeated tree l (v, c) → IsSeated tree l (with_step i n left (releases x v), shed (is_own_slot l x) c)
+seated-released tree l x i n left v c old =
     record {
       apart = apart-shed (is_own_slot l x) c old.apart;
-      given = each-shed (λ d. has_slot tree l v d.0 ≡ true) (λ d. has_slot tree l (logged i n (releases x v)) d.0 ≡ true)
-          (is_own_slot l x) c (λ d stays. given-released tree l x i n v d.0 stays) old.given;
+      given = each-shed (λ d. has_slot tree l v d.0 ≡ true) (λ d. has_slot tree l (with_step i n left (releases x v)) d.0 ≡ true)
+          (is_own_slot l x) c (λ d stays. given-released tree l x i n left v d.0 stays) old.given;
       itself = old.itself;
     }
 
@@ -109,25 +112,24 @@ module _ {P E O : Type 0} (cargo : Ghosts P E O) (f : Frame O) (s : table.State 
 pub releases_allowed : {P E O : Type 0} (cargo : Ghosts P E O) (f : Frame O) (slots id value b g : ℕ) (m : Seated P E) →
     IsSeated f.tree f.layout m → CanRelease f.layout m (root_at f b g) → block_read value ≡ word_after g →
     Allows (Running cargo f) slots id m (index f.layout (OfBlock b)) (λ _. value)
-    (λ _. TellsRelease cargo (f ∷ []) id (aimed f (root_at f b g)) (index f.layout (OfBlock b)) value m)
+    (λ n. TellsRelease cargo (f ∷ []) id (aimed f (root_at f b g)) (index f.layout (OfBlock b)) n value m)
 releases_allowed {P} {E} cargo f slots id value b g m seated can reads s r deep at small =
     let i = index f.layout (OfBlock b) in
     let x = root_at f b g in
     let gone = is_own_slot f.layout x in
-    let mine : View P E = logged i value (releases x m.0) in
+    let n = slice_index s.words i in
+    let mine : View P E = with_step i n value (releases x m.0) in
     let is = carries-shed gone m.1 in
-    let runs = release-runs cargo f s id value b g m.0 m.1 r at seated can reads value (omega arith) in (
+    let runs = release-runs cargo f s id value b g m.0 m.1 r at seated can reads n refl in (
       mine,
       sheds gone m.1,
       valid-shed cargo f s id m.0 m.1 r at seated gone,
       runs,
       (
         record {
-          word = value;
           me_is = λ k. (mine, is k);
-          seated = subst (λ d. IsSeated f.tree f.layout (mine, d)) (sym is) (seated-released f.tree f.layout x i value m.0 m.1 seated);
+          seated = subst (λ d. IsSeated f.tree f.layout (mine, d)) (sym is) (seated-released f.tree f.layout x i n value m.0 m.1 seated);
         },
-        refl,
         (left-empty cargo f s id value b g m r at seated can reads mine _ _ runs, tt),
       ),
     )
@@ -137,23 +139,30 @@ module _ {P E O : Type 0} (cargo : Ghosts P E O) where
   pub releases-at : (board f : Frame O) (slots id i value b g hand : ℕ) (aim : Aim) (frames : List (Frame O)) (m : Seated P E) → board ≡ f →
       i ≡ index board.layout (OfBlock b) → aim ≡ aimed board (root_at board b g) → frames ≡ board ∷ [] → hand ≡ id →
       IsSeated board.tree board.layout m → CanRelease board.layout m (root_at board b g) → block_read value ≡ word_after g →
-      Allows (Running cargo f) slots id m i (λ _. value) (λ _. TellsRelease cargo frames hand aim i value m)
+      AllowsListed cargo f slots id m i (λ _. value) (λ n. TellsRelease cargo frames hand aim i n value m)
   releases-at board f slots id i value b g hand aim frames m same i_is aim_is frames_is hand_is seated can reads =
-      subst (λ z. Allows (Running cargo z) slots id m i (λ _. value) (λ _. TellsRelease cargo frames hand aim i value m)) same
+      allows-listed cargo f slots id m i (λ _. value) (λ n. TellsRelease cargo frames hand aim i n value m)
+      (λ n m' told. lists-one i n value m m' _ (ap (λ z. z.0) told.0.me_is) refl refl refl refl)
+      (subst (λ z. Allows (Running cargo z) slots id m i (λ _. value) (λ n. TellsRelease cargo frames hand aim i n value m)) same
       (subst (λ (z : ℕ × Aim × List (Frame O) × ℕ). Allows (Running cargo board) slots id m z.0 (λ _. value)
-      (λ _. TellsRelease cargo z.2 z.3 z.1 z.0 value m))
+      (λ n. TellsRelease cargo z.2 z.3 z.1 z.0 n value m))
       (λ k. (sym i_is k, sym aim_is k, sym frames_is k, sym hand_is k))
-      (releases_allowed cargo board slots id value b g m seated can reads))
+      (releases_allowed cargo board slots id value b g m seated can reads)))
 
-  pub releases-told : (board : Frame O) (i b hand value : ℕ) (x : Name) (aim : Aim) (frames : List (Frame O)) (m m' : Seated P E) →
-      i ≡ index board.layout (OfBlock b) → aim ≡ aimed board x → TellsRelease cargo frames hand aim i value m m' →
-      ReleasesAt (aimed board x) (index board.layout (OfBlock b)) m m'
-  releases-told board i b hand value x aim frames m m' i_is aim_is told =
-      subst (λ (z : ℕ × Aim). ReleasesAt z.1 z.0 m m') (λ k. (i_is k, aim_is k)) told.0
+  pub releases-told : (board : Frame O) (i hand read value : ℕ) (now : BlockWord) (x : Name) (aim : Aim) (frames : List (Frame O)) (m m' : Seated P E) →
+      i ≡ index board.layout (OfBlock x.block) → aim ≡ aimed board x → block_read value ≡ now →
+      TellsRelease cargo frames hand aim i read value m m' → LeavesBlock (aimed board x) now m m'
+  releases-told board i hand read value now x aim frames m m' i_is aim_is says told =
+      record {
+        read = read;
+        left = value;
+        says = says;
+        did = subst (λ (z : ℕ × Aim). ReleasesAt z.1 z.0 read value m m') (λ k. (i_is k, aim_is k)) told.0;
+      }
 
-  pub empties-told : (board : Frame O) (i hand id value : ℕ) (x : Name) (aim : Aim) (frames : List (Frame O)) (m m' : Seated P E) →
-      aim ≡ aimed board x → frames ≡ board ∷ [] → hand ≡ id → TellsRelease cargo frames hand aim i value m m' →
+  pub empties-told : (board : Frame O) (i hand id read value : ℕ) (x : Name) (aim : Aim) (frames : List (Frame O)) (m m' : Seated P E) →
+      aim ≡ aimed board x → frames ≡ board ∷ [] → hand ≡ id → TellsRelease cargo frames hand aim i read value m m' →
       LeftEmpty cargo board id x.block (word_after x.generation) m'
-  empties-told board i hand id value x aim frames m m' aim_is frames_is hand_is told =
-      (subst (λ (z : Aim × List (Frame O) × ℕ). TellsRelease cargo z.1 z.2 z.0 i value m m')
-      (λ k. (aim_is k, frames_is k, hand_is k)) told).2.0
+  empties-told board i hand id read value x aim frames m m' aim_is frames_is hand_is told =
+      (subst (λ (z : Aim × List (Frame O) × ℕ). TellsRelease cargo z.1 z.2 z.0 i read value m m')
+      (λ k. (aim_is k, frames_is k, hand_is k)) told).1.0

@@ -1,5 +1,6 @@
 -- The store by which a block is given back keeps the rule.
-use Rattle.std.proofs.Common.{◌≡◌, ℕ, ◌-◌, ◌<◌, ◌≤◌, Bool, true, ◌&&◌, ◌==◌, cond, List, length, set, Option, None, refl, sym, ap, ◌∙◌, subst, arith, length-set, ◌^◌}
+use Rattle.std.specs.Prelude.{slice_index}
+use Rattle.std.proofs.Common.{◌≡◌, ℕ, ◌-◌, ◌<◌, ◌≤◌, Bool, true, ◌&&◌, ◌==◌, cond, List, length, set, Option, None, refl, sym, ap, ◌∙◌, subst, arith, length-set, ◌^◌, ◌∷◌}
 use Rattle.std.proofs.lemmas.Bool.{and_parts, and_from, both_ways, cond-true, cond-false, eqb-true, eq-eqb, false_from_ne_true, le-leb, lt-ltb}
 use Rattle.std.proofs.lemmas.Nat.{same_from_place}
 use mathlib.Core.Option.{some}
@@ -27,6 +28,7 @@ use Rattle.table_words.specs.Controls.{control_read, callback_read, source_read}
 use Rattle.table_words.specs.ScopeNumbers.{scope_read}
 use Rattle.table_words.specs.Layouts.{Spot, TheScope, TheScopeSource, OfBlock, OfControl, OfCallback, OfSource, IsSpot, index, place_number}
 use Rattle.atomic_table.specs.Table as table
+use Rattle.listed_steps.specs.Lists.{entry}
 use Rattle.table_rules.specs.declared.cargo.Cargo.{Ghosts}
 use Rattle.table_rules.specs.declared.frame.Frame.{Frame}
 use Rattle.table_rules.specs.declared.view.View.{View}
@@ -36,13 +38,13 @@ use Rattle.table_rules.specs.Scenes.{Empty, Scene, shown, scene}
 use Rattle.table_rules.specs.Notes.{IsRootedSo, IsKnown}
 use Rattle.table_rules.specs.Counts.{AreCounted}
 use Rattle.table_rules.specs.Running.{Stands, Running}
-use Rattle.table_steps.specs.Claims.{logged}
+use Rattle.table_steps.specs.Claims.{with_step}
 use Rattle.table_steps.specs.Slots.{slot_of, IsSeated}
 use Rattle.table_steps.specs.Releases.{releases, is_own_slot, CanRelease}
 use Rattle.table_kept.proofs.Entries.{count-without, each-without, has-counts}
 use Rattle.table_kept.proofs.Seats.{at_within}
 use Rattle.table_kept.proofs.Among.{among}
-use Rattle.table_kept.proofs.Loads.{known-logged}
+use Rattle.table_kept.proofs.Loads.{known-listed}
 use Rattle.table_kept.proofs.Stamping.{written-risen}
 use Rattle.table_kept.proofs.Counts.{counts-stepped}
 use Rattle.table_kept.proofs.OpenBlocks.{one-closed}
@@ -162,12 +164,12 @@ module _ {P E O : Type 0} (cargo : Ghosts P E O) (f : Frame O) (s : table.State 
     i = index f.layout (OfBlock b)
 
     abbrev mine : View P E
-    mine = logged i n (releases x v)
+    mine = with_step i n value (releases x v)
 
     -- what the hand knows it still knows, before and after
     mine-known : (t : Scene P E) → IsKnown t v → IsKnown t mine
     mine-known t k =
-        known-logged t i n (releases x v) (record {
+        known-listed t i n value (releases x v) (record {
           held = k.held;
           owed = k.owed;
           reported = k.reported;
@@ -231,8 +233,8 @@ module _ {P E O : Type 0} (cargo : Ghosts P E O) (f : Frame O) (s : table.State 
         counts-stepped now (after_release now id b) s.views id v mine at refl
         (λ none. absurd (omega (arith, none, itself))) (omega (arith, less)) r.stands.counts
 
-    pub release-runs : n ≤ value → Running cargo f record { words = words; homes = homes_now; views = set s.views id mine }
-    release-runs low =
+    pub release-runs : n ≡ slice_index s.words i → Running cargo f record { words = words; homes = homes_now; views = set s.views id mine }
+    release-runs was =
         record {
           frame = r.frame;
           sized = record {
@@ -248,7 +250,7 @@ module _ {P E O : Type 0} (cargo : Ghosts P E O) (f : Frame O) (s : table.State 
             quiet = quiet-after cargo f s id value b r hb opened needs word-next;
             renewed = renewed-after cargo f s id value b r hb opened needs word-next;
             rises = written-risen f.layout s.views id v mine at s.words value (OfBlock b) r.sized.words hb (number-more cargo f s id value b r hb opened needs word-next)
-                (record { word = n; steps = refl; low = low }) r.stamped.rises;
+                (ap (λ k. entry i k value ∷ v.steps) was) r.stamped.rises;
             scope = subst (λ w. w < 2 ^ 36) (sym (place-kept f.layout s.words r.sized.words b value hb word-next TheScope tt (λ e. cc))) r.stamped.scope;
           };
           past = r.past;

@@ -1,6 +1,6 @@
 -- A release keeps what is said of homes, starts, items and lots: nothing touches the block any more, so all
 -- its homes are empty once the root's is given back.
-use Rattle.std.proofs.Common.{◌≡◌, ℕ, ◌+◌, ◌-◌, ◌<◌, ◌≤◌, Bool, true, false, not, ◌&&◌, ◌||◌, ◌==◌, refl, sym, ap, ◌∙◌, subst, arith}
+use Rattle.std.proofs.Common.{◌≡◌, ℕ, ◌+◌, ◌-◌, ◌<◌, ◌≤◌, Bool, true, false, not, ◌&&◌, ◌||◌, ◌==◌, refl, sym, ap, ◌∙◌, subst, arith, ◌*◌}
 use Rattle.std.specs.Prelude.{nat_le, nat_lt, if◌then◌else◌}
 use Rattle.std.specs.Option.{option_map_or}
 use Rattle.std.proofs.lemmas.Bool.{and_from, both_ways, cond-true, cond-false, eqb-true, eq-eqb, ltb-true, ltb-false, false_from_ne_true}
@@ -26,7 +26,7 @@ use Rattle.life_kept.proofs.Released.{live-other, dead-after, control-other, con
 use Rattle.life_kept.proofs.ReleaseOwned.{holds-kept, starts-kept, reports-kept}
 use Rattle.table_rules.specs.declared.cargo.Cargo.{Ghosts}
 use Rattle.table_rules.specs.Scenes.{Home, Out, Empty, Full, is_out, is_full, Scene}
-use Rattle.table_rules.specs.Homes.{is_waiting, is_resting, home_of, seats_of, named_below, HomesStand}
+use Rattle.table_rules.specs.Homes.{is_waiting, is_resting, home_of, seats_of, named_below, done_below, HomesStand}
 use Rattle.table_rules.specs.Starts.{StartsStand}
 use Rattle.table_rules.specs.Items.{HasFailedChild, ItemsStand}
 use Rattle.table_rules.specs.Lots.{LotsStand}
@@ -184,6 +184,11 @@ module _ {P E : Type 0} (s : Scene P E) (h b : ℕ) (needs : MayRelease s.state 
       λ k. one (is_under_way (word-same (beside x n) apart k)) + starts-kept base h b needs (beside x n) k
       + one (is_done (word-same (beside x n) apart k) && is_full (home-other x.block n apart k))))
 
+  done-same : (x : Name) → (x.block == b) ≡ false → done_below t x ≡ done_below base x
+  done-same x apart =
+      total-same _ _ (size base) (λ n below k.
+      one (is_child base.tree x.node n) * one (is_done (word-same (beside x n) apart k)))
+
   pub homes-released : HomesStand released_scene
   homes-released =
       record {
@@ -215,6 +220,11 @@ module _ {P E : Type 0} (s : Scene P E) (h b : ℕ) (needs : MayRelease s.state 
         named = λ x w.
             let apart = word-apart is_waiting refl x w in
             named-same x apart ∙ homes.named x (ap is_waiting (sym (word-same x apart)) ∙ w);
+        met = λ x begun rests.
+            let apart = begun-apart x begun in
+            let word = sym (word-same x apart) in
+            let was = homes.met x (ap is_idle word ∙ begun) (ap is_waiting word ∙ rests) in
+            let same = done-same x apart in omega (arith, was, same);
       }
 
   module _ {O : Type 0} (cargo : Ghosts P E O) (over : O) where
@@ -245,6 +255,9 @@ module _ {P E : Type 0} (s : Scene P E) (h b : ℕ) (needs : MayRelease s.state 
           goes_on = λ x item live e d.
               let apart = live-apart x live in
               old.goes_on x item (live-before x live) (item-same x apart item e) (ap is_done (sym (word-same x apart)) ∙ d);
+          rests = λ x item live e rest.
+              let apart = live-apart x live in
+              old.rests x item (live-before x live) (item-same x apart item e) (ap is_resting (sym (word-same x apart)) ∙ rest);
           bound = λ x item live e. old.bound x item (live-before x live) (item-same x (live-apart x live) item e);
           ended = λ x d r.
               let apart = word-apart is_done refl x d in
@@ -253,6 +266,9 @@ module _ {P E : Type 0} (s : Scene P E) (h b : ℕ) (needs : MayRelease s.state 
           delivered = λ x item d r e.
               let apart = word-apart is_done refl x d in
               old.delivered x item (ap is_done (sym (word-same x apart)) ∙ d) r (item-same x apart item e);
+          enough = λ x item d r is.
+              let apart = word-apart is_done refl x d in
+              old.enough x item (ap is_done (sym (word-same x apart)) ∙ d) r is;
           failures = λ x r n.
               let apart = by_block x (λ at. both_ways ((bits_at t (Node x)).requested) (ap (λ z. z.requested) (bits-gone base h b (Node x) at)) r) (λ f. f) in
               failed-released x apart (old.failures x

@@ -71,10 +71,10 @@ module _ {P E O : Type 0} {runs : Marks} (board : Board O) (seat new : Seat (Opt
       (ap (λ m. m.0.runs) claimed.me_is)
 
   -- an await: the children that it names came
-  pub remembers-awaited : (cargo : Ghosts P E O) (i : ℕ) (x : Name) (nodes : List ℕ) → CanAwait cargo board.frame seat.me x nodes →
-      AwaitsAt cargo (aim_at board x) nodes i seat.me new.me →
+  pub remembers-awaited : (cargo : Ghosts P E O) (i read left : ℕ) (x : Name) (nodes : List ℕ) → CanAwait cargo board.frame seat.me x nodes →
+      AwaitsAt cargo (aim_at board x) nodes i read left seat.me new.me →
       ((y : Name) → has after y ≡ (list_any (λ n. same (beside x n) y) nodes || has set y)) → Remembers new after runs
-  remembers-awaited cargo i x nodes can awaited has_it =
+  remembers-awaited cargo i read left x nodes can awaited has_it =
       remembers-owed
       (exactly-more old.owed new.table_id (owing new.me.0) table after layout (λ y. list_any (λ n. same (beside x n) y) nodes)
       (λ y. ap (λ m. owing m.0 y) awaited.me_is
@@ -84,13 +84,13 @@ module _ {P E O : Type 0} {runs : Marks} (board : Board O) (seat new : Seat (Opt
       (ap (λ m. m.0.runs) awaited.me_is)
 
   -- a begin: the node went
-  pub remembers-begun : (cargo : Ghosts P E O) (i : ℕ) (x : Name) (middle : Seated P E) → has set x ≡ true →
-      IsRenewed (aim_at board x) seat.me middle → BeginsAt cargo (aim_at board x) i middle new.me →
+  pub remembers-begun : (cargo : Ghosts P E O) (i read left : ℕ) (x : Name) (middle : Seated P E) → has set x ≡ true →
+      IsRenewed (aim_at board x) seat.me middle → BeginsAt cargo (aim_at board x) i read left middle new.me →
       ((y : Name) → has after y ≡ (not (same x y) && has set y)) → Remembers new after runs
-  remembers-begun cargo i x middle had_it renewed began has_it =
+  remembers-begun cargo i read left x middle had_it renewed began has_it =
       let kept : (middle.0.owed ≡ seat.me.0.owed) × (middle.0.runs ≡ seat.me.0.runs) =
       either (has_source board.frame.tree x.node)
-      (λ t. let stored = (renewed.0 t).1 in (ap (λ m. m.0.owed) stored, ap (λ m. m.0.runs) stored))
+      (λ t. let stored = (renewed.0 t).did in (ap (λ m. m.0.owed) stored, ap (λ m. m.0.runs) stored))
       (λ f. let is = renewed.1 f in (ap (λ m. m.0.owed) is, ap (λ m. m.0.runs) is)) in
       remembers-owed
       (exactly-less old.owed new.table_id (owing new.me.0) table after layout x had_it

@@ -1,7 +1,7 @@
 -- The store by which the source of a node that hasn't begun is written as clear keeps the rule: it read
 -- as clear before.
 use Rattle.std.proofs.Common.{◌≡◌, ℕ, ◌^◌, ◌<◌, ◌≤◌, true, false, not, ◌&&◌, ◌==◌, List, set, refl, sym, ap, ◌∙◌, subst, arith, length-set}
-use Rattle.std.specs.Prelude.{Option, Some}
+use Rattle.std.specs.Prelude.{Option, Some, slice_index}
 use Rattle.std.proofs.lemmas.Bool.{and_parts, and_from, both_ways, cond-true, eqb-true, eq-eqb, lt-ltb}
 use mathlib.Core.Option.{some}
 use lib.ListN.{get_elem?}
@@ -9,6 +9,7 @@ use Rattle.life_rules.specs.declared.words.ControlWord.TheVariants.{Idle}
 use Rattle.life_rules.specs.declared.words.CallbackPhase.TheVariants.{Never}
 use Rattle.life_rules.specs.declared.event.Name.{Name}
 use Rattle.node_tree.specs.Tree.{has_source}
+use Rattle.life_rules.specs.declared.words.Bits.{Bits}
 use Rattle.life_rules.specs.Words.{is_idle, is_under_way, clear}
 use Rattle.life_rules.specs.Views.{View as PureView}
 use Rattle.life_rules.specs.States.{State, is_live}
@@ -29,13 +30,14 @@ use Rattle.table_rules.specs.Named.{find_by}
 use Rattle.table_rules.specs.ShownWords.{is_retired, is_said, is_there, block_of, word_of, said_at, control_of, source_of}
 use Rattle.table_rules.specs.ShownViews.{view_at, shown_view}
 use Rattle.table_rules.specs.Scenes.{shown, scene}
+use Rattle.table_rules.specs.Grown.{HasBitsOfSource, IsLaterSource}
 use Rattle.table_rules.specs.Running.{Stands, Running}
-use Rattle.table_steps.specs.Claims.{logged, Seated}
+use Rattle.table_steps.specs.Claims.{with_step, Seated}
 use Rattle.table_steps.specs.Begins.{Renews}
 use Rattle.table_kept.proofs.Entries.{found}
 use Rattle.table_kept.proofs.Seats.{at_within}
-use Rattle.table_kept.proofs.Loads.{known-logged}
-use Rattle.table_kept.proofs.Stamping.{is_on, written-risen, unsaid-kept, renewed-kept}
+use Rattle.table_kept.proofs.Loads.{known-listed}
+use Rattle.table_kept.proofs.Stamping.{is_on, bits-same, written-risen, unsaid-kept, renewed-kept}
 use Rattle.table_kept.proofs.Counts.{counts-moved}
 use Rattle.table_kept.proofs.ViewMoves.{view-here, view-kept, views-same, views-moved}
 use Rattle.table_kept.proofs.WordMoves.{word-here}
@@ -163,8 +165,27 @@ module _ {P E O : Type 0} (cargo : Ghosts P E O) (f : Frame O) (s : table.State 
       both_ways (j == x.block && m == x.node) apart (and_from _ _ (eq-eqb j x.block (sym p)) (eq-eqb m x.node (sym q)))))
       (ap (λ b. b.generation) (block-kept j)) (r.stamped.renewed j m hj hm has))
 
+  -- the word that is written is of no earlier generation. The one before was clear where it was of this one
+  grows : IsLaterSource (word_of f.layout s.words at_spot) value
+  grows =
+      let old = r.stamped.source x.block x.node place-b place-n in
+      let e = present in
+      let word = word_of f.layout s.words at_spot in
+      let block = block_of f.layout s.words x.block in
+      record {
+        stamp = omega (arith, old, e);
+        bits = λ same.
+            let said : is_said block word ≡ true =
+            and_from _ _ (ap not (open-kept block.state (lives now x start.live).is_opened)) (eq-eqb (stamp_of word) block.generation (same ∙ e)) in
+            let was : source_read word ≡ clear =
+            sym (cond-true (is_there f.layout x.block x.node) (said_at block clear source_read word) clear there
+            ∙ cond-true (is_said block word) (source_read word) clear said)
+            ∙ source-before in
+            subst (λ (z : Bits × Bits). HasBitsOfSource z.0 z.1) (λ k. (sym was k, sym reads k)) (bits-same clear);
+      }
+
   abbrev mine : View P E
-  mine = logged i value v
+  mine = with_step i (slice_index s.words i) value v
 
   view-renewed : (h : ℕ) → view_at (block_of f.layout words) (set s.views id mine) h ≡ now.view h
   view-renewed h =
@@ -219,8 +240,7 @@ module _ {P E O : Type 0} (cargo : Ghosts P E O) (f : Frame O) (s : table.State 
               is_on (block-kept j) (spot-kept (OfCallback j m) (hj, hm) (λ e. cc)) (r.stamped.quiet j m hj hm);
           renewed = renewed-source;
           rises = written-risen f.layout s.views id v mine at s.words value at_spot r.sized.words (place-b, place-n)
-              (let old = r.stamped.source x.block x.node place-b place-n in let e = present in omega (arith, old, e))
-              (record { word = value; steps = refl; low = omega arith }) r.stamped.rises;
+              grows refl r.stamped.rises;
           scope = subst (λ w. w < 2 ^ 36) (sym (spot-kept TheScope tt (λ e. cc))) r.stamped.scope;
         };
         past = r.past;
@@ -231,7 +251,7 @@ module _ {P E O : Type 0} (cargo : Ghosts P E O) (f : Frame O) (s : table.State 
           items = r.stands.items;
           lots = r.stands.lots;
           views = views-moved same same s.views id v mine at (λ j u _ _ k. k)
-              (known-logged same i value v (r.stands.views.each id v at)) refl refl r.stands.views;
+              (known-listed same i (slice_index s.words i) value v (r.stands.views.each id v at)) refl refl r.stands.views;
           counts = counts-moved same.state same.state s.views id v mine at refl refl r.stands.counts;
         });
       }
@@ -240,10 +260,10 @@ module _ {P E O : Type 0} (cargo : Ghosts P E O) (f : Frame O) (s : table.State 
 pub renews_allowed : {P E O : Type 0} (cargo : Ghosts P E O) (f : Frame O) (slots id value : ℕ) (x : Name) (owed : Owed E) (m : Seated P E) →
     find_by (λ e. e.name) m.0.owed x ≡ Some owed → stamp_of value ≡ x.generation → source_read value ≡ clear →
     Allows (Running cargo f) slots id m (index f.layout (OfSource x.block x.node)) (λ _. value)
-    (λ _. Renews (index f.layout (OfSource x.block x.node)) value m)
+    (λ n. Renews (index f.layout (OfSource x.block x.node)) n value m)
 renews_allowed cargo f slots id value x owed m owes stamped reads s r deep at small =
     let i = index f.layout (OfSource x.block x.node) in (
-      logged i value m.0,
+      with_step i (slice_index s.words i) value m.0,
       keeps,
       tt,
       renewal-runs cargo f s id value x owed m.0 r at owes stamped reads,

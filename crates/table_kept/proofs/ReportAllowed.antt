@@ -1,5 +1,5 @@
 -- What the subtraction by which a child is reported owes, and what it tells.
-use Rattle.std.proofs.Common.{◌≡◌, ◌≢◌, ℕ, ◌-◌, ◌<◌, Bool, true, false, ◌||◌, ◌==◌, cond, List, [], ◌∷◌, length, Option, Some, refl, sym, ap, ◌∙◌, subst, arith, ◌≤◌}
+use Rattle.std.proofs.Common.{◌≡◌, ◌≢◌, ℕ, ◌-◌, ◌<◌, Bool, true, false, ◌||◌, ◌==◌, cond, List, [], ◌∷◌, length, Option, Some, refl, sym, ap, ◌∙◌, subst, arith}
 use Rattle.std.specs.Prelude.{slice_index}
 use Rattle.std.specs.List.{list_any}
 use Rattle.std.proofs.lemmas.Bool.{and_from, and_parts, eqb-true, cond-true, eq-eqb, lt-ltb}
@@ -30,9 +30,11 @@ use Rattle.table_rules.specs.ShownWords.{is_there, is_said, said_at}
 use Rattle.table_rules.specs.Scenes.{Empty, Full, home_in, shown, scene}
 use Rattle.table_rules.specs.Notes.{children_are_requested}
 use Rattle.table_rules.specs.Running.{Running}
-use Rattle.table_steps.specs.Claims.{logged, Seated}
+use Rattle.table_steps.specs.Lefts.{less_one}
+use Rattle.table_steps.specs.Claims.{with_step, Seated}
 use Rattle.table_steps.specs.Slots.{Aim, slot_of, kids_of, is_of_family, has_slot, IsSeated}
-use Rattle.table_steps.specs.Reports.{CanReport, reports_off, holds_last, laid, LastAt, ReportsAt}
+use Rattle.table_steps.specs.Reports.{CanReport, reports_off, holds_last, laid, LastAt, ReportsAt, CountsDown}
+use Rattle.table_kept.proofs.Listing.{AllowsListed, allows-listed, lists-one}
 use Rattle.table_kept.proofs.BeginTold.{aimed}
 use Rattle.table_kept.proofs.Entries.{each-map, each-both}
 use Rattle.table_kept.proofs.KidSlots.{kids-descend}
@@ -40,8 +42,9 @@ use Rattle.table_kept.proofs.SlotsOut.{apart-home}
 use Rattle.table_kept.proofs.BeginSeats.{or-left, or-right, or-cases, kids-are, kid-of-family}
 use Rattle.table_kept.proofs.SeenStands.{noted-start}
 use Rattle.table_kept.proofs.TakeSeats.{full-home}
+use Rattle.table_kept.proofs.Hearing.{hears-as}
 use Rattle.table_kept.proofs.LaidSlots.{take_with, carries-laid, each-laid, apart-laid}
-use Rattle.table_kept.proofs.ReportWords.{less_one, IsExact, less-stamp, less-read}
+use Rattle.table_kept.proofs.ReportWords.{IsExact, less-stamp, less-read}
 use Rattle.table_kept.proofs.Reporting.{above, waits, word-is, above-live}
 use Rattle.table_kept.proofs.ReportOn.{report-runs}
 use Rattle.table_kept.proofs.LastKids.{waits-before, counts-named, kid-ends, kid-fits, kid-below, kid-draws, kid-failed}
@@ -97,14 +100,21 @@ module _ {P E O : Type 0} (cargo : Ghosts P E O) (f : Frame O) (s : table.State 
     stamp-less : stamp_of (less_one n) ≡ c.generation
     stamp-less = less-stamp exact n k small reads-now (waits cargo f s id c v r at can) ∙ stamp-now
 
-    low-now : stamp_of n ≤ stamp_of (less_one n)
-    low-now = let a = stamp-now in let b = stamp-less in omega (arith, a, b)
-
     read-less : control_read (less_one n) ≡ Busy (k - 1)
     read-less = less-read exact n k small reads-now (waits cargo f s id c v r at can)
 
-    pub on-now : k ≢ 1 → Running cargo f (stepped s i (less_one n) id carried (logged i n (reports_off c v)) keeps)
-    on-now more = report-runs cargo f s id (less_one n) c v r at can more stamp-less read-less n low-now
+    -- it says one less then
+    pub counts-now : CountsDown x n (less_one n)
+    counts-now =
+        let waits = waits cargo f s id c v r at can in
+        record {
+          fewer = k - 1;
+          was = record { stamp_is = stamp-now; reads = reads-now ∙ ap Busy (omega (arith, waits)) };
+          now = record { stamp_is = stamp-less; reads = read-less };
+        }
+
+    pub on-now : k ≢ 1 → Running cargo f (stepped s i (less_one n) id carried (with_step i n (less_one n) (reports_off c v)) keeps)
+    on-now more = report-runs cargo f s id (less_one n) c v r at can more stamp-less read-less n refl
 
     module _ (last : k ≡ 1) where
       read-last : control_read (less_one n) ≡ Busy 0
@@ -117,7 +127,7 @@ module _ {P E O : Type 0} (cargo : Ghosts P E O) (f : Frame O) (s : table.State 
       told_kids = children_are_requested now x
 
       abbrev mine : View P E
-      mine = logged i n (holds_last x (r.past.start x) (r.past.named x) told told_kids (r.past.lot x) (reports_off c v))
+      mine = with_step i n (less_one n) (holds_last x (r.past.start x) (r.past.named x) told told_kids (r.past.lot x) (reports_off c v))
 
       abbrev kids : List ℕ
       kids = kids_of f.tree x.node
@@ -197,14 +207,14 @@ module _ {P E O : Type 0} (cargo : Ghosts P E O) (f : Frame O) (s : table.State 
 
       pub last-now : (w : View P E) × (a : table.Act (Option P)) × table.Valid s.homes carried a
           × Running cargo f (stepped s i (less_one n) id carried w a)
-          × LastAt cargo (aimed f x) c (f.over.value ∷ []) i n (v, carried) (w, table.carried_after carried a)
+          × LastAt cargo (aimed f x) c (f.over.value ∷ []) i n (less_one n) (v, carried) (w, table.carried_after carried a)
       last-now =
           let is = carries-laid f.layout s.homes carried r.sized.homes x.block hb content kids in
           let waiting = waits-before cargo f s id c v r at can last in (
             mine,
             chain (take_with f.layout x.block content kids) (takes slot (Some lying.0)),
             last-valid cargo f s id (less_one n) c v carried r at can last stamp-less read-last,
-            last-runs cargo f s id (less_one n) c v carried r at can last stamp-less read-last n low-now,
+            last-runs cargo f s id (less_one n) c v carried r at can last stamp-less read-last n refl,
             record {
               start = r.past.start x;
               named = r.past.named x;
@@ -229,6 +239,7 @@ module _ {P E O : Type 0} (cargo : Ghosts P E O) (f : Frame O) (s : table.State 
               keeps = last-keeps cargo f s id c v r at can last;
               descends = last-descends cargo f s id c v r at can last;
               failure = kid-failed cargo f s id c v r at can last;
+              hears = hears-as cargo f s id v r at x;
               seated = λ old. subst (λ d. IsSeated f.tree f.layout (mine, (slot, Some lying.0) ∷ d)) (sym is) (seated-last old);
             },
           )
@@ -250,24 +261,29 @@ reports_allowed {P} {E} cargo f slots id c m can exact s r deep at small =
       won.1,
       won.2,
       won.3,
-      ((λ _. won.4), (λ miss. absurd (miss hit))),
+      (counts-now cargo f s id c m.0 m.1 r at can exact small, (λ _. won.4), (λ miss. absurd (miss hit))),
     ))
     (λ miss. (
-      logged i n (reports_off c m.0),
+      with_step i n (less_one n) (reports_off c m.0),
       keeps,
       tt,
       on-now cargo f s id c m.0 m.1 r at can exact small (λ one_left. miss (is_k ∙ one_left)),
-      ((λ hit. absurd (miss hit)), (λ _. refl)),
+      (counts-now cargo f s id c m.0 m.1 r at can exact small, (λ hit. absurd (miss hit)), (λ _. refl)),
     ))
 
 module _ {P E O : Type 0} (cargo : Ghosts P E O) where
   -- the subtraction, by the frame that the table shows
   pub reports-at : (board f : Frame O) (slots id i : ℕ) (c y : Name) (aim : Aim) (overs : List O) (m : Seated P E) (can : CanReport board.tree m.0 c) → board ≡ f →
       i ≡ index board.layout (OfControl c.block can.parent) → aim ≡ aimed board (beside c can.parent) → y ≡ c → overs ≡ board.over.value ∷ [] → IsExact →
-      Allows (Running cargo f) slots id m i less_one (ReportsAt cargo aim y overs (step slots i 1 0 maybe.none) m)
+      AllowsListed cargo f slots id m i less_one (ReportsAt cargo aim y overs (step slots i 1 0 maybe.none) m)
   reports-at board f slots id i c y aim overs m can same i_is aim_is y_is overs_is exact =
-      subst (λ z. Allows (Running cargo z) slots id m i less_one (ReportsAt cargo aim y overs (step slots i 1 0 maybe.none) m)) same
+      allows-listed cargo f slots id m i less_one (ReportsAt cargo aim y overs (step slots i 1 0 maybe.none) m)
+      (λ n m' told.
+      dite (ℕ_discrete (pending (control_read n)) 1)
+      (λ hit. lists-one i n (less_one n) m m' _ (ap (λ z. z.0) (told.1 hit).me_is) refl refl refl refl)
+      (λ miss. lists-one i n (less_one n) m m' _ (ap (λ z. z.0) (told.2 miss)) refl refl refl refl))
+      (subst (λ z. Allows (Running cargo z) slots id m i less_one (ReportsAt cargo aim y overs (step slots i 1 0 maybe.none) m)) same
       (subst (λ (z : ℕ × (Aim × (Name × List O))). Allows (Running cargo board) slots id m z.0 less_one
       (ReportsAt cargo z.1.0 z.1.1.0 z.1.1.1 (step slots z.0 1 0 maybe.none) m))
       (λ k. (sym i_is k, (sym aim_is k, (sym y_is k, sym overs_is k))))
-      (reports_allowed cargo board slots id c m can exact))
+      (reports_allowed cargo board slots id c m can exact)))

@@ -1,5 +1,6 @@
 -- The subtraction by which the last child is reported keeps the rule: the hand holds the parent.
-use Rattle.std.proofs.Common.{◌≡◌, ℕ, ◌+◌, ◌<◌, true, ◌&&◌, ◌||◌, ◌==◌, cond, List, length, set, Option, Some, refl, sym, ap, ◌∙◌, subst, ⊎_elim, inl, inr, arith, length-set, ◌≤◌}
+use Rattle.std.specs.Prelude.{slice_index}
+use Rattle.std.proofs.Common.{◌≡◌, ℕ, ◌+◌, ◌<◌, true, ◌&&◌, ◌||◌, ◌==◌, cond, List, length, set, Option, Some, refl, sym, ap, ◌∙◌, subst, ⊎_elim, inl, inr, arith, length-set, ◌∷◌}
 use Rattle.std.proofs.lemmas.Bool.{and_from, and_parts, cond-true, cond-false, cases_eq, eq-eqb, false_from_ne_true}
 use mathlib.Core.Option.{some}
 use mathlib.Core.Option as maybe
@@ -9,7 +10,7 @@ use Rattle.life_rules.specs.declared.words.ControlWord.{ControlWord}
 use Rattle.life_rules.specs.declared.words.ControlWord.TheVariants.{Busy}
 use Rattle.life_rules.specs.declared.event.Name.{Name}
 use Rattle.node_tree.specs.Tree.{is_child}
-use Rattle.life_rules.specs.Words.{is_held, is_under_way, one_less, pending, is_idle}
+use Rattle.life_rules.specs.Words.{is_held, is_under_way, one_less, pending, is_idle, is_done}
 use Rattle.life_rules.specs.Views.{View as PureView, beside, gain, lose}
 use Rattle.common_lemmas.specs.Sums.{one}
 use Rattle.life_rules.specs.States.{State, is_live, control_at, stand}
@@ -25,6 +26,7 @@ use Rattle.table_words.specs.Layouts.{OfControl, index, place_number}
 use Rattle.table_words.proofs.Spots.{place-within}
 use Rattle.atomic_table.specs.Table.{takes, chain}
 use Rattle.atomic_table.specs.Table as table
+use Rattle.listed_steps.specs.Lists.{entry}
 use Rattle.table_rules.specs.declared.cargo.Cargo.{Ghosts}
 use Rattle.table_rules.specs.declared.frame.Frame.{Frame}
 use Rattle.table_rules.specs.declared.view.View.{View}
@@ -35,12 +37,12 @@ use Rattle.table_rules.specs.Scenes.{Home, Out, Empty, Full, is_out, is_full, ho
 use Rattle.table_rules.specs.Homes.{is_resting}
 use Rattle.table_rules.specs.Notes.{IsReportedSo, children_are_requested}
 use Rattle.table_rules.specs.Running.{Stands, Running}
-use Rattle.table_steps.specs.Claims.{logged}
+use Rattle.table_steps.specs.Claims.{with_step}
 use Rattle.table_steps.specs.Slots.{kids_of}
 use Rattle.table_steps.specs.Reports.{CanReport, reports_off, holds_last}
 use Rattle.table_kept.proofs.Entries.{each-map, each-without, count-without}
 use Rattle.table_kept.proofs.Among.{among}
-use Rattle.table_kept.proofs.Loads.{known-logged}
+use Rattle.table_kept.proofs.Loads.{known-listed}
 use Rattle.table_kept.proofs.Counts.{counts-moved}
 use Rattle.table_kept.proofs.ViewMoves.{views-moved}
 use Rattle.table_kept.proofs.WordMoves.{place-there}
@@ -53,7 +55,7 @@ use Rattle.table_kept.proofs.TakeRuns.{full-item}
 use Rattle.table_kept.proofs.TakeSeats.{full-home}
 use Rattle.table_kept.proofs.LaidSlots.{content_of, take_with, lies-home, deep-laid, laid-out, laid-valid}
 use Rattle.table_kept.proofs.Reporting.{above, shows, below, child, owes-now, word-is, above-live, reporting, reporting_last, sound-after}
-use Rattle.table_kept.proofs.LastKids.{kid-settled, unheld-before, waits-before, kid-in, content}
+use Rattle.table_kept.proofs.LastKids.{kid-settled, unheld-before, waits-before, kid-in, content, counts-named, full-kids-done}
 use Rattle.table_kept.proofs.Moving.{Moves, KidMoves, moved, parent-differs, some-seat}
 use Rattle.table_kept.proofs.MovingHomes.{homes-moved}
 use Rattle.table_kept.proofs.MovingItems.{Remembers, Leaves, starts-moved, items-moved, lots-moved}
@@ -203,6 +205,9 @@ module _ {P E O : Type 0} (cargo : Ghosts P E O) (f : Frame O) (s : table.State 
         settled = λ none. cc;
         kids = kid-moves;
         named = λ none. cc;
+        met = λ _.
+            let count = counts-named cargo f s id c v r at can last in
+            let done = full-kids-done cargo f s id c v r at can last in omega (arith, count, done);
       }
 
   remembers : Remembers cargo f.over.value here id x (Busy 0) u is-put home r.past moves
@@ -217,9 +222,11 @@ module _ {P E O : Type 0} (cargo : Ghosts P E O) (f : Frame O) (s : table.State 
         start = λ item is. none-left item is;
         fit = λ item is. none-left item is;
         goes_on = λ item is _. none-left item is;
+        rests = λ item is _. none-left item is;
         bound = λ item is. none-left item is;
         ended = λ done _. cc;
         delivered = λ item _ _ is. none-left item is;
+        enough = λ item none _ _. cc;
         lot = λ item _ is. none-left item is;
         drawn = λ n waits _ _ _. cc;
       }
@@ -248,7 +255,7 @@ module _ {P E O : Type 0} (cargo : Ghosts P E O) (f : Frame O) (s : table.State 
         (reports_off c v)
 
     abbrev mine : View P E
-    mine = logged i n holding
+    mine = with_step i n value holding
 
     abbrev after : Scene P E
     after = moved here id x (Busy 0) u is-put home r.past
@@ -279,7 +286,7 @@ module _ {P E O : Type 0} (cargo : Ghosts P E O) (f : Frame O) (s : table.State 
               (λ j z ne there.
               known-moved here id x (Busy 0) u is-put home r.past moves (λ y. refl) (λ y _. refl) (λ y _. refl) (inl refl) z
               (among f s j z r.sized.seats there) (held-none z j there))
-              (known-logged after i n holding (record {
+              (known-listed after i n value holding (record {
                 held = (record { start = refl; named = refl; told = λ t. t; told_children = λ t. t; lot = refl; phase = tt; idle = tt }, known.held);
                 owed = known.owed;
                 reported = each-without (IsReportedSo after) (λ e. e.name) v.reported c known.reported;
@@ -292,9 +299,9 @@ module _ {P E O : Type 0} (cargo : Ghosts P E O) (f : Frame O) (s : table.State 
           counts = counts-moved here.state after.state s.views id v mine at refl refl r.stands.counts;
         }
 
-    pub last-runs : stamp_of n ≤ stamp_of value → Running cargo f record { words = set s.words i value; homes = taken_homes; views = set s.views id mine }
-    last-runs low =
+    pub last-runs : n ≡ slice_index s.words i → Running cargo f record { words = set s.words i value; homes = taken_homes; views = set s.views id mine }
+    last-runs was =
         control-runs cargo f s id value x (Busy 0) v r at live-now stamped reads mine u shows-mine taken_homes home r.past (λ j m. refl)
-        (begun-renewed cargo f s x r live-now (ap is_idle word-now)) (record { word = n; steps = refl; low = low })
+        (ap is_done word-now) (begun-renewed cargo f s x r live-now (ap is_idle word-now)) (ap (λ k. entry i k value ∷ v.steps) was)
         (length-set after_kids slot maybe.none ∙ deep-laid f.layout s.homes carried r.sized.homes x.block place-b inside kids ∙ sym r.sized.homes)
         stands-last

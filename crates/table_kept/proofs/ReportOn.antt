@@ -1,8 +1,8 @@
 -- The subtraction by which a child that isn't the last is reported keeps the rule.
-use Rattle.std.proofs.Common.{◌≡◌, ◌≢◌, ℕ, ◌+◌, ◌-◌, Bool, true, false, ◌&&◌, ◌||◌, ◌==◌, set, refl, sym, ap, ◌∙◌, subst, inl, arith, ◌≤◌}
-use Rattle.std.specs.Prelude.{Option, nat_le}
+use Rattle.std.proofs.Common.{◌≡◌, ◌≢◌, ℕ, ◌+◌, ◌-◌, Bool, true, false, ◌&&◌, ◌||◌, ◌==◌, set, refl, sym, ap, ◌∙◌, subst, inl, arith, ◌∷◌}
+use Rattle.std.specs.Prelude.{Option, nat_le, slice_index}
 use Rattle.std.specs.Option.{option_map_or}
-use Rattle.std.proofs.lemmas.Bool.{both_ways, cond-false, ne_eqb, false_from_ne_true}
+use Rattle.std.proofs.lemmas.Bool.{both_ways, cond-false, ne_eqb, false_from_ne_true, leb-false}
 use mathlib.Core.Option.{some}
 use lib.ListN.{get_elem?}
 use Rattle.life_rules.specs.declared.words.ControlWord.{ControlWord}
@@ -22,6 +22,7 @@ use Rattle.table_words.specs.Stamps.{stamp_of}
 use Rattle.table_words.specs.Controls.{control_read}
 use Rattle.table_words.specs.Layouts.{OfControl, index}
 use Rattle.atomic_table.specs.Table as table
+use Rattle.listed_steps.specs.Lists.{entry}
 use Rattle.table_rules.specs.declared.cargo.Cargo.{Ghosts}
 use Rattle.table_rules.specs.declared.frame.Frame.{Frame}
 use Rattle.table_rules.specs.declared.view.View.{View}
@@ -32,11 +33,11 @@ use Rattle.table_rules.specs.Scenes.{Home, Out, Empty, Full, is_out, is_full, Sc
 use Rattle.table_rules.specs.Homes.{is_waiting, is_resting, seats_of, named_below}
 use Rattle.table_rules.specs.Notes.{IsReportedSo}
 use Rattle.table_rules.specs.Running.{Stands, Running}
-use Rattle.table_steps.specs.Claims.{logged}
+use Rattle.table_steps.specs.Claims.{with_step}
 use Rattle.table_steps.specs.Reports.{CanReport, reports_off}
 use Rattle.table_kept.proofs.Entries.{count-without, each-without}
 use Rattle.table_kept.proofs.Among.{among}
-use Rattle.table_kept.proofs.Loads.{known-logged}
+use Rattle.table_kept.proofs.Loads.{known-listed}
 use Rattle.table_kept.proofs.Counts.{counts-moved}
 use Rattle.table_kept.proofs.ViewMoves.{views-moved}
 use Rattle.table_kept.proofs.ControlRuns.{begun-renewed, control-runs}
@@ -153,6 +154,8 @@ module _ {P E O : Type 0} (cargo : Ghosts P E O) (f : Frame O) (s : table.State 
         settled = λ none. cc;
         kids = kid-moves;
         named = λ _. names-same ∙ r.stands.homes.named x waits-before;
+        met = λ none.
+            absurd (more (let g = leb-false 1 (k - 1) none in let l = waits cargo f s id c v r at can in omega (arith, g, l)));
       }
 
   remembers : Remembers cargo f.over.value here id x w u is-put here.home r.past moves
@@ -164,9 +167,11 @@ module _ {P E O : Type 0} (cargo : Ghosts P E O) (f : Frame O) (s : table.State 
         start = λ item is. r.stands.starts.shows x item live-now is;
         fit = λ item is. r.stands.items.fit x item live-now is;
         goes_on = λ item is _. r.stands.items.goes_on x item live-now is (ap is_done word-now);
+        rests = λ item _ none. cc;
         bound = λ item is. r.stands.items.bound x item live-now is;
         ended = λ done _. cc;
         delivered = λ item done _ _. cc;
+        enough = λ item none _ _. cc;
         lot = λ item _ is. r.stands.lots.own x item waits-before is;
         drawn = λ n _ own begun so. r.stands.lots.below x n waits-before own begun so;
       }
@@ -176,7 +181,7 @@ module _ {P E O : Type 0} (cargo : Ghosts P E O) (f : Frame O) (s : table.State 
     i = index f.layout (OfControl x.block x.node)
 
     abbrev mine : View P E
-    mine = logged i n (reports_off c v)
+    mine = with_step i n value (reports_off c v)
 
     abbrev after : Scene P E
     after = moved here id x w u is-put here.home r.past
@@ -207,7 +212,7 @@ module _ {P E O : Type 0} (cargo : Ghosts P E O) (f : Frame O) (s : table.State 
               (λ j z ne there.
               known-moved here id x w u is-put here.home r.past moves (λ y. refl) (λ y _. refl) (λ y _. refl) (inl refl) z
               (among f s j z r.sized.seats there) (held-none z j there))
-              (known-logged after i n (reports_off c v) (record {
+              (known-listed after i n value (reports_off c v) (record {
                 held = known.held;
                 owed = known.owed;
                 reported = each-without (IsReportedSo after) (λ e. e.name) v.reported c known.reported;
@@ -220,8 +225,8 @@ module _ {P E O : Type 0} (cargo : Ghosts P E O) (f : Frame O) (s : table.State 
           counts = counts-moved here.state after.state s.views id v mine at refl refl r.stands.counts;
         }
 
-    pub report-runs : stamp_of n ≤ stamp_of value → Running cargo f record { words = set s.words i value; homes = s.homes; views = set s.views id mine }
-    report-runs low =
+    pub report-runs : n ≡ slice_index s.words i → Running cargo f record { words = set s.words i value; homes = s.homes; views = set s.views id mine }
+    report-runs was =
         control-runs cargo f s id value x w v r at live-now stamped reads mine u shows-mine
         s.homes here.home r.past (λ j m. refl)
-        (begun-renewed cargo f s x r live-now (ap is_idle word-now)) (record { word = n; steps = refl; low = low }) refl stands-on
+        (ap is_done word-now) (begun-renewed cargo f s x r live-now (ap is_idle word-now)) (ap (λ k. entry i k value ∷ v.steps) was) refl stands-on

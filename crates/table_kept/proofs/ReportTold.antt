@@ -10,20 +10,21 @@ use Rattle.life_rules.specs.Words.{pending}
 use Rattle.life_rules.specs.Views.{beside}
 use Rattle.table_words.specs.Controls.{control_read}
 use Rattle.table_words.specs.Layouts.{OfControl, index}
-use Rattle.atomic_table.specs.Table.{Allows, step}
+use Rattle.atomic_table.specs.Table.{step}
 use Rattle.table_rules.specs.declared.cargo.Cargo.{Ghosts}
 use Rattle.table_rules.specs.declared.frame.Frame.{Frame}
 use Rattle.table_rules.specs.declared.view.View.{View}
-use Rattle.table_rules.specs.Running.{Running}
+use Rattle.table_steps.specs.Lefts.{less_one}
 use Rattle.table_steps.specs.declared.report.Report.{Report}
 use Rattle.table_steps.specs.declared.report.Report.TheVariants.{Last, Others}
-use Rattle.table_steps.specs.Claims.{logged, Seated}
+use Rattle.table_steps.specs.Claims.{with_step, Seated}
 use Rattle.table_steps.specs.Slots.{Aim, IsSeated}
 use Rattle.table_steps.specs.Readings.{above_it}
-use Rattle.table_steps.specs.Reports.{CanReport, reports_off, LastAt, ReportsAt, IsReportedAs}
+use Rattle.table_steps.specs.Reports.{CanReport, reports_off, LastAt, ReportsAt, IsReportedAs, CountsDown}
+use Rattle.table_kept.proofs.Listing.{AllowsListed}
 use Rattle.table_kept.proofs.BeginTold.{aimed}
-use Rattle.table_kept.proofs.BeginSeats.{seated-logged}
-use Rattle.table_kept.proofs.ReportWords.{less_one, IsExact}
+use Rattle.table_kept.proofs.BeginSeats.{seated-listed}
+use Rattle.table_kept.proofs.ReportWords.{IsExact}
 use Rattle.table_kept.proofs.ReportAllowed.{reports-at}
 
 -- the parent that the view's need names is the one above
@@ -35,7 +36,7 @@ module _ {P E O : Type 0} (cargo : Ghosts P E O) where
   pub reports-above : (board f : Frame O) (slots id i : ℕ) (c y p : Name) (aim : Aim) (overs : List O) (m : Seated P E) → CanReport board.tree m.0 c → board ≡ f →
       p ≡ above_it board.tree c → i ≡ index board.layout (OfControl p.block p.node) → aim ≡ aimed board (above_it board.tree c) → y ≡ c →
       overs ≡ board.over.value ∷ [] → IsExact →
-      Allows (Running cargo f) slots id m i less_one (ReportsAt cargo aim y overs (step slots i 1 0 maybe.none) m)
+      AllowsListed cargo f slots id m i less_one (ReportsAt cargo aim y overs (step slots i 1 0 maybe.none) m)
   reports-above board f slots id i c y p aim overs m can same p_is i_is aim_is y_is overs_is exact =
       let above = parent-above board.tree m.0 c can in
       reports-at cargo board f slots id i c y aim overs m can same
@@ -47,15 +48,19 @@ module _ {P E O : Type 0} (cargo : Ghosts P E O) where
       ReportsAt cargo aim y overs (step slots i 1 0 maybe.none) m word m' → IsReportedAs cargo board c answer m m'
   reports-told board slots i c y p aim overs m m' word Last p_is i_is aim_is y_is overs_is last others told = (
     word,
+    less_one word,
+    subst (λ (a : Aim). CountsDown a.name word (less_one word)) aim_is told.0,
     last refl,
-    subst (λ (z : Aim × (Name × (List O × ℕ))). LastAt cargo z.0 z.1.0 z.1.1.0 z.1.1.1 word m m')
-        (λ k. (aim_is k, (y_is k, (overs_is k, (i_is ∙ ap (λ z. index board.layout (OfControl z.block z.node)) p_is) k)))) (told.0 (last refl)),
+    subst (λ (z : Aim × (Name × (List O × ℕ))). LastAt cargo z.0 z.1.0 z.1.1.0 z.1.1.1 word (less_one word) m m')
+        (λ k. (aim_is k, (y_is k, (overs_is k, (i_is ∙ ap (λ z. index board.layout (OfControl z.block z.node)) p_is) k)))) (told.1 (last refl)),
   )
   reports-told board slots i c y p aim overs m m' word Others p_is i_is aim_is y_is overs_is last others told = (
     word,
+    less_one word,
+    subst (λ (a : Aim). CountsDown a.name word (less_one word)) aim_is told.0,
     others refl,
-    told.1 (others refl)
-        ∙ (λ k. (logged ((i_is ∙ ap (λ z. index board.layout (OfControl z.block z.node)) p_is) k) word (reports_off (y_is k) m.0), m.1)),
+    told.2 (others refl)
+        ∙ (λ k. (with_step ((i_is ∙ ap (λ z. index board.layout (OfControl z.block z.node)) p_is) k) word (less_one word) (reports_off (y_is k) m.0), m.1)),
   )
 
   -- the hand still carries each slot once
@@ -63,7 +68,7 @@ module _ {P E O : Type 0} (cargo : Ghosts P E O) where
       ReportsAt cargo aim y overs (step slots i 1 0 maybe.none) m word m' → IsSeated aim.tree aim.layout m → IsSeated aim.tree aim.layout m'
   reports-seated aim y overs slots i m m' word told old =
       dite (ℕ_discrete (pending (control_read word)) 1)
-      (λ hit. (told.0 hit).seated old)
+      (λ hit. (told.1 hit).seated old)
       (λ miss.
-      let s = seated-logged aim.tree aim.layout i word m old in
-      subst (IsSeated aim.tree aim.layout) (sym (told.1 miss)) (record { apart = s.apart; given = s.given; itself = s.itself }))
+      let s = seated-listed aim.tree aim.layout i word (less_one word) m old in
+      subst (IsSeated aim.tree aim.layout) (sym (told.2 miss)) (record { apart = s.apart; given = s.given; itself = s.itself }))

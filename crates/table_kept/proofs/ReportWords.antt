@@ -1,13 +1,10 @@
 -- The word of a node that waits, after one was taken from it.
-use Rattle.std.proofs.Common.{◌≡◌, ℕ, ◌+◌, ◌-◌, ◌%◌, ◌^◌, ◌<◌, ◌≤◌, ◌==◌, ap, ◌∙◌, arith}
+use Rattle.std.proofs.Common.{◌≡◌, ℕ, ◌+◌, ◌-◌, ◌<◌, ◌≤◌, ◌==◌, ap, ◌∙◌, arith}
 use Rattle.std.proofs.lemmas.Bool.{cond-false, ne_eqb}
 use Rattle.life_rules.specs.declared.words.ControlWord.TheVariants.{Idle, Busy, ReadyLoop, ReadyPool, Parked, Done}
 use Rattle.table_words.specs.Stamps.{stamp_of, code_of}
+use Rattle.table_steps.specs.Lefts.{less_one}
 use Rattle.table_words.specs.Controls.{control_of_code, control_code, control_read, control_written}
-
--- the word without one
-abbrev pub less_one : ℕ → ℕ
-less_one n = (n + (2 ^ 64 - 1)) % 2 ^ 64
 
 -- to read a control word and to write it again changes nothing
 abbrev pub IsExact : Type 0

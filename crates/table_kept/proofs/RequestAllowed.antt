@@ -38,16 +38,18 @@ use Rattle.table_rules.specs.ShownViews.{shown_view}
 use Rattle.table_rules.specs.Scenes.{Scene, shown, scene}
 use Rattle.table_rules.specs.Items.{HasFailedChild}
 use Rattle.table_rules.specs.Running.{Running}
-use Rattle.table_steps.specs.Claims.{logged, Seated}
+use Rattle.table_steps.specs.Claims.{with_step, Seated}
 use Rattle.table_steps.specs.Slots.{IsSeated}
 use Rattle.table_steps.specs.Sights.{spot_of, has_one}
-use Rattle.table_steps.specs.Requests.{mask, asks, asks_at, IsWordOf, OwesFailed, MayAskScope, MayForward, HasAsked, MayRequest}
+use Rattle.table_steps.specs.Requests.{mask, asks, asks_at, AsksAt, IsWordOf, OwesFailed, MayAskScope, MayForward, HasAsked, MayRequest}
+use Rattle.table_kept.proofs.Listing.{AllowsListed, allows-listed, lists-one}
 use Rattle.table_kept.proofs.Seats.{at_within}
 use Rattle.table_kept.proofs.Entries.{found}
 use Rattle.table_kept.proofs.ViewMoves.{view-here}
 use Rattle.table_kept.proofs.ControlRuns.{open-kept}
 use Rattle.table_kept.proofs.HeldNow.{held, holds-now}
-use Rattle.table_kept.proofs.SeenStands.{seen-anywhere, seen-at, beside-present, seen-stands}
+use Rattle.table_kept.proofs.SeenStands.{seen-stands}
+use Rattle.table_kept.proofs.PartsLive.{seen-stays}
 use Rattle.table_kept.proofs.SkipRuns.{some_below-from}
 use Rattle.table_kept.proofs.SourceRuns.{SaysOf, IsLiveSource}
 use Rattle.table_kept.proofs.Blaming.{blamed}
@@ -158,11 +160,7 @@ module _ {P E O : Type 0} (cargo : Ghosts P E O) (f : Frame O) (s : table.State 
 
   -- a request that the hand has seen, and whose source can't go away, stands
   still-asked : (t : SourceRef) → HasAsked v t → (bits_at now t).requested ≡ true
-  still-asked Scope again = seen-anywhere cargo f s id v r at again.0
-  still-asked (Node x) again =
-      let node = again.1.0 in
-      let live = (held cargo f s id (beside x node) v r at again.1.1 again.1.2).live in
-      seen-at cargo f s id v r at (beside x node) live (Node x) (beside-present cargo f s id v r at (beside x node) live x.node) again.0
+  still-asked t again = seen-stays cargo f s id v r at t again.0 again.1
 
   again-grounds : (t : SourceRef) → HasAsked v t → Grounds now id t false
   again-grounds Scope again =
@@ -220,7 +218,7 @@ module _ {P E O : Type 0} (cargo : Ghosts P E O) (f : Frame O) (s : table.State 
 asks_allowed : {P E O : Type 0} (cargo : Ghosts P E O) (f : Frame O) (slots id : ℕ) (source : SourceRef) (failure : Bool) (m : Seated P E) →
     IsSpot f.layout (spot_of source) → has_one f.tree source → MayRequest cargo f m.0 source failure →
     Allows (Running cargo f) slots id m (index f.layout (spot_of source)) (λ n. bit_or n (mask failure))
-    (λ n m'. (m' ≡ asks_at source (index f.layout (spot_of source)) n m) × IsWordOf source n)
+    (λ n m'. AsksAt source (index f.layout (spot_of source)) n (bit_or n (mask failure)) m m')
 asks_allowed {P} {E} cargo f slots id source failure m spot one may s r deep at small =
     let now : State = shown f s in
     let i = index f.layout (spot_of source) in
@@ -230,10 +228,10 @@ asks_allowed {P} {E} cargo f slots id source failure m spot one may s r deep at 
     let read : source_read n ≡ bits_at now source = read-of n (bits_at now source) source says in
     let new : Bool = not (bits_at now source).requested in
     let after : State = after_asking now id source failure new in (
-      (asks_at source i n m).0,
+      (asks_at source i n (bit_or n (mask failure)) m).0,
       keeps,
       tt,
-      subst (λ (b : Bits). Running cargo f (stepped s i (bit_or n (mask failure)) id m.1 (logged i n (asks source (not b.requested) m.0)) keeps)) (sym read)
+      subst (λ (b : Bits). Running cargo f (stepped s i (bit_or n (mask failure)) id m.1 (with_step i n (bit_or n (mask failure)) (asks source (not b.requested) m.0)) keeps)) (sym read)
           (request-runs cargo f s id source failure m.0 r at spot (live-now cargo f s id m.0 r at source g.begun) says g
           (λ y asked calm above.
           source_cases (Node y) source
@@ -241,21 +239,27 @@ asks_allowed {P} {E} cargo f slots id source failure m spot one may s r deep at 
           (λ other.
           absurd (both_ways ((bits_at now (Node y)).requested) calm
           (ap (λ b. b.requested) (sym ((reads-asking now id source failure new g.begun).there (Node y) other)) ∙ asked))))),
-      (refl, word-of n (bits_at now source) source says),
+      record {
+        me_is = refl;
+        is_of = word-of n (bits_at now source) source says;
+        stands = λ seen alive. ap (λ b. b.requested) read ∙ seen-stays cargo f s id m.0 r at source seen alive;
+      },
     )
 
 -- the same by the frame that the table shows
 pub asks-at : {P E O : Type 0} (cargo : Ghosts P E O) (board f : Frame O) (slots id i bits : ℕ) (source t : SourceRef) (failure : Bool) (m : Seated P E) → board ≡ f →
     i ≡ index board.layout (spot_of source) → bits ≡ mask failure → t ≡ source → IsSpot board.layout (spot_of source) → has_one board.tree source →
     MayRequest cargo board m.0 source failure →
-    Allows (Running cargo f) slots id m i (λ n. bit_or n bits) (λ n m'. (m' ≡ asks_at t i n m) × IsWordOf t n)
+    AllowsListed cargo f slots id m i (λ n. bit_or n bits) (λ n m'. AsksAt t i n (bit_or n bits) m m')
 asks-at cargo board f slots id i bits source t failure m same i_is bits_are t_is spot one may =
-    subst (λ z. Allows (Running cargo z) slots id m i (λ n. bit_or n bits) (λ n m'. (m' ≡ asks_at t i n m) × IsWordOf t n)) same
-    (subst (λ (z : ℕ × ℕ × SourceRef). Allows (Running cargo board) slots id m z.0 (λ n. bit_or n z.1) (λ n m'. (m' ≡ asks_at z.2 z.0 n m) × IsWordOf z.2 n))
+    allows-listed cargo f slots id m i (λ n. bit_or n bits) (λ n m'. AsksAt t i n (bit_or n bits) m m')
+    (λ n m' told. lists-one i n (bit_or n bits) m m' (asks t (not (source_read n).requested) m.0) (ap (λ z. z.0) told.me_is) refl refl refl refl)
+    (subst (λ z. Allows (Running cargo z) slots id m i (λ n. bit_or n bits) (λ n m'. AsksAt t i n (bit_or n bits) m m')) same
+    (subst (λ (z : ℕ × ℕ × SourceRef). Allows (Running cargo board) slots id m z.0 (λ n. bit_or n z.1) (λ n m'. AsksAt z.2 z.0 n (bit_or n z.1) m m'))
     (λ k. (sym i_is k, sym bits_are k, sym t_is k))
-    (asks_allowed cargo board slots id source failure m spot one may))
+    (asks_allowed cargo board slots id source failure m spot one may)))
 
 -- the hand still carries each slot once
-pub asked-seated : {P E : Type 0} (tree : List TreeNode) (l : Layout) (i n : ℕ) (source : SourceRef) (m : Seated P E) → IsSeated tree l m →
-    IsSeated tree l (asks_at source i n m)
-asked-seated tree l i n source m old = record { apart = old.apart; given = old.given; itself = old.itself }
+pub asked-seated : {P E : Type 0} (tree : List TreeNode) (l : Layout) (i n left : ℕ) (source : SourceRef) (m : Seated P E) → IsSeated tree l m →
+    IsSeated tree l (asks_at source i n left m)
+asked-seated tree l i n left source m old = record { apart = old.apart; given = old.given; itself = old.itself }

@@ -4,7 +4,7 @@ use Rattle.std.proofs.Common.{◌≡◌, ℕ, ◌+◌, ◌*◌, ◌/◌, ◌%◌
 use Rattle.std.specs.Prelude.{Option, Some, bit_or, slice_index}
 use Rattle.std.specs.Int.Bits.{or_zero_r}
 use Rattle.std.proofs.lemmas.Nat.{or_mod, or_shr}
-use Rattle.std.proofs.lemmas.Bool.{and_from, eq-eqb}
+use Rattle.std.proofs.lemmas.Bool.{and_from, eq-eqb, or_left}
 use lib.Bits.{or_step}
 use mathlib.Core.Option.{some}
 use lib.ListN.{get_elem?}
@@ -33,14 +33,14 @@ use Rattle.table_rules.specs.ShownViews.{shown_view, scan_in}
 use Rattle.table_rules.specs.Scenes.{Scene, shown, scene}
 use Rattle.table_rules.specs.Items.{HasFailedChild}
 use Rattle.table_rules.specs.Notes.{IsPastSource, IsKnown}
-use Rattle.table_rules.specs.Grown.{IsLater}
+use Rattle.table_rules.specs.Grown.{HasBitsOfSource}
 use Rattle.table_rules.specs.Running.{Running}
-use Rattle.table_steps.specs.Claims.{logged}
+use Rattle.table_steps.specs.Claims.{with_step}
 use Rattle.table_steps.specs.Sights.{spot_of}
 use Rattle.table_steps.specs.Requests.{asks, mask}
 use Rattle.table_kept.proofs.Seats.{at_within}
 use Rattle.table_kept.proofs.Masks.{or-one}
-use Rattle.table_kept.proofs.Loads.{known-logged}
+use Rattle.table_kept.proofs.Loads.{known-listed}
 use Rattle.table_kept.proofs.Counts.{counts-moved}
 use Rattle.table_kept.proofs.ViewMoves.{view-here, views-moved}
 use Rattle.table_kept.proofs.ControlRuns.{open-kept}
@@ -86,12 +86,12 @@ module _ (w : ℕ) where
   or-true true = refl
   or-true false = refl
 
-  mask-stamp : (failure : Bool) → stamp_of (bit_or w (mask failure)) ≡ stamp_of w
+  pub mask-stamp : (failure : Bool) → stamp_of (bit_or w (mask failure)) ≡ stamp_of w
   mask-stamp true = stamp-kept 3 refl
   mask-stamp false = stamp-kept 1 refl
 
   -- the bits that the word says after the request
-  mask-read : (failure : Bool) (bits : Bits) → source_read w ≡ bits →
+  pub mask-read : (failure : Bool) (bits : Bits) → source_read w ≡ bits →
       source_read (bit_or w (mask failure)) ≡ record bits { requested = true; failed = bits.failed || failure }
   mask-read true bits is =
       failed-read ∙ (λ i. record (is i) { requested = true; failed = true }) ∙ (λ i. record bits { requested = true; failed = sym (or-true bits.failed) i })
@@ -152,7 +152,7 @@ module _ {P E O : Type 0} (cargo : Ghosts P E O) (f : Frame O) (s : table.State 
   u = requester now id source new
 
   abbrev mine : View P E
-  mine = logged i n (asks source new v)
+  mine = with_step i n value (asks source new v)
 
   scans-shown : (b : Bool) → scan_in (cond b (record { source = source; next = 0 } ∷ v.scans) v.scans)
       ≡ cond b (λ t. cond (same_source source t) (Some 0) (scan_in v.scans t)) (scan_in v.scans)
@@ -183,9 +183,10 @@ module _ {P E O : Type 0} (cargo : Ghosts P E O) (f : Frame O) (s : table.State 
       known-aside here now.callback (words_with now source bits) (scope_with now source bits) now.scope (with_view now id u).view
       more z (λ y counts known so. so) old
 
-  low : (t : SourceRef) → IsLater (spot_of t) n value
-  low Scope = tt
-  low (Node y) = let same = mask-stamp n failure in omega (arith, same)
+  -- no bit goes away
+  more-bits : HasBitsOfSource (bits_at now source) bits
+  more-bits =
+      record { requested = λ _. refl; failed = λ t. or_left (bits_at now source).failed failure t; scanned = λ t. t }
 
   pub request-runs : ((y : Name) → (bits_at after_state (Node y)).requested ≡ true → (bits_at now (Node y)).requested ≡ false →
       nearest_is_requested after_state y ≡ false → HasFailedChild cargo here y) →
@@ -195,8 +196,7 @@ module _ {P E O : Type 0} (cargo : Ghosts P E O) (f : Frame O) (s : table.State 
       let z = scope_with now source bits in
       let w = (with_view now id u).view in
       let k = known-still v (r.stands.views.each id v at) in
-      source-runs cargo f s id value source bits v r at spot (says-after source says) live mine u shows-mine
-      (record { word = n; steps = refl; low = low source })
+      source-runs cargo f s id value source bits v r at spot (says-after source says) live mine u shows-mine more-bits refl
       (record {
         sound = sound-asking now id source failure new r.stands.sound hand grounds (not-twice (bits_at now source).requested);
         homes = homes-aside here now.callback q z now.scope w (related now id u (λ a b. owning a ≡ owning b) (λ _. refl) refl) r.stands.homes;
@@ -204,7 +204,7 @@ module _ {P E O : Type 0} (cargo : Ghosts P E O) (f : Frame O) (s : table.State 
         items = items-asked cargo here now.callback q z now.scope w more blame r.stands.items;
         lots = lots-aside here now.callback q z now.scope w cargo r.stands.lots;
         views = views-moved here (record here { state = after_state }) s.views id v mine at (λ j y ne there old. known-still y old)
-            (known-logged (record here { state = after_state }) i n (asks source new v) (record {
+            (known-listed (record here { state = after_state }) i n value (asks source new v) (record {
               held = k.held;
               owed = k.owed;
               reported = k.reported;

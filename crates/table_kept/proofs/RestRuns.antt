@@ -1,6 +1,6 @@
 -- The store by which a node is left at rest keeps the rule.
-use Rattle.std.proofs.Common.{◌≡◌, ℕ, ◌≤◌, Bool, true, false, ◌&&◌, ◌||◌, ◌==◌, List, set, refl, sym, ap, ◌∙◌, subst, inl, arith}
-use Rattle.std.specs.Prelude.{Option, Some}
+use Rattle.std.proofs.Common.{◌≡◌, ℕ, ◌≤◌, Bool, true, false, ◌&&◌, ◌||◌, ◌==◌, List, set, refl, sym, ap, ◌∙◌, subst, inl, arith, ◌∷◌}
+use Rattle.std.specs.Prelude.{Option, Some, slice_index}
 use Rattle.std.proofs.lemmas.Bool.{and_from, both_ways, eq-eqb}
 use mathlib.Core.Option.{some}
 use lib.ListN.{get_elem?}
@@ -23,6 +23,7 @@ use Rattle.table_words.specs.Controls.{control_read}
 use Rattle.table_words.specs.Layouts.{OfControl, index}
 use Rattle.atomic_table.specs.Table.{Allows}
 use Rattle.atomic_table.specs.Table as table
+use Rattle.listed_steps.specs.Lists.{entry}
 use Rattle.table_rules.specs.declared.cargo.Cargo.{Ghosts}
 use Rattle.table_rules.specs.declared.frame.Frame.{Frame}
 use Rattle.table_rules.specs.declared.view.View.{View}
@@ -32,12 +33,12 @@ use Rattle.table_rules.specs.ShownViews.{shown_view}
 use Rattle.table_rules.specs.Scenes.{Home, Empty, Full, is_out, is_full, Scene, shown, scene}
 use Rattle.table_rules.specs.Homes.{is_waiting}
 use Rattle.table_rules.specs.Running.{Stands, Running}
-use Rattle.table_steps.specs.Claims.{logged, LeftAt, Seated}
+use Rattle.table_steps.specs.Claims.{with_step, Seated}
 use Rattle.table_steps.specs.Slots.{slot_of, is_of_family, IsSeated}
 use Rattle.table_steps.specs.Rests.{lets_go, CanRest, RestsAt}
 use Rattle.table_kept.proofs.Entries.{count-without}
 use Rattle.table_kept.proofs.Among.{among}
-use Rattle.table_kept.proofs.Loads.{known-logged}
+use Rattle.table_kept.proofs.Loads.{known-listed}
 use Rattle.table_kept.proofs.Counts.{counts-moved}
 use Rattle.table_kept.proofs.ViewMoves.{views-moved}
 use Rattle.table_kept.proofs.ControlRuns.{place_of, place-live, name-live, control-runs, begun-renewed}
@@ -132,6 +133,7 @@ module _ {P E O : Type 0} (cargo : Ghosts P E O) (f : Frame O) (s : table.State 
         kids = λ n child.
             kid-left cargo f s id x v c r at seated can.leave w u is-put homes_now r.past n child rest.held refl refl (kid-home n child);
         named = λ waits. absurd (both_ways (is_waiting w) rest.waits waits);
+        met = λ _. r.stands.homes.met x (ap is_idle held-now.word) (ap is_waiting held-now.word);
       }
 
   remembers : Remembers cargo f.over.value here id x w u is-put homes_now r.past moves
@@ -150,11 +152,13 @@ module _ {P E O : Type 0} (cargo : Ghosts P E O) (f : Frame O) (s : table.State 
             subst (λ i. cargo.fits i x.node (nearest_is_requested now x)) (item-is item is)
             (fit-now cargo f s id x v r at e holds can.item can.fit);
         goes_on = λ item is _. subst (λ i. ¬ cargo.ends i) (item-is item is) can.goes_on;
+        rests = λ item is _. subst (λ i. cargo.rests i x.node) (item-is item is) can.rests;
         bound = λ item is.
             subst (λ i. cargo.least i ≤ r.past.named x) (item-is item is)
             (subst (λ n. cargo.least can.item ≤ n) (named-so cargo f s id x v r at e holds) can.bound);
         ended = λ done _. absurd (both_ways (is_done w) rest.done done);
         delivered = λ item done _ _. absurd (both_ways (is_done w) rest.done done);
+        enough = λ item done _ _. absurd (both_ways (is_done w) rest.done done);
         lot = λ item waits _. absurd (both_ways (is_waiting w) rest.waits waits);
         drawn = λ n waits _ _ _. absurd (both_ways (is_waiting w) rest.waits waits);
       }
@@ -164,7 +168,7 @@ module _ {P E O : Type 0} (cargo : Ghosts P E O) (f : Frame O) (s : table.State 
     i = index f.layout (OfControl x.block x.node)
 
     abbrev mine : View P E
-    mine = logged i n (lets_go x v)
+    mine = with_step i n value (lets_go x v)
 
     abbrev after : Scene P E
     after = moved here id x w u is-put homes_now r.past
@@ -192,7 +196,7 @@ module _ {P E O : Type 0} (cargo : Ghosts P E O) (f : Frame O) (s : table.State 
               (λ j z ne there.
               known-moved here id x w u is-put homes_now r.past moves (λ y. refl) (λ y _. refl) (λ y _. refl) (inl refl) z
               (among f s j z r.sized.seats there) (others-none cargo f s id x v r at e holds j z ne there))
-              (known-logged after i n (lets_go x v)
+              (known-listed after i n value (lets_go x v)
               (known-beside here id x w u is-put homes_now r.past moves (λ y. refl) (λ y _. refl) (λ y _. refl) (inl refl) v
               mine-among known (without (λ e. e.name) v.held x)
               (others-held here id x w u is-put homes_now r.past moves (λ y. refl) (λ y _. refl) (λ y _. refl) (inl refl) v mine-among known)))
@@ -200,46 +204,41 @@ module _ {P E O : Type 0} (cargo : Ghosts P E O) (f : Frame O) (s : table.State 
           counts = counts-moved here.state after.state s.views id v mine at refl refl r.stands.counts;
         }
 
-    pub rest-runs : stamp_of n ≤ stamp_of value → Running cargo f record {
+    pub rest-runs : n ≡ slice_index s.words i → Running cargo f record {
       words = set s.words i value;
       homes = shed_homes cargo f s id v c r at seated gone;
       views = set s.views id mine;
     }
-    rest-runs low =
+    rest-runs was =
         control-runs cargo f s id value x w v r at held-now.live stamped reads mine u shows-mine
         (shed_homes cargo f s id v c r at seated gone) homes_now r.past (λ j m. refl)
-        (begun-renewed cargo f s x r held-now.live (ap is_idle held-now.word)) (record { word = n; steps = refl; low = low })
+        (ap is_done held-now.word) (begun-renewed cargo f s x r held-now.live (ap is_idle held-now.word)) (ap (λ k. entry i k value ∷ v.steps) was)
         (deep-shed gone s.homes c) stands-rest
 
   pub rests-now : (mine : View P E) × (a : table.Act (Option P)) × table.Valid s.homes c a
       × Running cargo f (table.stepped s (index f.layout (OfControl x.block x.node)) value id c mine a)
-      × (RestsAt (record { tree = f.tree; layout = f.layout; name = x }) (index f.layout (OfControl x.block x.node)) (v, c) (mine, table.carried_after c a)
-      × LeftAt (index f.layout (OfControl x.block x.node)) value (v, c) (mine, table.carried_after c a))
+      × RestsAt (record { tree = f.tree; layout = f.layout; name = x }) (index f.layout (OfControl x.block x.node))
+      (slice_index s.words (index f.layout (OfControl x.block x.node))) value (v, c) (mine, table.carried_after c a)
   rests-now =
       let i = index f.layout (OfControl x.block x.node) in
-      let n = value in
-      let mine : View P E = logged i n (lets_go x v) in
+      let n = slice_index s.words i in
+      let mine : View P E = with_step i n value (lets_go x v) in
       let is = carries-shed gone c in (
         mine,
         sheds gone c,
         valid-shed cargo f s id v c r at seated gone,
-        rest-runs n (omega arith),
-        (
-          record {
-            word = n;
-            me_is = λ k. (mine, is k);
-            seated = subst (λ d. IsSeated f.tree f.layout (mine, d)) (sym is)
-                (seated-shed f.tree f.layout x i n v c seated);
-          },
-          refl,
-        ),
+        rest-runs n refl,
+        record {
+          me_is = λ k. (mine, is k);
+          seated = subst (λ d. IsSeated f.tree f.layout (mine, d)) (sym is)
+              (seated-shed f.tree f.layout x i n value v c seated);
+        },
       )
 
 -- what the store owes
 pub rests_allowed : {P E O : Type 0} (cargo : Ghosts P E O) (f : Frame O) (slots id value : ℕ) (x : Name) (to : Resting) (m : Seated P E) →
     IsSeated f.tree f.layout m → CanRest cargo f m x → stamp_of value ≡ x.generation → control_read value ≡ resting_at to →
     Allows (Running cargo f) slots id m (index f.layout (OfControl x.block x.node)) (λ _. value)
-    (λ _ m'. RestsAt (record { tree = f.tree; layout = f.layout; name = x }) (index f.layout (OfControl x.block x.node)) m m'
-    × LeftAt (index f.layout (OfControl x.block x.node)) value m m')
+    (λ n. RestsAt (record { tree = f.tree; layout = f.layout; name = x }) (index f.layout (OfControl x.block x.node)) n value m)
 rests_allowed cargo f slots id value x to m seated can stamped reads s r deep at small =
     rests-now cargo f s id value x to m.0 m.1 r at seated can stamped reads

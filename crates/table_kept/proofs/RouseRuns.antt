@@ -1,11 +1,12 @@
 -- The exchange by which a parked node is woken keeps the rule.
-use Rattle.std.proofs.Common.{◌≡◌, ℕ, ◌+◌, ◌<◌, Bool, true, false, ◌&&◌, ◌||◌, ◌==◌, cond, set, refl, sym, ap, ◌∙◌, subst, inl, arith, eq-eqb, ne_eqb, ◌≤◌}
+use Rattle.std.proofs.Common.{◌≡◌, ℕ, ◌+◌, ◌<◌, Bool, true, false, ◌&&◌, ◌||◌, ◌==◌, cond, set, refl, sym, ap, ◌∙◌, subst, inl, arith, eq-eqb, ne_eqb, ◌∷◌}
 use Rattle.std.specs.Prelude.{Option, nat_le, slice_index}
 use Rattle.std.specs.Option.{option_map_or}
 use Rattle.std.proofs.lemmas.Bool.{and_from, both_ways, cond-true, cond-false, eqb-true, false_from_ne_true}
 use mathlib.Core.Option.{some}
 use mathlib.Core.Option as maybe
 use mathlib.Core.Logic.{dite}
+use Rattle.listed_steps.specs.Lists.{entry}
 use native.Mathlib.Decide.{ℕ_discrete}
 use prog.Atomic.{either}
 use lib.ListN.{get_elem?}
@@ -37,11 +38,12 @@ use Rattle.table_rules.specs.ShownViews.{shown_view}
 use Rattle.table_rules.specs.Scenes.{Home, Out, Empty, Full, is_out, is_full, Scene, shown, scene}
 use Rattle.table_rules.specs.Homes.{is_waiting, is_resting, seats_of}
 use Rattle.table_rules.specs.Running.{Stands, Running}
-use Rattle.table_steps.specs.Claims.{logged, looks, Seated}
-use Rattle.table_steps.specs.Rouses.{MayRouse}
+use Rattle.table_steps.specs.Claims.{Seated, with_step}
+use Rattle.table_steps.specs.Rouses.{MayRouse, rouses}
+use Rattle.table_kept.proofs.Listing.{AllowsListed, allows-listed, lists-one}
 use Rattle.table_kept.proofs.Seats.{at_within}
 use Rattle.table_kept.proofs.Among.{among}
-use Rattle.table_kept.proofs.Loads.{known-logged, looks_keep}
+use Rattle.table_kept.proofs.Loads.{known-listed, looks_keep}
 use Rattle.table_kept.proofs.Counts.{counts-moved}
 use Rattle.table_kept.proofs.ViewMoves.{view-here, views-moved}
 use Rattle.table_kept.proofs.ControlRuns.{place_of, place-live, name-live, begun-renewed, control-runs}
@@ -165,6 +167,7 @@ module _ {P E O : Type 0} (cargo : Ghosts P E O) (f : Frame O) (s : table.State 
         settled = λ _. full-own;
         kids = kid-moves;
         named = λ none. cc;
+        met = λ _. r.stands.homes.met x (ap is_idle parked) (ap is_waiting parked);
       }
 
   remembers : Remembers cargo f.over.value here id x ReadyLoop u is-put here.home r.past moves
@@ -176,9 +179,11 @@ module _ {P E O : Type 0} (cargo : Ghosts P E O) (f : Frame O) (s : table.State 
         start = λ item is. r.stands.starts.shows x item live is;
         fit = λ item is. r.stands.items.fit x item live is;
         goes_on = λ item is _. r.stands.items.goes_on x item live is (ap is_done parked);
+        rests = λ item is _. r.stands.items.rests x item live is rests;
         bound = λ item is. r.stands.items.bound x item live is;
         ended = λ done _. cc;
         delivered = λ item done _ _. cc;
+        enough = λ item none _ _. cc;
         lot = λ item waits _. cc;
         drawn = λ n waits _ _ _. cc;
       }
@@ -188,7 +193,7 @@ module _ {P E O : Type 0} (cargo : Ghosts P E O) (f : Frame O) (s : table.State 
     i = index f.layout (OfControl x.block x.node)
 
     abbrev mine : View P E
-    mine = logged i n v
+    mine = with_step i n value v
 
     abbrev after : Scene P E
     after = moved here id x ReadyLoop u is-put here.home r.past
@@ -212,49 +217,48 @@ module _ {P E O : Type 0} (cargo : Ghosts P E O) (f : Frame O) (s : table.State 
               (λ j z ne there.
               known-moved here id x ReadyLoop u is-put here.home r.past moves (λ y. refl) (λ y _. refl) (λ y _. refl) (inl refl) z
               (among f s j z r.sized.seats there) (held-none z j there))
-              (known-logged after i n v
+              (known-listed after i n value v
               (known-moved here id x ReadyLoop u is-put here.home r.past moves (λ y. refl) (λ y _. refl) (λ y _. refl) (inl refl) v
               (among f s id v r.sized.seats at) (held-none v id at) (r.stands.views.each id v at)))
               refl refl r.stands.views;
           counts = counts-moved here.state after.state s.views id v mine at refl refl r.stands.counts;
         }
 
-    pub rouse-runs : stamp_of n ≤ stamp_of value → Running cargo f record {
+    pub rouse-runs : n ≡ slice_index s.words i → Running cargo f record {
       words = set s.words i value;
       homes = s.homes;
       views = set s.views id mine;
     }
-    rouse-runs low =
+    rouse-runs was =
         control-runs cargo f s id value x ReadyLoop v r at live stamped reads mine u (sym shows)
         s.homes here.home r.past (λ j m. refl)
-        (begun-renewed cargo f s x r live (ap is_idle parked)) (record { word = n; steps = refl; low = low }) refl stands-roused
+        (ap is_done parked) (begun-renewed cargo f s x r live (ap is_idle parked)) (ap (λ k. entry i k value ∷ v.steps) was) refl stands-roused
 
 -- what the exchange owes
 pub rouses_allowed : {P E O : Type 0} (cargo : Ghosts P E O) (f : Frame O) (slots id old new : ℕ) (x : Name) (m : Seated P E) →
     x.block < f.layout.blocks → x.node < f.layout.nodes → MayRouse m.0 x →
     stamp_of old ≡ x.generation → control_read old ≡ Parked → stamp_of new ≡ x.generation → control_read new ≡ ReadyLoop →
     Allows (Running cargo f) slots id m (index f.layout (OfControl x.block x.node)) (λ n. either (n == old) new n)
-    (looks (step slots (index f.layout (OfControl x.block x.node)) old new maybe.none) m)
+    (rouses (step slots (index f.layout (OfControl x.block x.node)) old new maybe.none) m)
 rouses_allowed {P} {E} cargo f slots id old new x m hb hn may stamp_old reads_old stamp_new reads_new s r deep at small =
     let i = index f.layout (OfControl x.block x.node) in
     let n = slice_index s.words i in
-    let mine : View P E = logged i n m.0 in
     dite (ℕ_discrete n old)
     (λ hit.
-    let says : SaysLive (shown f s) x Parked = says-live cargo f s x Parked r hb hn (ap stamp_of hit ∙ stamp_old) (ap control_read hit ∙ reads_old) refl in (
-      mine,
+    let says : SaysLive (shown f s) x Parked = says-live cargo f s x Parked r hb hn (ap stamp_of hit ∙ stamp_old) (ap control_read hit ∙ reads_old) refl in
+    let left : new ≡ either (n == old) new n = sym (ap (λ t. either t new n) (eq-eqb n old hit)) in (
+      with_step i n (either (n == old) new n) m.0,
       keeps,
       tt,
-      subst (λ (k : ℕ). Running cargo f (stepped s i k id m.1 mine keeps)) (sym (ap (λ t. either t new n) (eq-eqb n old hit)))
-          (rouse-runs cargo f s id new x m.0 r at says.live says.word may stamp_new reads_new n
-          (let same = ap stamp_of hit in omega (arith, same, stamp_old, stamp_new))),
+      subst (λ (k : ℕ). Running cargo f (stepped s i k id m.1 (with_step i n k m.0) keeps)) left
+          (rouse-runs cargo f s id new x m.0 r at says.live says.word may stamp_new reads_new n refl),
       refl,
     ))
     (λ miss. (
-      mine,
+      with_step i n (either (n == old) new n) m.0,
       keeps,
       tt,
-      subst (λ (k : ℕ). Running cargo f (stepped s i k id m.1 mine keeps)) (sym (ap (λ t. either t new n) (ne_eqb n old miss)))
+      subst (λ (k : ℕ). Running cargo f (stepped s i k id m.1 (with_step i n k m.0) keeps)) (sym (ap (λ t. either t new n) (ne_eqb n old miss)))
           (looks_keep cargo f s id i m.0 r at),
       refl,
     ))
@@ -263,9 +267,11 @@ rouses_allowed {P} {E} cargo f slots id old new x m hb hn may stamp_old reads_ol
 pub rouses-at : {P E O : Type 0} (cargo : Ghosts P E O) (board f : Frame O) (slots id i old new : ℕ) (x : Name) (m : Seated P E) → board ≡ f →
     i ≡ index board.layout (OfControl x.block x.node) → x.block < board.layout.blocks → x.node < board.layout.nodes → MayRouse m.0 x →
     stamp_of old ≡ x.generation → control_read old ≡ Parked → stamp_of new ≡ x.generation → control_read new ≡ ReadyLoop →
-    Allows (Running cargo f) slots id m i (λ n. either (n == old) new n) (looks (step slots i old new maybe.none) m)
+    AllowsListed cargo f slots id m i (λ n. either (n == old) new n) (rouses (step slots i old new maybe.none) m)
 rouses-at cargo board f slots id i old new x m same i_is hb hn may stamp_old reads_old stamp_new reads_new =
-    subst (λ z. Allows (Running cargo z) slots id m i (λ n. either (n == old) new n) (looks (step slots i old new maybe.none) m)) same
-    (subst (λ j. Allows (Running cargo board) slots id m j (λ n. either (n == old) new n) (looks (step slots j old new maybe.none) m))
+    allows-listed cargo f slots id m i (λ n. either (n == old) new n) (rouses (step slots i old new maybe.none) m)
+    (λ n m' told. lists-one i n (either (n == old) new n) m m' m.0 (ap (λ z. z.0) told) refl refl refl refl)
+    (subst (λ z. Allows (Running cargo z) slots id m i (λ n. either (n == old) new n) (rouses (step slots i old new maybe.none) m)) same
+    (subst (λ j. Allows (Running cargo board) slots id m j (λ n. either (n == old) new n) (rouses (step slots j old new maybe.none) m))
     (sym i_is)
-    (rouses_allowed cargo board slots id old new x m hb hn may stamp_old reads_old stamp_new reads_new))
+    (rouses_allowed cargo board slots id old new x m hb hn may stamp_old reads_old stamp_new reads_new)))

@@ -6,6 +6,7 @@ use Rattle.std.proofs.lemmas.Bool.{and_parts, cond-true, cond-false}
 use mathlib.Core.Option.{some}
 use mathlib.Core.Option as maybe
 use mathlib.Core.Logic.{dite}
+use Rattle.listed_steps.specs.Lists.{entry}
 use native.Mathlib.Decide.{ℕ_discrete}
 use prog.Atomic.{either}
 use lib.ListN.{get_elem?}
@@ -19,7 +20,7 @@ use Rattle.common_lemmas.proofs.Bool.{either as test}
 use Rattle.life_rules.proofs.Names.{same_source-true}
 use Rattle.table_words.specs.declared.layout.Layout.{Layout}
 use Rattle.table_words.specs.Stamps.{stamp_of}
-use Rattle.table_words.specs.Controls.{callback_read, callback_written}
+use Rattle.table_words.specs.Controls.{callback_read}
 use Rattle.table_words.specs.Layouts.{OfCallback, index}
 use Rattle.atomic_table.specs.Table.{Allows, step, keeps, stepped}
 use Rattle.atomic_table.specs.Table as table
@@ -28,16 +29,17 @@ use Rattle.table_rules.specs.declared.frame.Frame.{Frame}
 use Rattle.table_rules.specs.declared.view.View.{View}
 use Rattle.table_rules.specs.Scenes.{shown}
 use Rattle.table_rules.specs.Running.{Running}
-use Rattle.table_steps.specs.Claims.{logged, Seated}
+use Rattle.table_steps.specs.Claims.{with_step, logged, ListsOne, Seated}
 use Rattle.table_steps.specs.Slots.{Aim, IsSeated}
 use Rattle.table_steps.specs.ScanOrders.{hears}
 use Rattle.table_steps.specs.Runs.{says_armed, place_named, node_named, runs_place, passes_place, meets_at, RunsAt, CanRun, IsOfScan, IsNewest}
+use Rattle.table_kept.proofs.Listing.{AllowsListed, allows-listed, lists-one}
 use Rattle.table_kept.proofs.BeginTold.{aimed}
 use Rattle.table_kept.proofs.BeginSeats.{seated-logged}
 use Rattle.table_kept.proofs.Stamping.{newest-risen}
 use Rattle.table_kept.proofs.Loads.{looks_keep}
 use Rattle.table_kept.proofs.ScanOrders.{heard}
-use Rattle.table_kept.proofs.ArmedWords.{armed-written, armed-later, armed-live, armed-phase, armed-stamp, unarmed-phase}
+use Rattle.table_kept.proofs.ArmedWords.{armed-later, armed-live, armed-phase, armed-stamp, unarmed-phase}
 use Rattle.table_kept.proofs.RunsLive.{runs-beside}
 use Rattle.table_kept.proofs.RunRuns.{present, scannable, run-runs, pass-runs}
 
@@ -64,8 +66,8 @@ module _ {P E O : Type 0} (cargo : Ghosts P E O) (f : Frame O) (s : table.State 
   -- no word that the hand read there is greater
   pub entry-rises : (word : ℕ) → IsNewest i word me.0 → word ≤ n
   entry-rises word newest =
-      newest-risen f.layout s.words s.views id me.0 (record { index = i; word = word }) newest.earlier at newest.steps_are r.stamped.rises
-      (OfCallback b m) (hb, hm) refl
+      (newest-risen f.layout s.words s.views id me.0 (entry i word word) newest.earlier at newest.steps_are r.stamped.rises
+      (OfCallback b m) (hb, hm) refl).1
 
   -- a word that isn't armed passes the place
   pub met-runs : Running cargo f (stepped s i n id me.1 (meets_at (aimed f (place_named b m)) source i n me).0 keeps)
@@ -99,13 +101,12 @@ module _ {P E O : Type 0} (cargo : Ghosts P E O) (f : Frame O) (s : table.State 
         subst (IsOfScan f.tree me.0 source) named
         (record { nearest_is = registered; beside_it = runs-beside cargo f s id me.0 r at x live })
 
-    pub won-runs : (new : ℕ) → new ≡ callback_written (stamp_of n) Runs → stamp_of new ≡ stamp_of n → callback_read new ≡ Runs →
-        Running cargo f (stepped s i new id me.1 (logged i n (runs_place (node_named b m n) me.0)) keeps)
-    won-runs new value stamped reads =
-        let own = armed-written n armed in
-        subst (λ y. Running cargo f (stepped s i new id me.1 (logged i n (runs_place y me.0)) keeps)) named
+    pub won-runs : (new : ℕ) → stamp_of new ≡ stamp_of n → callback_read new ≡ Runs →
+        Running cargo f (stepped s i new id me.1 (with_step i n new (runs_place (node_named b m n) me.0)) keeps)
+    won-runs new stamped reads =
+        subst (λ y. Running cargo f (stepped s i new id me.1 (with_step i n new (runs_place y me.0)) keeps)) named
         (run-runs cargo f s id source b m me.0 r at can hb i n new live (armed-phase cargo f s b m r hb hm armed)
-        (stamped ∙ armed-stamp cargo f s b m r hb hm armed) reads refl (omega (arith, own, value)))
+        (stamped ∙ armed-stamp cargo f s b m r hb hm armed) reads refl refl)
 
 module _ {P E O : Type 0} (cargo : Ghosts P E O) (f : Frame O) (slots id : ℕ) (source : SourceRef) (b m : ℕ) (me : Seated P E) (can : CanRun f.tree me.0 source b m) (hb : b < f.layout.blocks) where
   abbrev place : ℕ
@@ -122,22 +123,20 @@ module _ {P E O : Type 0} (cargo : Ghosts P E O) (f : Frame O) (slots id : ℕ) 
   )
 
   -- what the exchange owes, of a word that was read as armed
-  runs_allowed : (old new : ℕ) → says_armed old ≡ true → IsNewest place old me.0 → new ≡ callback_written (stamp_of old) Runs →
-      stamp_of new ≡ stamp_of old → callback_read new ≡ Runs →
+  runs_allowed : (old new : ℕ) → says_armed old ≡ true → IsNewest place old me.0 → stamp_of new ≡ stamp_of old → callback_read new ≡ Runs →
       Allows (Running cargo f) slots id me place (λ n. either (n == old) new n)
       (RunsAt (aimed f (place_named b m)) source (step slots place old new maybe.none) me)
-  runs_allowed old new armed newest value stamped reads s r deep at small =
+  runs_allowed old new armed newest stamped reads s r deep at small =
       let n = slice_index s.words place in
       dite (ℕ_discrete n old)
       (λ hit.
       let here : says_armed n ≡ true = ap says_armed hit ∙ armed in
-      let ran : View P E = logged place n (runs_place (node_named b m n) me.0) in (
+      let ran : View P E = with_step place n new (runs_place (node_named b m n) me.0) in (
         ran,
         keeps,
         tt,
         subst (λ k. Running cargo f (stepped s place k id me.1 ran keeps)) (sym (ap (λ t. either t new n) (eq-eqb n old hit)))
-            (won-runs cargo f s id slots source b m me r at can hb here new
-            (value ∙ ap (λ w. callback_written (stamp_of w) Runs) (sym hit)) (stamped ∙ ap stamp_of (sym hit)) reads),
+            (won-runs cargo f s id slots source b m me r at can hb here new (stamped ∙ ap stamp_of (sym hit)) reads),
         ((λ _. (refl, of-scan cargo f s id slots source b m me r at can hb here)), (λ miss. absurd (miss hit))),
       ))
       (λ miss.
@@ -156,28 +155,47 @@ module _ {P E O : Type 0} (cargo : Ghosts P E O) (f : Frame O) (slots id : ℕ) 
         ),
       ))
 
+-- what a word that was met tells is listed
+met-lists : {P E : Type 0} (aim : Aim) (source : SourceRef) (i n : ℕ) (me : Seated P E) → ListsOne i n n me (meets_at aim source i n me)
+met-lists {P} {E} aim source i n me =
+    let passed : View P E = passes_place aim.tree source aim.name.block aim.name.node me.0 in
+    test (says_armed n)
+    (λ armed. lists-one i n n me _ me.0 (ap (logged i n) (cond-true (says_armed n) me.0 passed armed)) refl refl refl refl)
+    (λ unarmed. lists-one i n n me _ passed (ap (logged i n) (cond-false (says_armed n) me.0 passed unarmed)) refl refl refl refl)
+
 -- the same by the frame that the table shows
 module _ {P E O : Type 0} (cargo : Ghosts P E O) (board f : Frame O) (slots id i : ℕ) (source t : SourceRef) (b m : ℕ) (aim : Aim) (me : Seated P E) (same : board ≡ f) (i_is : i ≡ index board.layout (OfCallback b m)) (aim_is : aim ≡ aimed board (place_named b m)) (t_is : t ≡ source) (can : CanRun board.tree me.0 source b m) (hb : b < board.layout.blocks) where
-  pub meets-at : Allows (Running cargo f) slots id me i (λ n. n) (λ n m'. m' ≡ meets_at aim t i n me)
+  pub meets-at : AllowsListed cargo f slots id me i (λ n. n) (λ n m'. m' ≡ meets_at aim t i n me)
   meets-at =
-      subst (λ z. Allows (Running cargo z) slots id me i (λ n. n) (λ n m'. m' ≡ meets_at aim t i n me)) same
+      allows-listed cargo f slots id me i (λ n. n) (λ n m'. m' ≡ meets_at aim t i n me)
+      (λ n m' told. subst (ListsOne i n n me) (sym told) (met-lists aim t i n me))
+      (subst (λ z. Allows (Running cargo z) slots id me i (λ n. n) (λ n m'. m' ≡ meets_at aim t i n me)) same
       (subst (λ (z : ℕ × Aim × SourceRef). Allows (Running cargo board) slots id me z.0 (λ n. n) (λ n m'. m' ≡ meets_at z.1 z.2 z.0 n me))
       (λ k. (sym i_is k, sym aim_is k, sym t_is k))
-      (meets_allowed cargo board slots id source b m me can hb))
+      (meets_allowed cargo board slots id source b m me can hb)))
 
-  pub runs-at : (old new : ℕ) → says_armed old ≡ true → IsNewest (index board.layout (OfCallback b m)) old me.0 → new ≡ callback_written (stamp_of old) Runs →
+  pub runs-at : (old new : ℕ) → says_armed old ≡ true → IsNewest (index board.layout (OfCallback b m)) old me.0 →
       stamp_of new ≡ stamp_of old → callback_read new ≡ Runs →
-      Allows (Running cargo f) slots id me i (λ n. either (n == old) new n) (RunsAt aim t (step slots i old new maybe.none) me)
-  runs-at old new armed newest value stamped reads =
-      subst (λ z. Allows (Running cargo z) slots id me i (λ n. either (n == old) new n) (RunsAt aim t (step slots i old new maybe.none) me)) same
+      AllowsListed cargo f slots id me i (λ n. either (n == old) new n) (RunsAt aim t (step slots i old new maybe.none) me)
+  runs-at old new armed newest stamped reads =
+      allows-listed cargo f slots id me i (λ n. either (n == old) new n) (RunsAt aim t (step slots i old new maybe.none) me)
+      (λ n m' told.
+      dite (ℕ_discrete n old)
+      (λ hit.
+      subst (λ k. ListsOne i n k me m') (sym (ap (λ b. either b new n) (eq-eqb n old hit)))
+      (lists-one i n new me m' _ (ap (λ z. z.0) (told.0 hit).0) refl refl refl refl))
+      (λ miss.
+      subst (λ k. ListsOne i n k me m') (sym (ap (λ b. either b new n) (ne_eqb n old miss)))
+      (subst (ListsOne i n n me) (sym (told.1 miss).0) (met-lists aim t i n me))))
+      (subst (λ z. Allows (Running cargo z) slots id me i (λ n. either (n == old) new n) (RunsAt aim t (step slots i old new maybe.none) me)) same
       (subst (λ (z : ℕ × Aim × SourceRef). Allows (Running cargo board) slots id me z.0 (λ n. either (n == old) new n) (RunsAt z.1 z.2 (step slots z.0 old new maybe.none) me))
       (λ k. (sym i_is k, sym aim_is k, sym t_is k))
-      (runs_allowed cargo board slots id source b m me can hb old new armed newest value stamped reads))
+      (runs_allowed cargo board slots id source b m me can hb old new armed newest stamped reads)))
 
 -- the hand still carries each slot once
 module _ {P E : Type 0} (tree : List TreeNode) (l : Layout) (i n : ℕ) (me : Seated P E) (old : IsSeated tree l me) where
-  pub run-seated : (x : Name) → IsSeated tree l (logged i n (runs_place x me.0), me.1)
-  run-seated x = record { apart = old.apart; given = old.given; itself = old.itself }
+  pub run-seated : (left : ℕ) (x : Name) → IsSeated tree l (with_step i n left (runs_place x me.0), me.1)
+  run-seated left x = record { apart = old.apart; given = old.given; itself = old.itself }
 
   pub met-seated : (aim : Aim) (source : SourceRef) → IsSeated tree l (meets_at aim source i n me)
   met-seated aim source =

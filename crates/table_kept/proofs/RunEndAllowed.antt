@@ -1,6 +1,6 @@
 -- What the stores by which a callback's run ends owe.
-use Rattle.std.proofs.Common.{◌≡◌, ℕ, List, refl, sym, subst, arith}
-use Rattle.std.specs.Prelude.{Some}
+use Rattle.std.proofs.Common.{◌≡◌, ℕ, List, refl, sym, subst, ap}
+use Rattle.std.specs.Prelude.{Some, slice_index}
 use Rattle.node_tree.specs.declared.node.TreeNode.{TreeNode}
 use Rattle.life_rules.specs.declared.words.CallbackPhase.TheVariants.{Ran, Removed}
 use Rattle.life_rules.specs.declared.event.Name.{Name}
@@ -13,9 +13,10 @@ use Rattle.table_rules.specs.declared.cargo.Cargo.{Ghosts}
 use Rattle.table_rules.specs.declared.frame.Frame.{Frame}
 use Rattle.table_rules.specs.declared.view.Held.{Held}
 use Rattle.table_rules.specs.Running.{Running}
-use Rattle.table_steps.specs.Claims.{logged, Seated}
+use Rattle.table_steps.specs.Claims.{with_step, Seated}
 use Rattle.table_steps.specs.Slots.{Aim, IsSeated}
 use Rattle.table_steps.specs.RunEnds.{CanEndRun, CanWithdrawOwn, ends_run, removes_own}
+use Rattle.table_kept.proofs.Listing.{AllowsListed, allows-listed, lists-one}
 use Rattle.table_kept.proofs.BeginTold.{aimed}
 use Rattle.table_kept.proofs.Noting.{seated-noted}
 use Rattle.table_kept.proofs.RunEndRuns.{end-runs, remove-runs}
@@ -24,43 +25,47 @@ module _ {P E O : Type 0} (cargo : Ghosts P E O) where
   -- what the stores owe, by the frame that the table shows
   pub ends-at : (board f : Frame O) (slots id i value : ℕ) (x : Name) (aim : Aim) (m : Seated P E) → board ≡ f →
       i ≡ index board.layout (OfCallback x.block x.node) → aim ≡ aimed board x → CanEndRun m.0 x → stamp_of value ≡ x.generation → callback_read value ≡ Ran →
-      Allows (Running cargo f) slots id m i (λ _. value) (λ _ m'. m' ≡ (logged i value (ends_run aim.tree aim.name m.0), m.1))
+      AllowsListed cargo f slots id m i (λ _. value) (λ n m'. m' ≡ (with_step i n value (ends_run aim.tree aim.name m.0), m.1))
   ends-at board f slots id i value x aim m same i_is aim_is can stamped reads =
-      subst (λ z. Allows (Running cargo z) slots id m i (λ _. value) (λ _ m'. m' ≡ (logged i value (ends_run aim.tree aim.name m.0), m.1))) same
+      allows-listed cargo f slots id m i (λ _. value) (λ n m'. m' ≡ (with_step i n value (ends_run aim.tree aim.name m.0), m.1))
+      (λ n m' told. lists-one i n value m m' (ends_run aim.tree aim.name m.0) (ap (λ z. z.0) told) refl refl refl refl)
+      (subst (λ z. Allows (Running cargo z) slots id m i (λ _. value) (λ n m'. m' ≡ (with_step i n value (ends_run aim.tree aim.name m.0), m.1))) same
       (subst (λ (z : ℕ × Aim). Allows (Running cargo board) slots id m z.0 (λ _. value)
-      (λ _ m'. m' ≡ (logged z.0 value (ends_run z.1.tree z.1.name m.0), m.1)))
+      (λ n m'. m' ≡ (with_step z.0 n value (ends_run z.1.tree z.1.name m.0), m.1)))
       (λ k. (sym i_is k, sym aim_is k))
       (λ s r deep at small. (
-        logged (index board.layout (OfCallback x.block x.node)) value (ends_run board.tree x m.0),
+        with_step (index board.layout (OfCallback x.block x.node)) (slice_index s.words (index board.layout (OfCallback x.block x.node))) value (ends_run board.tree x m.0),
         keeps,
         tt,
-        end-runs cargo board s id x m.0 r at can (index board.layout (OfCallback x.block x.node)) value value stamped reads refl (omega arith),
+        end-runs cargo board s id x m.0 r at can (index board.layout (OfCallback x.block x.node)) (slice_index s.words (index board.layout (OfCallback x.block x.node))) value stamped reads refl refl,
         refl,
-      )))
+      ))))
 
   pub removes-at : (board f : Frame O) (slots id i value : ℕ) (x : Name) (aim : Aim) (m : Seated P E) → board ≡ f →
       i ≡ index board.layout (OfCallback x.block x.node) → aim ≡ aimed board x → CanWithdrawOwn m.0 x → stamp_of value ≡ x.generation → callback_read value ≡ Removed →
-      Allows (Running cargo f) slots id m i (λ _. value) (λ _ m'. m' ≡ (logged i value (removes_own aim.tree aim.name m.0), m.1))
+      AllowsListed cargo f slots id m i (λ _. value) (λ n m'. m' ≡ (with_step i n value (removes_own aim.tree aim.name m.0), m.1))
   removes-at board f slots id i value x aim m same i_is aim_is can stamped reads =
-      subst (λ z. Allows (Running cargo z) slots id m i (λ _. value) (λ _ m'. m' ≡ (logged i value (removes_own aim.tree aim.name m.0), m.1))) same
+      allows-listed cargo f slots id m i (λ _. value) (λ n m'. m' ≡ (with_step i n value (removes_own aim.tree aim.name m.0), m.1))
+      (λ n m' told. lists-one i n value m m' (removes_own aim.tree aim.name m.0) (ap (λ z. z.0) told) refl refl refl refl)
+      (subst (λ z. Allows (Running cargo z) slots id m i (λ _. value) (λ n m'. m' ≡ (with_step i n value (removes_own aim.tree aim.name m.0), m.1))) same
       (subst (λ (z : ℕ × Aim). Allows (Running cargo board) slots id m z.0 (λ _. value)
-      (λ _ m'. m' ≡ (logged z.0 value (removes_own z.1.tree z.1.name m.0), m.1)))
+      (λ n m'. m' ≡ (with_step z.0 n value (removes_own z.1.tree z.1.name m.0), m.1)))
       (λ k. (sym i_is k, sym aim_is k))
       (λ s r deep at small. (
-        logged (index board.layout (OfCallback x.block x.node)) value (removes_own board.tree x m.0),
+        with_step (index board.layout (OfCallback x.block x.node)) (slice_index s.words (index board.layout (OfCallback x.block x.node))) value (removes_own board.tree x m.0),
         keeps,
         tt,
-        remove-runs cargo board s id x m.0 r at can (index board.layout (OfCallback x.block x.node)) value value stamped reads refl (omega arith),
+        remove-runs cargo board s id x m.0 r at can (index board.layout (OfCallback x.block x.node)) (slice_index s.words (index board.layout (OfCallback x.block x.node))) value stamped reads refl refl,
         refl,
-      )))
+      ))))
 
 -- the hand still carries each slot once
-pub ended-seated : {P E : Type 0} (tree : List TreeNode) (l : Layout) (i n : ℕ) (t : List TreeNode) (x : Name) (m : Seated P E) → IsSeated tree l m →
-    IsSeated tree l (logged i n (ends_run t x m.0), m.1)
-ended-seated tree l i n t x m old = record { apart = old.apart; given = old.given; itself = old.itself }
+pub ended-seated : {P E : Type 0} (tree : List TreeNode) (l : Layout) (i n left : ℕ) (t : List TreeNode) (x : Name) (m : Seated P E) → IsSeated tree l m →
+    IsSeated tree l (with_step i n left (ends_run t x m.0), m.1)
+ended-seated tree l i n left t x m old = record { apart = old.apart; given = old.given; itself = old.itself }
 
-pub removed-seated : {P E : Type 0} (tree : List TreeNode) (l : Layout) (i n : ℕ) (t : List TreeNode) (x : Name) (m : Seated P E) → IsSeated tree l m →
-    IsSeated tree l (logged i n (removes_own t x m.0), m.1)
-removed-seated {P} {E} tree l i n t x m old =
-    let kept = seated-noted tree l i n x (λ (e : Held E). record e { phase = Some Removed }) m (λ e. refl) old in
+pub removed-seated : {P E : Type 0} (tree : List TreeNode) (l : Layout) (i n left : ℕ) (t : List TreeNode) (x : Name) (m : Seated P E) → IsSeated tree l m →
+    IsSeated tree l (with_step i n left (removes_own t x m.0), m.1)
+removed-seated {P} {E} tree l i n left t x m old =
+    let kept = seated-noted tree l i n left x (λ (e : Held E). record e { phase = Some Removed }) m (λ e. refl) old in
     record { apart = kept.apart; given = kept.given; itself = kept.itself }

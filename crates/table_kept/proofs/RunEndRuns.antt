@@ -27,23 +27,24 @@ use Rattle.table_words.specs.Stamps.{stamp_of}
 use Rattle.table_words.specs.Controls.{callback_read, callback_code}
 use Rattle.table_words.specs.Layouts.{OfCallback, index}
 use Rattle.atomic_table.specs.Table as table
+use Rattle.listed_steps.specs.Lists.{entry}
 use Rattle.table_rules.specs.declared.cargo.Cargo.{Ghosts}
 use Rattle.table_rules.specs.declared.frame.Frame.{Frame}
 use Rattle.table_rules.specs.declared.view.View.{View}
 use Rattle.table_rules.specs.declared.view.Held.{Held}
 use Rattle.table_rules.specs.Named.{count_by, Each}
-use Rattle.table_rules.specs.ShownWords.{block_of}
+use Rattle.table_rules.specs.ShownWords.{block_of, word_of}
 use Rattle.table_rules.specs.ShownViews.{shown_view, scan_in}
 use Rattle.table_rules.specs.Scenes.{Scene, shown, scene}
 use Rattle.table_rules.specs.Notes.{is_still, IsHeldSo, IsKnown}
 use Rattle.table_rules.specs.Running.{Running}
-use Rattle.table_steps.specs.Claims.{logged}
+use Rattle.table_steps.specs.Claims.{with_step}
 use Rattle.table_steps.specs.Readings.{at_entry}
 use Rattle.table_steps.specs.RunEnds.{CanEndRun, CanWithdrawOwn, passes_to, number_of, ends_run, removes_own}
 use Rattle.table_kept.proofs.Seats.{at_within}
 use Rattle.table_kept.proofs.Entries.{count-without}
 use Rattle.table_kept.proofs.Among.{among}
-use Rattle.table_kept.proofs.Loads.{known-logged}
+use Rattle.table_kept.proofs.Loads.{known-listed}
 use Rattle.table_kept.proofs.Noting.{count-at}
 use Rattle.table_kept.proofs.HeldNotes.{each-changed}
 use Rattle.table_kept.proofs.ViewMoves.{view-here}
@@ -121,9 +122,9 @@ module _ {P E O : Type 0} (cargo : Ghosts P E O) (f : Frame O) (s : table.State 
       ((λ k. not (is_some ((is-shown k).scan (Node x)))) ∙ ap (λ o. not (is_some o)) can.unscanned)
 
   -- the view without the run, with these notes of the nodes that it holds
-  module _ (held : List (Held E)) (counts : (y : Name) → count_by (λ (e : Held E). e.name) held y ≡ count_by (λ (e : Held E). e.name) v.held y) (i n : ℕ) where
+  module _ (held : List (Held E)) (counts : (y : Name) → count_by (λ (e : Held E). e.name) held y ≡ count_by (λ (e : Held E). e.name) v.held y) (i n left : ℕ) where
     abbrev mine : View P E
-    mine = logged i n (ends_run f.tree x (record v { held = held }))
+    mine = with_step i n left (ends_run f.tree x (record v { held = held }))
 
     shows-mine : shown_view blocks mine ≡ u
     shows-mine =
@@ -135,7 +136,7 @@ module _ {P E O : Type 0} (cargo : Ghosts P E O) (f : Frame O) (s : table.State 
         })
         ∙ ap (λ (z : PureView). record z { runs = lose x z.runs; scan = scan_at source (Some next) z.scan }) (sym is-shown)
 
-    module _ (value : ℕ) (phase : CallbackPhase) (stamped : stamp_of value ≡ x.generation) (reads : callback_read value ≡ phase) where
+    module _ (phase : CallbackPhase) (stamped : stamp_of left ≡ x.generation) (reads : callback_read left ≡ phase) where
       abbrev written : State
       written = with_view (with_callback now x.block x.node phase) id u
 
@@ -144,22 +145,22 @@ module _ {P E O : Type 0} (cargo : Ghosts P E O) (f : Frame O) (s : table.State 
           subst (λ y. Writes now written y phase) (name-live now x live)
           (writes now (place_of x) phase written.view (subst (λ y. is_under_way (control_at now y) ≡ true) (sym (name-live now x live)) under_way))
 
-      ended-runs : callback_code Runs < callback_code phase → i ≡ index f.layout (OfCallback x.block x.node) → n ≤ value →
+      ended-runs : callback_code Runs < callback_code phase → i ≡ index f.layout (OfCallback x.block x.node) → n ≡ word_of f.layout s.words (OfCallback x.block x.node) →
           Sound (with_view (with_callback now x.block x.node phase) id (run_over now x old_view)) →
           ((j : ℕ) (z : View P E) → (j ≡ id → ⊥) → get_elem? s.views j ≡ some z → IsKnown here z → IsKnown (record here { state = written }) z) →
           Each (IsHeldSo (record here { state = written })) held →
           Running cargo f record {
-            words = set s.words (index f.layout (OfCallback x.block x.node)) value;
+            words = set s.words (index f.layout (OfCallback x.block x.node)) left;
             homes = s.homes;
             views = set s.views id mine;
           }
-      ended-runs rises is low sound others own =
+      ended-runs rises is was sound others own =
           let old = r.stands.views.each id v at in
-          callback-keeps cargo f s id v r at mine u shows-mine refl refl refl refl value x phase live stamped reads
+          callback-keeps cargo f s id v r at mine u shows-mine refl refl refl refl left x phase live stamped reads
           (subst (λ p. callback_code p < callback_code phase) (sym (running-is (phase_at now x) running)) rises)
-          (record { word = n; steps = (λ k. record { index = is k; word = n } ∷ v.steps); low = low })
+          (λ k. entry (is k) (was k) left ∷ v.steps)
           (subst (λ (z : PureView). Sound (with_view (with_callback now x.block x.node phase) id z)) over-is sound) others
-          (known-logged (record here { state = written }) i n (ends_run f.tree x (record v { held = held })) (record {
+          (known-listed (record here { state = written }) i n left (ends_run f.tree x (record v { held = held })) (record {
             held = own;
             owed = old.owed;
             reported = old.reported;
@@ -189,14 +190,14 @@ module _ {P E O : Type 0} (cargo : Ghosts P E O) (f : Frame O) (s : table.State 
     known-still z old =
         known-aside here ended.callback now.source now.scope_source now.scope ended.view (λ t h. h) z (λ y counts known so. still y known so) old
 
-    pub end-runs : i ≡ index f.layout (OfCallback x.block x.node) → n ≤ value → Running cargo f record {
+    pub end-runs : i ≡ index f.layout (OfCallback x.block x.node) → n ≡ word_of f.layout s.words (OfCallback x.block x.node) → Running cargo f record {
       words = set s.words (index f.layout (OfCallback x.block x.node)) value;
       homes = s.homes;
-      views = set s.views id (logged i n (ends_run f.tree x v));
+      views = set s.views id (with_step i n value (ends_run f.tree x v));
     }
-    end-runs is low =
+    end-runs is was =
         let name = name-live now x live in
-        ended-runs v.held (λ y. refl) i n value Ran stamped reads (omega arith) is low
+        ended-runs v.held (λ y. refl) i n value Ran stamped reads (omega arith) is was
         (subst (λ y. Sound (with_view (with_callback now x.block x.node Ran) id (run_over now y old_view))) name
         (sound-end_run now id (place_of x) r.stands.sound hand
         (and_from _ _ (place-live now x live)
@@ -253,16 +254,16 @@ module _ {P E O : Type 0} (cargo : Ghosts P E O) (f : Frame O) (s : table.State 
       (other-still e.name (λ is. ne (sym is))) so)
       v.held few (r.stands.views.each id v at).held
 
-  pub remove-runs : i ≡ index f.layout (OfCallback x.block x.node) → n ≤ value → Running cargo f record {
+  pub remove-runs : i ≡ index f.layout (OfCallback x.block x.node) → n ≡ word_of f.layout s.words (OfCallback x.block x.node) → Running cargo f record {
     words = set s.words (index f.layout (OfCallback x.block x.node)) value;
     homes = s.homes;
-    views = set s.views id (logged i n (removes_own f.tree x v));
+    views = set s.views id (with_step i n value (removes_own f.tree x v));
   }
-  remove-runs is low =
+  remove-runs is was =
       let alive = live cargo f s id x v r at can.run in
       let name = name-live state x alive in
       let w = state.view id in
-      ended-runs cargo f s id x v r at can.run notes noted-counts i n value Removed stamped reads (omega arith) is low
+      ended-runs cargo f s id x v r at can.run notes noted-counts i n value Removed stamped reads (omega arith) is was
       (subst (λ y. Sound (with_view (with_callback state x.block x.node Removed) id (run_over state y w))) name
       (sound-withdraw_own state id (place_of x) r.stands.sound (hand cargo f s id x v r at can.run)
       (and_from _ _

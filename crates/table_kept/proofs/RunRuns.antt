@@ -1,6 +1,6 @@
 -- The steps by which a scan runs its next place, or passes it, keep the rule: where the place is armed, and
 -- where it isn't.
-use Rattle.std.proofs.Common.{◌≡◌, ℕ, ◌+◌, ◌*◌, ◌<◌, true, false, ◌&&◌, ◌||◌, ◌==◌, List, [], ◌∷◌, length, set, refl, sym, ap, ◌∙◌, subst, arith, ◌≤◌}
+use Rattle.std.proofs.Common.{◌≡◌, ℕ, ◌+◌, ◌*◌, ◌<◌, true, false, ◌&&◌, ◌||◌, ◌==◌, List, [], ◌∷◌, length, set, refl, sym, ap, ◌∙◌, subst, arith}
 use Rattle.std.specs.Prelude.{Option, Some, is_some, slice_index}
 use Rattle.std.specs.Option.{option_map_or}
 use Rattle.std.specs.List.{list_any}
@@ -31,19 +31,20 @@ use Rattle.table_words.specs.Stamps.{stamp_of}
 use Rattle.table_words.specs.Controls.{callback_read, callback_code}
 use Rattle.table_words.specs.Layouts.{OfCallback, index}
 use Rattle.atomic_table.specs.Table as table
+use Rattle.listed_steps.specs.Lists.{entry}
 use Rattle.table_rules.specs.declared.cargo.Cargo.{Ghosts}
 use Rattle.table_rules.specs.declared.frame.Frame.{Frame}
 use Rattle.table_rules.specs.declared.view.View.{View}
 use Rattle.table_rules.specs.Named.{count_by}
-use Rattle.table_rules.specs.ShownWords.{block_of}
+use Rattle.table_rules.specs.ShownWords.{block_of, word_of}
 use Rattle.table_rules.specs.ShownViews.{shown_view}
 use Rattle.table_rules.specs.Scenes.{Scene, shown, scene}
 use Rattle.table_rules.specs.Notes.{is_still, IsKnown}
 use Rattle.table_rules.specs.Running.{Running}
-use Rattle.table_steps.specs.Claims.{logged}
+use Rattle.table_steps.specs.Claims.{with_step, logged}
 use Rattle.table_steps.specs.Runs.{CanRun, runs_place, passes_place}
 use Rattle.table_kept.proofs.Seats.{at_within}
-use Rattle.table_kept.proofs.Loads.{known-logged}
+use Rattle.table_kept.proofs.Loads.{known-listed, known-logged}
 use Rattle.table_kept.proofs.ViewMoves.{view-here}
 use Rattle.table_kept.proofs.ControlRuns.{name-live}
 use Rattle.table_kept.proofs.Scans.{scan-passed}
@@ -156,20 +157,20 @@ module _ {P E O : Type 0} (cargo : Ghosts P E O) (f : Frame O) (s : table.State 
     known-still z old =
         known-aside here written.callback now.source now.scope_source now.scope written.view (λ t h. h) z (λ y counts known so. still y known so) old
 
-    pub run-runs : i ≡ index f.layout (OfCallback b m) → n ≤ value → Running cargo f record {
+    pub run-runs : i ≡ index f.layout (OfCallback b m) → n ≡ word_of f.layout s.words (OfCallback b m) → Running cargo f record {
       words = set s.words (index f.layout (OfCallback b m)) value;
       homes = s.homes;
-      views = set s.views id (logged i n (runs_place x v));
+      views = set s.views id (with_step i n value (runs_place x v));
     }
-    run-runs is low =
+    run-runs is was =
         let k = known-still v (r.stands.views.each id v at) in
-        callback-keeps cargo f s id v r at (logged i n (runs_place x v)) u_runs
+        callback-keeps cargo f s id v r at (with_step i n value (runs_place x v)) u_runs
         (ap (λ (z : PureView). record z { runs = gain x z.runs }) (sym is-shown)) refl refl refl refl value x Runs live stamped reads
         (subst (λ p. callback_code p < callback_code Runs) (sym armed) (omega arith))
-        (record { word = n; steps = (λ k. record { index = is k; word = n } ∷ v.steps); low = low })
+        (λ k. entry (is k) (was k) value ∷ v.steps)
         (subst Sound (cond-true (is_armed (phase_at now x)) written (with_view now id (passed now (source_of now (at_of source)) x old_view)) (ap is_armed armed)) sound-after)
         (λ j z ne there old. known-still z old)
-        (known-logged (record here { state = written }) i n (runs_place x v) (record {
+        (known-listed (record here { state = written }) i n value (runs_place x v) (record {
           held = k.held;
           owed = k.owed;
           reported = k.reported;
@@ -200,7 +201,7 @@ module _ {P E O : Type 0} (cargo : Ghosts P E O) (f : Frame O) (s : table.State 
     pass-runs is =
         let k = known-passed v (r.stands.views.each id v at) in
         view-keeps cargo f s id v r at (logged i n (passes_place f.tree source b m v)) u_passes shows-passed refl refl refl refl i
-        (λ k. record { index = i; word = is k } ∷ v.steps)
+        (λ k. entry i (is k) (is k) ∷ v.steps)
         (subst (λ t. Sound (with_view now id (passed now t x old_view))) (source-is source scannable.requested)
         (subst Sound (cond-false (is_armed (phase_at now x)) (with_view (with_callback now b m Runs) id u_runs)
         (with_view now id (passed now (source_of now (at_of source)) x old_view)) unarmed) sound-after))

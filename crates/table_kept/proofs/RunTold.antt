@@ -4,13 +4,15 @@ use Rattle.std.specs.Prelude.{Option, Some, None}
 use Rattle.std.specs.List.{list_any}
 use Rattle.std.proofs.lemmas.Bool.{cond-true, cond-false}
 use Rattle.node_tree.specs.declared.node.TreeNode.{TreeNode}
+use Rattle.life_rules.specs.declared.words.CallbackPhase.TheVariants.{Running}
 use Rattle.life_rules.specs.declared.event.Name.{Name}
 use Rattle.life_rules.specs.declared.event.SourceRef.{SourceRef}
+use Rattle.table_words.specs.Controls.{callback_read}
 use Rattle.table_words.specs.Stamps.{stamp_of}
 use Rattle.atomic_table.specs.declared.shared.Seat.{Seat}
 use Rattle.table_rules.specs.declared.view.View.{View}
 use Rattle.table_steps.specs.Views.{Board, aim_at}
-use Rattle.table_steps.specs.Claims.{logged, Seated}
+use Rattle.table_steps.specs.Claims.{logged, Seated, with_step}
 use Rattle.table_steps.specs.Slots.{Aim}
 use Rattle.table_steps.specs.Runs.{says_armed, place_named, node_named, run_index, runs_place, passes_place, last_of, reads_on, meets_at, CanRun, IsOfScan, IsNewest, RanFrom, PassedFrom, IsRunFrom, IsRun}
 
@@ -61,12 +63,12 @@ module _ {P E O : Type 0} (board : Board O) (source : SourceRef) (block node : �
 
   module _ (old new : Seat (Option P) (View P E)) where
     -- the exchange won
-    pub won : (word generation i found : ℕ) (aim : Aim) (t : SourceRef) → i ≡ run_index board block node → aim ≡ aim_at board (place_named block node) → t ≡ source →
-        generation ≡ stamp_of word → found ≡ word →
-        (new.me ≡ (logged i found (runs_place (node_named aim.name.block aim.name.node found) old.me.0), old.me.1))
+    pub won : (word generation i found left : ℕ) (aim : Aim) (t : SourceRef) → i ≡ run_index board block node → aim ≡ aim_at board (place_named block node) → t ≡ source →
+        generation ≡ stamp_of word → found ≡ word → stamp_of left ≡ generation → callback_read left ≡ Running →
+        (new.me ≡ (with_step i found left (runs_place (node_named aim.name.block aim.name.node found) old.me.0), old.me.1))
         × IsOfScan aim.tree old.me.0 t (node_named aim.name.block aim.name.node found) →
         RanFrom board source block node word (record { block = block; generation = generation; node = node }) old new
-    won word generation i found aim t i_is aim_is t_is stamped hit told =
+    won word generation i found left aim t i_is aim_is t_is stamped hit stamp_left reads_left told =
         let named : node_named block node word ≡ record { block = block; generation = generation; node = node } =
         λ k. record { block = block; generation = sym stamped k; node = node } in
         record {
@@ -76,9 +78,11 @@ module _ {P E O : Type 0} (board : Board O) (source : SourceRef) (block node : �
           of_scan = subst (IsOfScan board.frame.tree old.me.0 source) named
               (subst (λ (z : Aim × SourceRef × ℕ). IsOfScan z.0.tree old.me.0 z.1 (node_named z.0.name.block z.0.name.node z.2))
               (λ k. (aim_is k, t_is k, hit k)) told.1);
+          left = left;
+          says = record { stamp_is = stamp_left; reads = reads_left };
           me_is = told.0
-              ∙ (λ k. (logged (i_is k) (hit k) (runs_place (node_named (aim_is k).name.block (aim_is k).name.node (hit k)) old.me.0), old.me.1))
-              ∙ ap (λ y. (logged (run_index board block node) word (runs_place y old.me.0), old.me.1)) named;
+              ∙ (λ k. (with_step (i_is k) (hit k) left (runs_place (node_named (aim_is k).name.block (aim_is k).name.node (hit k)) old.me.0), old.me.1))
+              ∙ ap (λ y. (with_step (run_index board block node) word left (runs_place y old.me.0), old.me.1)) named;
         }
 
     -- it found a word that isn't armed
@@ -105,7 +109,9 @@ module _ {P E O : Type 0} (board : Board O) (source : SourceRef) (block node : �
           later = (armed, rises, so.later);
           name_is = so.name_is;
           of_scan = of-scan-before (run_index board block node) next old.me mid.me is board.frame.tree source name so.of_scan;
-          me_is = so.me_is ∙ ap (λ m. (logged (run_index board block node) (last_of next so.tries) (runs_place name (reads_on (run_index board block node) so.tries m.0)), m.1)) is;
+          left = so.left;
+          says = so.says;
+          me_is = so.me_is ∙ ap (λ m. (with_step (run_index board block node) (last_of next so.tries) so.left (runs_place name (reads_on (run_index board block node) so.tries m.0)), m.1)) is;
         }
 
     -- the load read a word that is armed, and that was tried
@@ -127,5 +133,7 @@ module _ {P E O : Type 0} (board : Board O) (source : SourceRef) (block node : �
           later = so.later;
           name_is = so.name_is;
           of_scan = of-scan-before (run_index board block node) next old.me mid.me is board.frame.tree source name so.of_scan;
-          me_is = so.me_is ∙ ap (λ m. (logged (run_index board block node) (last_of next so.tries) (runs_place name (reads_on (run_index board block node) so.tries m.0)), m.1)) is;
+          left = so.left;
+          says = so.says;
+          me_is = so.me_is ∙ ap (λ m. (with_step (run_index board block node) (last_of next so.tries) so.left (runs_place name (reads_on (run_index board block node) so.tries m.0)), m.1)) is;
         }

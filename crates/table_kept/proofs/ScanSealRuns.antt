@@ -36,15 +36,15 @@ use Rattle.table_rules.specs.ShownWords.{block_of, is_there, is_said, said_at}
 use Rattle.table_rules.specs.ShownViews.{shown_view}
 use Rattle.table_rules.specs.Scenes.{Scene, shown, scene}
 use Rattle.table_rules.specs.Notes.{IsKnown}
-use Rattle.table_rules.specs.Grown.{IsLater}
 use Rattle.table_rules.specs.Running.{Running}
-use Rattle.table_steps.specs.Claims.{logged, Seated}
+use Rattle.table_steps.specs.Claims.{with_step, Seated}
 use Rattle.table_steps.specs.Slots.{IsSeated}
 use Rattle.table_steps.specs.Sights.{spot_of, says_requested, has_one}
 use Rattle.table_steps.specs.ScanSeals.{CanSealScan, seals_scan}
+use Rattle.table_kept.proofs.Listing.{AllowsListed, allows-listed, lists-one}
 use Rattle.table_kept.proofs.Seats.{at_within}
 use Rattle.table_kept.proofs.Masks.{or-four}
-use Rattle.table_kept.proofs.Loads.{known-logged}
+use Rattle.table_kept.proofs.Loads.{known-listed}
 use Rattle.table_kept.proofs.ViewMoves.{view-here}
 use Rattle.table_kept.proofs.ControlRuns.{open-kept, place_of, place-live, name-live}
 use Rattle.table_kept.proofs.Scans.{scan-dropped}
@@ -179,7 +179,7 @@ module _ {P E O : Type 0} (cargo : Ghosts P E O) (f : Frame O) (s : table.State 
       (λ other. ap (λ b. b.requested) (reads-after.there t other))
 
   abbrev mine : View P E
-  mine = logged i n (seals_scan source v)
+  mine = with_step i n (bit_or n 4) (seals_scan source v)
 
   shows-mine : shown_view (block_of f.layout s.words) mine ≡ u
   shows-mine =
@@ -191,20 +191,16 @@ module _ {P E O : Type 0} (cargo : Ghosts P E O) (f : Frame O) (s : table.State 
       known-aside here now.callback (words_with now source bits) (scope_with now source bits) now.scope (with_view now id u).view
       (λ t h. same-requests t ∙ h) z (λ y counts known so. so) old
 
-  low : (t : SourceRef) → IsLater (spot_of t) n (bit_or n 4)
-  low Scope = tt
-  low (Node y) = let same = stamp-kept n in omega (arith, same)
-
   pub seal-runs : Running cargo f record { words = set s.words i (bit_or n 4); homes = s.homes; views = set s.views id mine }
   seal-runs =
       let says = says-sealed source (says-now source refl) in
       let alive = live source scannable.requested in
       let k = known-still v (r.stands.views.each id v at) in
       source-runs cargo f s id (bit_or n 4) source bits v r at spot says alive mine u shows-mine
-      (record { word = n; steps = refl; low = low source })
+      (record { requested = λ t. t; failed = λ t. t; scanned = λ _. refl }) refl
       (stands-calm cargo f s id (bit_or n 4) source bits v r at spot says alive mine u shows-mine (sound-by source refl) same-requests refl refl refl refl
       (λ j z ne there old. known-still z old)
-      (known-logged (record here { state = after_state }) i n (seals_scan source v) (record {
+      (known-listed (record here { state = after_state }) i n (bit_or n 4) (seals_scan source v) (record {
         held = k.held;
         owed = k.owed;
         reported = k.reported;
@@ -214,23 +210,30 @@ module _ {P E O : Type 0} (cargo : Ghosts P E O) (f : Frame O) (s : table.State 
         seen = k.seen;
       })))
 
+-- what the step leaves
+pub left-scanned : (n : ℕ) → (stamp_of (bit_or n 4) ≡ stamp_of n) × (source_read (bit_or n 4) ≡ record (source_read n) { scanned = true })
+left-scanned n = (stamp-kept n, scanned-read n)
+
 -- what the step owes, by the frame that the table shows
 pub seals-at : {P E O : Type 0} (cargo : Ghosts P E O) (board f : Frame O) (slots id i : ℕ) (source t : SourceRef) (m : Seated P E) → board ≡ f →
     i ≡ index board.layout (spot_of source) → t ≡ source → IsSpot board.layout (spot_of source) → has_one board.tree source → CanSealScan board m.0 source →
-    Allows (Running cargo f) slots id m i (λ n. bit_or n 4) (λ n m'. m' ≡ (logged i n (seals_scan t m.0), m.1))
+    AllowsListed cargo f slots id m i (λ n. bit_or n 4) (λ n m'. m' ≡ (with_step i n (bit_or n 4) (seals_scan t m.0), m.1))
 seals-at cargo board f slots id i source t m same i_is t_is spot one can =
-    subst (λ z. Allows (Running cargo z) slots id m i (λ n. bit_or n 4) (λ n m'. m' ≡ (logged i n (seals_scan t m.0), m.1))) same
-    (subst (λ (z : ℕ × SourceRef). Allows (Running cargo board) slots id m z.0 (λ n. bit_or n 4) (λ n m'. m' ≡ (logged z.0 n (seals_scan z.1 m.0), m.1)))
+    allows-listed cargo f slots id m i (λ n. bit_or n 4) (λ n m'. m' ≡ (with_step i n (bit_or n 4) (seals_scan t m.0), m.1))
+    (λ n m' told. lists-one i n (bit_or n 4) m m' (seals_scan t m.0) (ap (λ z. z.0) told) refl refl refl refl)
+    (subst (λ z. Allows (Running cargo z) slots id m i (λ n. bit_or n 4) (λ n m'. m' ≡ (with_step i n (bit_or n 4) (seals_scan t m.0), m.1))) same
+    (subst (λ (z : ℕ × SourceRef). Allows (Running cargo board) slots id m z.0 (λ n. bit_or n 4) (λ n m'. m' ≡ (with_step z.0 n (bit_or n 4) (seals_scan z.1 m.0), m.1)))
     (λ k. (sym i_is k, sym t_is k))
     (λ s r deep at small. (
-      logged (index board.layout (spot_of source)) (slice_index s.words (index board.layout (spot_of source))) (seals_scan source m.0),
+      with_step (index board.layout (spot_of source)) (slice_index s.words (index board.layout (spot_of source)))
+          (bit_or (slice_index s.words (index board.layout (spot_of source))) 4) (seals_scan source m.0),
       keeps,
       tt,
       seal-runs cargo board s id source m.0 r at spot one can,
       refl,
-    )))
+    ))))
 
 -- the hand still carries each slot once
-pub seal-seated : {P E : Type 0} (tree : List TreeNode) (l : Layout) (i n : ℕ) (source : SourceRef) (m : Seated P E) → IsSeated tree l m →
-    IsSeated tree l (logged i n (seals_scan source m.0), m.1)
-seal-seated tree l i n source m old = record { apart = old.apart; given = old.given; itself = old.itself }
+pub seal-seated : {P E : Type 0} (tree : List TreeNode) (l : Layout) (i n left : ℕ) (source : SourceRef) (m : Seated P E) → IsSeated tree l m →
+    IsSeated tree l (with_step i n left (seals_scan source m.0), m.1)
+seal-seated tree l i n left source m old = record { apart = old.apart; given = old.given; itself = old.itself }

@@ -1,6 +1,6 @@
 -- What the steps of the counting scope owe.
-use Rattle.std.proofs.Common.{◌≡◌, ℕ, ◌+◌, ◌-◌, ◌%◌, ◌^◌, ◌<◌, ◌≤◌, Bool, true, false, ◌==◌, List, set, refl, sym, ap, ◌∙◌, subst, arith, eq-eqb, ne_eqb}
-use Rattle.std.specs.Prelude.{Option, bit_or, nat_le, slice_index}
+use Rattle.std.proofs.Common.{◌≡◌, ℕ, ◌+◌, ◌-◌, ◌^◌, ◌<◌, ◌≤◌, Bool, true, false, ◌==◌, List, set, refl, sym, ap, ◌∙◌, subst, arith, eq-eqb, ne_eqb}
+use Rattle.std.specs.Prelude.{length, Option, bit_or, nat_le, slice_index}
 use Rattle.std.proofs.lemmas.Bool.{and_from, cond-true, cond-false, le-leb}
 use mathlib.Core.Option.{some}
 use mathlib.Core.Logic.{dite}
@@ -31,9 +31,11 @@ use Rattle.table_rules.specs.ShownViews.{shown_view}
 use Rattle.table_rules.specs.Scenes.{shown}
 use Rattle.table_rules.specs.Grown.{HasBitsOf}
 use Rattle.table_rules.specs.Running.{Running}
-use Rattle.table_steps.specs.Claims.{logged, Seated}
+use Rattle.table_steps.specs.Lefts.{less_one}
+use Rattle.table_steps.specs.Claims.{Seated, with_step, ListsOne}
 use Rattle.table_steps.specs.Slots.{IsSeated}
-use Rattle.table_steps.specs.ScopeMoves.{IsMaking, MayLeaveScope, makes, leaves_scope, SealsAt}
+use Rattle.table_steps.specs.ScopeMoves.{IsMaking, MayLeaveScope, makes, leaves_scope, SealsAt, MovesScopeAt, with_one_less, as_used}
+use Rattle.table_kept.proofs.Listing.{AllowsListed, allows-listed, lists-one}
 use Rattle.table_kept.proofs.Seats.{at_within}
 use Rattle.table_kept.proofs.Loads.{looks_keep}
 use Rattle.table_kept.proofs.ViewMoves.{view-here}
@@ -69,7 +71,7 @@ module _ {P E O : Type 0} (cargo : Ghosts P E O) (f : Frame O) (s : table.State 
   hand = let l = at_within s.views id v at in let m = r.sized.seats in omega (arith, l, m)
 
   -- an association is made
-  pub makes-runs : IsMaking v → Running cargo f record { words = set s.words 0 (bit_or n (2 ^ 32)); homes = s.homes; views = set s.views id (logged 0 n (makes v)) }
+  pub makes-runs : IsMaking v → Running cargo f record { words = set s.words 0 (bit_or n (2 ^ 32)); homes = s.homes; views = set s.views id (with_step 0 n (bit_or n (2 ^ 32)) (makes v)) }
   makes-runs making =
       scope-runs cargo f s id (bit_or n (2 ^ 32)) v r at (record (scope_read n) { used = true }) (reads-used n)
       (narrow-used n r.stamped.scope) (record { used = λ _. refl; closed = λ t. t; joining = λ t. t; joined = λ t. t }) (v.made + 1) (v.making - 1) v.refused
@@ -81,7 +83,7 @@ module _ {P E O : Type 0} (cargo : Ghosts P E O) (f : Frame O) (s : table.State 
   -- one is left
   module _ (may : MayLeaveScope v) (small : n < 18446744073709551616) where
     abbrev less : ℕ
-    less = (n + (2 ^ 64 - 1)) % 2 ^ 64
+    less = less_one n
 
     has-one : 1 ≤ old_view.made + old_view.refused
     has-one = subst (λ (z : PureView). 1 ≤ z.made + z.refused) (sym is-shown) may
@@ -93,6 +95,10 @@ module _ {P E O : Type 0} (cargo : Ghosts P E O) (f : Frame O) (s : table.State 
         let one = has-one in
         omega (arith, count, own, one)
 
+    -- the word that is left counts one less
+    pub counts-less : scope_read less ≡ with_one_less (scope_read n)
+    counts-less = reads-less n counted (omega (arith, small))
+
     narrow : less < 2 ^ 36
     narrow = let wide = r.stamped.scope in let one = counted in omega (arith, wide, one)
 
@@ -103,16 +109,16 @@ module _ {P E O : Type 0} (cargo : Ghosts P E O) (f : Frame O) (s : table.State 
     sound-left = sound-leave now id r.stands.sound hand (le-leb 1 (old_view.made + old_view.refused) has-one)
 
     left-runs : (made refused : ℕ) → left old_view ≡ record old_view { made = made; making = v.making; refused = refused } →
-        Running cargo f record { words = set s.words 0 less; homes = s.homes; views = set s.views id (logged 0 n (record v { made = made; refused = refused })) }
+        Running cargo f record { words = set s.words 0 less; homes = s.homes; views = set s.views id (with_step 0 n less (record v { made = made; refused = refused })) }
     left-runs made refused is =
-        scope-runs cargo f s id less v r at word (reads-less n counted (omega (arith, small))) narrow (bits-counted (scope_read n) (code_of n - 1)) made v.making refused
+        scope-runs cargo f s id less v r at word counts-less narrow (bits-counted (scope_read n) (code_of n - 1)) made v.making refused
         (subst (λ (z : PureView). Sound (with_view (with_scope now word) id z)) is sound-left)
 
-    pub leaves-runs : Running cargo f record { words = set s.words 0 less; homes = s.homes; views = set s.views id (logged 0 n (leaves_scope v)) }
+    pub leaves-runs : Running cargo f record { words = set s.words 0 less; homes = s.homes; views = set s.views id (with_step 0 n less (leaves_scope v)) }
     leaves-runs =
         let one_refused : PureView → PureView = λ z. record z { refused = z.refused - 1 } in
         let one_made : PureView → PureView = λ z. record z { made = z.made - 1 } in
-        let mine : View P E → _ = λ z. Running cargo f record { words = set s.words 0 less; homes = s.homes; views = set s.views id (logged 0 n z) } in
+        let mine : View P E → _ = λ z. Running cargo f record { words = set s.words 0 less; homes = s.homes; views = set s.views id (with_step 0 n less z) } in
         let same : nat_le 1 old_view.refused ≡ nat_le 1 v.refused = ap (λ (z : PureView). nat_le 1 z.refused) is-shown in
         test (nat_le 1 v.refused)
         (λ t.
@@ -128,25 +134,25 @@ module _ {P E O : Type 0} (cargo : Ghosts P E O) (f : Frame O) (s : table.State 
 
   -- the word alone changes
   word-runs : (value : ℕ) (word : ScopeWord) → scope_read value ≡ word → value < 2 ^ 36 → HasBitsOf (scope_read n) word → Sound (with_scope now word) →
-      Running cargo f record { words = set s.words 0 value; homes = s.homes; views = set s.views id (logged 0 n v) }
+      Running cargo f record { words = set s.words 0 value; homes = s.homes; views = set s.views id (with_step 0 n value v) }
   word-runs value word reads narrow bits sound =
       scope-runs cargo f s id value v r at word reads narrow bits v.made v.making v.refused
       (subst (λ (z : PureView). Sound (with_view (with_scope now word) id z))
       (λ k. record old_view { made = (is-shown k).made; making = (is-shown k).making; refused = (is-shown k).refused })
       (subst Sound (sym (unmoved (with_scope now word) id)) sound))
 
-  pub closes-runs : Running cargo f record { words = set s.words 0 (bit_or n (2 ^ 33)); homes = s.homes; views = set s.views id (logged 0 n v) }
+  pub closes-runs : Running cargo f record { words = set s.words 0 (bit_or n (2 ^ 33)); homes = s.homes; views = set s.views id (with_step 0 n (bit_or n (2 ^ 33)) v) }
   closes-runs =
       word-runs (bit_or n (2 ^ 33)) (record (scope_read n) { closed = true }) (reads-closed n) (narrow-closed n r.stamped.scope)
       (record { used = λ t. t; closed = λ _. refl; joining = λ t. t; joined = λ t. t }) (keeps-close now id r.stands.sound hand refl)
 
-  pub joins-runs : Running cargo f record { words = set s.words 0 (bit_or n (2 ^ 34)); homes = s.homes; views = set s.views id (logged 0 n v) }
+  pub joins-runs : Running cargo f record { words = set s.words 0 (bit_or n (2 ^ 34)); homes = s.homes; views = set s.views id (with_step 0 n (bit_or n (2 ^ 34)) v) }
   joins-runs =
       word-runs (bit_or n (2 ^ 34)) (record (scope_read n) { joining = true }) (reads-joining n) (narrow-joining n r.stamped.scope)
       (record { used = λ t. t; closed = λ t. t; joining = λ _. refl; joined = λ t. t }) (keeps-join now id r.stands.sound hand refl)
 
   pub seals-runs : (expected : ScopeWord) (new : ℕ) → may_seal expected ≡ true → scope_read n ≡ expected → scope_read new ≡ record expected { joined = true } →
-      new < 2 ^ 36 → Running cargo f record { words = set s.words 0 new; homes = s.homes; views = set s.views id (logged 0 n v) }
+      new < 2 ^ 36 → Running cargo f record { words = set s.words 0 new; homes = s.homes; views = set s.views id (with_step 0 n new v) }
   seals-runs expected new may is reads narrow =
       word-runs new (record expected { joined = true }) reads narrow
       (subst (λ (z : ScopeWord). HasBitsOf z (record expected { joined = true })) (sym is)
@@ -156,71 +162,100 @@ module _ {P E O : Type 0} (cargo : Ghosts P E O) (f : Frame O) (s : table.State 
       (and_from (same_word now.scope expected) (may_seal expected)
       (subst (λ z. same_word z expected ≡ true) (sym is) (same-refl expected)) may)))
 
+-- the step is listed, whatever it tells
+leaves-list : {P E : Type 0} (i n left : ℕ) (m m' : Seated P E) → m'.0 ≡ with_step i n left (leaves_scope m.0) → ListsOne i n left m m'
+leaves-list {P} {E} i n left m m' is =
+    let v : View P E = m.0 in
+    let refused : View P E = record v { refused = v.refused - 1 } in
+    let made : View P E = record v { made = v.made - 1 } in
+    let Same : View P E → Type 0 = λ z. (z.steps ≡ v.steps) × (z.splits ≡ v.splits) × (z.joined ≡ v.joined) × (z.hands ≡ v.hands) in
+    let same : Same (leaves_scope v) =
+    test (nat_le 1 v.refused)
+    (λ t. subst Same (sym (cond-true (nat_le 1 v.refused) refused made t)) (refl, refl, refl, refl))
+    (λ no. subst Same (sym (cond-false (nat_le 1 v.refused) refused made no)) (refl, refl, refl, refl)) in
+    lists-one i n left m m' (leaves_scope v) is same.0 same.1 same.2 same.3
+
 module _ {P E O : Type 0} (cargo : Ghosts P E O) (f : Frame O) (slots id : ℕ) (m : Seated P E) where
   pub makes_allowed : IsMaking m.0 →
-      Allows (Running cargo f) slots id m 0 (λ n. bit_or n (2 ^ 32)) (λ n m'. m' ≡ (logged 0 n (makes m.0), m.1))
-  makes_allowed making s r deep at small = (
-    logged 0 (slice_index s.words 0) (makes m.0),
-    keeps,
-    tt,
-    makes-runs cargo f s id m.0 r at making,
-    refl,
-  )
+      AllowsListed cargo f slots id m 0 (λ n. bit_or n (2 ^ 32)) (λ n. MovesScopeAt as_used (λ _. makes) 0 n (bit_or n (2 ^ 32)) m)
+  makes_allowed making =
+      allows-listed cargo f slots id m 0 (λ n. bit_or n (2 ^ 32)) (λ n. MovesScopeAt as_used (λ _. makes) 0 n (bit_or n (2 ^ 32)) m)
+      (λ n m' told. lists-one 0 n (bit_or n (2 ^ 32)) m m' (makes m.0) (ap (λ z. z.0) told.me_is) refl refl refl refl)
+      (λ s r deep at small. (
+        with_step 0 (slice_index s.words 0) (bit_or (slice_index s.words 0) (2 ^ 32)) (makes m.0),
+        keeps,
+        tt,
+        makes-runs cargo f s id m.0 r at making,
+        record { me_is = refl; left_is = reads-used (slice_index s.words 0) },
+      ))
 
   pub leaves_allowed : MayLeaveScope m.0 →
-      Allows (Running cargo f) slots id m 0 (λ n. (n + (2 ^ 64 - 1)) % 2 ^ 64) (λ n m'. m' ≡ (logged 0 n (leaves_scope m.0), m.1))
-  leaves_allowed may s r deep at small = (
-    logged 0 (slice_index s.words 0) (leaves_scope m.0),
-    keeps,
-    tt,
-    leaves-runs cargo f s id m.0 r at may small,
-    refl,
-  )
+      AllowsListed cargo f slots id m 0 less_one (λ n. MovesScopeAt with_one_less (λ _. leaves_scope) 0 n (less_one n) m)
+  leaves_allowed may =
+      allows-listed cargo f slots id m 0 less_one (λ n. MovesScopeAt with_one_less (λ _. leaves_scope) 0 n (less_one n) m)
+      (λ n m' told. leaves-list 0 n (less_one n) m m' (ap (λ z. z.0) told.me_is))
+      (λ s r deep at small. (
+        with_step 0 (slice_index s.words 0) (less_one (slice_index s.words 0)) (leaves_scope m.0),
+        keeps,
+        tt,
+        leaves-runs cargo f s id m.0 r at may small,
+        record { me_is = refl; left_is = counts-less cargo f s id m.0 r at may small },
+      ))
 
   pub seals_allowed : (expected : ScopeWord) (old new : ℕ) → may_seal expected ≡ true → scope_read old ≡ expected → scope_read new ≡ record expected { joined = true } →
-      new < 2 ^ 36 → Allows (Running cargo f) slots id m 0 (λ n. either (n == old) new n) (λ n. SealsAt 0 n m)
-  seals_allowed expected old new may reads_old reads_new narrow s r deep at small =
-      let n = slice_index s.words 0 in
-      let mine : View P E = logged 0 n m.0 in
-      dite (ℕ_discrete n old)
-      (λ hit. (
-        mine,
-        keeps,
-        tt,
-        subst (λ (k : ℕ). Running cargo f (stepped s 0 k id m.1 mine keeps)) (sym (ap (λ t. either t new n) (eq-eqb n old hit)))
-            (seals-runs cargo f s id m.0 r at expected new may (ap scope_read hit ∙ reads_old) reads_new narrow),
-        told,
-      ))
-      (λ miss. (
-        mine,
-        keeps,
-        tt,
-        subst (λ (k : ℕ). Running cargo f (stepped s 0 k id m.1 mine keeps)) (sym (ap (λ t. either t new n) (ne_eqb n old miss)))
-            (looks_keep cargo f s id 0 m.0 r at),
-        told,
-      ))
+      new < 2 ^ 36 → AllowsListed cargo f slots id m 0 (λ n. either (n == old) new n) (λ n. SealsAt 0 n (either (n == old) new n) m)
+  seals_allowed expected old new may reads_old reads_new narrow =
+      allows-listed cargo f slots id m 0 (λ n. either (n == old) new n) (λ n. SealsAt 0 n (either (n == old) new n) m)
+      (λ n m' told. lists-one 0 n (either (n == old) new n) m m' m.0 (ap (λ z. z.0) told.me_is) refl refl refl refl)
+      (λ s r deep at small. seals-now s r deep at)
     where
-      told : SealsAt 0 (slice_index s.words 0) m (logged 0 (slice_index s.words 0) m.0, m.1)
-      told =
+      mine : table.State (Option P) (View P E) → View P E
+      mine s = let n = slice_index s.words 0 in with_step 0 n (either (n == old) new n) m.0
+
+      seals-now : (s : table.State (Option P) (View P E)) → Running cargo f s → length s.homes ≡ slots → get_elem? s.views id ≡ some m.0 →
+          (w : View P E) × (a : table.Act (Option P)) × table.Valid s.homes m.1 a
+          × Running cargo f (stepped s 0 (either (slice_index s.words 0 == old) new (slice_index s.words 0)) id m.1 w a)
+          × SealsAt 0 (slice_index s.words 0) (either (slice_index s.words 0 == old) new (slice_index s.words 0)) m (w, table.carried_after m.1 a)
+      seals-now s r deep at =
+          let n = slice_index s.words 0 in
+          let told : SealsAt 0 n (either (n == old) new n) m (mine s, m.1) =
           record {
             me_is = refl;
             narrow = r.stamped.scope;
             bits = kept-bits f.layout s.words s.views id m.0 at r.stamped.rises;
-          }
+          } in
+          let Kept : ℕ → Type 0 = λ k. Running cargo f (stepped s 0 k id m.1 (with_step 0 n k m.0) keeps) in
+          dite (ℕ_discrete n old)
+          (λ hit. (
+            mine s,
+            keeps,
+            tt,
+            subst Kept (sym (ap (λ t. either t new n) (eq-eqb n old hit)))
+                (seals-runs cargo f s id m.0 r at expected new may (ap scope_read hit ∙ reads_old) reads_new narrow),
+            told,
+          ))
+          (λ miss. (
+            mine s,
+            keeps,
+            tt,
+            subst Kept (sym (ap (λ t. either t new n) (ne_eqb n old miss)))
+                (looks_keep cargo f s id 0 m.0 r at),
+            told,
+          ))
 
 -- the hand still carries each slot once
-pub made-seated : {P E : Type 0} (tree : List TreeNode) (l : Layout) (n : ℕ) (m : Seated P E) → IsSeated tree l m →
-    IsSeated tree l (logged 0 n (makes m.0), m.1)
-made-seated tree l n m old = record { apart = old.apart; given = old.given; itself = old.itself }
+pub made-seated : {P E : Type 0} (tree : List TreeNode) (l : Layout) (n left : ℕ) (m : Seated P E) → IsSeated tree l m →
+    IsSeated tree l (with_step 0 n left (makes m.0), m.1)
+made-seated tree l n left m old = record { apart = old.apart; given = old.given; itself = old.itself }
 
-pub left-seated : {P E : Type 0} (tree : List TreeNode) (l : Layout) (n : ℕ) (m : Seated P E) → IsSeated tree l m →
-    IsSeated tree l (logged 0 n (leaves_scope m.0), m.1)
-left-seated {P} {E} tree l n m old =
+pub left-seated : {P E : Type 0} (tree : List TreeNode) (l : Layout) (n left : ℕ) (m : Seated P E) → IsSeated tree l m →
+    IsSeated tree l (with_step 0 n left (leaves_scope m.0), m.1)
+left-seated {P} {E} tree l n left m old =
     let v : View P E = m.0 in
     test (nat_le 1 v.refused)
     (λ t.
-    subst (λ (z : View P E). IsSeated tree l (logged 0 n z, m.1)) (sym (cond-true (nat_le 1 v.refused) (record v { refused = v.refused - 1 }) (record v { made = v.made - 1 }) t))
+    subst (λ (z : View P E). IsSeated tree l (with_step 0 n left z, m.1)) (sym (cond-true (nat_le 1 v.refused) (record v { refused = v.refused - 1 }) (record v { made = v.made - 1 }) t))
     (record { apart = old.apart; given = old.given; itself = old.itself }))
     (λ no.
-    subst (λ (z : View P E). IsSeated tree l (logged 0 n z, m.1)) (sym (cond-false (nat_le 1 v.refused) (record v { refused = v.refused - 1 }) (record v { made = v.made - 1 }) no))
+    subst (λ (z : View P E). IsSeated tree l (with_step 0 n left z, m.1)) (sym (cond-false (nat_le 1 v.refused) (record v { refused = v.refused - 1 }) (record v { made = v.made - 1 }) no))
     (record { apart = old.apart; given = old.given; itself = old.itself }))

@@ -25,10 +25,10 @@ use Rattle.table_rules.specs.ShownViews.{view_at, shown_view}
 use Rattle.table_rules.specs.Scenes.{Scene, shown, scene}
 use Rattle.table_rules.specs.Grown.{HasBitsOf}
 use Rattle.table_rules.specs.Running.{Stands, Running}
-use Rattle.table_steps.specs.Claims.{logged}
+use Rattle.table_steps.specs.Claims.{with_step}
 use Rattle.table_kept.proofs.WordMoves.{word-here}
 use Rattle.table_kept.proofs.PlaceMoves as places
-use Rattle.table_kept.proofs.Loads.{known-logged}
+use Rattle.table_kept.proofs.Loads.{known-listed}
 use Rattle.table_kept.proofs.Stamping.{is_on, written-risen, unsaid-kept, renewed-kept}
 use Rattle.table_kept.proofs.Counts.{counts-moved}
 use Rattle.table_kept.proofs.ViewMoves.{view-here, view-set, views-same, views-moved}
@@ -79,7 +79,7 @@ module _ {P E O : Type 0} (cargo : Ghosts P E O) (f : Frame O) (s : table.State 
   bits-kept = subst (HasBitsOf (scope_read n)) (sym reads) bits
 
   abbrev mine : View P E
-  mine = logged 0 n (record v { made = made; making = making; refused = refused })
+  mine = with_step 0 n value (record v { made = made; making = making; refused = refused })
 
   abbrev u : PureView
   u = record (now.view id) { made = made; making = making; refused = refused }
@@ -133,7 +133,7 @@ module _ {P E O : Type 0} (cargo : Ghosts P E O) (f : Frame O) (s : table.State 
         lots = lots-aside here now.callback now.source now.scope_source word w cargo r.stands.lots;
         views = views-moved here after s.views id v mine at
             (λ j z ne there old. known-aside here now.callback now.source now.scope_source word w (λ t h. h) z (λ y counts known so. so) old)
-            (known-logged after 0 n (record v { made = made; making = making; refused = refused }) (record {
+            (known-listed after 0 n value (record v { made = made; making = making; refused = refused }) (record {
               held = kept.held;
               owed = kept.owed;
               reported = kept.reported;
@@ -147,7 +147,7 @@ module _ {P E O : Type 0} (cargo : Ghosts P E O) (f : Frame O) (s : table.State 
       }
 
   pub scope-runs : Sound (with_view (with_scope now word) id (record (now.view id) { made = made; making = making; refused = refused })) →
-      Running cargo f record { words = set s.words 0 value; homes = s.homes; views = set s.views id (logged 0 (slice_index s.words 0) (record v { made = made; making = making; refused = refused })) }
+      Running cargo f record { words = set s.words 0 value; homes = s.homes; views = set s.views id (with_step 0 (slice_index s.words 0) value (record v { made = made; making = making; refused = refused })) }
   scope-runs sound =
       record {
         frame = r.frame;
@@ -168,7 +168,7 @@ module _ {P E O : Type 0} (cargo : Ghosts P E O) (f : Frame O) (s : table.State 
               renewed-kept f.layout s.words words j m (said-kept Idle control_read OfControl (λ j m a b. (a, b)) (λ j m e. cc) j m)
               (spot-kept (OfSource j m) (hj, hm) (λ e. cc)) (ap (λ b. b.generation) (block-kept j)) (r.stamped.renewed j m hj hm has);
           rises = written-risen f.layout s.views id v mine at s.words value TheScope r.sized.words tt bits-kept
-              (record { word = n; steps = refl; low = bits-kept }) r.stamped.rises;
+              refl r.stamped.rises;
           scope = subst (λ w. w < 2 ^ 36) (sym (word-here f.layout s.words r.sized.words TheScope tt value)) narrow;
         };
         past = r.past;

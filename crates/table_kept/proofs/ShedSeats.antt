@@ -10,7 +10,7 @@ use Rattle.common_lemmas.proofs.Bool.{either}
 use Rattle.table_words.specs.declared.layout.Layout.{Layout}
 use Rattle.table_rules.specs.declared.view.View.{View}
 use Rattle.table_rules.specs.Named.{without, Each}
-use Rattle.table_steps.specs.Claims.{logged}
+use Rattle.table_steps.specs.Claims.{with_step}
 use Rattle.table_steps.specs.Slots.{slot_of, is_of_family, has_slot, AreApart, IsSeated}
 use Rattle.table_steps.specs.Sheds.{shed}
 use Rattle.table_steps.specs.Rests.{lets_go}
@@ -35,9 +35,9 @@ apart-shed gone (d ∷ ds) all =
     (each-shed (λ e. e.0 ≢ d.0) (λ e. e.0 ≢ d.0) gone ds (λ e _ k. k) all.0, apart-shed gone ds all.1))
 
 -- a slot outside the node's family is still given
-given-still : {P E : Type 0} (tree : List TreeNode) (l : Layout) (x : Name) (i n : ℕ) (v : View P E) (slot : ℕ) →
-    is_of_family tree l x slot ≡ false → has_slot tree l v slot ≡ true → has_slot tree l (logged i n (lets_go x v)) slot ≡ true
-given-still tree l x i n v slot stays h =
+given-still : {P E : Type 0} (tree : List TreeNode) (l : Layout) (x : Name) (i n left : ℕ) (v : View P E) (slot : ℕ) →
+    is_of_family tree l x slot ≡ false → has_slot tree l v slot ≡ true → has_slot tree l (with_step i n left (lets_go x v)) slot ≡ true
+given-still tree l x i n left v slot stays h =
     let a = list_any (λ e. slot_of l e.name == slot) v.owed in
     let b = list_any (λ e. is_of_family tree l e.name slot) v.held in
     let b2 = list_any (λ e. is_of_family tree l e.name slot) (without (λ e. e.name) v.held x) in
@@ -54,12 +54,12 @@ given-still tree l x i n v slot stays h =
     ])
     (λ finished. or-right a (b2 || c) (or-right b2 c finished)))
 
-pub seated-shed : {P E : Type 0} (tree : List TreeNode) (l : Layout) (x : Name) (i n : ℕ) (v : View P E) (c : List (ℕ × Option P)) →
-    IsSeated tree l (v, c) → IsSeated tree l (logged i n (lets_go x v), shed (is_of_family tree l x) c)
-seated-shed tree l x i n v c old =
+pub seated-shed : {P E : Type 0} (tree : List TreeNode) (l : Layout) (x : Name) (i n left : ℕ) (v : View P E) (c : List (ℕ × Option P)) →
+    IsSeated tree l (v, c) → IsSeated tree l (with_step i n left (lets_go x v), shed (is_of_family tree l x) c)
+seated-shed tree l x i n left v c old =
     record {
       apart = apart-shed (is_of_family tree l x) c old.apart;
-      given = each-shed (λ d. has_slot tree l v d.0 ≡ true) (λ d. has_slot tree l (logged i n (lets_go x v)) d.0 ≡ true)
-          (is_of_family tree l x) c (λ d stays. given-still tree l x i n v d.0 stays) old.given;
+      given = each-shed (λ d. has_slot tree l v d.0 ≡ true) (λ d. has_slot tree l (with_step i n left (lets_go x v)) d.0 ≡ true)
+          (is_of_family tree l x) c (λ d stays. given-still tree l x i n left v d.0 stays) old.given;
       itself = old.itself;
     }

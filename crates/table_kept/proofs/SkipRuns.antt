@@ -35,9 +35,10 @@ use Rattle.table_rules.specs.ShownViews.{shown_view}
 use Rattle.table_rules.specs.Scenes.{Scene, shown, scene}
 use Rattle.table_rules.specs.Notes.{IsKnown}
 use Rattle.table_rules.specs.Running.{Running}
-use Rattle.table_steps.specs.Claims.{logged, Seated}
+use Rattle.table_steps.specs.Claims.{logged, Seated, ListsOne}
 use Rattle.table_steps.specs.Slots.{Aim, IsSeated}
 use Rattle.table_steps.specs.Skips.{CanSkip, skips, says_free, skips_at}
+use Rattle.table_kept.proofs.Listing.{AllowsListed, allows-listed, lists-one}
 use Rattle.table_kept.proofs.BeginTold.{aimed}
 use Rattle.table_kept.proofs.BeginSeats.{seated-logged}
 use Rattle.table_kept.proofs.Seats.{at_within}
@@ -173,15 +174,25 @@ skips_allowed {P} {E} cargo f slots id b m can hb s r deep at small =
       refl,
     )
 
+-- the load is listed, whatever it tells
+skip-lists : {P E : Type 0} (t : List TreeNode) (b i n : ℕ) (m : Seated P E) → ListsOne i n n m (skips_at t b i n m)
+skip-lists {P} {E} t b i n m =
+    let past : View P E = skips t b m.0 in
+    either (says_free n)
+    (λ free. lists-one i n n m _ past (ap (logged i n) (cond-true (says_free n) past m.0 free)) refl refl refl refl)
+    (λ shut. lists-one i n n m _ m.0 (ap (logged i n) (cond-false (says_free n) past m.0 shut)) refl refl refl refl)
+
 -- the same by the frame that the table shows
 pub skips-at : {P E O : Type 0} (cargo : Ghosts P E O) (board f : Frame O) (slots id i : ℕ) (x : Name) (aim : Aim) (m : Seated P E) → board ≡ f →
     i ≡ index board.layout (OfBlock x.block) → aim ≡ aimed board x → CanSkip board.tree m.0 x.block → x.block < board.layout.blocks →
-    Allows (Running cargo f) slots id m i (λ n. n) (λ n m'. m' ≡ skips_at aim.tree aim.name.block i n m)
+    AllowsListed cargo f slots id m i (λ n. n) (λ n m'. m' ≡ skips_at aim.tree aim.name.block i n m)
 skips-at cargo board f slots id i x aim m same i_is aim_is can hb =
-    subst (λ z. Allows (Running cargo z) slots id m i (λ n. n) (λ n m'. m' ≡ skips_at aim.tree aim.name.block i n m)) same
+    allows-listed cargo f slots id m i (λ n. n) (λ n m'. m' ≡ skips_at aim.tree aim.name.block i n m)
+    (λ n m' told. subst (ListsOne i n n m) (sym told) (skip-lists aim.tree aim.name.block i n m))
+    (subst (λ z. Allows (Running cargo z) slots id m i (λ n. n) (λ n m'. m' ≡ skips_at aim.tree aim.name.block i n m)) same
     (subst (λ (z : ℕ × Aim). Allows (Running cargo board) slots id m z.0 (λ n. n) (λ n m'. m' ≡ skips_at z.1.tree z.1.name.block z.0 n m))
     (λ k. (sym i_is k, sym aim_is k))
-    (skips_allowed cargo board slots id x.block m can hb))
+    (skips_allowed cargo board slots id x.block m can hb)))
 
 -- the hand still carries each slot once
 pub skip-seated : {P E : Type 0} (tree : List TreeNode) (l : Layout) (i n : ℕ) (t : List TreeNode) (b : ℕ) (m : Seated P E) → IsSeated tree l m →

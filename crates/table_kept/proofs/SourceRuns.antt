@@ -31,7 +31,7 @@ use Rattle.table_rules.specs.ShownWords.{block_of, word_of, control_of, source_o
 use Rattle.table_rules.specs.ShownViews.{view_at, shown_view}
 use Rattle.table_rules.specs.Scenes.{Scene, shown, scene}
 use Rattle.table_rules.specs.Notes.{IsKnown}
-use Rattle.table_rules.specs.Grown.{IsLater}
+use Rattle.table_rules.specs.Grown.{HasBitsOfSource, IsLater}
 use Rattle.table_rules.specs.Running.{Stands, Running}
 use Rattle.table_steps.specs.Sights.{spot_of}
 use Rattle.table_kept.proofs.WordMoves.{word-here}
@@ -188,16 +188,33 @@ module _ {P E O : Type 0} (cargo : Ghosts P E O) (f : Frame O) (s : table.State 
       unsaid-kept (block_of f.layout s.words j) (block_of f.layout words j) (word_of f.layout s.words (OfCallback j m)) (word_of f.layout words (OfCallback j m))
       is_on (block-kept j) (spot-kept (OfCallback j m) (hj, hm) (no-callback source j m)) (r.stamped.quiet j m hj hm)
 
-  -- the word that is written is of no earlier generation
-  grows : (t : SourceRef) → source ≡ t → IsLater (spot_of t) (word_of f.layout s.words (spot_of t)) value
-  grows Scope is = tt
-  grows (Node y) is =
+  -- the word that is written is of no earlier generation, and has the bits that the source had
+  grows : (t : SourceRef) → source ≡ t → HasBitsOfSource (bits_at now t) bits → IsLater (spot_of t) (word_of f.layout s.words (spot_of t)) value
+  grows Scope is more =
+      let says-scope : source_read value ≡ bits = subst (SaysOf value bits) is says in
+      subst (HasBitsOfSource (bits_at now Scope)) (sym says-scope) more
+  grows (Node y) is more =
       let at_y : IsSpot f.layout (OfSource y.block y.node) = subst (λ t. IsSpot f.layout (spot_of t)) is spot in
       let says-y : (source_read value ≡ bits) × (stamp_of value ≡ y.generation) = subst (SaysOf value bits) is says in
       let old = r.stamped.source y.block y.node at_y.0 at_y.1 in
       let stamp = says-y.1 in
-      let own = (lives now y (subst (IsLiveSource now) is live)).generation in
-      omega (arith, old, stamp, own)
+      let alive : is_live now y ≡ true = subst (IsLiveSource now) is live in
+      let l = lives now y alive in
+      let own = l.generation in
+      let word = word_of f.layout s.words (OfSource y.block y.node) in
+      record {
+        stamp = omega (arith, old, stamp, own);
+        bits = λ same.
+            let said : is_said (now.block y.block) word ≡ true =
+            and_from _ _ (ap not (open-kept (now.block y.block).state l.is_opened)) (eq-eqb _ _ (same ∙ stamp ∙ own)) in
+            let there : is_there f.layout y.block y.node ≡ true =
+            and_from _ _ (lt-ltb y.block f.layout.blocks at_y.0) (lt-ltb y.node f.layout.nodes at_y.1) in
+            let reads : bits_at now (Node y) ≡ source_read word =
+            cond-true (is_live now y) (now.source y.block y.node) clear alive
+            ∙ cond-true (is_there f.layout y.block y.node) (said_at (now.block y.block) clear source_read word) clear there
+            ∙ cond-true (is_said (now.block y.block) word) (source_read word) clear said in
+            subst (λ (z : Bits × Bits). HasBitsOfSource z.0 z.1) (λ k. (reads k, sym says-y.0 k)) more;
+      }
 
   renewed-source : (t : SourceRef) → source ≡ t → (j m : ℕ) → j < f.layout.blocks → m < f.layout.nodes → has_source f.tree m ≡ true →
       is_idle (control_of f.layout words j m) ≡ false →
@@ -261,10 +278,10 @@ module _ {P E O : Type 0} (cargo : Ghosts P E O) (f : Frame O) (s : table.State 
         }
 
     -- the rule is kept, where what is said of the scene is
-    pub source-runs : Lists f.layout (spot_of source) value v mine →
+    pub source-runs : HasBitsOfSource (bits_at now source) bits → Lists f.layout s.words (spot_of source) value v mine →
         Stands cargo f.over.value (record here { state = asked now source bits (with_view now id u).view }) (set s.views id mine) →
         Running cargo f record { words = set s.words (index f.layout (spot_of source)) value; homes = s.homes; views = set s.views id mine }
-    source-runs lists stands =
+    source-runs more lists stands =
         record {
           frame = r.frame;
           sized = record {
@@ -279,7 +296,7 @@ module _ {P E O : Type 0} (cargo : Ghosts P E O) (f : Frame O) (s : table.State 
             settled = settled-kept;
             quiet = quiet-kept;
             renewed = renewed-source source refl;
-            rises = written-risen f.layout s.views id v mine at s.words value (spot_of source) r.sized.words spot (grows source refl) lists r.stamped.rises;
+            rises = written-risen f.layout s.views id v mine at s.words value (spot_of source) r.sized.words spot (grows source refl more) lists r.stamped.rises;
             scope = subst (λ w. w < 2 ^ 36) (sym (spot-kept TheScope tt (no-scope source))) r.stamped.scope;
           };
           past = r.past;

@@ -1,5 +1,5 @@
 -- What the exchange by which a node is taken owes, and what it tells.
-use Rattle.std.proofs.Common.{◌≡◌, ℕ, ◌<◌, true, ◌==◌, List, [], ◌∷◌, Option, Some, refl, sym, ap, ◌∙◌, subst, eq-eqb, ne_eqb, ◌≤◌, arith}
+use Rattle.std.proofs.Common.{◌≡◌, ℕ, ◌<◌, true, ◌==◌, List, [], ◌∷◌, Option, Some, refl, sym, ap, ◌∙◌, subst, eq-eqb, ne_eqb}
 use Rattle.std.specs.Prelude.{slice_index}
 use mathlib.Core.Option.{some}
 use mathlib.Core.Option as maybe
@@ -26,11 +26,12 @@ use Rattle.table_rules.specs.declared.view.View.{View}
 use Rattle.table_rules.specs.Scenes.{Full, shown, scene}
 use Rattle.table_rules.specs.Notes.{children_are_requested}
 use Rattle.table_rules.specs.Running.{Running}
-use Rattle.table_steps.specs.Claims.{logged, Seated}
+use Rattle.table_steps.specs.Claims.{with_step, logged, Seated}
 use Rattle.table_steps.specs.Slots.{kids_of, IsSeated}
 use Rattle.table_steps.specs.Takes.{takes_node, TakenAt, TakesAt}
 use Rattle.table_kept.proofs.Loads.{looks_keep}
 use Rattle.table_kept.proofs.SeenStands.{noted-start}
+use Rattle.table_kept.proofs.Hearing.{hears-as}
 use Rattle.table_kept.proofs.KidSlots.{take_each, carries}
 use Rattle.table_kept.proofs.WordsLive.{SaysLive, says-live}
 use Rattle.table_kept.proofs.TakeSeats.{seated-taken, take-valid}
@@ -52,20 +53,20 @@ module _ {P E O : Type 0} (cargo : Ghosts P E O) (f : Frame O) (s : table.State 
   abbrev i : ℕ
   i = index f.layout (OfControl x.block x.node)
 
-  pub taken-now : (n : ℕ) → stamp_of n ≤ stamp_of value → (w : View P E) × (a : table.Act (Option P)) × table.Valid s.homes c a
+  pub taken-now : (n : ℕ) → n ≡ slice_index s.words i → (w : View P E) × (a : table.Act (Option P)) × table.Valid s.homes c a
       × Running cargo f (stepped s i value id c w a)
-      × TakenAt cargo (record { tree = f.tree; layout = f.layout; name = x }) (f.over.value ∷ []) i n (v, c) (w, table.carried_after c a)
-  taken-now n low =
+      × TakenAt cargo (record { tree = f.tree; layout = f.layout; name = x }) (f.over.value ∷ []) i n value (v, c) (w, table.carried_after c a)
+  taken-now n was =
       let told = nearest_is_requested now x in
       let told_kids = children_are_requested now x in
       let slot = place_number f.layout x.block x.node in
       let kids = kids_of f.tree x.node in
-      let mine : View P E = logged i n (takes_node x (r.past.start x) (r.past.named x) told told_kids v) in
+      let mine : View P E = with_step i n value (takes_node x (r.past.start x) (r.past.named x) told told_kids v) in
       let is = carries f.layout s.homes c r.sized.homes x.block (place-b cargo f s id value x v c r at says.live may-now stamped reads) kids in (
         mine,
         chain (take_each f.layout x.block kids) (takes slot (Some lying.0)),
         take-valid cargo f s id value x v c r at says.live may-now stamped reads lying.0 lying.1,
-        take-runs cargo f s id value x v c r at says.live may-now stamped reads n low,
+        take-runs cargo f s id value x v c r at says.live may-now stamped reads n was,
         record {
           start = r.past.start x;
           named = r.past.named x;
@@ -79,9 +80,11 @@ module _ {P E O : Type 0} (cargo : Ghosts P E O) (f : Frame O) (s : table.State 
           bound = r.stands.items.bound x lying.0 says.live lying.1;
           key = (r.stands.starts.key x rests.begun, tt);
           noted = noted-start cargo f s id v r at x says.live;
+          hears = hears-as cargo f s id v r at x;
           seated = λ old. subst (λ d. IsSeated f.tree f.layout (mine, (slot, Some lying.0) ∷ d)) (sym is)
               (seated-taken cargo f s id value x v c r at says.live may-now stamped reads lying.0 lying.1
-              (r.past.start x) (r.past.named x) told told_kids i n old);
+              (r.past.start x) (r.past.named x) told told_kids i n value old);
+          rests = r.stands.items.rests x lying.0 says.live lying.1 rests.rests;
         },
       )
 
@@ -105,8 +108,7 @@ takes_allowed {P} {E} cargo f slots id old new x from m hb hn may stamp_old read
     (λ hit.
     let says = says-live cargo f s x (resting_at from) r hb hn (ap stamp_of hit ∙ stamp_old) (ap control_read hit ∙ reads_old) (resting-busy from) in
     let mine : may_be_taken (resting_at from) id ≡ true = subst (λ h. may_be_taken (resting_at from) h ≡ true) (r.stands.views.number id m.0 at) may in
-    let same = ap stamp_of hit in
-    let won = taken-now cargo f s id new x m.0 m.1 r at (resting_at from) says mine stamp_new reads_new n (omega (arith, same, stamp_old, stamp_new)) in (
+    let won = taken-now cargo f s id new x m.0 m.1 r at (resting_at from) says mine stamp_new reads_new n refl in (
       won.0,
       won.1,
       won.2,

@@ -1,6 +1,6 @@
 -- The exchange by which a node that rests is taken keeps the rule.
-use Rattle.std.proofs.Common.{◌≡◌, ℕ, ◌+◌, ◌<◌, Bool, true, false, ◌&&◌, ◌||◌, ◌==◌, cond, List, length, set, refl, sym, ap, ◌∙◌, subst, inl, inr, arith, length-set, ◌≤◌}
-use Rattle.std.specs.Prelude.{Option}
+use Rattle.std.proofs.Common.{◌≡◌, ℕ, ◌+◌, ◌<◌, Bool, true, false, ◌&&◌, ◌||◌, ◌==◌, cond, List, length, set, refl, sym, ap, ◌∙◌, subst, inl, inr, arith, length-set, ◌∷◌}
+use Rattle.std.specs.Prelude.{Option, slice_index, nat_le}
 use Rattle.std.specs.Option.{option_map_or}
 use Rattle.std.proofs.lemmas.Bool.{and_from, both_ways, cond-true, cond-false, eq-eqb, false_from_ne_true}
 use mathlib.Core.Option.{some}
@@ -25,6 +25,7 @@ use Rattle.table_words.specs.Stamps.{stamp_of}
 use Rattle.table_words.specs.Controls.{control_read}
 use Rattle.table_words.specs.Layouts.{OfControl, index, place_number}
 use Rattle.atomic_table.specs.Table as table
+use Rattle.listed_steps.specs.Lists.{entry}
 use Rattle.table_rules.specs.declared.cargo.Cargo.{Ghosts}
 use Rattle.table_rules.specs.declared.frame.Frame.{Frame}
 use Rattle.table_rules.specs.declared.view.View.{View}
@@ -35,12 +36,12 @@ use Rattle.table_rules.specs.Scenes.{Home, Out, Empty, Full, is_out, is_full, Sc
 use Rattle.table_rules.specs.Homes.{is_waiting, is_resting, seats_of}
 use Rattle.table_rules.specs.Notes.{children_are_requested}
 use Rattle.table_rules.specs.Running.{Stands, Running}
-use Rattle.table_steps.specs.Claims.{logged}
+use Rattle.table_steps.specs.Claims.{with_step}
 use Rattle.table_steps.specs.Slots.{kids_of}
 use Rattle.table_steps.specs.Takes.{takes_node}
 use Rattle.table_kept.proofs.Seats.{at_within}
 use Rattle.table_kept.proofs.Among.{among}
-use Rattle.table_kept.proofs.Loads.{known-logged}
+use Rattle.table_kept.proofs.Loads.{known-listed}
 use Rattle.table_kept.proofs.Counts.{counts-moved}
 use Rattle.table_kept.proofs.ViewMoves.{view-here, views-moved}
 use Rattle.table_kept.proofs.HomeMoves.{home_of_place, taken}
@@ -215,6 +216,7 @@ module _ {P E O : Type 0} (cargo : Ghosts P E O) (f : Frame O) (s : table.State 
         settled = λ none. cc;
         kids = kid-moves;
         named = λ none. cc;
+        met = λ _. r.stands.homes.met x word.begun (ap (nat_le 1) word.none);
       }
 
   remembers : Remembers cargo f.over.value here id x (Busy 0) u is-put home r.past moves
@@ -229,9 +231,11 @@ module _ {P E O : Type 0} (cargo : Ghosts P E O) (f : Frame O) (s : table.State 
         start = λ item is. none-left item is;
         fit = λ item is. none-left item is;
         goes_on = λ item is _. none-left item is;
+        rests = λ item is _. none-left item is;
         bound = λ item is. none-left item is;
         ended = λ done _. cc;
         delivered = λ item _ _ is. none-left item is;
+        enough = λ item none _ _. cc;
         lot = λ item _ is. none-left item is;
         drawn = λ n waits _ _ _. cc;
       }
@@ -247,7 +251,7 @@ module _ {P E O : Type 0} (cargo : Ghosts P E O) (f : Frame O) (s : table.State 
     told_kids = children_are_requested now x
 
     abbrev mine : View P E
-    mine = logged i n (takes_node x (r.past.start x) (r.past.named x) told told_kids v)
+    mine = with_step i n value (takes_node x (r.past.start x) (r.past.named x) told told_kids v)
 
     abbrev after : Scene P E
     after = moved here id x (Busy 0) u is-put home r.past
@@ -272,7 +276,7 @@ module _ {P E O : Type 0} (cargo : Ghosts P E O) (f : Frame O) (s : table.State 
               (λ j z ne there.
               known-moved here id x (Busy 0) u is-put home r.past moves (λ y. refl) (λ y _. refl) (λ y _. refl) (inl refl) z
               (among f s j z r.sized.seats there) (held-none z j there))
-              (known-logged after i n (takes_node x (r.past.start x) (r.past.named x) told told_kids v) (record {
+              (known-listed after i n value (takes_node x (r.past.start x) (r.past.named x) told told_kids v) (record {
                 held = (record { start = refl; named = refl; told = λ t. t; told_children = λ t. t; lot = tt; phase = tt; idle = tt }, known.held);
                 owed = known.owed;
                 reported = known.reported;
@@ -285,15 +289,15 @@ module _ {P E O : Type 0} (cargo : Ghosts P E O) (f : Frame O) (s : table.State 
           counts = counts-moved here.state after.state s.views id v mine at refl refl r.stands.counts;
         }
 
-    pub take-runs : stamp_of n ≤ stamp_of value → Running cargo f record {
+    pub take-runs : n ≡ slice_index s.words i → Running cargo f record {
       words = set s.words i value;
       homes = taken_homes;
       views = set s.views id mine;
     }
-    take-runs low =
+    take-runs was =
         control-runs cargo f s id value x (Busy 0) v r at live stamped reads mine u
         (ap (λ (z : PureView). record z { holds = gain x z.holds }) (sym shows))
         taken_homes home r.past (λ j m. refl)
-        (begun-renewed cargo f s x r live word.begun) (record { word = n; steps = refl; low = low })
+        word.done (begun-renewed cargo f s x r live word.begun) (ap (λ k. entry i k value ∷ v.steps) was)
         (length-set (table.homes_after s.homes c (take_each f.layout x.block kids)) slot maybe.none
         ∙ deep-after f.layout s.homes c r.sized.homes x.block place-b kids ∙ sym r.sized.homes) stands-taken

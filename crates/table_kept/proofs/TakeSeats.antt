@@ -23,7 +23,7 @@ use Rattle.table_rules.specs.Named.{Each}
 use Rattle.table_rules.specs.ShownWords.{is_there}
 use Rattle.table_rules.specs.Scenes.{Out, Empty, Full, is_full, home_in, Scene, shown, scene}
 use Rattle.table_rules.specs.Running.{Running}
-use Rattle.table_steps.specs.Claims.{logged}
+use Rattle.table_steps.specs.Claims.{with_step}
 use Rattle.table_steps.specs.Kids.{empty_slots}
 use Rattle.table_steps.specs.Slots.{slot_of, kids_of, is_of_family, has_slot, IsSeated}
 use Rattle.table_steps.specs.Takes.{takes_node}
@@ -106,9 +106,9 @@ module _ {P E O : Type 0} (cargo : Ghosts P E O) (f : Frame O) (s : table.State 
         full-home hs slot item (sym (cond-true (is_there f.layout x.block x.node) (home_in (get_elem? hs slot)) Empty (there x.node hn)) ∙ own-still),
       )
 
-  module _ (start : List E) (named : ℕ) (told told_kids : Bool) (i n : ℕ) where
+  module _ (start : List E) (named : ℕ) (told told_kids : Bool) (i n left : ℕ) where
     abbrev mine : View P E
-    mine = logged i n (takes_node x start named told told_kids v)
+    mine = with_step i n left (takes_node x start named told told_kids v)
 
     given-still : (d : ℕ) → has_slot f.tree f.layout v d ≡ true → has_slot f.tree f.layout mine d ≡ true
     given-still d h =

@@ -23,6 +23,7 @@ use Rattle.table_steps.specs.Slots.{Aim, slot_of, has_slot, kept, IsSeated}
 use Rattle.table_steps.specs.Sheds.{shed}
 use Rattle.table_steps.specs.Releases.{is_own_slot}
 use Rattle.table_steps.specs.Swaps.{HasHome, TurnsTo}
+use Rattle.table_kept.proofs.Listing.{AllowsListed, allows-listed, lists-one}
 use Rattle.table_kept.proofs.BeginTold.{aimed}
 use Rattle.table_kept.proofs.Loads.{looks_keep}
 use Rattle.table_kept.proofs.SlotsOut.{slot-out, slot-within}
@@ -167,8 +168,10 @@ turns_allowed {P} {E} cargo f slots id i x m seated has s r _ at _ =
 -- by the frame that the table shows
 pub turns-at : {P E O : Type 0} (cargo : Ghosts P E O) (board f : Frame O) (slots id i : ℕ) (x : Name) (aim : Aim) (m : Seated P E) →
     board ≡ f → aim ≡ aimed board x → IsSeated board.tree board.layout m → HasHome board.layout m x →
-    Allows (Running cargo f) slots id m i (λ n. n) (λ n. TurnsTo aim i n m)
+    AllowsListed cargo f slots id m i (λ n. n) (λ n. TurnsTo aim i n m)
 turns-at cargo board f slots id i x aim m same aim_is seated has =
-    subst (λ z. Allows (Running cargo z) slots id m i (λ n. n) (λ n. TurnsTo aim i n m)) same
+    allows-listed cargo f slots id m i (λ n. n) (λ n. TurnsTo aim i n m)
+    (λ n m' told. lists-one i n n m m' m.0 (ap (λ z. z.0) told.me_is) refl refl refl refl)
+    (subst (λ z. Allows (Running cargo z) slots id m i (λ n. n) (λ n. TurnsTo aim i n m)) same
     (subst (λ z. Allows (Running cargo board) slots id m i (λ n. n) (λ n. TurnsTo z i n m)) (sym aim_is)
-    (turns_allowed cargo board slots id i x m seated has))
+    (turns_allowed cargo board slots id i x m seated has)))

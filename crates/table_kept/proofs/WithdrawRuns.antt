@@ -22,22 +22,23 @@ use Rattle.table_words.specs.Stamps.{stamp_of}
 use Rattle.table_words.specs.Controls.{callback_read, callback_code}
 use Rattle.table_words.specs.Layouts.{OfCallback, index}
 use Rattle.atomic_table.specs.Table as table
+use Rattle.listed_steps.specs.Lists.{entry}
 use Rattle.table_rules.specs.declared.cargo.Cargo.{Ghosts}
 use Rattle.table_rules.specs.declared.frame.Frame.{Frame}
 use Rattle.table_rules.specs.declared.view.View.{View}
 use Rattle.table_rules.specs.declared.view.Held.{Held}
 use Rattle.table_rules.specs.Named.{count_by}
-use Rattle.table_rules.specs.ShownWords.{block_of}
+use Rattle.table_rules.specs.ShownWords.{block_of, word_of}
 use Rattle.table_rules.specs.ShownViews.{shown_view}
 use Rattle.table_rules.specs.Scenes.{Scene, shown, scene}
 use Rattle.table_rules.specs.Notes.{is_still, IsHeldSo, IsKnown}
 use Rattle.table_rules.specs.Running.{Running}
-use Rattle.table_steps.specs.Claims.{logged}
+use Rattle.table_steps.specs.Claims.{with_step, logged}
 use Rattle.table_steps.specs.Readings.{notes_phase}
 use Rattle.table_steps.specs.Callbacks.{is_registered, learns, CanWithdraw}
 use Rattle.table_kept.proofs.Entries.{each-map}
 use Rattle.table_kept.proofs.Among.{among}
-use Rattle.table_kept.proofs.Loads.{known-logged}
+use Rattle.table_kept.proofs.Loads.{known-listed, known-logged}
 use Rattle.table_kept.proofs.Noting.{count-at, each-at}
 use Rattle.table_kept.proofs.HeldNotes.{each-changed}
 use Rattle.table_kept.proofs.ReadAllowed.{still-refl}
@@ -115,7 +116,7 @@ module _ {P E O : Type 0} (cargo : Ghosts P E O) (f : Frame O) (s : table.State 
   -- an armed callback is removed
   module _ (value : ℕ) (armed : phase_at now x ≡ Armed) (stamped : stamp_of value ≡ x.generation) (reads : callback_read value ≡ Removed) where
     abbrev mine : View P E
-    mine = logged i n (notes_phase x Removed v)
+    mine = with_step i n value (notes_phase x Removed v)
 
     abbrev written : State
     written = with_view (with_callback now x.block x.node Removed) id old_view
@@ -142,7 +143,7 @@ module _ {P E O : Type 0} (cargo : Ghosts P E O) (f : Frame O) (s : table.State 
     mine-known old =
         let c = written.callback in
         let w = written.view in
-        known-logged (record here { state = written }) i n (notes_phase x Removed v) (record {
+        known-listed (record here { state = written }) i n value (notes_phase x Removed v) (record {
           held = each-changed (λ (e : Held E). e.name) (λ (e : Held E). record e { phase = Some Removed }) x (IsHeldSo here) (IsHeldSo (record here { state = written }))
               (λ e is so. record {
                 start = so.start;
@@ -163,16 +164,16 @@ module _ {P E O : Type 0} (cargo : Ghosts P E O) (f : Frame O) (s : table.State 
           seen = old.seen;
         })
 
-    pub removed-runs : i ≡ index f.layout (OfCallback x.block x.node) → n ≤ value → Running cargo f record {
+    pub removed-runs : i ≡ index f.layout (OfCallback x.block x.node) → n ≡ word_of f.layout s.words (OfCallback x.block x.node) → Running cargo f record {
       words = set s.words (index f.layout (OfCallback x.block x.node)) value;
       homes = s.homes;
       views = set s.views id mine;
     }
-    removed-runs is low =
+    removed-runs is was =
         callback-keeps cargo f s id v r at mine old_view (shows-noted Removed v ∙ sym is-shown) refl refl refl refl
         value x Removed held-now.live stamped reads
         (subst (λ p. callback_code p < callback_code Removed) (sym armed) (omega arith))
-        (record { word = n; steps = (λ k. record { index = is k; word = n } ∷ v.steps); low = low }) sound-removed
+        (λ k. entry (is k) (was k) value ∷ v.steps) sound-removed
         (λ j z ne there old.
         known-aside here written.callback now.source now.scope_source now.scope written.view (λ t h. h) z
         (λ y counts known so.
@@ -243,7 +244,7 @@ module _ {P E O : Type 0} (cargo : Ghosts P E O) (f : Frame O) (s : table.State 
     }
     told-runs is =
         view-keeps cargo f s id v r at (logged i n told) u shows-told refl refl refl refl i
-        (λ k. record { index = i; word = is k } ∷ v.steps) sound-told
+        (λ k. entry i (is k) (is k) ∷ v.steps) sound-told
         (λ j z ne there old.
         known-aside here now.callback now.source now.scope_source now.scope (with_view now id u).view (λ t h. h) z (λ y counts known so. so) old)
         (told-known (r.stands.views.each id v at))

@@ -8,7 +8,7 @@ use Rattle.node_tree.specs.Tree.{is_child, parent_of}
 use Rattle.life_rules.specs.Words.{is_open, is_idle, is_done, is_under_way, pending}
 use Rattle.common_lemmas.specs.Sums.{one}
 use Rattle.life_rules.specs.Views.{beside}
-use Rattle.life_rules.specs.States.{size, is_live, control_at, stand}
+use Rattle.life_rules.specs.States.{State, size, is_live, control_at, stand}
 use Rattle.common_lemmas.specs.Sums.{total}
 use Rattle.table_rules.specs.Scenes.{Home, Empty, is_out, is_full, Scene}
 
@@ -24,6 +24,11 @@ is_resting Done = false
 -- a node that waits for children
 abbrev pub is_waiting : ControlWord → Bool
 is_waiting word = nat_le 1 (pending word)
+
+-- how many children of x are done
+abbrev pub done_below : State → Name → ℕ
+done_below s x =
+    total (λ n. one (is_child s.tree x.node n) * one (is_done (control_at s (beside x n)))) (size s)
 
 module _ {P E : Type 0} (s : Scene P E) where
   abbrev pub home_of : Name → Home P
@@ -69,3 +74,6 @@ module _ {P E : Type 0} (s : Scene P E) where
     -- of the children that a waiting node's last await named none is forgotten
     pub named : (x : Name) → is_waiting (control_at s.state x) ≡ true →
         named_below x ≡ s.past.named x
+    -- of a node that has begun and waits for none, as many children are done as that named
+    pub met : (x : Name) → is_idle (control_at s.state x) ≡ false →
+        is_waiting (control_at s.state x) ≡ false → s.past.named x ≤ done_below s.state x

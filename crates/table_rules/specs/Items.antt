@@ -9,6 +9,7 @@ use Rattle.life_rules.specs.States.{is_live, control_at, bits_at}
 use Rattle.life_rules.specs.Callbacks.{nearest_is_requested}
 use Rattle.table_rules.specs.declared.cargo.Cargo.{Ghosts}
 use Rattle.table_rules.specs.Scenes.{Full, Scene}
+use Rattle.table_rules.specs.Homes.{is_resting}
 
 module _ {P E O : Type 0} (cargo : Ghosts P E O) (s : Scene P E) where
   -- a child of x is done with an item that failed without having seen a request
@@ -25,6 +26,9 @@ module _ {P E O : Type 0} (cargo : Ghosts P E O) (s : Scene P E) where
     -- the home of a node that isn't done keeps no completion
     pub goes_on : (x : Name) (item : P) → is_live s.state x ≡ true →
         s.home x.block x.node ≡ Full item → is_done (control_at s.state x) ≡ false → ¬ cargo.ends item
+    -- and that of a node that rests keeps what may rest there
+    pub rests : (x : Name) (item : P) → is_live s.state x ≡ true →
+        s.home x.block x.node ≡ Full item → is_resting (control_at s.state x) ≡ true → cargo.rests item x.node
     -- its last await named as many children as the item asks for
     pub bound : (x : Name) (item : P) → is_live s.state x ≡ true →
         s.home x.block x.node ≡ Full item → cargo.least item ≤ s.past.named x
@@ -37,6 +41,9 @@ module _ {P E O : Type 0} (cargo : Ghosts P E O) (s : Scene P E) where
     pub delivered : (x : Name) (item : P) → is_done (control_at s.state x) ≡ true →
         is_root s.state.tree x.node ≡ false → s.home x.block x.node ≡ Full item →
         s.past.delivered x ≡ Some item
+    -- which asks for no more children than the node's last await named
+    pub enough : (x : Name) (item : P) → is_done (control_at s.state x) ≡ true →
+        is_root s.state.tree x.node ≡ false → s.past.delivered x ≡ Some item → cargo.least item ≤ s.past.named x
     -- where a stop is requested of a node's children and not above the node, a child failed
     pub failures : (x : Name) → (bits_at s.state (Node x)).requested ≡ true →
         nearest_is_requested s.state x ≡ false → HasFailedChild x

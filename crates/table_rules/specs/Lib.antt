@@ -10,3 +10,4 @@ pub mod Notes
 pub mod Counts
 pub mod Grown
 pub mod Running
+pub mod Traces

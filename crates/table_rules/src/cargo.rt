@@ -1,5 +1,5 @@
 //! What the homes of a table hold, as far as the table's rule reads it.
-ghost use Rattle.std.specs.Prelude.{List, ℕ, ℤ, Bool, true, false};
+ghost use Rattle.std.specs.Prelude.{List, ℕ, ℤ, ◌<◌, Bool, true, false};
 
 /// An item of a home: a start, a rest or a completion of an operation's node ([exec.opstate]). The
 /// table moves items and never looks into one; these meanings are for contracts alone.
@@ -23,6 +23,10 @@ pub trait Cargo: Send + Drop {
     /// So many children the last await must have named when the node is left with this item.
     ghost least: { Self → ℕ };
 
+    /// The full home of this node may keep the item while the node rests, ready in a context or
+    /// parked.
+    ghost rests: { Self → ℕ → Type 0 };
+
     /// The part of a start that all starts in one table share.
     ghost key: { List Self.Entry → Self.Over };
 
@@ -35,6 +39,7 @@ pub trait Cargo: Send + Drop {
     /// What fits where nothing was requested fits where something was.
     ghost widens: { (item : Self) (node : ℕ) → fits item node false → fits item node true };
 
-    /// An item that saw no request, and that failed, failed without a request.
-    ghost blames: { (item : Self) (node parent : ℕ) → fits item node false → fits item parent true → fits item parent false };
+    /// An item that saw no request, and that failed, failed without a request. The parent of a node
+    /// has the greater number.
+    ghost blames: { (item : Self) (node parent : ℕ) → node < parent → fits item node false → fits item parent true → fits item parent false };
 }

@@ -1,5 +1,6 @@
 //! What one hand knows. No value of these types is made; contracts read the lists.
 use life_rules::{CallbackPhase, Name, SourceRef};
+use listed_steps::{Lists, Seen};
 use std::collections::LinkedList;
 
 /// A node that the hand holds.
@@ -52,14 +53,6 @@ pub struct Scanning {
     pub next: u64,
 }
 
-/// A step or a load of the hand: the index of the word, and what was read there; or what was written
-/// by a store, by the exchange of a removal that won, or by a step that closes the scope or starts its
-/// join, which lists what it read too.
-pub struct Seen {
-    pub index: u64,
-    pub word: u64,
-}
-
 /// What one hand knows of its own doings, and what the rule told it at its steps.
 pub struct View<P, E> {
     /// The hand's number.
@@ -92,6 +85,15 @@ pub struct View<P, E> {
     /// It stands for so many hands: for itself, for those joined to it too, or for none once it was
     /// joined.
     pub hands: u64,
-    /// Its steps and loads, the newest first.
+    /// Its steps, loads among them, the newest first: of each the word, what it read and what it
+    /// left there.
     pub steps: LinkedList<Seen>,
+    /// The steps of the hands that were joined to it, in the order in which they were joined.
+    pub joined: LinkedList<Seen>,
+}
+
+impl<P, E> Lists for View<P, E> {
+    ghost steps = { λ v. v.steps };
+
+    ghost splits = { λ v. v.splits };
 }

@@ -13,7 +13,7 @@ use Rattle.table_rules.specs.declared.frame.Frame.{Frame}
 use Rattle.table_rules.specs.declared.view.View.{View}
 use Rattle.table_rules.specs.declared.view.Owed.{Owed}
 use Rattle.table_steps.specs.Owing.{owing, AreOfItsBlock}
-use Rattle.table_steps.specs.Claims.{logged, Seated}
+use Rattle.table_steps.specs.Claims.{with_step, Seated}
 use Rattle.table_steps.specs.Slots.{Aim, slot_of, kids_of, kept, IsSeated, has_seen}
 use Rattle.table_steps.specs.Sheds.{shed}
 use Rattle.table_steps.specs.Rests.{lets_go, CanLeave}
@@ -54,12 +54,11 @@ pub record CanAwait {P E O : Type 0} (cargo : Ghosts P E O) (f : Frame O) (m : S
 
 -- the store: the hand gave back the home of the node, with the item, and those of the children that aren't
 -- named
-pub record AwaitsAt {P E O : Type 0} (cargo : Ghosts P E O) (aim : Aim) (nodes : List ℕ) (i : ℕ) (m m' : Seated P E) : Type 0 where
-  pub word : ℕ
+pub record AwaitsAt {P E O : Type 0} (cargo : Ghosts P E O) (aim : Aim) (nodes : List ℕ) (i read left : ℕ) (m m' : Seated P E) : Type 0 where
   pub item : P
   pub home : kept (slot_of aim.layout aim.name) m.1 ≡ Some (Some item)
   pub me_is : m' ≡ (
-    logged i word (awaits aim.name (cargo.start item) (cargo.lot item) nodes m.0),
+    with_step i read left (awaits aim.name (cargo.start item) (cargo.lot item) nodes m.0),
     shed (is_unnamed aim.tree aim.layout aim.name nodes) m.1,
   )
   pub seated : IsSeated aim.tree aim.layout m'

@@ -1,43 +1,55 @@
 -- What a begin needs, and what it does to the hand.
 use Rattle.std.specs.Prelude.{◌≡◌, ℕ, Bool, true, false, List, [], ◌∷◌, Option, Some, None}
 use Rattle.life_rules.specs.declared.event.Name.{Name}
+use Rattle.node_tree.specs.declared.node.TreeNode.{TreeNode}
+use Rattle.life_rules.specs.declared.words.ControlWord.TheVariants.{Busy}
+use Rattle.life_rules.specs.declared.words.CallbackPhase.TheVariants.{Never}
+use Rattle.life_rules.specs.Words.{clear}
 use Rattle.node_tree.specs.Tree.{is_root, has_source}
-use Rattle.table_words.specs.Layouts.{OfControl, OfSource, index}
-use Rattle.table_words.specs.Stamps.{stamp_of}
+use Rattle.table_words.specs.Layouts.{OfSource, index}
+use Rattle.listed_steps.specs.declared.seen.Seen.{Seen}
+use Rattle.listed_steps.specs.Lists.{entry}
 use Rattle.table_rules.specs.declared.cargo.Cargo.{Ghosts}
 use Rattle.table_rules.specs.declared.frame.Frame.{Frame}
 use Rattle.table_rules.specs.declared.view.View.{View}
+use Rattle.table_rules.specs.declared.view.Held.{Held}
 use Rattle.table_rules.specs.declared.view.Owed.{Owed}
 use Rattle.table_rules.specs.declared.view.Rooted.{Rooted}
-use Rattle.table_rules.specs.declared.view.Seen.{Seen}
 use Rattle.table_rules.specs.Named.{find_by, without}
-use Rattle.table_steps.specs.Claims.{logged, Seated}
+use Rattle.table_steps.specs.Claims.{with_step, Seated}
+use Rattle.table_steps.specs.Lefts.{SaysSource, LeavesControl}
 use Rattle.table_steps.specs.Kids.{empty_slots}
 use Rattle.table_steps.specs.Slots.{Aim, slot_of, kids_of, kept, IsSeated, has_seen}
+use Rattle.table_steps.specs.Hearings.{HearsAs}
 
 -- the start of a root is noted
 abbrev pub notes_start : {E : Type 0} → Bool → Name → List E → List (Rooted E) → List (Rooted E)
 notes_start true x start noted = record { name = x; start = start } ∷ noted
 notes_start false x start noted = noted
 
--- the hand owes the start no more, and holds the node with it; where it is the root, it notes the start.
+-- the entry of a node that was begun: its callback was never registered, and no child of it has begun.
 -- Told is whether a stop was requested on the node's nearest source at that step, and on the source that
 -- its children hear
-abbrev pub begins : {P E : Type 0} → Bool → Name → List E → Bool → Bool → View P E → View P E
-begins root x start told told_children v =
+abbrev pub begun_as : {E : Type 0} → List TreeNode → Name → List E → Bool → Bool → Held E
+begun_as tree x start told told_children =
+    record {
+      name = x;
+      start = start;
+      named = 0;
+      told = told;
+      told_children = told_children;
+      lot = None;
+      phase = Some Never;
+      idle = kids_of tree x.node;
+    }
+
+-- the hand owes the start no more, and holds the node with it; where it is the root, it notes the start
+abbrev pub begins : {P E : Type 0} → List TreeNode → Name → List E → Bool → Bool → View P E → View P E
+begins tree x start told told_children v =
     record v {
       owed = without (λ e. e.name) v.owed x;
-      held = record {
-        name = x;
-        start = start;
-        named = 0;
-        told = told;
-        told_children = told_children;
-        lot = None;
-        phase = None;
-        idle = [];
-      } ∷ v.held;
-      noted = notes_start root x start v.noted;
+      held = begun_as tree x start told told_children ∷ v.held;
+      noted = notes_start (is_root tree x.node) x start v.noted;
     }
 
 -- the hand owes the node's start, and has an item in its home, which is no completion. The start that the
@@ -62,44 +74,58 @@ module _ {P E O : Type 0} (cargo : Ghosts P E O) where
 
   -- the node's store: the hand holds the node with the start that the item in its home shows, and has
   -- the empty homes of its children
-  pub record BeginsAt (aim : Aim) (i : ℕ) (m m' : Seated P E) : Type 0 where
-    pub word : ℕ
+  pub record BeginsAt (aim : Aim) (i read left : ℕ) (m m' : Seated P E) : Type 0 where
     pub told : Bool
     pub told_children : Bool
     -- a request that the hand has seen still stands
     pub seen : has_seen aim.tree m.0 aim.name ≡ true → told ≡ true
+    -- what the two bits say of the sources
+    pub hears : HearsAs aim.tree m.0 aim.name told told_children
     pub me_is : m' ≡ (
-      logged i word
-          (begins (is_root aim.tree aim.name.node) aim.name (start_shown (kept (slot_of aim.layout aim.name) m.1)) told
+      with_step i read left
+          (begins aim.tree aim.name (start_shown (kept (slot_of aim.layout aim.name) m.1)) told
           told_children m.0),
       empty_slots aim.layout aim.name.block (kids_of aim.tree aim.name.node) m.1,
     )
     pub seated : IsSeated aim.tree aim.layout m → IsSeated aim.tree aim.layout m'
 
 -- the renewal: a store that writes the node's source as clear, as it read before
-abbrev pub Renews : {P E : Type 0} → ℕ → ℕ → Seated P E → Seated P E → Type 0
-Renews i word m m' = m' ≡ (logged i word m.0, m.1)
+abbrev pub Renews : {P E : Type 0} → ℕ → ℕ → ℕ → Seated P E → Seated P E → Type 0
+Renews i read left m m' = m' ≡ (with_step i read left m.0, m.1)
+
+-- the index of the source's word
+abbrev pub source_index : Aim → ℕ
+source_index aim = index aim.layout (OfSource aim.name.block aim.name.node)
+
+-- the renewal left the source clear, at the node's generation
+pub record RenewsSource {P E : Type 0} (aim : Aim) (m m' : Seated P E) : Type 0 where
+  pub read : ℕ
+  pub left : ℕ
+  pub says : SaysSource aim.name clear left
+  pub did : Renews (source_index aim) read left m m'
 
 -- the source of a node that has one is renewed, at the node's generation, before the node begins
 abbrev pub IsRenewed : {P E : Type 0} → Aim → Seated P E → Seated P E → Type 0
 IsRenewed aim m m' =
-    (has_source aim.tree aim.name.node ≡ true →
-    (word : ℕ) × Renews (index aim.layout (OfSource aim.name.block aim.name.node)) word m m'
-    × (stamp_of word ≡ aim.name.generation))
+    (has_source aim.tree aim.name.node ≡ true → RenewsSource aim m m')
     × (has_source aim.tree aim.name.node ≡ false → m' ≡ m)
+
+-- the hand's newest step was the renewal
+pub record RenewedLast {P E : Type 0} (aim : Aim) (m : Seated P E) : Type 0 where
+  pub read : ℕ
+  pub left : ℕ
+  pub earlier : List Seen
+  pub says : SaysSource aim.name clear left
+  pub steps_are : m.0.steps ≡ entry (source_index aim) read left ∷ earlier
 
 -- where the node has a source, the hand's newest step was its renewal
 abbrev pub HasRenewed : {P E : Type 0} → Aim → Seated P E → Type 0
-HasRenewed aim m =
-    has_source aim.tree aim.name.node ≡ true →
-    (word : ℕ) × (rest : List Seen) × (stamp_of word ≡ aim.name.generation)
-    × (m.0.steps
-    ≡ record { index = index aim.layout (OfSource aim.name.block aim.name.node); word = word } ∷ rest)
+HasRenewed aim m = has_source aim.tree aim.name.node ≡ true → RenewedLast aim m
 
 -- a begin: the renewal, where the node has a source, and the store of its control word
 pub record Begins {P E O : Type 0} (cargo : Ghosts P E O) (aim : Aim) (m m' : Seated P E) : Type 0 where
   pub middle : Seated P E
   pub renewed : IsRenewed aim m middle
-  pub began : BeginsAt cargo aim (index aim.layout (OfControl aim.name.block aim.name.node)) middle m'
+  pub began : LeavesControl aim (Busy 0) (BeginsAt cargo aim) middle m'
   -- what lies in the node's home then is no completion
   pub goes_on : (item : P) → kept (slot_of aim.layout aim.name) m'.1 ≡ Some (Some item) → ¬ cargo.ends item

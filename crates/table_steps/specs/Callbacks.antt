@@ -1,15 +1,14 @@
 -- What a hand needs to move a node's callback ([stopcallback]), and what that tells it.
-use Rattle.std.specs.Prelude.{◌≡◌, ℕ, Bool, true, ◌||◌, if◌then◌else◌, List, ◌∷◌, Option, Some, is_some}
+use Rattle.std.specs.Prelude.{◌≡◌, ◌≢◌, ℕ, Bool, true, ◌||◌, if◌then◌else◌, List, ◌∷◌, Option, Some, is_some}
 use Rattle.std.specs.Option.{option_map_or}
 use Rattle.node_tree.specs.declared.node.TreeNode.{TreeNode}
 use Rattle.life_rules.specs.declared.words.CallbackPhase.{CallbackPhase}
-use Rattle.life_rules.specs.declared.words.CallbackPhase.TheVariants.{Never, Armed, Removed}
+use Rattle.life_rules.specs.declared.words.CallbackPhase.TheVariants.{Never, Armed, Running, Removed}
 use Rattle.life_rules.specs.declared.event.Name.{Name}
 use Rattle.node_tree.specs.Tree.{nearest}
 use Rattle.life_rules.specs.Words.{is_armed, is_running, has_run}
 use Rattle.life_rules.specs.States.{source_for}
-use Rattle.table_words.specs.Stamps.{stamp_of}
-use Rattle.table_words.specs.Controls.{callback_read, callback_written}
+use Rattle.table_words.specs.Controls.{callback_written}
 use Rattle.table_words.specs.Layouts.{OfCallback, index}
 use Rattle.atomic_table.specs.Table.{Step}
 use Rattle.atomic_table.specs.declared.shared.Seat.{Seat}
@@ -17,8 +16,10 @@ use Rattle.table_rules.specs.declared.view.View.{View}
 use Rattle.table_rules.specs.declared.view.Held.{Held}
 use Rattle.table_rules.specs.Named.{count_by, find_by}
 use Rattle.table_steps.specs.Views.{Board}
-use Rattle.table_steps.specs.Claims.{logged, Seated}
+use Rattle.table_steps.specs.Claims.{with_step, Seated}
+use Rattle.table_steps.specs.Lefts.{SaysCallback}
 use Rattle.table_steps.specs.Slots.{Aim}
+use Rattle.table_steps.specs.Hearings.{UnderScope}
 use Rattle.table_steps.specs.Readings.{says_phase, notes_phase}
 
 -- the index of the node's callback word
@@ -39,10 +40,10 @@ arms x v = let w = notes_phase x Armed v in record w { unlooked = x ∷ v.unlook
 -- the hand's newest step left the node's callback word at the name's generation, and saying so; and changed
 -- so what the hand knows
 pub record LeftCallback {P E O : Type 0} (board : Board O) (x : Name) (phase : CallbackPhase) (change : View P E → View P E) (old new : Seat (Option P) (View P E)) : Type 0 where
-  pub word : ℕ
-  pub stamp_is : stamp_of word ≡ x.generation
-  pub reads : callback_read word ≡ phase
-  pub me_is : new.me ≡ (logged (callback_index board x) word (change old.me.0), old.me.1)
+  pub read : ℕ
+  pub left : ℕ
+  pub says : SaysCallback x phase left
+  pub me_is : new.me ≡ (with_step (callback_index board x) read left (change old.me.0), old.me.1)
 
 abbrev pub IsArmed : {P E O : Type 0} → Board O → Name → Seat (Option P) (View P E) → Seat (Option P) (View P E) → Type 0
 IsArmed board x old new = LeftCallback board x Armed (arms x) old new
@@ -74,16 +75,18 @@ abbrev pub left_by : ℕ → ℕ → ℕ
 left_by generation found =
     if is_armed (says_phase generation found) then callback_written generation Removed else found
 
--- what the exchange tells: the phase that it found, which says that the callback was registered. An exchange
--- that won lists the word that it wrote: so the list says for good that the callback was removed
+-- what the exchange tells: the phase that it found, which says that the callback was registered. One that
+-- won left it removed: so the list says for good that the callback was removed. Hand 0 alone runs callbacks on
+-- the scope's source, so that none runs there while it removes one
 abbrev pub WithdrawsAt : {P E : Type 0} → Aim → Step (Option P) → Seated P E → ℕ → Seated P E → Type 0
 WithdrawsAt aim step m found m' =
     (m' ≡ (
-      logged step.word (left_by aim.name.generation found)
+      with_step step.word found (left_by aim.name.generation found)
           (withdraws aim.tree aim.name (says_phase aim.name.generation found) m.0),
       m.1,
     ))
     × (is_registered (says_phase aim.name.generation found) ≡ true)
+    × UnderScope aim.tree m.0 aim.name (says_phase aim.name.generation found ≢ Running)
 
 -- the answer is the phase that was read: armed, and then the callback is removed, and the list says so; or it
 -- runs or ran, and then the word is as it was
@@ -91,8 +94,10 @@ pub record IsWithdrawn {P E O : Type 0} (board : Board O) (x : Name) (answer : C
   pub word : ℕ
   pub answer_is : answer ≡ says_phase x.generation word
   pub registered : is_registered answer ≡ true
+  -- hand 0 alone runs callbacks on the scope's source
+  pub scope : UnderScope board.frame.tree old.me.0 x (answer ≢ Running)
   pub me_is : new.me ≡ (
-    logged (callback_index board x) (left_by x.generation word)
+    with_step (callback_index board x) word (left_by x.generation word)
         (withdraws board.frame.tree x answer old.me.0),
     old.me.1,
   )

@@ -1,29 +1,47 @@
 -- What a claim does to the hand's view.
-use Rattle.std.specs.Prelude.{◌≡◌, ◌≢◌, ◌⊎◌, ℕ, ◌+◌, ◌-◌, true, false, [], ◌∷◌, length, Option, None, MatchOption}
+use Rattle.std.specs.Prelude.{◌≡◌, ◌≢◌, ◌⊎◌, ℕ, ◌+◌, ◌-◌, ◌==◌, true, false, [], ◌∷◌, length, Option, None, MatchOption}
+use prog.Atomic.{either}
 use Rattle.life_rules.specs.declared.event.Name.{Name}
-use Rattle.life_rules.specs.declared.words.BlockState.TheVariants.{Free}
+use Rattle.life_rules.specs.declared.words.BlockState.TheVariants.{Free, Open}
 use Rattle.life_rules.specs.Words.{is_free}
 use Rattle.table_words.specs.Blocks.{block_read}
 use Rattle.table_words.specs.Layouts.{OfBlock, index, place_number}
 use Rattle.atomic_table.specs.Table.{Me, Step}
+use Rattle.listed_steps.specs.Lists.{entry}
 use Rattle.table_rules.specs.declared.view.View.{View}
+use Rattle.table_rules.specs.Named.{find_by}
 use Rattle.atomic_table.specs.declared.shared.Seat.{Seat}
 use Rattle.table_steps.specs.declared.block.Block.{Block}
 use Rattle.table_steps.specs.Slots.{Aim, slot_of, IsSeated}
 use Rattle.table_steps.specs.Owing.{OwesNoneThere}
 use Rattle.table_steps.specs.Views.{Board}
 
+-- the view has noted no start of x
+abbrev pub IsUnnoted : {P E : Type 0} → View P E → Name → Type 0
+IsUnnoted v x = find_by (λ e. e.name) v.noted x ≡ None
+
 abbrev pub Seated : Type 0 → Type 0 → Type 0
 Seated P E = Me (Option P) (View P E)
 
-module _ {P E : Type 0} where
-  -- the view lists a step on the word of this index, which read this
-  abbrev pub logged : ℕ → ℕ → View P E → View P E
-  logged index read v = record v { steps = record { index = index; word = read } ∷ v.steps }
+-- what an exchange left: its second operand where it found the first, and else what it found
+abbrev pub exchanged : {S : Type 0} → Step S → ℕ → ℕ
+exchanged step found = either (found == step.first) step.second found
 
-  -- the step is the newest of the list, and left this word under this index
-  abbrev pub LeftAt : ℕ → ℕ → Seated P E → Seated P E → Type 0
-  LeftAt index word m m' = m'.0.steps ≡ record { index = index; word = word } ∷ m.0.steps
+module _ {P E : Type 0} where
+  -- the view lists a step on the word of this index, which read the one number there, and left the other
+  abbrev pub with_step : ℕ → ℕ → ℕ → View P E → View P E
+  with_step index read left v = record v { steps = entry index read left ∷ v.steps }
+
+  -- the view lists a step that left the word as it read it: a load, or an exchange that lost
+  abbrev pub logged : ℕ → ℕ → View P E → View P E
+  logged index read v = with_step index read read v
+
+  -- this step is the newest of the list, and no hand was split off or joined
+  pub record ListsOne (index read left : ℕ) (m m' : Seated P E) : Type 0 where
+    pub steps_are : m'.0.steps ≡ entry index read left ∷ m.0.steps
+    pub splits_are : m'.0.splits ≡ m.0.splits
+    pub joined_are : m'.0.joined ≡ m.0.joined
+    pub hands_are : m'.0.hands ≡ m.0.hands
 
   -- the hand claimed one block more, and owes the start of its root, with nothing above it and no lot
   abbrev pub owes_root : Name → View P E → View P E
@@ -34,14 +52,14 @@ module _ {P E : Type 0} where
   abbrev pub looks : Step (Option P) → Seated P E → ℕ → Seated P E → Type 0
   looks step m found m' = m' ≡ (logged step.word found m.0, m.1)
 
-  -- the exchange found what was expected: the hand owed no start in the block. It owes the root's now, and has its home. Or it found
-  -- another word, and changed nothing
+  -- the exchange found what was expected: the hand owed no start in the block, and has noted none of the root.
+  -- It owes the root's now, and has its home. Or it found another word, and changed nothing
   abbrev pub claims : Aim → Step (Option P) → Seated P E → ℕ → Seated P E → Type 0
   claims aim step m found m' =
       (found ≡ step.first →
-      (m' ≡ (logged step.word found (owes_root aim.name m.0), (slot_of aim.layout aim.name, None) ∷ m.1))
+      (m' ≡ (with_step step.word found step.second (owes_root aim.name m.0), (slot_of aim.layout aim.name, None) ∷ m.1))
       × (IsSeated aim.tree aim.layout m → IsSeated aim.tree aim.layout m')
-      × OwesNoneThere m.0 aim.name)
+      × OwesNoneThere m.0 aim.name × IsUnnoted m.0 aim.name)
       × (found ≢ step.first → m' ≡ (logged step.word found m.0, m.1))
 
 -- the root of the block at this generation
@@ -58,12 +76,16 @@ abbrev pub word_index : {O : Type 0} → Board O → ℕ → ℕ
 word_index board block = index board.frame.layout (OfBlock block)
 
 module _ {P E O : Type 0} (board : Board O) (block : ℕ) where
-  -- the exchange of this word, which was read as free, won
+  -- the exchange of this word, which was read as free, won, and left the block open
   pub record ClaimedFrom (word : ℕ) (b : Block) (old new : Seat (Option P) (View P E)) : Type 0 where
     pub block_is : b.index ≡ block
     pub generation_is : b.generation ≡ (block_read word).generation
+    pub left : ℕ
+    pub opened : block_read left ≡ record { generation = b.generation; state = Open }
+    -- the hand has noted no start of the block's new root
+    pub unnoted : IsUnnoted old.me.0 (root_name board block b.generation)
     pub me_is : new.me ≡ (
-      logged (word_index board block) word (owes_root (root_name board block b.generation) old.me.0),
+      with_step (word_index board block) word left (owes_root (root_name board block b.generation) old.me.0),
       (place_number board.frame.layout block (length board.frame.tree - 1), None) ∷ old.me.1,
     )
 
@@ -73,13 +95,17 @@ module _ {P E O : Type 0} (board : Board O) (block : ℕ) where
     pub differs : other ≢ word
     pub me_is : new.me ≡ (logged (word_index board block) other old.me.0, old.me.1)
 
-  -- the block's word was read as free, and the exchange won
+  -- the block's word was read as free, and the exchange won, and left it open
   pub record Claimed (b : Block) (old new : Seat (Option P) (View P E)) : Type 0 where
     pub word : ℕ
     pub free : block_read word ≡ record { generation = b.generation; state = Free }
     pub block_is : b.index ≡ block
+    pub left : ℕ
+    pub opened : block_read left ≡ record { generation = b.generation; state = Open }
+    -- the hand has noted no start of the block's new root
+    pub unnoted : IsUnnoted old.me.0 (root_name board block b.generation)
     pub me_is : new.me ≡ (
-      logged (word_index board block) word (owes_root (root_name board block b.generation) (logged (word_index board block) word old.me.0)),
+      with_step (word_index board block) word left (owes_root (root_name board block b.generation) (logged (word_index board block) word old.me.0)),
       (place_number board.frame.layout block (length board.frame.tree - 1), None) ∷ old.me.1,
     )
 

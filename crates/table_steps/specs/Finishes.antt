@@ -11,7 +11,7 @@ use Rattle.table_words.specs.Layouts.{place_number}
 use Rattle.table_rules.specs.declared.cargo.Cargo.{Ghosts}
 use Rattle.table_rules.specs.declared.frame.Frame.{Frame}
 use Rattle.table_rules.specs.declared.view.View.{View}
-use Rattle.table_steps.specs.Claims.{logged, Seated}
+use Rattle.table_steps.specs.Claims.{with_step, Seated}
 use Rattle.table_steps.specs.Slots.{Aim, slot_of, kids_of, is_of_family, kept, IsSeated, has_seen}
 use Rattle.table_steps.specs.Sheds.{shed}
 use Rattle.table_steps.specs.Rests.{lets_go, CanLeave}
@@ -60,23 +60,21 @@ has_root x v = record (lets_go x v) { finished = x ∷ v.finished }
 
 -- the store below the root: the hand gave back the home of the node, which keeps the completion, and those
 -- of its children
-pub record FinishedAt {P E O : Type 0} (cargo : Ghosts P E O) (aim : Aim) (i : ℕ) (m m' : Seated P E) : Type 0 where
-  pub word : ℕ
+pub record FinishedAt {P E O : Type 0} (cargo : Ghosts P E O) (aim : Aim) (i read left : ℕ) (m m' : Seated P E) : Type 0 where
   pub item : P
   pub home : kept (slot_of aim.layout aim.name) m.1 ≡ Some (Some item)
   pub me_is : m' ≡ (
-    logged i word (owes_report aim.name (cargo.start item) item m.0),
+    with_step i read left (owes_report aim.name (cargo.start item) item m.0),
     shed (is_of_family aim.tree aim.layout aim.name) m.1,
   )
   pub seated : IsSeated aim.tree aim.layout m'
 
 -- and at the root: it gave back those of its children, and keeps the root's
-pub record RootedAt {P E : Type 0} (aim : Aim) (i : ℕ) (m m' : Seated P E) : Type 0 where
-  pub word : ℕ
-  pub me_is : m' ≡ (logged i word (has_root aim.name m.0), shed (is_of_kids aim.tree aim.layout aim.name) m.1)
+pub record RootedAt {P E : Type 0} (aim : Aim) (i read left : ℕ) (m m' : Seated P E) : Type 0 where
+  pub me_is : m' ≡ (with_step i read left (has_root aim.name m.0), shed (is_of_kids aim.tree aim.layout aim.name) m.1)
   pub seated : IsSeated aim.tree aim.layout m'
 
-abbrev pub FinishesAt : {P E O : Type 0} → Ghosts P E O → Aim → ℕ → Seated P E → Seated P E → Type 0
-FinishesAt cargo aim i m m' =
-    (is_root aim.tree aim.name.node ≡ false → FinishedAt cargo aim i m m')
-    × (is_root aim.tree aim.name.node ≡ true → RootedAt aim i m m')
+abbrev pub FinishesAt : {P E O : Type 0} → Ghosts P E O → Aim → ℕ → ℕ → ℕ → Seated P E → Seated P E → Type 0
+FinishesAt cargo aim i read left m m' =
+    (is_root aim.tree aim.name.node ≡ false → FinishedAt cargo aim i read left m m')
+    × (is_root aim.tree aim.name.node ≡ true → RootedAt aim i read left m m')

@@ -2,9 +2,11 @@ pub mod Views
 pub mod Shapes
 pub mod Owing
 pub mod Claims
+pub mod Lefts
 pub mod Looks
 pub mod Kids
 pub mod Slots
+pub mod Hearings
 pub mod Begins
 pub mod Sheds
 pub mod Rests
@@ -17,6 +19,7 @@ pub mod Sights
 pub mod Reports
 pub mod Releases
 pub mod Swaps
+pub mod Openings
 pub mod Closings
 pub mod Steps
 pub mod Rouses

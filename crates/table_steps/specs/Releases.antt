@@ -18,7 +18,7 @@ use Rattle.table_rules.specs.Named.{without, Each}
 use Rattle.table_rules.specs.Running.{Running}
 use Rattle.table_rules.specs.ShownViews.{has_name}
 use Rattle.table_rules.specs.ShownWords.{block_of}
-use Rattle.table_steps.specs.Claims.{logged, LeftAt, Seated}
+use Rattle.table_steps.specs.Claims.{with_step, Seated}
 use Rattle.table_steps.specs.Slots.{Aim, slot_of, kept, IsSeated}
 use Rattle.table_steps.specs.Sheds.{shed}
 
@@ -41,20 +41,20 @@ pub record CanRelease {P E : Type 0} (l : Layout) (m : Seated P E) (root : Name)
   pub home : kept (slot_of l root) m.1 ≡ Some None
 
 -- the store: the hand gave the root's home back
-pub record ReleasesAt {P E : Type 0} (aim : Aim) (i : ℕ) (m m' : Seated P E) : Type 0 where
-  pub word : ℕ
-  pub me_is : m' ≡ (logged i word (releases aim.name m.0), shed (is_own_slot aim.layout aim.name) m.1)
+pub record ReleasesAt {P E : Type 0} (aim : Aim) (i read left : ℕ) (m m' : Seated P E) : Type 0 where
+  pub me_is : m' ≡ (with_step i read left (releases aim.name m.0), shed (is_own_slot aim.layout aim.name) m.1)
   pub seated : IsSeated aim.tree aim.layout m'
 
 -- the word of an open block of this generation after it was given back
 abbrev pub word_after : ℕ → BlockWord
 word_after generation = next_word (record { generation = generation; state = Open })
 
--- the hand's newest step left the block's word reading so
-pub record LeftBlock {P E : Type 0} (l : Layout) (block : ℕ) (now : BlockWord) (m m' : Seated P E) : Type 0 where
-  pub word : ℕ
-  pub reads : block_read word ≡ now
-  pub left : LeftAt (index l (OfBlock block)) word m m'
+-- the store left the block's word saying this
+pub record LeavesBlock {P E : Type 0} (aim : Aim) (now : BlockWord) (m m' : Seated P E) : Type 0 where
+  pub read : ℕ
+  pub left : ℕ
+  pub says : block_read left ≡ now
+  pub did : ReleasesAt aim (index aim.layout (OfBlock aim.name.block)) read left m m'
 
 -- what the hand needs, by the block
 abbrev pub CanReleaseBlock : {P E O : Type 0} → Frame O → ℕ → ℕ → Seated P E → Type 0
@@ -76,9 +76,9 @@ module _ {P E O : Type 0} (cargo : Ghosts P E O) where
     pub empty : AreHomesEmpty f.layout block left
 
   -- what the store tells its hand, in each of these tables
-  abbrev pub TellsRelease : List (Frame O) → ℕ → Aim → ℕ → ℕ → Seated P E → Seated P E → Type 0
-  TellsRelease frames hand aim i word m m' =
-      ReleasesAt aim i m m' × LeftAt i word m m'
+  abbrev pub TellsRelease : List (Frame O) → ℕ → Aim → ℕ → ℕ → ℕ → Seated P E → Seated P E → Type 0
+  TellsRelease frames hand aim i read left m m' =
+      ReleasesAt aim i read left m m'
       × Each (λ f. LeftEmpty f hand aim.name.block (word_after aim.name.generation) m') frames
 
   -- they stay so: whenever the rule holds and the block isn't open, all its homes are empty

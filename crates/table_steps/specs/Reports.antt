@@ -1,6 +1,7 @@
 -- What a hand needs to report a child, and what that does to the hand.
-use Rattle.std.specs.Prelude.{◌≡◌, ◌≢◌, ℕ, ℤ, ◌*◌, ◌≤◌, Bool, true, false, List, [], ◌∷◌, length, Option, Some, None, is_some}
+use Rattle.std.specs.Prelude.{◌≡◌, ◌≢◌, ℕ, ℤ, ◌+◌, ◌*◌, ◌≤◌, Bool, true, false, List, [], ◌∷◌, length, Option, Some, None, is_some}
 use Rattle.node_tree.specs.declared.node.TreeNode.{TreeNode}
+use Rattle.life_rules.specs.declared.words.ControlWord.TheVariants.{Busy}
 use Rattle.life_rules.specs.declared.event.Name.{Name}
 use Rattle.life_rules.specs.declared.event.SourceRef.TheVariants.{Node}
 use Rattle.node_tree.specs.Tree.{is_child, parent_of}
@@ -22,8 +23,10 @@ use Rattle.table_rules.specs.declared.frame.Frame.{Frame}
 use Rattle.table_steps.specs.declared.report.Report.{Report}
 use Rattle.table_steps.specs.declared.report.Report.TheVariants.{Last, Others}
 use Rattle.table_steps.specs.Readings.{above_it}
-use Rattle.table_steps.specs.Claims.{logged, Seated}
+use Rattle.table_steps.specs.Claims.{with_step, Seated}
+use Rattle.table_steps.specs.Lefts.{SaysControl, less_one}
 use Rattle.table_steps.specs.Slots.{Aim, slot_of, kids_of, IsSeated}
+use Rattle.table_steps.specs.Hearings.{HearsAs}
 
 -- the hand owes the child's report no more
 abbrev pub reports_off : {P E : Type 0} → Name → View P E → View P E
@@ -59,7 +62,7 @@ pub record CanReport {P E : Type 0} (tree : List TreeNode) (v : View P E) (child
   pub unscanned : scan_in v.scans (Node (beside child parent)) ≡ None
 
 -- the last report: the hand holds the parent x, and has its home and those of its children
-pub record LastAt {P E O : Type 0} (cargo : Ghosts P E O) (aim : Aim) (child : Name) (overs : List O) (i word : ℕ) (m m' : Seated P E) : Type 0 where
+pub record LastAt {P E O : Type 0} (cargo : Ghosts P E O) (aim : Aim) (child : Name) (overs : List O) (i read left : ℕ) (m m' : Seated P E) : Type 0 where
   pub start : List E
   pub named : ℕ
   pub told : Bool
@@ -68,7 +71,7 @@ pub record LastAt {P E O : Type 0} (cargo : Ghosts P E O) (aim : Aim) (child : N
   pub item : P
   pub content : ℕ → Option P
   pub me_is : m' ≡ (
-    logged i word (holds_last aim.name start named told told_children lot (reports_off child m.0)),
+    with_step i read left (holds_last aim.name start named told told_children lot (reports_off child m.0)),
     (slot_of aim.layout aim.name, Some item)
         ∷ laid aim.layout aim.name.block (kids_of aim.tree aim.name.node) content m.1,
   )
@@ -102,24 +105,33 @@ pub record LastAt {P E O : Type 0} (cargo : Ghosts P E O) (aim : Aim) (child : N
       ((n : ℕ) → is_child aim.tree aim.name.node n ≡ true → is_some (content n) ≡ true) →
       (n : ℕ) × (kid : P) × (is_child aim.tree aim.name.node n ≡ true) × (content n ≡ Some kid)
       × cargo.fits kid aim.name.node false
+  -- what the two bits say of the sources
+  pub hears : HearsAs aim.tree m.0 aim.name told told_children
   pub seated : IsSeated aim.tree aim.layout m → IsSeated aim.tree aim.layout m'
+
+-- the word said at the name's generation that so many children are pending, and says one less now
+pub record CountsDown (x : Name) (read left : ℕ) : Type 0 where
+  pub fewer : ℕ
+  pub was : SaysControl x (Busy (fewer + 1)) read
+  pub now : SaysControl x (Busy fewer) left
 
 -- the subtraction: where one was pending that was read, it was the last, and else the hand only owes the
 -- report no more
 abbrev pub ReportsAt : {P E O : Type 0} → Ghosts P E O → Aim → Name → List O → Step (Option P) → Seated P E → ℕ → Seated P E → Type 0
 ReportsAt cargo aim child overs step m found m' =
-    (pending (control_read found) ≡ 1 → LastAt cargo aim child overs step.word found m m')
-    × (pending (control_read found) ≢ 1 → m' ≡ (logged step.word found (reports_off child m.0), m.1))
+    CountsDown aim.name found (less_one found)
+    × (pending (control_read found) ≡ 1 → LastAt cargo aim child overs step.word found (less_one found) m m')
+    × (pending (control_read found) ≢ 1 → m' ≡ (with_step step.word found (less_one found) (reports_off child m.0), m.1))
 
--- the answer says whether the word that was read had one pending
+-- the answer says whether the word that was read had one pending. The one that was left has one less
 abbrev pub IsReportedAs : {P E O : Type 0} → Ghosts P E O → Frame O → Name → Report → Seated P E → Seated P E → Type 0
 IsReportedAs cargo f child Last m m' =
-    (found : ℕ) × (pending (control_read found) ≡ 1)
+    (found : ℕ) × (left : ℕ) × CountsDown (above_it f.tree child) found left × (pending (control_read found) ≡ 1)
     × LastAt cargo (record { tree = f.tree; layout = f.layout; name = above_it f.tree child }) child (f.over.value ∷ [])
-    (index f.layout (OfControl (above_it f.tree child).block (above_it f.tree child).node)) found m m'
+    (index f.layout (OfControl (above_it f.tree child).block (above_it f.tree child).node)) found left m m'
 IsReportedAs cargo f child Others m m' =
-    (found : ℕ) × (pending (control_read found) ≢ 1)
+    (found : ℕ) × (left : ℕ) × CountsDown (above_it f.tree child) found left × (pending (control_read found) ≢ 1)
     × (m' ≡ (
-      logged (index f.layout (OfControl (above_it f.tree child).block (above_it f.tree child).node)) found (reports_off child m.0),
+      with_step (index f.layout (OfControl (above_it f.tree child).block (above_it f.tree child).node)) found left (reports_off child m.0),
       m.1,
     ))

@@ -20,9 +20,9 @@ use Rattle.table_rules.specs.declared.view.Reported.{Reported}
 use Rattle.table_rules.specs.Named.{count_by, find_by}
 use Rattle.table_rules.specs.ShownViews.{has_source_ref}
 use Rattle.table_steps.specs.Views.{Board}
-use Rattle.table_steps.specs.Claims.{logged, Seated}
+use Rattle.table_steps.specs.Claims.{with_step, Seated}
 use Rattle.table_steps.specs.Slots.{has_seen}
-use Rattle.table_steps.specs.Sights.{spot_of, KeepsAlive}
+use Rattle.table_steps.specs.Sights.{spot_of, KeepsAlive, StillAsked}
 
 -- the hand owes the report of a child of x, and the child failed
 pub record OwesFailed {P E O : Type 0} (cargo : Ghosts P E O) (tree : List TreeNode) (v : View P E) (x : Name) : Type 0 where
@@ -79,16 +79,32 @@ abbrev pub IsWordOf : SourceRef → ℕ → Type 0
 IsWordOf Scope word = Unit {0}
 IsWordOf (Node x) word = stamp_of word ≡ x.generation
 
--- what the word that was read tells the hand
-abbrev pub asks_at : {P E : Type 0} → SourceRef → ℕ → ℕ → Seated P E → Seated P E
-asks_at source i word m = (logged i word (asks source (not (source_read word).requested) m.0), m.1)
+-- these bits after the request: requested, and with a failure failed too
+abbrev pub bits_asked : Bool → Bits → Bits
+bits_asked failure bits = record bits { requested = true; failed = bits.failed || failure }
 
--- the answer is the bits of the word that was read. Where they had no request, the hand has begun a scan
-pub record IsAsked {P E O : Type 0} (board : Board O) (source : SourceRef) (answer : Bits) (old new : Seat (Option P) (View P E)) : Type 0 where
+-- what the word that was read tells the hand
+abbrev pub asks_at : {P E : Type 0} → SourceRef → ℕ → ℕ → ℕ → Seated P E → Seated P E
+asks_at source i read left m = (with_step i read left (asks source (not (source_read read).requested) m.0), m.1)
+
+-- what the step tells: that, and that a request that the hand has seen there still stood
+pub record AsksAt {P E : Type 0} (source : SourceRef) (i read left : ℕ) (m m' : Seated P E) : Type 0 where
+  pub me_is : m' ≡ asks_at source i read left m
+  pub is_of : IsWordOf source read
+  pub stands : StillAsked m.0 source (source_read read).requested
+
+-- the answer is the bits of the word that was read, and the word that was left has those of the request too.
+-- Where there was no request, the hand has begun a scan. A request that the hand has seen before, on a source
+-- that can't go away under it, was found there
+pub record IsAsked {P E O : Type 0} (board : Board O) (source : SourceRef) (failure : Bool) (answer : Bits) (old new : Seat (Option P) (View P E)) : Type 0 where
   pub word : ℕ
   pub is_of : IsWordOf source word
   pub answer_is : answer ≡ source_read word
+  pub left : ℕ
+  pub stamp_is : stamp_of left ≡ stamp_of word
+  pub left_is : source_read left ≡ bits_asked failure answer
+  pub stands : StillAsked old.me.0 source answer.requested
   pub me_is : new.me ≡ (
-    logged (index board.frame.layout (spot_of source)) word (asks source (not answer.requested) old.me.0),
+    with_step (index board.frame.layout (spot_of source)) word left (asks source (not answer.requested) old.me.0),
     old.me.1,
   )

@@ -1,20 +1,16 @@
 -- What a hand needs to leave a node at rest, and what that does to the hand.
 use Rattle.std.specs.Prelude.{◌≡◌, ℕ, ◌≤◌, true, ◌||◌, Some, None}
-use Rattle.life_rules.specs.declared.words.ControlWord.{ControlWord}
 use Rattle.life_rules.specs.declared.event.Name.{Name}
 use Rattle.life_rules.specs.declared.event.SourceRef.TheVariants.{Node}
 use Rattle.node_tree.specs.Tree.{is_child}
-use Rattle.table_words.specs.declared.layout.Layout.{Layout}
-use Rattle.table_words.specs.Stamps.{stamp_of}
-use Rattle.table_words.specs.Controls.{control_read}
-use Rattle.table_words.specs.Layouts.{OfControl, index, place_number}
+use Rattle.table_words.specs.Layouts.{place_number}
 use Rattle.table_rules.specs.declared.cargo.Cargo.{Ghosts}
 use Rattle.table_rules.specs.declared.frame.Frame.{Frame}
 use Rattle.table_rules.specs.declared.view.View.{View}
 use Rattle.table_rules.specs.declared.view.Held.{Held}
 use Rattle.table_rules.specs.Named.{find_by, without}
 use Rattle.table_rules.specs.ShownViews.{scan_in}
-use Rattle.table_steps.specs.Claims.{logged, LeftAt, Seated}
+use Rattle.table_steps.specs.Claims.{with_step, Seated}
 use Rattle.table_steps.specs.Slots.{Aim, slot_of, is_of_family, kept, IsSeated, has_seen}
 use Rattle.table_steps.specs.Sheds.{shed}
 
@@ -30,8 +26,8 @@ pub record CanLeave {P E O : Type 0} (f : Frame O) (m : Seated P E) (x : Name) :
   pub kids : (n : ℕ) → is_child f.tree x.node n ≡ true → kept (place_number f.layout x.block n) m.1 ≡ Some None
 
 -- it has an item in the node's home that shows the node's start, is no completion, fits by what the hand
--- has seen of requests and was told when it came to hold the node, and asks for no more children than the
--- node's last await named
+-- has seen of requests and was told when it came to hold the node, asks for no more children than the
+-- node's last await named, and may rest there
 pub record CanRest {P E O : Type 0} (cargo : Ghosts P E O) (f : Frame O) (m : Seated P E) (x : Name) : Type 0 where
   pub leave : CanLeave f m x
   pub item : P
@@ -40,19 +36,12 @@ pub record CanRest {P E O : Type 0} (cargo : Ghosts P E O) (f : Frame O) (m : Se
   pub fit : cargo.fits item x.node (has_seen f.tree m.0 x || leave.held.told)
   pub goes_on : ¬ cargo.ends item
   pub bound : cargo.least item ≤ leave.held.named
-
--- the hand's newest step left the node's control word at the name's generation, and reading so
-pub record LeftControl {P E : Type 0} (l : Layout) (x : Name) (control : ControlWord) (m m' : Seated P E) : Type 0 where
-  pub word : ℕ
-  pub stamp_is : stamp_of word ≡ x.generation
-  pub reads : control_read word ≡ control
-  pub left : LeftAt (index l (OfControl x.block x.node)) word m m'
+  pub rests : cargo.rests item x.node
 
 -- the store: the hand holds the node no more, and gave back its home and those of its children
-pub record RestsAt {P E : Type 0} (aim : Aim) (i : ℕ) (m m' : Seated P E) : Type 0 where
-  pub word : ℕ
+pub record RestsAt {P E : Type 0} (aim : Aim) (i read left : ℕ) (m m' : Seated P E) : Type 0 where
   pub me_is : m' ≡ (
-    logged i word (lets_go aim.name m.0),
+    with_step i read left (lets_go aim.name m.0),
     shed (is_of_family aim.tree aim.layout aim.name) m.1,
   )
   pub seated : IsSeated aim.tree aim.layout m'

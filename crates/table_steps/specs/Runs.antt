@@ -2,6 +2,7 @@
 use Rattle.std.specs.Prelude.{◌≡◌, ◌≢◌, ℕ, ◌+◌, ◌*◌, ◌<◌, Bool, true, false, ◌&&◌, ◌==◌, if◌then◌else◌, List, [], ◌∷◌, length, Option, Some, MatchOption}
 use Rattle.std.specs.List.{list_any}
 use Rattle.node_tree.specs.declared.node.TreeNode.{TreeNode}
+use Rattle.life_rules.specs.declared.words.CallbackPhase.TheVariants.{Running}
 use Rattle.life_rules.specs.declared.event.Name.{Name}
 use Rattle.life_rules.specs.declared.event.SourceRef.{SourceRef}
 use Rattle.node_tree.specs.Tree.{nearest}
@@ -12,12 +13,14 @@ use Rattle.table_words.specs.Controls.{callback_read}
 use Rattle.table_words.specs.Layouts.{OfCallback, index}
 use Rattle.atomic_table.specs.Table.{Step}
 use Rattle.atomic_table.specs.declared.shared.Seat.{Seat}
+use Rattle.listed_steps.specs.declared.seen.Seen.{Seen}
+use Rattle.listed_steps.specs.Lists.{entry}
 use Rattle.table_rules.specs.declared.view.View.{View}
-use Rattle.table_rules.specs.declared.view.Seen.{Seen}
 use Rattle.table_rules.specs.Named.{Each}
 use Rattle.table_rules.specs.ShownViews.{scan_in}
 use Rattle.table_steps.specs.Views.{Board}
-use Rattle.table_steps.specs.Claims.{logged, Seated}
+use Rattle.table_steps.specs.Claims.{with_step, logged, Seated}
+use Rattle.table_steps.specs.Lefts.{SaysCallback}
 use Rattle.table_steps.specs.Slots.{Aim}
 use Rattle.table_steps.specs.RunEnds.{passes_to}
 use Rattle.table_steps.specs.ScanOrders.{is_next_place}
@@ -73,19 +76,19 @@ abbrev pub last_of : ℕ → List ℕ → ℕ
 last_of word [] = word
 last_of word (next ∷ later) = last_of next later
 
--- the list of steps, after these words were read under this index, the oldest first
+-- the list of steps, after these words were read under this index, and stayed, the oldest first
 abbrev pub listed : ℕ → List ℕ → List Seen → List Seen
 listed i [] steps = steps
-listed i (word ∷ later) steps = listed i later (record { index = i; word = word } ∷ steps)
+listed i (word ∷ later) steps = listed i later (entry i word word ∷ steps)
 
 -- the view lists these steps too, and nothing else of it changed
 abbrev pub reads_on : {P E : Type 0} → ℕ → List ℕ → View P E → View P E
 reads_on i words v = record v { steps = listed i words v.steps }
 
--- the newest step of the list read this word under this index
+-- the newest step of the list read this word under this index, and left it
 pub record IsNewest {P E : Type 0} (i word : ℕ) (v : View P E) : Type 0 where
   pub earlier : List Seen
-  pub steps_are : v.steps ≡ record { index = i; word = word } ∷ earlier
+  pub steps_are : v.steps ≡ entry i word word ∷ earlier
 
 -- what the word that was read tells the hand: a place that isn't armed is passed
 abbrev pub meets_at : {P E : Type 0} → Aim → SourceRef → ℕ → ℕ → Seated P E → Seated P E
@@ -100,7 +103,7 @@ meets_at aim source i word m = (
 abbrev pub RunsAt : {P E : Type 0} → Aim → SourceRef → Step (Option P) → Seated P E → ℕ → Seated P E → Type 0
 RunsAt aim source step m found m' =
     (found ≡ step.first →
-    (m' ≡ (logged step.word found (runs_place (node_named aim.name.block aim.name.node found) m.0), m.1))
+    (m' ≡ (with_step step.word found step.second (runs_place (node_named aim.name.block aim.name.node found) m.0), m.1))
     × IsOfScan aim.tree m.0 source (node_named aim.name.block aim.name.node found))
     × (found ≢ step.first →
     (m' ≡ meets_at aim source step.word found m) × (says_armed found ≡ true → stamp_of step.first < stamp_of found))
@@ -117,8 +120,10 @@ module _ {P E O : Type 0} (board : Board O) (source : SourceRef) (block node : �
     pub later : AreTries word tries
     pub name_is : name ≡ node_named block node (last_of word tries)
     pub of_scan : IsOfScan board.frame.tree old.me.0 source name
+    pub left : ℕ
+    pub says : SaysCallback name Running left
     pub me_is : new.me ≡ (
-      logged (run_index board block node) (last_of word tries)
+      with_step (run_index board block node) (last_of word tries) left
           (runs_place name (reads_on (run_index board block node) tries old.me.0)),
       old.me.1,
     )
@@ -147,8 +152,10 @@ module _ {P E O : Type 0} (board : Board O) (source : SourceRef) (block node : �
     pub later : AreTries word tries
     pub name_is : name ≡ node_named block node (last_of word tries)
     pub of_scan : IsOfScan board.frame.tree old.me.0 source name
+    pub left : ℕ
+    pub says : SaysCallback name Running left
     pub me_is : new.me ≡ (
-      logged (run_index board block node) (last_of word tries)
+      with_step (run_index board block node) (last_of word tries) left
           (runs_place name (reads_on (run_index board block node) (word ∷ tries) old.me.0)),
       old.me.1,
     )

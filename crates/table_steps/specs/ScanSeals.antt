@@ -2,6 +2,8 @@
 use Rattle.std.specs.Prelude.{◌≡◌, ℕ, ◌-◌, ◌*◌, true, if◌then◌else◌, List, [], ◌∷◌, length, Option, Some}
 use Rattle.life_rules.specs.declared.event.SourceRef.{SourceRef}
 use Rattle.life_rules.specs.Views.{same_source}
+use Rattle.table_words.specs.Stamps.{stamp_of}
+use Rattle.table_words.specs.Controls.{source_read}
 use Rattle.table_words.specs.Layouts.{index}
 use Rattle.atomic_table.specs.declared.shared.Seat.{Seat}
 use Rattle.table_rules.specs.declared.frame.Frame.{Frame}
@@ -9,7 +11,7 @@ use Rattle.table_rules.specs.declared.view.View.{View}
 use Rattle.table_rules.specs.declared.view.Scanning.{Scanning}
 use Rattle.table_rules.specs.ShownViews.{scan_in}
 use Rattle.table_steps.specs.Views.{Board}
-use Rattle.table_steps.specs.Claims.{logged}
+use Rattle.table_steps.specs.Claims.{with_step}
 use Rattle.table_steps.specs.Sights.{spot_of}
 use Rattle.table_steps.specs.ScanOrders.{none_hears}
 
@@ -29,7 +31,10 @@ drops source (scan ∷ scans) =
 abbrev pub seals_scan : {P E : Type 0} → SourceRef → View P E → View P E
 seals_scan source v = record v { scans = drops source v.scans }
 
--- some word was read, and the scan is sealed
+-- some word of the source was read and left as scanned, and the scan is sealed
 pub record IsScanSealed {P E O : Type 0} (board : Board O) (source : SourceRef) (old new : Seat (Option P) (View P E)) : Type 0 where
-  pub word : ℕ
-  pub me_is : new.me ≡ (logged (index board.frame.layout (spot_of source)) word (seals_scan source old.me.0), old.me.1)
+  pub read : ℕ
+  pub left : ℕ
+  pub stamp_is : stamp_of left ≡ stamp_of read
+  pub left_is : source_read left ≡ record (source_read read) { scanned = true }
+  pub me_is : new.me ≡ (with_step (index board.frame.layout (spot_of source)) read left (seals_scan source old.me.0), old.me.1)

@@ -2,12 +2,10 @@
 use Rattle.std.specs.Prelude.{◌≡◌, ℕ, ◌+◌, if◌then◌else◌, Option}
 use Rattle.life_rules.specs.declared.scope.ScopeWord.{ScopeWord}
 use Rattle.life_rules.specs.Scopes.{is_refused}
-use Rattle.table_words.specs.ScopeNumbers.{scope_read}
 use Rattle.atomic_table.specs.declared.shared.Seat.{Seat}
 use Rattle.table_rules.specs.declared.view.View.{View}
-use Rattle.table_steps.specs.Claims.{logged, Seated}
 use Rattle.table_steps.specs.Views.{Board}
-use Rattle.table_steps.specs.ScopeMoves.{ReadsScope}
+use Rattle.table_steps.specs.ScopeMoves.{MovesScope, with_one_more}
 
 module _ {P E : Type 0} where
   -- the hand has no association in the making or being refused
@@ -21,9 +19,5 @@ module _ {P E : Type 0} where
       if is_refused word most then record v { refused = v.refused + 1 } else (
       if word.used then record v { made = v.made + 1 } else record v { making = v.making + 1 })
 
-  -- what the word that was read tells the hand
-  abbrev pub enters_at : ℕ → ℕ → ℕ → Seated P E → Seated P E
-  enters_at most i word m = (logged i word (enters most (scope_read word) m.0), m.1)
-
 abbrev pub IsEntered : {P E O : Type 0} → Board O → ScopeWord → Seat (Option P) (View P E) → Seat (Option P) (View P E) → Type 0
-IsEntered board answer old new = ReadsScope (enters board.frame.most answer) answer old new
+IsEntered board answer old new = MovesScope with_one_more (enters board.frame.most answer) answer old new

@@ -1,11 +1,25 @@
 -- What a hand needs for the steps of the counting scope (P3149, [exec.scope]), and what they tell it.
-use Rattle.std.specs.Prelude.{◌≡◌, ◌≢◌, ℕ, ◌+◌, ◌-◌, ◌^◌, ◌<◌, ◌≤◌, nat_le, if◌then◌else◌, Option, Result, MatchResult}
+use Rattle.std.specs.Prelude.{◌≡◌, ◌≢◌, ℕ, ◌+◌, ◌-◌, ◌^◌, ◌<◌, ◌≤◌, true, nat_le, if◌then◌else◌, Option, Result, MatchResult}
 use Rattle.life_rules.specs.declared.scope.ScopeWord.{ScopeWord}
 use Rattle.table_words.specs.ScopeNumbers.{scope_read, scope_written}
 use Rattle.atomic_table.specs.declared.shared.Seat.{Seat}
 use Rattle.table_rules.specs.declared.view.View.{View}
 use Rattle.table_rules.specs.Grown.{KeepsBits}
-use Rattle.table_steps.specs.Claims.{logged, Seated}
+use Rattle.table_steps.specs.Claims.{with_step, logged, Seated}
+
+-- the word with the used bit set, and that with the joined bit set
+abbrev pub as_used : ScopeWord → ScopeWord
+as_used w = record w { used = true }
+
+abbrev pub as_joined : ScopeWord → ScopeWord
+as_joined w = record w { joined = true }
+
+-- the word with one association more, and that with one less
+abbrev pub with_one_more : ScopeWord → ScopeWord
+with_one_more w = record w { count = w.count + 1 }
+
+abbrev pub with_one_less : ScopeWord → ScopeWord
+with_one_less w = record w { count = w.count - 1 }
 
 module _ {P E : Type 0} where
   -- the hand has an association in the making
@@ -25,30 +39,44 @@ module _ {P E : Type 0} where
   leaves_scope v =
       if nat_le 1 v.refused then record v { refused = v.refused - 1 } else record v { made = v.made - 1 }
 
-  -- the step read this of the scope's word, is listed, and changed so what the hand knows
-  pub record ReadsScope (change : View P E → View P E) (answer : ScopeWord) (old new : Seat (Option P) (View P E)) : Type 0 where
+  -- the step read this of the scope's word, is listed, and changed nothing
+  pub record ReadsScope (answer : ScopeWord) (old new : Seat (Option P) (View P E)) : Type 0 where
     pub word : ℕ
     pub answer_is : answer ≡ scope_read word
-    pub me_is : new.me ≡ (logged 0 word (change old.me.0), old.me.1)
+    pub me_is : new.me ≡ (logged 0 word old.me.0, old.me.1)
 
-  -- some word was read, and the association is made
-  pub record IsMade (old new : Seat (Option P) (View P E)) : Type 0 where
-    pub word : ℕ
-    pub me_is : new.me ≡ (logged 0 word (makes old.me.0), old.me.1)
+  -- what a step tells that read this of the scope's word and left that: the word is so changed, and so is
+  -- what the hand knows
+  pub record MovesScopeAt (leaves : ScopeWord → ScopeWord) (change : ScopeWord → View P E → View P E) (i read left : ℕ) (m m' : Seated P E) : Type 0 where
+    pub me_is : m' ≡ (with_step i read left (change (scope_read read) m.0), m.1)
+    pub left_is : scope_read left ≡ leaves (scope_read read)
+
+  -- the step read this of the scope's word, left the word so changed, and changed so what the hand knows
+  pub record MovesScope (leaves : ScopeWord → ScopeWord) (change : View P E → View P E) (answer : ScopeWord) (old new : Seat (Option P) (View P E)) : Type 0 where
+    pub read : ℕ
+    pub answer_is : answer ≡ scope_read read
+    pub left : ℕ
+    pub left_is : scope_read left ≡ leaves answer
+    pub me_is : new.me ≡ (with_step 0 read left (change old.me.0), old.me.1)
+
+  -- some word was read and left as used, and the association is made
+  abbrev pub IsMade : Seat (Option P) (View P E) → Seat (Option P) (View P E) → Type 0
+  IsMade old new = (answer : ScopeWord) × MovesScope as_used makes answer old new
 
   -- the exchange found this word, which has no bits but its four and the count, and each that the hand's
-  -- earlier steps read
-  pub record SealsAt (i found : ℕ) (m m' : Seated P E) : Type 0 where
-    pub me_is : m' ≡ (logged i found m.0, m.1)
+  -- earlier steps read or left
+  pub record SealsAt (i found left : ℕ) (m m' : Seated P E) : Type 0 where
+    pub me_is : m' ≡ (with_step i found left m.0, m.1)
     pub narrow : found < 2 ^ 36
     pub bits : KeepsBits m.0.steps (scope_read found)
 
-  -- the word that was read was the one that says what was expected, and the scope is joined; or it says
-  -- something else, which is told, and nothing changed
+  -- the word that was read was the one that says what was expected, and was left saying that the scope is
+  -- joined; or it says something else, which is told, and stayed
   pub record IsSealedAs (expected : ScopeWord) (answer : Result (Unit {0}) ScopeWord) (old new : Seat (Option P) (View P E)) : Type 0 where
     pub word : ℕ
-    pub me_is : new.me ≡ (logged 0 word old.me.0, old.me.1)
-    pub cause : MatchResult answer (λ _. word ≡ scope_written expected)
-        (λ read. (read ≢ expected) × (read ≡ scope_read word))
-    -- it has each bit that the hand's earlier steps read
+    pub left : ℕ
+    pub me_is : new.me ≡ (with_step 0 word left old.me.0, old.me.1)
+    pub cause : MatchResult answer (λ _. (word ≡ scope_written expected) × (scope_read left ≡ as_joined expected))
+        (λ read. (read ≢ expected) × (read ≡ scope_read word) × (left ≡ word))
+    -- it has each bit that the hand's earlier steps read or left
     pub bits : KeepsBits old.me.0.steps (scope_read word)

@@ -1,10 +1,10 @@
 -- What a look at a stop source needs and tells ([stopsource]).
-use Rattle.std.specs.Prelude.{◌≡◌, ℕ, Bool, true, ◌&&◌, ◌==◌, if◌then◌else◌, List, [], ◌∷◌, Option, Some, None, MatchOption}
+use Rattle.std.specs.Prelude.{◌≡◌, ℕ, ◌≤◌, Bool, true, ◌&&◌, ◌==◌, if◌then◌else◌, List, [], ◌∷◌, Option, Some, None, MatchOption}
 use Rattle.node_tree.specs.declared.node.TreeNode.{TreeNode}
 use Rattle.life_rules.specs.declared.event.Name.{Name}
 use Rattle.life_rules.specs.declared.event.SourceRef.{SourceRef}
 use Rattle.life_rules.specs.declared.event.SourceRef.TheVariants.{Scope, Node}
-use Rattle.node_tree.specs.Tree.{nearest, has_source}
+use Rattle.node_tree.specs.Tree.{nearest, given_by, has_source}
 use Rattle.life_rules.specs.Views.{same, beside}
 use Rattle.life_rules.specs.States.{source_for}
 use Rattle.table_words.specs.Stamps.{stamp_of}
@@ -13,7 +13,9 @@ use Rattle.table_words.specs.Layouts.{Spot, TheScopeSource, OfSource, IsSpot, in
 use Rattle.atomic_table.specs.declared.shared.Seat.{Seat}
 use Rattle.table_rules.specs.declared.view.View.{View}
 use Rattle.table_rules.specs.declared.view.Held.{Held}
-use Rattle.table_rules.specs.Named.{find_by}
+use Rattle.table_rules.specs.declared.view.Owed.{Owed}
+use Rattle.table_rules.specs.declared.view.Reported.{Reported}
+use Rattle.table_rules.specs.Named.{count_by, find_by}
 use Rattle.table_rules.specs.ShownViews.{has_name, has_source_ref}
 use Rattle.table_steps.specs.Views.{Board}
 use Rattle.table_steps.specs.Claims.{logged, Seated}
@@ -82,21 +84,41 @@ module _ {P E : Type 0} where
     m.1,
   )
 
--- the source can't go away under the hand: it is the scope's, or of an operation of which the hand holds a
--- node
+-- the hand has a part in the operation of x, which can't end before: it holds a node of it, owes the start or
+-- the report of one, runs the callback of one, or has finished its root
+pub data HasPartIn {P E : Type 0} (v : View P E) (x : Name) : Type 0 where
+  ByNode : (node : ℕ) (held : Held E) → find_by (λ e. e.name) v.held (beside x node) ≡ Some held → HasPartIn v x
+  ByStart : (node : ℕ) (owed : Owed E) → find_by (λ e. e.name) v.owed (beside x node) ≡ Some owed → HasPartIn v x
+  ByReport : (node : ℕ) (reported : Reported P E) → find_by (λ e. e.name) v.reported (beside x node) ≡ Some reported → HasPartIn v x
+  ByRun : (node : ℕ) → 1 ≤ count_by (λ y. y) v.runs (beside x node) → HasPartIn v x
+  ByRoot : (node : ℕ) → 1 ≤ count_by (λ y. y) v.finished (beside x node) → HasPartIn v x
+
+-- the source can't go away under the hand: it is the scope's, or of an operation in which the hand has a part
 abbrev pub KeepsAlive : {P E : Type 0} → View P E → SourceRef → Type 0
 KeepsAlive v Scope = Unit {0}
-KeepsAlive {P} {E} v (Node x) =
-    (node : ℕ) × (held : Held E) × (find_by (λ e. e.name) v.held (beside x node) ≡ Some held)
+KeepsAlive v (Node x) = HasPartIn v x
 
 -- a request that the hand has seen there still stands
 abbrev pub StillAsked : {P E : Type 0} → View P E → SourceRef → Bool → Type 0
 StillAsked v source answer = has_source_ref v.seen source ≡ true → KeepsAlive v source → answer ≡ true
 
--- what the load tells: that, and that a request that was seen still stands
-abbrev pub LooksAt : {P E : Type 0} → SourceRef → Option Name → ℕ → ℕ → Seated P E → Seated P E → Type 0
-LooksAt source after i word m m' =
+-- a request that the hand was told of when it came to hold x still stands: on the source that x hears, and on
+-- the one that its children hear
+pub record StillTold {E : Type 0} (tree : List TreeNode) (source : SourceRef) (answer : Bool) (x : Name) (e : Held E) : Type 0 where
+  pub told : source_for x (nearest tree x.node) ≡ Some source → e.told ≡ true → answer ≡ true
+  pub told_children : source_for x (given_by tree x.node (nearest tree x.node)) ≡ Some source →
+      e.told_children ≡ true → answer ≡ true
+
+-- so it is of each node that the hand holds
+abbrev pub AgreesWithTold : {P E : Type 0} → List TreeNode → View P E → SourceRef → Bool → Type 0
+AgreesWithTold {P} {E} tree v source answer =
+    (x : Name) (e : Held E) → find_by (λ e. e.name) v.held x ≡ Some e → StillTold tree source answer x e
+
+-- what the load tells: that, and that a request that was seen, or told of, still stands
+abbrev pub LooksAt : {P E : Type 0} → List TreeNode → SourceRef → Option Name → ℕ → ℕ → Seated P E → Seated P E → Type 0
+LooksAt tree source after i word m m' =
     (m' ≡ looks_at source after i word m) × StillAsked m.0 source (says_requested source word)
+    × AgreesWithTold tree m.0 source (says_requested source word)
 
 -- the answer is what the word that was read says, and the hand has noted it
 abbrev pub IsLookedAt : {P E O : Type 0} → Board O → SourceRef → Option Name → Bool → Seat (Option P) (View P E) → Seat (Option P) (View P E) → Type 0

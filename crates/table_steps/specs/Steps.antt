@@ -1,5 +1,6 @@
 -- What each step does to its hand, by the table and the node.
-use Rattle.std.specs.Prelude.{ℕ, List, Option}
+use Rattle.std.specs.Prelude.{ℕ, List, length, Option}
+use Rattle.life_rules.specs.declared.words.ControlWord.TheVariants.{Busy, Done}
 use Rattle.life_rules.specs.declared.event.Name.{Name}
 use Rattle.life_rules.specs.declared.event.Resting.{Resting}
 use Rattle.life_rules.specs.Words.{resting_at}
@@ -8,12 +9,13 @@ use Rattle.atomic_table.specs.declared.shared.Seat.{Seat}
 use Rattle.table_rules.specs.declared.cargo.Cargo.{Ghosts}
 use Rattle.table_rules.specs.declared.view.View.{View}
 use Rattle.table_steps.specs.Views.{Board, aim_at}
-use Rattle.table_steps.specs.Claims.{word_index, root_name}
+use Rattle.table_steps.specs.Claims.{root_name}
+use Rattle.table_steps.specs.Lefts.{LeavesControl}
 use Rattle.table_steps.specs.Begins.{BeginsAt, IsRenewed, Begins}
-use Rattle.table_steps.specs.Rests.{LeftControl, RestsAt}
+use Rattle.table_steps.specs.Rests.{RestsAt}
 use Rattle.table_steps.specs.Finishes.{FinishesAt}
 use Rattle.table_steps.specs.Awaits.{AwaitsAt}
-use Rattle.table_steps.specs.Releases.{LeftBlock, LeftEmpty, ReleasesAt, word_after}
+use Rattle.table_steps.specs.Releases.{LeavesBlock, LeftEmpty, word_after}
 
 -- the index of the node's control word
 abbrev pub control_index : {O : Type 0} → Board O → Name → ℕ
@@ -23,34 +25,30 @@ module _ {P E O : Type 0} (board : Board O) (x : Name) (old new : Seat (Option P
   abbrev pub Renewed : Type 0
   Renewed = IsRenewed (aim_at board x) old.me new.me
 
+  -- the node is held, by the word that was written
   abbrev pub Held : Ghosts P E O → Type 0
-  Held cargo = BeginsAt cargo (aim_at board x) (control_index board x) old.me new.me
+  Held cargo = LeavesControl (aim_at board x) (Busy 0) (BeginsAt cargo (aim_at board x)) old.me new.me
 
   abbrev pub Begun : Ghosts P E O → Type 0
   Begun cargo = Begins cargo (aim_at board x) old.me new.me
 
-  abbrev pub Rested : Type 0
-  Rested = RestsAt (aim_at board x) (control_index board x) old.me new.me
+  -- the node rests there
+  abbrev pub Rested : Resting → Type 0
+  Rested to = LeavesControl (aim_at board x) (resting_at to) (RestsAt (aim_at board x)) old.me new.me
 
-  -- the word that was written says that the node rests there
-  abbrev pub LeftResting : Resting → Type 0
-  LeftResting to = LeftControl board.frame.layout x (resting_at to) old.me new.me
-
+  -- the node is done
   abbrev pub Finished : Ghosts P E O → Type 0
-  Finished cargo = FinishesAt cargo (aim_at board x) (control_index board x) old.me new.me
+  Finished cargo = LeavesControl (aim_at board x) Done (FinishesAt cargo (aim_at board x)) old.me new.me
 
+  -- the node waits for as many children as are named
   abbrev pub Awaited : Ghosts P E O → List ℕ → Type 0
-  Awaited cargo nodes = AwaitsAt cargo (aim_at board x) nodes (control_index board x) old.me new.me
+  Awaited cargo nodes =
+      LeavesControl (aim_at board x) (Busy (length nodes)) (AwaitsAt cargo (aim_at board x) nodes) old.me new.me
 
--- the block's root was given back
+-- the block's root was given back: the block is free at the next generation, or retired after the last
 abbrev pub Released : {P E O : Type 0} → Board O → ℕ → ℕ → Seat (Option P) (View P E) → Seat (Option P) (View P E) → Type 0
 Released board block generation old new =
-    ReleasesAt (aim_at board (root_name board block generation)) (word_index board block) old.me new.me
-
--- the word that was written says that the block is free at the next generation, or retired after the last
-abbrev pub LeftGivenBack : {P E O : Type 0} → Board O → ℕ → ℕ → Seat (Option P) (View P E) → Seat (Option P) (View P E) → Type 0
-LeftGivenBack board block generation old new =
-    LeftBlock board.frame.layout block (word_after generation) old.me new.me
+    LeavesBlock (aim_at board (root_name board block generation)) (word_after generation) old.me new.me
 
 -- in the table that the step left all homes of the block are empty
 abbrev pub LeftAllEmpty : {P E O : Type 0} → Board O → ℕ → ℕ → Seat (Option P) (View P E) → Ghosts P E O → Type 0

@@ -1,5 +1,6 @@
 -- What a hand needs to take a node that rests, and what that does to the hand.
 use Rattle.std.specs.Prelude.{◌≡◌, ◌≢◌, ℕ, ◌≤◌, Bool, true, false, List, [], ◌∷◌, Option, Some, None}
+use Rattle.life_rules.specs.declared.words.ControlWord.TheVariants.{Busy}
 use Rattle.life_rules.specs.declared.event.Name.{Name}
 use Rattle.node_tree.specs.declared.context.Context.{Context}
 use Rattle.node_tree.specs.declared.context.Context.TheVariants.{Loop, Pool}
@@ -14,9 +15,11 @@ use Rattle.table_rules.specs.declared.view.View.{View}
 use Rattle.table_rules.specs.declared.view.Rooted.{Rooted}
 use Rattle.table_rules.specs.Named.{find_by, Each}
 use Rattle.atomic_table.specs.Table.{Step}
-use Rattle.table_steps.specs.Claims.{logged, Seated}
+use Rattle.table_steps.specs.Claims.{with_step, logged, Seated}
+use Rattle.table_steps.specs.Lefts.{SaysControl}
 use Rattle.table_steps.specs.Kids.{empty_slots}
 use Rattle.table_steps.specs.Slots.{Aim, slot_of, kids_of, IsSeated}
+use Rattle.table_steps.specs.Hearings.{HearsAs}
 
 -- the hand holds the node, with the start with which it began. Named is how many children its last await
 -- named, told as at a begin
@@ -37,14 +40,14 @@ takes_node x start named told told_children v =
 
 -- the exchange won: the hand holds the node, and has the item that lay in its home, and the empty homes of
 -- its children
-pub record TakenAt {P E : Type 0} {O : Type 0} (cargo : Ghosts P E O) (aim : Aim) (overs : List O) (i word : ℕ) (m m' : Seated P E) : Type 0 where
+pub record TakenAt {P E : Type 0} {O : Type 0} (cargo : Ghosts P E O) (aim : Aim) (overs : List O) (i read left : ℕ) (m m' : Seated P E) : Type 0 where
   pub start : List E
   pub named : ℕ
   pub told : Bool
   pub told_children : Bool
   pub item : P
   pub me_is : m' ≡ (
-    logged i word (takes_node aim.name start named told told_children m.0),
+    with_step i read left (takes_node aim.name start named told told_children m.0),
     (slot_of aim.layout aim.name, Some item) ∷ empty_slots aim.layout aim.name.block (kids_of aim.tree aim.name.node) m.1,
   )
   -- the item shows the node's start, fits, is no completion, and asks for no more children than were named
@@ -55,13 +58,17 @@ pub record TakenAt {P E : Type 0} {O : Type 0} (cargo : Ghosts P E O) (aim : Aim
   -- the start has the key of what the table was opened over, and is the one that the hand noted of a root
   pub key : Each (λ over. cargo.key start ≡ over) overs
   pub noted : (e : Rooted E) → find_by (λ e. e.name) m.0.noted aim.name ≡ Some e → start ≡ e.start
+  -- what the two bits say of the sources
+  pub hears : HearsAs aim.tree m.0 aim.name told told_children
   pub seated : IsSeated aim.tree aim.layout m → IsSeated aim.tree aim.layout m'
+  -- the item is one that may rest there
+  pub rests : cargo.rests item aim.name.node
 
 -- the exchange of the word that says that the node rests there, at its generation, won; or it found another
 -- word, and changed nothing
 abbrev pub TakesAt : {P E O : Type 0} → Ghosts P E O → Aim → List O → Step (Option P) → Seated P E → ℕ → Seated P E → Type 0
 TakesAt cargo aim overs step m found m' =
-    (found ≡ step.first → TakenAt cargo aim overs step.word found m m')
+    (found ≡ step.first → TakenAt cargo aim overs step.word found step.second m m')
     × (found ≢ step.first → m' ≡ (logged step.word found m.0, m.1))
 
 -- what is ready in a context rests there
@@ -77,12 +84,13 @@ MayServe from v = may_be_taken (resting_at from) v.number ≡ true
 abbrev pub rest_word : Name → Resting → ℕ
 rest_word x from = control_written x.generation (resting_at from)
 
--- true where the word said that the node rests there, at its generation: then the hand has it. False where
--- it was another: then nothing changed
+-- true where the word said that the node rests there, at its generation: then the hand has it, and the word
+-- says that it is held. False where it was another: then nothing changed
 abbrev pub IsTaken : {P E O : Type 0} → Ghosts P E O → Frame O → Name → Resting → Bool → Seated P E → Seated P E → Type 0
 IsTaken cargo f x from answer m m' =
     (answer ≡ true →
-    TakenAt cargo (record { tree = f.tree; layout = f.layout; name = x }) (f.over.value ∷ [])
-    (index f.layout (OfControl x.block x.node)) (rest_word x from) m m')
+    (left : ℕ) × SaysControl x (Busy 0) left
+    × TakenAt cargo (record { tree = f.tree; layout = f.layout; name = x }) (f.over.value ∷ [])
+    (index f.layout (OfControl x.block x.node)) (rest_word x from) left m m')
     × (answer ≡ false →
     (found : ℕ) × (found ≢ rest_word x from) × (m' ≡ (logged (index f.layout (OfControl x.block x.node)) found m.0, m.1)))

@@ -71,6 +71,7 @@ fresh_with number splits =
       released = 0;
       hands = 1;
       steps = [];
+      joined = [];
     }
 
 abbrev pub fresh : {P E : Type 0} → ℕ → View P E

@@ -24,8 +24,6 @@ mod law;
 mod layout;
 mod place;
 mod scope;
-#[cfg(test)]
-mod tests;
 
 pub use block::{block_number, read_block};
 pub use halves::{stamp, words_are_exact};

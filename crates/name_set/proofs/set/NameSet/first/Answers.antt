@@ -18,7 +18,7 @@ returns-then-place-places c =
     let past = c.if-place-places.true in
     let places = c.places.ensures in
     subst IsEmpty c.self.view_is
-    (empty-below m c.self.invariant c.in_ok-place.place first.before (omega (arith, past, places)))
+    (empty-below m c.self.invariant.sized c.in_ok-place.place first.before (omega (arith, past, places)))
 
 pub returns : goal.returns
 returns c =
@@ -33,11 +33,11 @@ returns c =
     let within = c.if-place-places.false in
     let places = c.places.ensures in
     let below : place < places_in c.self.inside.layout = omega (arith, within, places) in
-    let at = place-at c.self.inside.layout place c.self.invariant.nodes.0 below in
+    let at = place-at c.self.inside.layout place c.self.invariant.sized.nodes.0 below in
     let block = at.block in
-    let many = c.self.invariant.generations in
+    let many = c.self.invariant.sized.generations in
     let generation = get_or_read m.generations (place / nodes) c.index.result.now (omega (arith, block, many)) c.index.ensures 0 in
     subst (λ n. IsLowest n (record { block = place / nodes; generation = c.index.result.now; node = place % nodes }))
     c.self.view_is
     (subst (λ g. IsLowest m (record { block = place / nodes; generation = g; node = place % nodes })) (sym generation)
-    (first-name m place c.self.invariant first below))
+    (first-name m place c.self.invariant.sized first below))

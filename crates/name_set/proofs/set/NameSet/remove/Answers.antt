@@ -1,10 +1,12 @@
 use Rattle.std.proofs.Common.{◌≡◌, ◌<◌, ◌&&◌, not, true, length, sym, ap, ◌∙◌, subst, arith}
 use Rattle.std.proofs.lemmas.List.{with_items_is}
 use Rattle.life_rules.specs.Views.{same}
-use Rattle.name_set.specs.Sets.{Marks, is_marked, has}
+use Rattle.name_set.specs.Sets.{Marks, is_marked, has, IsWithin}
 use Rattle.name_set.proofs.Places.{had, bit-within}
 use Rattle.name_set.proofs.Changes.{removed}
+use Rattle.name_set.proofs.Windows.{still-within, from-first, from-none}
 use Rattle.name_set.proofs.set.NameSet.remove.Goals as goal
+use Rattle.name_set.proofs.set.NameSet.remove.Goals.{in-Some, in-None}
 
 pub place-place-requires-clause-block : goal.place-place-requires-clause-block
 place-place-requires-clause-block c =
@@ -25,19 +27,44 @@ unmark-requires c =
     } in
     let it = subst (λ n. has n c.args.name ≡ true) (sym c.self.view_is) c.requires.has in
     let within = bit-within c.self.inside.layout c.args.name (length c.self.inside.bits.items)
-    (had m c.args.name it).place c.self.invariant.bits in
+    (had m c.args.name it).place c.self.invariant.sized.bits in
     let at = c.place-place.ensures.value in
     let wide = ap length c.as_mut_slice.ensures.value in
     omega (arith, within, at, wide)
 
+pub first_within-requires-clause-within : goal.first_within-requires-clause-within
+first_within-requires-clause-within c =
+    still-within c.self.inside.bits.items c.self.inside.low c.self.inside.high c.self.invariant.within c.as_mut_slice.result.now
+    c.unmark.new.bits c.as_slice.result.now c.place-place.result c.as_mut_slice.ensures.value
+    (c.as_slice.ensures.value
+    ∙ with_items_is c.self.inside.bits c.unmark.new.bits (c.unmark.ensures.length ∙ c.as_mut_slice.ensures.len))
+    c.unmark.ensures.length c.unmark.ensures.unmarked c.unmark.ensures.others
+
 pub invariant_of-self : goal.invariant_of-self
 invariant_of-self c =
+    let words = c.as_slice.result.now in
+    let low = c.self.inside.low in
+    let high = c.self.inside.high in
+    let items = with_items_is c.self.inside.bits c.unmark.new.bits (c.unmark.ensures.length ∙ c.as_mut_slice.ensures.len) in
+    let still : IsWithin words low high =
+    still-within c.self.inside.bits.items low high c.self.invariant.within c.as_mut_slice.result.now c.unmark.new.bits words
+    c.place-place.result c.as_mut_slice.ensures.value (c.as_slice.ensures.value ∙ items) c.unmark.ensures.length
+    c.unmark.ensures.unmarked c.unmark.ensures.others in
     record {
-      blocks = c.self.invariant.blocks;
-      nodes = c.self.invariant.nodes;
-      bits = ap length (with_items_is c.self.inside.bits c.unmark.new.bits (c.unmark.ensures.length ∙ c.as_mut_slice.ensures.len))
-          ∙ c.unmark.ensures.length ∙ ap length c.as_mut_slice.ensures.value ∙ c.self.invariant.bits;
-      generations = c.self.invariant.generations;
+      sized = record {
+        blocks = c.self.invariant.sized.blocks;
+        nodes = c.self.invariant.sized.nodes;
+        bits = ap length items ∙ c.unmark.ensures.length ∙ ap length c.as_mut_slice.ensures.value ∙ c.self.invariant.sized.bits;
+        generations = c.self.invariant.sized.generations;
+      };
+      within = subst (λ b. IsWithin b c.match-first_within.self high) c.as_slice.ensures.value
+          (elim c.match-first_within.branch [
+            | in-Some w ↦
+                subst (λ n. IsWithin words n high) (sym w.self-is)
+                (from-first words low high still w.in-Some.first w.in-Some.ensures)
+            | in-None w ↦
+                subst (λ n. IsWithin words n high) (sym w.self-is) (from-none words low high still w.in-None.ensures)
+          ]);
     }
 
 pub returns-clause-has : goal.returns-clause-has
