@@ -4,7 +4,7 @@ use Rattle.std.proofs.lemmas.Bool.{and_parts, and_from, or_parts, eqb-true, not-
 use Rattle.life_rules.specs.declared.scope.ScopeWord.{ScopeWord}
 use Rattle.life_rules.specs.Scopes.{may_seal}
 use Rattle.table_words.specs.Stamps.{bit}
-use Rattle.table_rules.specs.declared.view.Seen.{Seen}
+use Rattle.listed_steps.specs.declared.seen.Seen.{Seen}
 use Rattle.table_rules.specs.Grown.{HasBitsOf, KeepsBits}
 use Rattle.count_scope.specs.Seals.{IsFresh}
 use Rattle.count_scope.specs.Tries.{is_settled}
@@ -24,7 +24,7 @@ more-bits a b c x y =
 -- what the hand knows of its newest step is kept by the word that it reads next
 pub fresh-kept : (w : ScopeWord) (steps : List Seen) (now : ScopeWord) → IsFresh w steps → KeepsBits steps now → HasBitsOf w now
 fresh-kept w steps now fresh keeps =
-    more-bits w _ now fresh.bits ((subst (λ s. KeepsBits s now) fresh.steps_are keeps).0 refl)
+    more-bits w _ now fresh.bits ((subst (λ s. KeepsBits s now) fresh.steps_are keeps).0 refl).1
 
 -- what it means that a word may be sealed
 pub sealed-parts : (w : ScopeWord) → may_seal w ≡ true → (w.joining ≡ true) × (w.joined ≡ false) × (w.count ≡ 0)

@@ -8,11 +8,11 @@ use Rattle.table_words.specs.ScopeNumbers.{scope_read}
 use Rattle.atomic_table.specs.declared.shared.Seat.{Seat}
 use Rattle.table_rules.specs.declared.view.View.{View}
 use Rattle.table_rules.specs.Grown.{HasBitsOf}
-use Rattle.table_steps.specs.Claims.{logged, Seated}
+use Rattle.table_steps.specs.Claims.{Seated}
 use Rattle.table_steps.specs.ScopeSets.{SetsScope, joining}
 use Rattle.count_scope.specs.declared.joining.JoinStart.{JoinStart}
 use Rattle.count_scope.specs.Tries.{Sealed, is_settled}
-use Rattle.count_scope.specs.Seals.{IsFresh, listed, Seals}
+use Rattle.count_scope.specs.Seals.{IsFresh, tried, Seals}
 use Rattle.count_scope.specs.Joins.{start_of, start_after, StartsWhere, Starts}
 use Rattle.count_scope.proofs.Rising.{same-bits, unsettled-seals}
 
@@ -35,8 +35,9 @@ module _ {P E : Type 0} (read : ScopeWord) (old middle : Seat (Option P) (View P
   pub join-fresh : IsFresh left middle.me.0.steps
   join-fresh =
       record {
-        word = sets.left;
-        older = (logged 0 sets.read old.me.0).steps;
+        read = sets.read;
+        left = sets.left;
+        older = old.me.0.steps;
         steps_are = ap (λ (m : Seated P E). m.0.steps) sets.me_is;
         bits = subst (HasBitsOf left) (sym sets.left_is) (same-bits left);
       }
@@ -52,9 +53,10 @@ module _ {P E : Type 0} (read : ScopeWord) (old middle : Seat (Option P) (View P
         left = sets.left;
         left_is = left-joins;
         words = [];
+        last = 0;
         me_is = sets.me_is;
-        starts = subst (λ w. StartsWhere (may_seal w) w [] answer) (sym sets.left_is)
-            (subst (λ b. StartsWhere b left [] answer) (sym (settled-stays left settled)) (refl, is));
+        starts = subst (λ w. StartsWhere (may_seal w) w [] 0 answer) (sym sets.left_is)
+            (subst (λ b. StartsWhere b left [] 0 answer) (sym (settled-stays left settled)) (refl, is));
       }
 
   -- the scope is sealed by these tries
@@ -66,7 +68,8 @@ module _ {P E : Type 0} (read : ScopeWord) (old middle : Seat (Option P) (View P
         left = sets.left;
         left_is = left-joins;
         words = seals.words;
-        me_is = seals.me_is ∙ ap (λ (m : Seated P E). (listed seals.words m.0, m.1)) sets.me_is;
-        starts = subst (λ w. StartsWhere (may_seal w) w seals.words answer) (sym sets.left_is)
-            (subst (λ b. StartsWhere b left seals.words answer) (sym (join-seals open_yet)) (sealed, seals.tries, is));
+        last = seals.left;
+        me_is = seals.me_is ∙ ap (λ (m : Seated P E). (tried seals.words seals.left m.0, m.1)) sets.me_is;
+        starts = subst (λ w. StartsWhere (may_seal w) w seals.words seals.left answer) (sym sets.left_is)
+            (subst (λ b. StartsWhere b left seals.words seals.left answer) (sym (join-seals open_yet)) (sealed, seals.tries, is));
       }

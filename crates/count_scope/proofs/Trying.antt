@@ -8,8 +8,8 @@ use Rattle.table_words.specs.ScopeNumbers.{scope_read, scope_written}
 use Rattle.atomic_table.specs.declared.shared.Seat.{Seat}
 use Rattle.table_rules.specs.declared.view.View.{View}
 use Rattle.table_rules.specs.Grown.{HasBitsOf}
-use Rattle.table_steps.specs.Claims.{logged, Seated}
-use Rattle.table_steps.specs.ScopeMoves.{IsSealedAs}
+use Rattle.table_steps.specs.Claims.{with_step, logged, Seated}
+use Rattle.table_steps.specs.ScopeMoves.{as_joined, IsSealedAs}
 use Rattle.count_scope.specs.Tries.{Sealed, is_settled, expected_after, AllFailed}
 use Rattle.count_scope.specs.Seals.{IsFresh, listed, Seals}
 use Rattle.count_scope.proofs.Rising.{same-bits, fresh-kept, sealed-parts, unsettled-seals, clear_in, clear-falls, two-at-most}
@@ -46,7 +46,8 @@ module _ {P E : Type 0} (first : ScopeWord) (m : Seated P E) where
         tried.word,
         record {
           expects = sym is;
-          me_is = tried.me_is ∙ ap (λ (z : Seated P E). (logged 0 tried.word z.0, z.1)) goes.me_is;
+          me_is = tried.me_is ∙ ap (λ k. (with_step 0 tried.word k old.me.0, old.me.1)) tried.cause.2
+              ∙ ap (λ (z : Seated P E). (logged 0 tried.word z.0, z.1)) goes.me_is;
           failed = (
             λ same. tried.cause.0 (is ∙ same ∙ goes.expects),
             subst (λ w. may_seal w ≡ true) is may,
@@ -54,10 +55,11 @@ module _ {P E : Type 0} (first : ScopeWord) (m : Seated P E) where
           );
           seals = may;
           fresh = record {
-            word = tried.word;
+            read = tried.word;
+            left = tried.left;
             older = old.me.0.steps;
             steps_are = ap (λ (z : Seated P E). z.0.steps) tried.me_is;
-            bits = subst (HasBitsOf read) is (same-bits read);
+            bits = subst (HasBitsOf read) (is ∙ ap scope_read (sym tried.cause.2)) (same-bits read);
           };
           risen = omega (arith, falls, before);
         },
@@ -79,10 +81,14 @@ module _ {P E : Type 0} (first : ScopeWord) (m : Seated P E) where
 
   ends-as : (expected : ScopeWord) (answer : Sealed) (words : List ℕ) (old new : Seat (Option P) (View P E)) →
       Goes expected words old.me → (tried : IsSealedAs expected answer old new) → IsEnd answer →
-      MatchResult answer (λ _. tried.word ≡ scope_written (expected_after first words))
-      (λ read. (read ≡ scope_read tried.word) × (is_settled read ≡ true))
-  ends-as expected (Ok _) words old new goes tried end = tried.cause ∙ ap scope_written (sym goes.expects)
-  ends-as expected (Err read) words old new goes tried end = (tried.cause.1, end)
+      MatchResult answer
+      (λ _. (tried.word ≡ scope_written (expected_after first words)) × (scope_read tried.left ≡ as_joined (expected_after first words)))
+      (λ read. (read ≡ scope_read tried.word) × (is_settled read ≡ true) × (tried.left ≡ tried.word))
+  ends-as expected (Ok _) words old new goes tried end = (
+    tried.cause.0 ∙ ap scope_written (sym goes.expects),
+    tried.cause.1 ∙ ap as_joined (sym goes.expects),
+  )
+  ends-as expected (Err read) words old new goes tried end = (tried.cause.1, end, tried.cause.2)
 
   -- after the last try the seal has ended
   pub goes-end : (expected : ScopeWord) (answer : Sealed) (words : List ℕ) (old new : Seat (Option P) (View P E)) →
@@ -92,7 +98,8 @@ module _ {P E : Type 0} (first : ScopeWord) (m : Seated P E) where
       let most = two-at-most first in
       record {
         words = tried.word ∷ words;
-        me_is = tried.me_is ∙ ap (λ (z : Seated P E). (logged 0 tried.word z.0, z.1)) goes.me_is;
+        left = tried.left;
+        me_is = tried.me_is ∙ ap (λ (z : Seated P E). (with_step 0 tried.word tried.left z.0, z.1)) goes.me_is;
         tries = record {
           last = tried.word;
           before = words;

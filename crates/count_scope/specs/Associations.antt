@@ -3,7 +3,8 @@ use Rattle.std.specs.Prelude.{◌≡◌, ℕ, ◌+◌, Bool, true, false, Some, 
 use Rattle.life_rules.specs.declared.scope.Refused.{Refused}
 use Rattle.life_rules.specs.Scopes.{refusal}
 use Rattle.table_words.specs.ScopeNumbers.{scope_read}
-use Rattle.table_steps.specs.Claims.{logged, Seated}
+use Rattle.table_steps.specs.Claims.{with_step, Seated}
+use Rattle.table_steps.specs.ScopeMoves.{as_used, with_one_more}
 use Rattle.count_scope.specs.declared.members.Association.{Association}
 use Rattle.count_scope.specs.Leaves.{Leaves}
 
@@ -19,17 +20,21 @@ module _ {P E : Type 0} where
   -- the used bit was read as set, and there was no step more; else a step marked it
   abbrev pub MarksWhere : Bool → Seated P E → Seated P E → Type 0
   MarksWhere true m m' = m' ≡ m
-  MarksWhere false m m' = (word : ℕ) × (m' ≡ (logged 0 word m.0, m.1))
+  MarksWhere false m m' =
+      (read : ℕ) × (left : ℕ) × (scope_read left ≡ as_used (scope_read read)) × (m' ≡ (with_step 0 read left m.0, m.1))
 
-  -- the entry read this word, and by it alone the association is kept or refused. One that is kept
+  -- the entry read this word, and left one that counts one more. By the word that was read alone the
+  -- association is kept or refused. One that is kept
   -- is made, the scope being marked as used. One that is refused is left again
   pub record Associates (most : ℕ) (answer : Answer) (m m' : Seated P E) : Type 0 where
     pub word : ℕ
+    pub left : ℕ
+    pub left_is : scope_read left ≡ with_one_more (scope_read word)
     pub ends : MatchResult answer
         (λ _. (refusal (scope_read word) most ≡ None)
-        × MarksWhere (scope_read word).used (associated (logged 0 word m.0, m.1)) m')
+        × MarksWhere (scope_read word).used (associated (with_step 0 word left m.0, m.1)) m')
         (λ cause. (refusal (scope_read word) most ≡ Some cause)
-        × Leaves (logged 0 word m.0, m.1) m')
+        × Leaves (with_step 0 word left m.0, m.1) m')
 
   -- the hand has one association more where one was made, and as many as before where it was
   -- refused; else only the list of its steps is another

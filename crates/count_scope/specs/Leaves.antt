@@ -3,10 +3,11 @@ use Rattle.std.specs.Prelude.{◌≡◌, ℕ, ◌-◌, ◌≤◌, Bool, true, fa
 use Rattle.life_rules.specs.declared.scope.ScopeWord.{ScopeWord}
 use Rattle.table_words.specs.ScopeNumbers.{scope_read}
 use Rattle.table_rules.specs.declared.view.View.{View}
-use Rattle.table_steps.specs.Claims.{logged, Seated}
+use Rattle.table_steps.specs.Claims.{with_step, Seated}
+use Rattle.table_steps.specs.ScopeMoves.{with_one_less}
 use Rattle.table_steps.specs.ScopeEntries.{MayEnter}
 use Rattle.count_scope.specs.Tries.{Sealed, AreTries}
-use Rattle.count_scope.specs.Seals.{listed}
+use Rattle.count_scope.specs.Seals.{tried}
 
 -- a leave that read this word left the last association of a scope that joins
 abbrev pub is_last : ScopeWord → Bool
@@ -16,10 +17,11 @@ is_last w = w.count == 1 && (w.joining && not w.joined)
 abbrev pub emptied : ScopeWord → ScopeWord
 emptied w = record w { count = 0 }
 
--- the scope is sealed where that is asked, by tries that read these words; else there was none
-abbrev pub SealsWhere : Bool → ScopeWord → List ℕ → Type 0
-SealsWhere true first words = (answer : Sealed) × AreTries first answer words
-SealsWhere false first words = words ≡ []
+-- the scope is sealed where that is asked, by tries that read these words, the newest of which left
+-- the last; else there was none
+abbrev pub SealsWhere : Bool → ScopeWord → List ℕ → ℕ → Type 0
+SealsWhere true first words last = (answer : Sealed) × AreTries first answer words last
+SealsWhere false first words last = words ≡ []
 
 module _ {P E : Type 0} where
   -- the hand has an association, and none in the making or being refused
@@ -31,10 +33,13 @@ module _ {P E : Type 0} where
   abbrev pub disassociated : Seated P E → Seated P E
   disassociated m = (record (m.0) { made = m.0.made - 1 }, m.1)
 
-  -- the leave read this word, and where that left the last one of a scope that joins, the scope is
-  -- sealed by tries that read these words
+  -- the leave read this word, and left one that counts one less. Where that left the last one of a
+  -- scope that joins, the scope is sealed by tries that read these words
   pub record Leaves (m m' : Seated P E) : Type 0 where
     pub word : ℕ
+    pub left : ℕ
+    pub left_is : scope_read left ≡ with_one_less (scope_read word)
     pub words : List ℕ
-    pub me_is : m' ≡ (listed words (logged 0 word m.0), m.1)
-    pub seals : SealsWhere (is_last (scope_read word)) (emptied (scope_read word)) words
+    pub last : ℕ
+    pub me_is : m' ≡ (tried words last (with_step 0 word left m.0), m.1)
+    pub seals : SealsWhere (is_last (scope_read word)) (emptied (scope_read word)) words last

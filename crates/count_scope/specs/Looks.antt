@@ -2,7 +2,7 @@
 use Rattle.std.specs.Prelude.{◌≡◌, ℕ}
 use Rattle.life_rules.specs.declared.scope.ScopeWord.{ScopeWord}
 use Rattle.table_words.specs.ScopeNumbers.{scope_read}
-use Rattle.table_steps.specs.Claims.{logged, Seated}
+use Rattle.table_steps.specs.Claims.{with_step, logged, Seated}
 use Rattle.table_steps.specs.ScopeSets.{closing}
 
 module _ {P E : Type 0} where
@@ -17,4 +17,4 @@ module _ {P E : Type 0} where
     pub read : ℕ
     pub left : ℕ
     pub left_is : scope_read left ≡ closing (scope_read read)
-    pub me_is : m' ≡ (logged 0 left (logged 0 read m.0), m.1)
+    pub me_is : m' ≡ (with_step 0 read left m.0, m.1)

@@ -5,6 +5,7 @@ use Rattle.std.specs.Prelude.{◌≡◌, ◌≢◌, ℕ, ◌≤◌, Bool, true, 
 use Rattle.life_rules.specs.declared.scope.ScopeWord.{ScopeWord}
 use Rattle.life_rules.specs.Scopes.{may_seal}
 use Rattle.table_words.specs.ScopeNumbers.{scope_read, scope_written}
+use Rattle.table_steps.specs.ScopeMoves.{as_joined}
 
 -- how a seal ended: it sealed, or read a word that asks none
 abbrev pub Sealed : Type 0
@@ -29,13 +30,15 @@ AllFailed first (word ∷ words) =
     × (may_seal (scope_read word) ≡ true)
     × AllFailed first words
 
--- the last of at most three tries found what it expected, and sealed the scope; or it read that no
--- seal is asked. Each try before it failed
-pub record AreTries (first : ScopeWord) (answer : Sealed) (words : List ℕ) : Type 0 where
+-- the last of at most three tries found what it expected, and left the scope joined; or it read that
+-- no seal is asked, and changed nothing. Each try before it failed
+pub record AreTries (first : ScopeWord) (answer : Sealed) (words : List ℕ) (left : ℕ) : Type 0 where
   pub last : ℕ
   pub before : List ℕ
   pub words_are : words ≡ last ∷ before
   pub few : length words ≤ 3
   pub failed : AllFailed first before
-  pub ends : MatchResult answer (λ _. last ≡ scope_written (expected_after first before))
-      (λ read. (read ≡ scope_read last) × (is_settled read ≡ true))
+  pub ends : MatchResult answer
+      (λ _. (last ≡ scope_written (expected_after first before))
+      × (scope_read left ≡ as_joined (expected_after first before)))
+      (λ read. (read ≡ scope_read last) × (is_settled read ≡ true) × (left ≡ last))

@@ -16,7 +16,7 @@ use stop_calls::{Request, request_stop};
 /// Step: one fetch_or of the source's word, which sets the requested bit.
 /// Needs: this is hand 0, and the scope is a counting one: a simple scope has no source. Another hand
 /// may request again, once it has seen the request.
-/// Afterwards: the request is seen.
+/// Afterwards: the request is seen. A repeated one answers Already.
 pub fn request_scope<P: Cargo>(table: &OpTable<P>, hand: &mut Hand<P>) -> Request
     requires table { IsHandOf table.now hand.old }
     requires needs { MayRequest P.Cargo table.now.frame hand.old.me.0 Scope false }

@@ -1,5 +1,5 @@
 -- What a hand has after it searched for a free block.
-use Rattle.std.proofs.Common.{◌≡◌, inl, inr, ℕ, zero, suc, [], sym, ap, ◌∙◌, subst}
+use Rattle.std.proofs.Common.{◌≡◌, ℕ, [], refl, sym, ap, ◌∙◌, subst}
 use Rattle.std.specs.Prelude.{Option, Some, None}
 use Rattle.std.proofs.lemmas.Bool.{cond-true}
 use Rattle.life_rules.specs.declared.event.Name.{Name}
@@ -11,25 +11,18 @@ use Rattle.table_rules.specs.declared.view.Owed.{Owed}
 use Rattle.table_rules.specs.Named.{find_by}
 use Rattle.table_steps.specs.declared.block.Block.{Block}
 use Rattle.table_steps.specs.Views.{Board}
-use Rattle.table_steps.specs.Claims.{Seated, root_name, Missed}
+use Rattle.table_steps.specs.Claims.{Seated, root_name}
 use Rattle.table_steps.specs.Slots.{slot_of, kept}
 use Rattle.op_slot.specs.Searches.{IsMissedBelow, IsFound}
 use Rattle.op_slot.specs.Tends.{IsCalm, Owes}
 use Rattle.op_slot.proofs.Kept.{kept-first}
+use Rattle.op_slot.proofs.Searching.{missed-all-same}
 
 -- a search leaves a hand that makes no scan so
 module _ {P E O : Type 0} (board : Board O) where
-  missed-calm : (b : ℕ) (old new : Seat (Option P) (View P E)) → Missed board b old new → IsCalm old.me → IsCalm new.me
-  missed-calm b old new missed calm =
-      elim missed [
-        | inl was ↦ ap (λ (z : Seated P E). z.0.scans) was.me_is ∙ calm
-        | inr was ↦ ap (λ (z : Seated P E). z.0.scans) was.me_is ∙ calm
-      ]
-
   pub searched-calm : (count : ℕ) (old new : Seat (Option P) (View P E)) → IsMissedBelow board count old new → IsCalm old.me → IsCalm new.me
-  searched-calm zero old new missed calm = ap (λ (z : Seated P E). z.0.scans) missed ∙ calm
-  searched-calm (suc b) old new missed calm =
-      missed-calm b missed.0 new missed.2 (searched-calm b old missed.0 missed.1 calm)
+  searched-calm count old new missed calm =
+      missed-all-same board (λ (z : Seated P E). z.0.scans) (λ i word z. refl) count old new missed ∙ calm
 
   module _ (b : Block) (old new : Seat (Option P) (View P E)) (found : IsFound board b old new) where
     pub found-calm : IsCalm old.me → IsCalm new.me

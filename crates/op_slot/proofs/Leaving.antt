@@ -94,8 +94,8 @@ pub record GoesOn {P E O : Type 0} (cargo : Ghosts P E O) (f : Frame O) (x : Nam
 module _ {P E O : Type 0} (cargo : Ghosts P E O) (f : Frame O) (x : Name) (m : Seated P E) (held : Held E) (kid : ℕ → Option P) (calm : IsCalm m) (empty : (n : ℕ) → is_child f.tree x.node n ≡ true → kid n ≡ None) where
   -- with such an item in its home the hand can leave it at rest
   pub tends-rests : (item : P) → Tends f x held (Some item) kid m → GoesOn cargo f x m held item → cargo.least item ≤ held.named →
-      CanRest cargo f m x
-  tends-rests item has on bound =
+      cargo.rests item x.node → CanRest cargo f m x
+  tends-rests item has on bound rests =
       record {
         leave = leaves f x m held (Some item) kid has calm empty;
         item = item;
@@ -104,6 +104,7 @@ module _ {P E O : Type 0} (cargo : Ghosts P E O) (f : Frame O) (x : Name) (m : S
         fit = on.fit;
         goes_on = on.goes_on;
         bound = bound;
+        rests = rests;
       }
 
   -- or await children that it has read as not begun
@@ -156,12 +157,12 @@ module _ {P E O : Type 0} (cargo : Ghosts P E O) (f : Frame O) (x : Name) (m : S
       none-full : (a : P) → Some None ≡ Some (Some a) → ⊥
       none-full a e = cc
 
-module _ {P E O : Type 0} (f : Frame O) (x : Name) (m m' : Seated P E) (i : ℕ) where
-  pub rested-calm : RestsAt (aimed f x) i m m' → IsCalm m → IsCalm m'
+module _ {P E O : Type 0} (f : Frame O) (x : Name) (m m' : Seated P E) (i read left : ℕ) where
+  pub rested-calm : RestsAt (aimed f x) i read left m m' → IsCalm m → IsCalm m'
   rested-calm did calm = ap (λ (z : Seated P E). z.0.scans) did.me_is ∙ calm
 
   -- a node's children that an await named are owed
-  module _ (cargo : Ghosts P E O) (nodes : List ℕ) (did : AwaitsAt cargo (aimed f x) nodes i m m') where
+  module _ (cargo : Ghosts P E O) (nodes : List ℕ) (did : AwaitsAt cargo (aimed f x) nodes i read left m m') where
     pub awaited-calm : IsCalm m → IsCalm m'
     awaited-calm calm = ap (λ (z : Seated P E). z.0.scans) did.me_is ∙ calm
 
@@ -234,7 +235,7 @@ module _ {P E O : Type 0} (f : Frame O) (x : Name) (m m' : Seated P E) (i : ℕ)
         inside-same a b e = cc
 
   -- a node that was finished is owed its report
-  module _ (cargo : Ghosts P E O) (did : FinishedAt cargo (aimed f x) i m m') where
+  module _ (cargo : Ghosts P E O) (did : FinishedAt cargo (aimed f x) i read left m m') where
     pub finished-calm : IsCalm m → IsCalm m'
     finished-calm calm = ap (λ (z : Seated P E). z.0.scans) did.me_is ∙ calm
 
@@ -254,7 +255,7 @@ module _ {P E O : Type 0} (f : Frame O) (x : Name) (m m' : Seated P E) (i : ℕ)
         }
 
   -- a finished root can be given back, where its home was empty
-  module _ (did : RootedAt (aimed f x) i m m') where
+  module _ (did : RootedAt (aimed f x) i read left m m') where
     pub rooted-calm : IsCalm m → IsCalm m'
     rooted-calm calm = ap (λ (z : Seated P E). z.0.scans) did.me_is ∙ calm
 

@@ -14,8 +14,8 @@ use Rattle.table_rules.specs.declared.frame.Frame.{Frame}
 use Rattle.table_rules.specs.declared.view.Held.{Held}
 use Rattle.table_rules.specs.declared.view.Owed.{Owed}
 use Rattle.table_rules.specs.Named.{find_by}
-use Rattle.table_steps.specs.Begins.{Begins, IsRenewed, start_shown}
-use Rattle.table_steps.specs.Claims.{Seated, logged}
+use Rattle.table_steps.specs.Begins.{begun_as, Begins, IsRenewed, start_shown}
+use Rattle.table_steps.specs.Claims.{Seated, with_step}
 use Rattle.table_steps.specs.Finishes.{is_of_kids}
 use Rattle.table_steps.specs.Kids.{empty_slots}
 use Rattle.table_steps.specs.Readings.{above_it, says_begun, says_phase, notes_idle, IsBegunAs, IsPhaseAs}
@@ -107,13 +107,13 @@ swapped-kid {P} {E} f x n new old m m' held own kid places child did has =
 
 -- the renewal of a source changes neither the homes nor the lists by name
 renewed-same : {P E O A : Type 0} (f : Frame O) (x : Name) (m m' : Seated P E) → IsRenewed (aimed f x) m m' →
-    (g : Seated P E → A) → ((i word : ℕ) (z : Seated P E) → g (logged i word z.0, z.1) ≡ g z) → g m' ≡ g m
+    (g : Seated P E → A) → ((i read left : ℕ) (z : Seated P E) → g (with_step i read left z.0, z.1) ≡ g z) → g m' ≡ g m
 renewed-same f x m m' renewed g same_g =
     either (has_source f.tree x.node)
-    (λ t. let did = renewed.0 t in ap g did.1 ∙ same_g (index f.layout (OfSource x.block x.node)) did.0 m)
+    (λ t. let did = renewed.0 t in ap g did.did ∙ same_g (index f.layout (OfSource x.block x.node)) did.read did.left m)
     (λ no. ap g (renewed.1 no))
 
--- the entry of a node that was begun, taken, or held after a last report
+-- the entry of a node that was taken, or held after a last report
 abbrev pub held_as : {E : Type 0} → Name → List E → ℕ → Bool → Bool → Option (List ℤ) → Held E
 held_as x start named told told_children lot =
     record {
@@ -131,25 +131,25 @@ module _ {P E O : Type 0} (cargo : Ghosts P E O) (f : Frame O) (x : Name) (m m' 
   module _ (did : Begins cargo (aimed f x) m m') where
     pub begun-calm : IsCalm m → IsCalm m'
     begun-calm calm =
-        ap (λ (z : Seated P E). z.0.scans) did.began.me_is
-        ∙ renewed-same f x m did.middle did.renewed (λ (z : Seated P E). z.0.scans) (λ i word z. refl) ∙ calm
+        ap (λ (z : Seated P E). z.0.scans) did.began.did.me_is
+        ∙ renewed-same f x m did.middle did.renewed (λ (z : Seated P E). z.0.scans) (λ i read left z. refl) ∙ calm
 
     begun-slot : (slot : ℕ) → kept slot did.middle.1 ≡ kept slot m.1
-    begun-slot slot = renewed-same f x m did.middle did.renewed (λ (z : Seated P E). kept slot z.1) (λ i word z. refl)
+    begun-slot slot = renewed-same f x m did.middle did.renewed (λ (z : Seated P E). kept slot z.1) (λ i read left z. refl)
 
     -- the hand holds the node that it owed, with the start that the item in its home shows
     pub begun-tends : (owed : Owed E) (item : P) → HasPlaces f x → Owes f x owed (Some item) m →
-        Tends f x (held_as x (cargo.start item) 0 did.began.told did.began.told_children None) (Some item) (λ _. None) m'
+        Tends f x (begun_as f.tree x (cargo.start item) did.began.did.told did.began.did.told_children) (Some item) (λ _. None) m'
     begun-tends owed item places has =
-        let at = did.began in
+        let at = did.began.did in
         let slot = slot_of f.layout x in
         let kids = kids_of f.tree x.node in
         let home : kept slot did.middle.1 ≡ Some (Some item) = begun-slot slot ∙ has.home in
-        let entry = held_as x (start_shown cargo (kept slot did.middle.1)) 0 at.told at.told_children None in
+        let entry = begun_as f.tree x (start_shown cargo (kept slot did.middle.1)) at.told at.told_children in
         record {
           holds = ap (λ (z : Seated P E). find_by (λ (e : Held E). e.name) z.0.held x) at.me_is
               ∙ cond-true (same x x) (Some entry) (find_by (λ (e : Held E). e.name) did.middle.0.held x) (same-refl x)
-              ∙ ap (λ h. Some (held_as x (start_shown cargo h) 0 at.told at.told_children None)) home;
+              ∙ ap (λ h. Some (begun_as f.tree x (start_shown cargo h) at.told at.told_children)) home;
           own = ap (λ (z : Seated P E). kept slot z.1) at.me_is
               ∙ kept-beside f.layout x.block kids did.middle.1 slot (not-of-kids f x places) ∙ home;
           kids = λ n child.
@@ -162,17 +162,17 @@ module _ {P E O : Type 0} (cargo : Ghosts P E O) (f : Frame O) (x : Name) (m m' 
         is_of_kids f.tree f.layout x (slot_of f.layout y) ≡ false → Owes f y owed inside m → Owes f y owed inside m'
     begun-beside y owed inside other apart has =
         record {
-          owes = ap (λ (z : Seated P E). find_by (λ (e : Owed E). e.name) z.0.owed y) did.began.me_is
+          owes = ap (λ (z : Seated P E). find_by (λ (e : Owed E). e.name) z.0.owed y) did.began.did.me_is
               ∙ find-without (λ (e : Owed E). e.name) did.middle.0.owed x y other
-              ∙ renewed-same f x m did.middle did.renewed (λ (z : Seated P E). find_by (λ (e : Owed E). e.name) z.0.owed y) (λ i word z. refl)
+              ∙ renewed-same f x m did.middle did.renewed (λ (z : Seated P E). find_by (λ (e : Owed E). e.name) z.0.owed y) (λ i read left z. refl)
               ∙ has.owes;
-          home = ap (λ (z : Seated P E). kept (slot_of f.layout y) z.1) did.began.me_is
+          home = ap (λ (z : Seated P E). kept (slot_of f.layout y) z.1) did.began.did.me_is
               ∙ kept-beside f.layout x.block (kids_of f.tree x.node) did.middle.1 (slot_of f.layout y) apart
               ∙ begun-slot (slot_of f.layout y) ∙ has.home;
         }
 
   -- the hand holds the node that it took
-  module _ (overs : List O) (i word : ℕ) (did : TakenAt cargo (aimed f x) overs i word m m') where
+  module _ (overs : List O) (i read left : ℕ) (did : TakenAt cargo (aimed f x) overs i read left m m') where
     pub taken-calm : IsCalm m → IsCalm m'
     taken-calm calm = ap (λ (z : Seated P E). z.0.scans) did.me_is ∙ calm
 
@@ -195,7 +195,7 @@ module _ {P E O : Type 0} (cargo : Ghosts P E O) (f : Frame O) (x : Name) (m m' 
         }
 
   -- the hand holds the node whose child it reported as the last
-  module _ (child : Name) (overs : List O) (i word : ℕ) (did : LastAt cargo (aimed f x) child overs i word m m') where
+  module _ (child : Name) (overs : List O) (i read left : ℕ) (did : LastAt cargo (aimed f x) child overs i read left m m') where
     pub last-calm : IsCalm m → IsCalm m'
     last-calm calm = ap (λ (z : Seated P E). z.0.scans) did.me_is ∙ calm
 

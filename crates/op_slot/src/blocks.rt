@@ -2,7 +2,7 @@
 ghost use Rattle.std.specs.Prelude.{◌<◌};
 ghost use Rattle.table_steps.specs.Views.{IsHandOf, IsSameHand};
 ghost use Rattle.table_steps.specs.Releases.{CanReleaseBlock, StayEmpty};
-ghost use Rattle.table_steps.specs.Steps.{Released, LeftGivenBack, LeftAllEmpty};
+ghost use Rattle.table_steps.specs.Steps.{Released, LeftAllEmpty};
 ghost use Rattle.op_slot.specs.Searches.{IsSearched};
 
 use op_table::{Block, Cargo, Hand, OpTable};
@@ -29,9 +29,9 @@ pub fn claim_any<P: Cargo>(table: &OpTable<P>, hand: &mut Hand<P>) -> Option<Blo
 /// Gives the block back. It is free at the next generation then, or retired where the generation
 /// was 4,294,967,295.
 ///
-/// Step: one store of the block's word, open to free or to retired.
+/// Step: one swap of the block's word, open to free or to retired.
 /// Needs: the hand has the finished root, and its home, which is empty.
-/// Afterwards: the hand has the root no more, and has given its home back. The word that it wrote
+/// Afterwards: the hand has the root no more, and has given its home back. The word that it left
 /// says that the block is free, or retired. In the table that the step left all homes of the block
 /// are empty, and they stay so as long as it isn't open.
 pub fn release<P: Cargo>(table: &OpTable<P>, hand: &mut Hand<P>, block: Block)
@@ -41,7 +41,6 @@ pub fn release<P: Cargo>(table: &OpTable<P>, hand: &mut Hand<P>, block: Block)
     ensures table { IsSameHand hand.old hand.new }
     ensures hand { IsHandOf table.now hand.new }
     ensures released { Released table.now block.index block.generation hand.old hand.new }
-    ensures wrote { LeftGivenBack table.now block.index block.generation hand.old hand.new }
     ensures empty { LeftAllEmpty table.now block.index block.generation hand.new P.Cargo }
     ensures stay { StayEmpty P.Cargo table.now.frame block.index }
 {

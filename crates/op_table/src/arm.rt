@@ -1,7 +1,7 @@
 //! How a callback is registered ([stopcallback]).
 ghost use Rattle.std.specs.Prelude.{◌≡◌};
 ghost use Rattle.table_steps.specs.Views.{IsHandOf, IsSameHand, IsPlaceIn, aim_at};
-ghost use Rattle.table_steps.specs.Claims.{logged};
+ghost use Rattle.table_steps.specs.Claims.{with_step};
 ghost use Rattle.table_steps.specs.Callbacks.{CanArm, IsArmed, arms};
 
 use crate::plays::Subject;
@@ -18,14 +18,14 @@ pub struct Arms<K> {
 }
 
 impl<P, E, K: Subject> Play<Option<P>, View<P, E>> for Arms<K> {
-    ghost then = { λ step m found m'. m' ≡ (logged step.word found (arms K.aim.name m.0), m.1) };
+    ghost then = { λ step m found m'. m' ≡ (with_step step.word found step.first (arms K.aim.name m.0), m.1) };
 }
 
 impl<P: Cargo> OpTable<P> {
     /// Registers the node's callback on the node's nearest source. A request may have been made before:
     /// so a look at that source has to follow.
     ///
-    /// Step: one store of the node's callback word, never to armed.
+    /// Step: one swap of the node's callback word, never to armed.
     /// Needs: the hand holds the node, has read that its callback was never registered, and the node
     /// hears a source.
     /// Afterwards: the place is armed, and not looked after yet.
@@ -51,6 +51,6 @@ impl<P: Cargo> OpTable<P> {
     {
         let armed = callback_number(name.generation, CallbackPhase::Armed);
         let index = self.frame.layout.callback(name.block, name.node);
-        self.table.shared.store::<Arms<K>>(seat, index, armed);
+        self.table.store::<Arms<K>>(seat, index, armed);
     }
 }

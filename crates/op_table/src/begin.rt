@@ -14,8 +14,8 @@ use table_words::{control_number, source_number};
 impl<P: Cargo> OpTable<P> {
     /// Begins the node ([exec.opstate], `start`), with the start that the item in its home shows.
     ///
-    /// Step: one store of the node's control word, idle to held. Before it, where the node has a
-    /// stop source, one store of the source's word, which is clear, at the name's generation.
+    /// Step: one swap of the node's control word, idle to held. Before it, where the node has a
+    /// stop source, one swap of the source's word, which is clear, at the name's generation.
     /// Needs: the hand owes the start, and its home has an item, which is no completion. The start
     /// that the item shows goes on with the parent's, has the table's key, and draws the lot with
     /// which the node is owed.
@@ -55,7 +55,7 @@ impl<P: Cargo> OpTable<P> {
                 },
             );
             let index = self.frame.layout.source(name.block, name.node);
-            self.table.shared.store::<Renewals>(seat, index, clear);
+            self.table.store::<Renewals>(seat, index, clear);
         }
     }
 
@@ -72,6 +72,6 @@ impl<P: Cargo> OpTable<P> {
     {
         let held = control_number(name.generation, ControlWord::Busy(0));
         let index = self.frame.layout.control(name.block, name.node);
-        self.table.shared.store::<Beginnings<K>>(seat, index, held);
+        self.table.store::<Beginnings<K>>(seat, index, held);
     }
 }

@@ -45,7 +45,7 @@ impl<P: Cargo> OpTable<P> {
         ensures owed { IfSome result (OwesNoneIn self.now seat.old.me.0) }
     {
         let index = self.frame.layout.block(block);
-        let found = self.table.shared.load::<Looks>(seat, index);
+        let found = self.table.load::<Looks>(seat, index);
         match read_block(found).state {
             BlockState::Free => self.claim_from::<Brand>(seat, block, found),
             BlockState::Open | BlockState::Retired => None,
@@ -71,7 +71,6 @@ impl<P: Cargo> OpTable<P> {
         let index = self.frame.layout.block(block);
         let was = self
             .table
-            .shared
             .compare_exchange::<Claims<K>>(seat, index, found, open);
         if was == found {
             Some(Block {

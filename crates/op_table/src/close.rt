@@ -8,7 +8,7 @@ ghost use Rattle.common_lemmas.specs.Sums.{one};
 ghost use Rattle.table_words.specs.Layouts.{words_in};
 ghost use Rattle.table_rules.specs.ShownWords.{is_retired};
 ghost use Rattle.table_steps.specs.Views.{knows};
-ghost use Rattle.table_steps.specs.Closings.{TellsOf, AreAllBack, IsClosing, IsCountedBy, IsGathering, gathered};
+ghost use Rattle.table_steps.specs.Closings.{TellsOf, AreAllBack, IsClosing, IsCountedBy, IsGathering, IsScopeLeft, gathered, steps_of};
 
 use crate::plays::{Gathers, Knower};
 use crate::table::{Hand, OpTable, SeatOf};
@@ -81,10 +81,14 @@ impl<P: Cargo> OpTable<P> {
     /// Needs: all hands came back. None holds a node or a finished root, owes a start or a report,
     /// runs a callback, makes a scan or has an association.
     /// Afterwards: as many blocks are open still as the hands claimed and didn't give back. So
-    /// where they gave back as many as they claimed, all blocks are free or retired.
+    /// where they gave back as many as they claimed, all blocks are free or retired. The words are
+    /// as the hands' steps left them. So the scope is joined where one of them joined it, and
+    /// unused where none of them used it, and else it is in a state in which it may not end
+    /// (P3149, [exec.scope]).
     pub fn close_table(self, hands: Vec<Hand<P>>) -> Closing
         requires hands { AreAllBack self hands.items }
-        ensures closed { IsClosing P.Cargo self.frame result }
+        ensures closed { IsClosing P.Cargo self.frame hands.items result }
+        ensures scope { IsScopeLeft (steps_of hands.items) result.scope }
         ensures within { result.free + result.retired ≤ self.frame.layout.blocks }
         ensures counted { IsCountedBy self hands.items result }
     {
@@ -122,6 +126,6 @@ impl<P: Cargo> OpTable<P> {
         ensures table { all.new.table_id ≡ all.old.table_id }
         ensures counts { knows all.new ≡ gathered (knows all.old) (knows next) }
     {
-        self.table.shared.join_seat::<Gathers<K>>(all, next);
+        self.table.join::<Gathers<K>>(all, next);
     }
 }

@@ -1,7 +1,9 @@
 //! How an association with the counting scope begins (P3149, [exec.scope]).
 ghost use Rattle.std.specs.Prelude.{◌≡◌, ℕ};
 ghost use Rattle.table_steps.specs.Views.{IsHandOf, IsSameHand};
-ghost use Rattle.table_steps.specs.ScopeEntries.{MayEnter, enters_at, IsEntered};
+ghost use Rattle.table_steps.specs.Lefts.{plus_one};
+ghost use Rattle.table_steps.specs.ScopeMoves.{MovesScopeAt, with_one_more};
+ghost use Rattle.table_steps.specs.ScopeEntries.{MayEnter, enters, IsEntered};
 
 use crate::table::{Hand, OpTable, SeatOf};
 use atomic_table::Play;
@@ -25,7 +27,7 @@ pub struct Enters<K> {
 }
 
 impl<P, E, K: Room> Play<Option<P>, View<P, E>> for Enters<K> {
-    ghost then = { λ step m found m'. m' ≡ enters_at K.most step.word found m };
+    ghost then = { λ step m found m'. MovesScopeAt with_one_more (enters K.most) step.word found (plus_one found) m m' };
 }
 
 impl<P: Cargo> OpTable<P> {
@@ -54,7 +56,7 @@ impl<P: Cargo> OpTable<P> {
         ensures hand { IsHandOf self.now seat.new }
         ensures entered { IsEntered self.now result seat.old seat.new }
     {
-        let word = self.table.shared.fetch_add::<Enters<K>>(seat, SCOPE, 1);
+        let word = self.table.fetch_add::<Enters<K>>(seat, SCOPE, 1);
         read_scope(word)
     }
 }

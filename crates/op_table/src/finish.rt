@@ -15,7 +15,7 @@ impl<P: Cargo> OpTable<P> {
     /// Finishes the node, with the completion in its home ([exec.recv.concepts]). The root may be
     /// left with any home, which its hand keeps.
     ///
-    /// Step: one store of the node's control word, held to done.
+    /// Step: one swap of the node's control word, held to done.
     /// Needs: the hand holds the node, makes no scan of its source, and has read that its callback
     /// never was, ran or was removed. The homes of its children are empty. The item in its home
     /// asks for no more children than the last await named. Below the root it is a completion that
@@ -46,6 +46,6 @@ impl<P: Cargo> OpTable<P> {
     {
         let done = control_number(name.generation, ControlWord::Done);
         let index = self.frame.layout.control(name.block, name.node);
-        self.table.shared.store::<Finishes<K>>(seat, index, done);
+        self.table.store::<Finishes<K>>(seat, index, done);
     }
 }

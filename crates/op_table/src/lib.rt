@@ -1,6 +1,7 @@
 //! The running table: operations' words, homes and hands, sound between any two atomic steps.
 //!
-//! It stands on atomic_table, whose steps it makes, on table_rules, whose `Running` is its rule,
+//! It stands on listed_steps, by which it makes its steps and which lists each of them with what it
+//! read and left, on table_rules, whose `Traced` is its rule,
 //! and on the laws of the pure machine. Many threads work on one table, each by a `Hand` of its
 //! own; no step takes memory or a lock, and none waits.
 //!
@@ -22,8 +23,8 @@
 //!                    parked --rouse--> ready (loop)
 //!
 //! `claim`, `take`, `take_parked` and `rouse` are exchanges, and lose where the word changed first.
-//! `report` is a fetch_sub, by the hand that owes it. The rest are stores, by the one hand that
-//! owes the start or holds the node.
+//! `report` is a fetch_sub, by the hand that owes it. The rest are swaps, by the one hand that
+//! owes the start or holds the node: the list of its steps says what they found.
 //!
 //! # The life of a stop request and of a callback
 //!

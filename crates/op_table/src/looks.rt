@@ -39,7 +39,7 @@ impl<P: Cargo> OpTable<P> {
         ensures read { IsRead self.now block node result seat.old seat.new }
     {
         let index = self.frame.layout.control(block, node);
-        self.table.shared.load::<Looks>(seat, index)
+        self.table.load::<Looks>(seat, index)
     }
 
     /// The node's name at the generation of the word that was read, where that word says that the

@@ -4,11 +4,12 @@ ghost use Rattle.life_rules.specs.declared.limits.TheConstants.{MOST_BLOCKS, MOS
 ghost use Rattle.table_rules.specs.declared.frame.TheConstants.{MOST_ASSOCIATIONS};
 ghost use Rattle.table_rules.specs.Named.{Each};
 ghost use Rattle.table_steps.specs.Views.{IsHandOf, AreFreshHands, IsOpenedOver};
+ghost use Rattle.table_steps.specs.Openings.{StaysAsOpened};
 ghost use Rattle.table_steps.specs.Remembers.{OwesAndRunsNone};
 
 use crate::plays::NextHand;
 use crate::table::{Hand, OpTable, SeatOf};
-use atomic_table::Table;
+use listed_steps::StepTable;
 use name_set::NameSet;
 use node_tree::{ScopeKind, Tree};
 use std::alloc::{AllocError, Global};
@@ -20,6 +21,8 @@ use table_words::Layout;
 impl<P: Cargo> OpTable<P> {
     /// A table with all blocks free at generation 0, empty homes and an unused scope, and its hands
     /// in the order of their numbers. It fails only for want of memory.
+    ///
+    /// Afterwards: the hands have made no step, and the table is so as long as they make none.
     pub fn open(
         alloc: Global,
         tree: &Tree,
@@ -34,6 +37,7 @@ impl<P: Cargo> OpTable<P> {
         requires most { (1 ≤ most) × (most ≤ MOST_ASSOCIATIONS) }
         ensures opened { IfOk result (λ t. IsOpenedOver t.0 tree.now over.now blocks hands kind most) }
         ensures hands { IfOk result (λ t. AreFreshHands t.0 hands t.1.items) }
+        ensures vacant { IfOk result (λ t. StaysAsOpened P.Cargo t.0.frame t.1.items) }
     {
         let layout = Layout {
             blocks,
@@ -48,7 +52,7 @@ impl<P: Cargo> OpTable<P> {
             over: Snapshot::of(over),
         };
         let words = vec![in alloc; 0u64; layout.words()]?;
-        let (table, first) = Table::vacant(alloc, &words, layout.places(), &frame)?;
+        let (table, first) = StepTable::vacant(alloc, &words, layout.places(), &frame)?;
         let Frame {
             tree,
             layout,
@@ -83,7 +87,7 @@ impl<P: Cargo> OpTable<P> {
         let mut all = Vec::with_capacity(alloc, self.frame.hands as usize)?;
         all.push(first)?;
         for _number in 1..self.frame.hands {
-            let next = self.table.shared.split_seat::<NextHand>(&mut all[0]);
+            let next = self.table.split::<NextHand>(&mut all[0]);
             all.push(next)?;
         }
         Ok(all)

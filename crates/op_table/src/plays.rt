@@ -1,5 +1,6 @@
 //! What each step tells its hand. These types are for the proofs alone.
 ghost use Rattle.std.specs.Prelude.{◌≡◌, List, [], ℕ, Option, None};
+ghost use Rattle.node_tree.specs.declared.node.TreeNode.{TreeNode};
 ghost use Rattle.life_rules.specs.declared.event.Name.{Name};
 ghost use Rattle.life_rules.specs.declared.event.SourceRef.{SourceRef};
 ghost use Rattle.life_rules.specs.declared.event.SourceRef.TheVariants.{Scope};
@@ -7,7 +8,7 @@ ghost use Rattle.table_rules.specs.declared.frame.Frame.{Frame};
 ghost use Rattle.table_steps.specs.Views.{fresh, split_once, fresh_after};
 ghost use Rattle.table_steps.specs.Closings.{gathered, spent};
 ghost use Rattle.table_steps.specs.Slots.{Aim};
-ghost use Rattle.table_steps.specs.Claims.{LeftAt, looks, claims};
+ghost use Rattle.table_steps.specs.Claims.{looks, claims};
 ghost use Rattle.table_steps.specs.Begins.{Renews, BeginsAt};
 ghost use Rattle.table_steps.specs.Rests.{RestsAt};
 ghost use Rattle.table_steps.specs.Takes.{TakesAt};
@@ -90,7 +91,7 @@ impl<P, E, K: Subject> Play<Option<P>, View<P, E>> for Claims<K> {
 pub struct Renewals;
 
 impl<P, E> Play<Option<P>, View<P, E>> for Renewals {
-    ghost then = { λ step m found m'. Renews step.word found m m' };
+    ghost then = { λ step m found m'. Renews step.word found step.first m m' };
 }
 
 /// The store by which a node is begun.
@@ -99,7 +100,7 @@ pub struct Beginnings<K> {
 }
 
 impl<P: Cargo, K: Subject> Play<Option<P>, View<P, P::Entry>> for Beginnings<K> {
-    ghost then = { λ step m found m'. BeginsAt P.Cargo K.aim step.word m m' };
+    ghost then = { λ step m found m'. BeginsAt P.Cargo K.aim step.word found step.first m m' };
 }
 
 /// The store by which a node is left at rest.
@@ -108,7 +109,7 @@ pub struct Rests<K> {
 }
 
 impl<P, E, K: Subject> Play<Option<P>, View<P, E>> for Rests<K> {
-    ghost then = { λ step m found m'. RestsAt K.aim step.word m m' × LeftAt step.word found m m' };
+    ghost then = { λ step m found m'. RestsAt K.aim step.word found step.first m m' };
 }
 
 /// What the table was opened over. A call picks it.
@@ -136,7 +137,7 @@ pub struct Finishes<K> {
 }
 
 impl<P: Cargo, K: Subject> Play<Option<P>, View<P, P::Entry>> for Finishes<K> {
-    ghost then = { λ step m found m'. FinishesAt P.Cargo K.aim step.word m m' };
+    ghost then = { λ step m found m'. FinishesAt P.Cargo K.aim step.word found step.first m m' };
 }
 
 /// The children that an await names. A call picks them.
@@ -155,7 +156,7 @@ pub struct Awaits<K, J> {
 }
 
 impl<P: Cargo, K: Subject, J: Naming> Play<Option<P>, View<P, P::Entry>> for Awaits<K, J> {
-    ghost then = { λ step m found m'. AwaitsAt P.Cargo K.aim J.names step.word m m' };
+    ghost then = { λ step m found m'. AwaitsAt P.Cargo K.aim J.names step.word found step.first m m' };
 }
 
 /// The load of a child's control word, by the hand that holds its parent.
@@ -177,14 +178,19 @@ impl<P, E, K: Subject> Play<Option<P>, View<P, E>> for ReadsPhase<K> {
     ghost then = { λ step m found m'. m' ≡ reads_phase K.aim.name step.word found m };
 }
 
-/// The source that a look is at, and the place after whose arming it is. A call picks them.
+/// The tree of the table, the source that a look is at, and the place after whose arming it is. A
+/// call picks them.
 pub trait Regard {
+    ghost tree: { List TreeNode };
+
     ghost source: { SourceRef };
 
     ghost after: { Option Name };
 }
 
 impl Regard for Brand {
+    ghost tree = { [] };
+
     ghost source = { Scope };
 
     ghost after = { None };
@@ -196,7 +202,7 @@ pub struct Sights<K> {
 }
 
 impl<P, E, K: Regard> Play<Option<P>, View<P, E>> for Sights<K> {
-    ghost then = { λ step m found m'. LooksAt K.source K.after step.word found m m' };
+    ghost then = { λ step m found m'. LooksAt K.tree K.source K.after step.word found m m' };
 }
 
 /// The subtraction by which a child is reported to its parent.
@@ -231,5 +237,5 @@ pub struct Releases<K, J> {
 }
 
 impl<P: Cargo, K: Subject, J: Site<P::Over>> Play<Option<P>, View<P, P::Entry>> for Releases<K, J> {
-    ghost then = { λ step m found m'. TellsRelease P.Cargo J.frames J.hand K.aim step.word found m m' };
+    ghost then = { λ step m found m'. TellsRelease P.Cargo J.frames J.hand K.aim step.word found step.first m m' };
 }

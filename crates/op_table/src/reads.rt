@@ -64,7 +64,7 @@ impl<P: Cargo> OpTable<P> {
         ensures begun { IsBegunAs self.now.frame child result seat.old.me seat.new.me }
     {
         let index = self.frame.layout.control(child.block, child.node);
-        let word = self.table.shared.load::<ReadsChild<K, J>>(seat, index);
+        let word = self.table.load::<ReadsChild<K, J>>(seat, index);
         says_begun(child.generation, word)
     }
 
@@ -94,7 +94,7 @@ impl<P: Cargo> OpTable<P> {
         ensures phase { IsPhaseAs self.now.frame name result seat.old.me seat.new.me }
     {
         let index = self.frame.layout.callback(name.block, name.node);
-        let word = self.table.shared.load::<ReadsPhase<K>>(seat, index);
+        let word = self.table.load::<ReadsPhase<K>>(seat, index);
         says_phase(name.generation, word)
     }
 }

@@ -3,7 +3,7 @@ ghost use Rattle.std.specs.Prelude.{◌≡◌, ◌<◌, [], ◌∷◌};
 ghost use Rattle.table_steps.specs.Views.{IsHandOf, IsSameHand, aim_at};
 ghost use Rattle.table_steps.specs.Claims.{root_name};
 ghost use Rattle.table_steps.specs.Releases.{CanReleaseBlock, StayEmpty, word_after};
-ghost use Rattle.table_steps.specs.Steps.{Released, LeftGivenBack, LeftAllEmpty};
+ghost use Rattle.table_steps.specs.Steps.{Released, LeftAllEmpty};
 
 use crate::plays::{Releases, Site, Subject};
 use crate::table::{Hand, OpTable, SeatOf};
@@ -34,7 +34,7 @@ fn word_after(generation: u32) -> BlockWord
 impl<P: Cargo> OpTable<P> {
     /// Gives the block back: nothing touches it any more, and all its homes are empty.
     ///
-    /// Step: one store of the block's word, open to free at the next generation, or to retired
+    /// Step: one swap of the block's word, open to free at the next generation, or to retired
     /// after the last.
     /// Needs: the hand has the finished root, and its home, which is empty.
     /// Afterwards: the hand has the root no more, and has given its home back. The word that it
@@ -48,7 +48,6 @@ impl<P: Cargo> OpTable<P> {
         ensures table { IsSameHand hand.old hand.new }
         ensures hand { IsHandOf self.now hand.new }
         ensures released { Released self.now block.index block.generation hand.old hand.new }
-        ensures wrote { LeftGivenBack self.now block.index block.generation hand.old hand.new }
         ensures empty { LeftAllEmpty self.now block.index block.generation hand.new P.Cargo }
         ensures stay { StayEmpty P.Cargo self.now.frame block.index }
     {
@@ -65,12 +64,11 @@ impl<P: Cargo> OpTable<P> {
         ensures table { IsSameHand seat.old seat.new }
         ensures hand { IsHandOf self.now seat.new }
         ensures released { Released self.now block.index block.generation seat.old seat.new }
-        ensures wrote { LeftGivenBack self.now block.index block.generation seat.old seat.new }
         ensures empty { LeftAllEmpty self.now block.index block.generation seat.new P.Cargo }
         ensures stay { StayEmpty P.Cargo self.now.frame block.index }
     {
         let free = block_number(word_after(block.generation));
         let index = self.frame.layout.block(block.index);
-        self.table.shared.store::<Releases<K, J>>(seat, index, free);
+        self.table.store::<Releases<K, J>>(seat, index, free);
     }
 }

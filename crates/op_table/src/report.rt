@@ -97,10 +97,7 @@ impl<P: Cargo> OpTable<P> {
         words_are_exact();
         let parent = self.above(child);
         let index = self.frame.layout.control(parent.block, parent.node);
-        let word = self
-            .table
-            .shared
-            .fetch_sub::<Reports<K, J, L>>(seat, index, 1);
+        let word = self.table.fetch_sub::<Reports<K, J, L>>(seat, index, 1);
         report_of(word)
     }
 }

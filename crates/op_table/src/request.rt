@@ -1,8 +1,8 @@
 //! How a stop is requested ([stopsource], `request_stop`).
-ghost use Rattle.std.specs.Prelude.{◌≡◌};
+ghost use Rattle.std.specs.Prelude.{◌≡◌, bit_or};
 ghost use Rattle.table_steps.specs.Views.{IsHandOf, IsSameHand};
 ghost use Rattle.table_steps.specs.Sights.{IsSourceIn};
-ghost use Rattle.table_steps.specs.Requests.{mask, asks_at, IsWordOf, MayRequest, IsAsked};
+ghost use Rattle.table_steps.specs.Requests.{mask, AsksAt, MayRequest, IsAsked};
 
 use crate::plays::Regard;
 use crate::sight::source_index;
@@ -19,7 +19,7 @@ pub struct Asks<K> {
 }
 
 impl<P, E, K: Regard> Play<Option<P>, View<P, E>> for Asks<K> {
-    ghost then = { λ step m found m'. (m' ≡ asks_at K.source step.word found m) × IsWordOf K.source found };
+    ghost then = { λ step m found m'. AsksAt K.source step.word found (bit_or found step.first) m m' };
 }
 
 // The bits that a request sets: requested, and with a failure failed too.
@@ -41,14 +41,15 @@ impl<P: Cargo> OpTable<P> {
     /// node's callback, or holds the node, whose children were never awaited, and has seen that
     /// request. The scope's source hand 0 requests, where the scope is a counting one. A hand that has
     /// seen the request on a source that can't go away under it may request again: nothing changes.
-    /// Afterwards: the request is seen.
+    /// Afterwards: the request is seen. One that the hand has seen before, on a source that can't go
+    /// away under it, was found there: the answer says that it was made already.
     pub fn request_step(&self, hand: &mut Hand<P>, source: SourceRef, failure: bool) -> Bits
         requires table { IsHandOf self.now hand.old }
         requires source { IsSourceIn self.now source }
         requires needs { MayRequest P.Cargo self.now.frame hand.old.me.0 source failure }
         ensures table { IsSameHand hand.old hand.new }
         ensures hand { IsHandOf self.now hand.new }
-        ensures asked { IsAsked self.now source result hand.old hand.new }
+        ensures asked { IsAsked self.now source failure result hand.old hand.new }
     {
         self.request_at::<Brand>(&mut hand.seat, source, failure)
     }
@@ -60,13 +61,10 @@ impl<P: Cargo> OpTable<P> {
         requires source_is { K.source ≡ source }
         ensures table { IsSameHand seat.old seat.new }
         ensures hand { IsHandOf self.now seat.new }
-        ensures asked { IsAsked self.now source result seat.old seat.new }
+        ensures asked { IsAsked self.now source failure result seat.old seat.new }
     {
         let index = source_index(&self.frame.layout, source);
-        let word = self
-            .table
-            .shared
-            .fetch_or::<Asks<K>>(seat, index, mask(failure));
+        let word = self.table.fetch_or::<Asks<K>>(seat, index, mask(failure));
         read_source(word)
     }
 }

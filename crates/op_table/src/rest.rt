@@ -4,7 +4,7 @@ ghost use Rattle.life_rules.specs.Words.{resting_at};
 ghost use Rattle.life_rules.specs.declared.event.Resting.TheVariants.{Parked};
 ghost use Rattle.table_steps.specs.Views.{IsHandOf, IsSameHand, IsPlaceIn, aim_at};
 ghost use Rattle.table_steps.specs.Rests.{CanRest};
-ghost use Rattle.table_steps.specs.Steps.{Rested, LeftResting};
+ghost use Rattle.table_steps.specs.Steps.{Rested};
 ghost use Rattle.table_steps.specs.Takes.{resting_in, MayServe, IsTaken};
 
 use crate::plays::{Keyed, Rests, Subject, Takes};
@@ -40,20 +40,19 @@ impl<P: Cargo> OpTable<P> {
     /// Leaves the node ready in the context, with the item in its home ([exec.schd], where the work
     /// goes on from there).
     ///
-    /// Step: one store of the node's control word, held to ready.
+    /// Step: one swap of the node's control word, held to ready.
     /// Needs: the hand holds the node, and makes no scan of its source. The item in its home shows
     /// the node's start, fits, is no completion, and asks for no more children than the last await
     /// named. The homes of its children are empty.
     /// Afterwards: the hand holds the node no more, and has given its home and its children's back.
-    /// The word that it wrote says that the node is ready there.
+    /// The word that it left says that the node is ready there.
     pub fn rest(&self, hand: &mut Hand<P>, name: Name, on: Context)
         requires table { IsHandOf self.now hand.old }
         requires place { IsPlaceIn self.now name }
         requires needs { CanRest P.Cargo self.now.frame hand.old.me name }
         ensures table { IsSameHand hand.old hand.new }
         ensures hand { IsHandOf self.now hand.new }
-        ensures rests { Rested self.now name hand.old hand.new }
-        ensures wrote { LeftResting self.now name hand.old hand.new (resting_in on) }
+        ensures rests { Rested self.now name hand.old hand.new (resting_in on) }
     {
         self.rest_at::<Brand>(&mut hand.seat, name, rests_in(on));
     }
@@ -61,15 +60,14 @@ impl<P: Cargo> OpTable<P> {
     /// Leaves the node parked, until it is roused or hand 0 takes it. What is said of `rest` is
     /// said of this.
     ///
-    /// Step: one store of the node's control word, held to parked, which is the word that it wrote.
+    /// Step: one swap of the node's control word, held to parked, which is the word that it left.
     pub fn park(&self, hand: &mut Hand<P>, name: Name)
         requires table { IsHandOf self.now hand.old }
         requires place { IsPlaceIn self.now name }
         requires needs { CanRest P.Cargo self.now.frame hand.old.me name }
         ensures table { IsSameHand hand.old hand.new }
         ensures hand { IsHandOf self.now hand.new }
-        ensures rests { Rested self.now name hand.old hand.new }
-        ensures wrote { LeftResting self.now name hand.old hand.new Parked }
+        ensures rests { Rested self.now name hand.old hand.new Parked }
     {
         self.rest_at::<Brand>(&mut hand.seat, name, Resting::Parked);
     }
@@ -82,12 +80,11 @@ impl<P: Cargo> OpTable<P> {
         requires subject { K.aim ≡ aim_at self.now name }
         ensures table { IsSameHand seat.old seat.new }
         ensures hand { IsHandOf self.now seat.new }
-        ensures rests { Rested self.now name seat.old seat.new }
-        ensures wrote { LeftResting self.now name seat.old seat.new to }
+        ensures rests { Rested self.now name seat.old seat.new to }
     {
         let rests = control_number(name.generation, word_at(to));
         let index = self.frame.layout.control(name.block, name.node);
-        self.table.shared.store::<Rests<K>>(seat, index, rests);
+        self.table.store::<Rests<K>>(seat, index, rests);
     }
 
     /// Takes the node that is ready in the context. False exactly where the word that was read said
@@ -146,7 +143,6 @@ impl<P: Cargo> OpTable<P> {
         let index = self.frame.layout.control(name.block, name.node);
         let was = self
             .table
-            .shared
             .compare_exchange::<Takes<K, J>>(seat, index, rests, held);
         was == rests
     }

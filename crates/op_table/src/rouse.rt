@@ -1,12 +1,19 @@
 //! How a parked node is woken.
 ghost use Rattle.table_steps.specs.Views.{IsHandOf, IsSameHand, IsPlaceIn};
-ghost use Rattle.table_steps.specs.Rouses.{MayRouse, IsRoused};
+ghost use Rattle.table_steps.specs.Rouses.{MayRouse, IsRoused, rouses};
 
-use crate::plays::Looks;
 use crate::table::{Hand, OpTable, SeatOf};
+use atomic_table::Play;
 use life_rules::{ControlWord, Name};
-use table_rules::Cargo;
+use table_rules::{Cargo, View};
 use table_words::control_number;
+
+/// The exchange by which a node is woken.
+pub struct Rouses;
+
+impl<P, E> Play<Option<P>, View<P, E>> for Rouses {
+    ghost then = { rouses };
+}
 
 impl<P: Cargo> OpTable<P> {
     /// Wakes the parked node, which is ready in the loop then. False exactly where the word that was read
@@ -15,7 +22,8 @@ impl<P: Cargo> OpTable<P> {
     /// Step: one exchange of the node's control word, parked to ready in the loop. It loses where the
     /// word changed first. A store would overwrite the word of a node that was taken meanwhile.
     /// Needs: the hand runs the node's callback, or is hand 0.
-    /// Afterwards: the hand knows what it knew.
+    /// Afterwards: where it won, the word that it left says that the node is ready in the loop. The
+    /// hand knows what it knew.
     pub fn rouse(&self, hand: &mut Hand<P>, name: Name) -> bool
         requires table { IsHandOf self.now hand.old }
         requires place { IsPlaceIn self.now name }
@@ -40,8 +48,7 @@ impl<P: Cargo> OpTable<P> {
         let index = self.frame.layout.control(name.block, name.node);
         let was = self
             .table
-            .shared
-            .compare_exchange::<Looks>(seat, index, parked, ready);
+            .compare_exchange::<Rouses>(seat, index, parked, ready);
         was == parked
     }
 }

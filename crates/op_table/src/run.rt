@@ -89,7 +89,7 @@ impl<P: Cargo> OpTable<P> {
         ensures run { IsRun self.now source block node result seat.old seat.new }
     {
         let index = self.frame.layout.callback(block, node);
-        let word = self.table.shared.load::<Meets<K, J>>(seat, index);
+        let word = self.table.load::<Meets<K, J>>(seat, index);
         if says_armed(word) {
             self.run_from::<K, J>(seat, source, block, node, word)
         } else {
@@ -123,7 +123,6 @@ impl<P: Cargo> OpTable<P> {
         let index = self.frame.layout.callback(block, node);
         let was = self
             .table
-            .shared
             .compare_exchange::<RunsPlace<K, J>>(seat, index, word, running);
         if was == word {
             Some(Name {

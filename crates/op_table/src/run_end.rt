@@ -1,7 +1,7 @@
 //! How a callback's run ends, also by a removal from inside it ([stopcallback]).
 ghost use Rattle.std.specs.Prelude.{◌≡◌};
 ghost use Rattle.table_steps.specs.Views.{IsHandOf, IsSameHand, IsPlaceIn, aim_at};
-ghost use Rattle.table_steps.specs.Claims.{logged};
+ghost use Rattle.table_steps.specs.Claims.{with_step};
 ghost use Rattle.table_steps.specs.RunEnds.{ends_run, removes_own, CanEndRun, CanWithdrawOwn, IsRunEnded, IsOwnWithdrawn};
 
 use crate::plays::Subject;
@@ -18,7 +18,7 @@ pub struct EndsRun<K> {
 }
 
 impl<P, E, K: Subject> Play<Option<P>, View<P, E>> for EndsRun<K> {
-    ghost then = { λ step m found m'. m' ≡ (logged step.word found (ends_run K.aim.tree K.aim.name m.0), m.1) };
+    ghost then = { λ step m found m'. m' ≡ (with_step step.word found step.first (ends_run K.aim.tree K.aim.name m.0), m.1) };
 }
 
 /// The store by which a callback is removed from inside it.
@@ -27,13 +27,13 @@ pub struct RemovesOwn<K> {
 }
 
 impl<P, E, K: Subject> Play<Option<P>, View<P, E>> for RemovesOwn<K> {
-    ghost then = { λ step m found m'. m' ≡ (logged step.word found (removes_own K.aim.tree K.aim.name m.0), m.1) };
+    ghost then = { λ step m found m'. m' ≡ (with_step step.word found step.first (removes_own K.aim.tree K.aim.name m.0), m.1) };
 }
 
 impl<P: Cargo> OpTable<P> {
     /// Ends the run of the place's callback.
     ///
-    /// Step: one store of the callback word, running to ran.
+    /// Step: one swap of the callback word, running to ran.
     /// Needs: the hand runs the place, and makes no scan of the node's own source.
     /// Afterwards: the hand no longer runs it, and its scan has passed the place.
     pub fn end_run_step(&self, hand: &mut Hand<P>, name: Name)
@@ -59,12 +59,12 @@ impl<P: Cargo> OpTable<P> {
     {
         let ran = callback_number(name.generation, CallbackPhase::Ran);
         let index = self.frame.layout.callback(name.block, name.node);
-        self.table.shared.store::<EndsRun<K>>(seat, index, ran);
+        self.table.store::<EndsRun<K>>(seat, index, ran);
     }
 
     /// Removes the node's callback from inside it, which ends the run.
     ///
-    /// Step: one store of the callback word, running to removed.
+    /// Step: one swap of the callback word, running to removed.
     /// Needs: the hand runs the place and holds the node, and makes no scan of the node's own source.
     /// Afterwards: the hand no longer runs it, its scan has passed the place, and it has noted that the
     /// callback was removed.
@@ -91,8 +91,6 @@ impl<P: Cargo> OpTable<P> {
     {
         let removed = callback_number(name.generation, CallbackPhase::Removed);
         let index = self.frame.layout.callback(name.block, name.node);
-        self.table
-            .shared
-            .store::<RemovesOwn<K>>(seat, index, removed);
+        self.table.store::<RemovesOwn<K>>(seat, index, removed);
     }
 }

@@ -1,7 +1,7 @@
 //! How a scan of a stop source ends.
-ghost use Rattle.std.specs.Prelude.{◌≡◌};
+ghost use Rattle.std.specs.Prelude.{◌≡◌, bit_or};
 ghost use Rattle.table_steps.specs.Views.{IsHandOf, IsSameHand};
-ghost use Rattle.table_steps.specs.Claims.{logged};
+ghost use Rattle.table_steps.specs.Claims.{with_step};
 ghost use Rattle.table_steps.specs.Sights.{IsSourceIn};
 ghost use Rattle.table_steps.specs.ScanSeals.{seals_scan, CanSealScan, IsScanSealed};
 
@@ -22,7 +22,7 @@ pub struct SealsScan<K> {
 }
 
 impl<P, E, K: Regard> Play<Option<P>, View<P, E>> for SealsScan<K> {
-    ghost then = { λ step m found m'. m' ≡ (logged step.word found (seals_scan K.source m.0), m.1) };
+    ghost then = { λ step m found m'. m' ≡ (with_step step.word found (bit_or found step.first) (seals_scan K.source m.0), m.1) };
 }
 
 impl<P: Cargo> OpTable<P> {
@@ -52,9 +52,6 @@ impl<P: Cargo> OpTable<P> {
         ensures sealed { IsScanSealed self.now source seat.old seat.new }
     {
         let index = source_index(&self.frame.layout, source);
-        let _word = self
-            .table
-            .shared
-            .fetch_or::<SealsScan<K>>(seat, index, SCANNED);
+        let _word = self.table.fetch_or::<SealsScan<K>>(seat, index, SCANNED);
     }
 }

@@ -5,12 +5,13 @@
 //!
 //! Each bit of the scope's word is set once and never cleared. An exchange seals a scope that joins and
 //! whose count came to 0.
-ghost use Rattle.std.specs.Prelude.{◌≡◌, ◌≢◌, true, MatchResult};
+ghost use Rattle.std.specs.Prelude.{◌≡◌, ◌≢◌, true, bit_or, MatchResult};
 ghost use Rattle.life_rules.specs.Scopes.{may_seal};
 ghost use Rattle.table_words.specs.ScopeNumbers.{scope_read};
 ghost use Rattle.table_steps.specs.Views.{IsHandOf, IsSameHand};
-ghost use Rattle.table_steps.specs.Claims.{logged};
-ghost use Rattle.table_steps.specs.ScopeMoves.{IsMaking, MayLeaveScope, makes, leaves_scope, ReadsScope, IsMade, SealsAt, IsSealedAs};
+ghost use Rattle.table_steps.specs.Claims.{exchanged};
+ghost use Rattle.table_steps.specs.Lefts.{less_one};
+ghost use Rattle.table_steps.specs.ScopeMoves.{IsMaking, MayLeaveScope, makes, leaves_scope, as_used, with_one_less, MovesScopeAt, MovesScope, IsMade, SealsAt, IsSealedAs};
 
 use crate::table::{Hand, OpTable, SeatOf};
 use atomic_table::Play;
@@ -25,21 +26,21 @@ const USED: u64 = 1 << 32;
 pub struct Makes;
 
 impl<P, E> Play<Option<P>, View<P, E>> for Makes {
-    ghost then = { λ step m found m'. m' ≡ (logged step.word found (makes m.0), m.1) };
+    ghost then = { λ step m found m'. MovesScopeAt as_used (λ _. makes) step.word found (bit_or found step.first) m m' };
 }
 
 /// The step by which an association is left.
 pub struct Leaves;
 
 impl<P, E> Play<Option<P>, View<P, E>> for Leaves {
-    ghost then = { λ step m found m'. m' ≡ (logged step.word found (leaves_scope m.0), m.1) };
+    ghost then = { λ step m found m'. MovesScopeAt with_one_less (λ _. leaves_scope) step.word found (less_one found) m m' };
 }
 
 /// The exchange by which the scope is sealed.
 pub struct Seals;
 
 impl<P, E> Play<Option<P>, View<P, E>> for Seals {
-    ghost then = { λ step m found m'. SealsAt step.word found m m' };
+    ghost then = { λ step m found m'. SealsAt step.word found (exchanged step found) m m' };
 }
 
 // The word that was read, where it isn't the old one.
@@ -76,7 +77,7 @@ impl<P: Cargo> OpTable<P> {
         ensures hand { IsHandOf self.now seat.new }
         ensures made { IsMade seat.old seat.new }
     {
-        let _word = self.table.shared.fetch_or::<Makes>(seat, SCOPE, USED);
+        let _word = self.table.fetch_or::<Makes>(seat, SCOPE, USED);
     }
 
     /// Leaves the scope, and tells the word that was read. An association that is being refused goes
@@ -90,7 +91,7 @@ impl<P: Cargo> OpTable<P> {
         requires leaves { MayLeaveScope hand.old.me.0 }
         ensures table { IsSameHand hand.old hand.new }
         ensures hand { IsHandOf self.now hand.new }
-        ensures left { ReadsScope leaves_scope result hand.old hand.new }
+        ensures left { MovesScope with_one_less leaves_scope result hand.old hand.new }
     {
         self.leave_at(&mut hand.seat)
     }
@@ -100,9 +101,9 @@ impl<P: Cargo> OpTable<P> {
         requires leaves { MayLeaveScope seat.old.me.0 }
         ensures table { IsSameHand seat.old seat.new }
         ensures hand { IsHandOf self.now seat.new }
-        ensures left { ReadsScope leaves_scope result seat.old seat.new }
+        ensures left { MovesScope with_one_less leaves_scope result seat.old seat.new }
     {
-        let word = self.table.shared.fetch_sub::<Leaves>(seat, SCOPE, 1);
+        let word = self.table.fetch_sub::<Leaves>(seat, SCOPE, 1);
         read_scope(word)
     }
 
@@ -138,10 +139,7 @@ impl<P: Cargo> OpTable<P> {
             joined: true,
             count: expected.count,
         });
-        let word = self
-            .table
-            .shared
-            .compare_exchange::<Seals>(seat, SCOPE, old, new);
+        let word = self.table.compare_exchange::<Seals>(seat, SCOPE, old, new);
         sealed_as(word, old)
     }
 }

@@ -16,7 +16,7 @@ impl<P: Cargo> OpTable<P> {
         requires table { IsHandOf self.now hand.old }
         ensures table { IsSameHand hand.old hand.new }
         ensures hand { IsHandOf self.now hand.new }
-        ensures read { ReadsScope (λ v. v) result hand.old hand.new }
+        ensures read { ReadsScope result hand.old hand.new }
     {
         self.scope_at(&mut hand.seat)
     }
@@ -25,9 +25,9 @@ impl<P: Cargo> OpTable<P> {
         requires table { IsHandOf self.now seat.old }
         ensures table { IsSameHand seat.old seat.new }
         ensures hand { IsHandOf self.now seat.new }
-        ensures read { ReadsScope (λ v. v) result seat.old seat.new }
+        ensures read { ReadsScope result seat.old seat.new }
     {
-        let word = self.table.shared.load::<Looks>(seat, SCOPE);
+        let word = self.table.load::<Looks>(seat, SCOPE);
         read_scope(word)
     }
 }

@@ -4,7 +4,7 @@
 //! that it set: each word of the scope that it reads afterwards has it.
 ghost use Rattle.std.specs.Prelude.{◌≡◌, bit_or};
 ghost use Rattle.table_steps.specs.Views.{IsHandOf, IsSameHand};
-ghost use Rattle.table_steps.specs.Claims.{logged};
+ghost use Rattle.table_steps.specs.Claims.{with_step};
 ghost use Rattle.table_steps.specs.ScopeSets.{SetsScope, closing, joining};
 
 use crate::table::{Hand, OpTable, SeatOf};
@@ -19,11 +19,11 @@ const CLOSED: u64 = 1 << 33;
 /// Someone waits for the last association to be left.
 const JOINING: u64 = 1 << 34;
 
-/// A step that sets bits, and lists the word that it read, and then the one that it left.
+/// A step that sets bits, and tells nothing but that.
 pub struct Sets;
 
 impl<P, E> Play<Option<P>, View<P, E>> for Sets {
-    ghost then = { λ step m found m'. m' ≡ (logged step.word (bit_or found step.first) (logged step.word found m.0), m.1) };
+    ghost then = { λ step m found m'. m' ≡ (with_step step.word found (bit_or found step.first) m.0, m.1) };
 }
 
 impl<P: Cargo> OpTable<P> {
@@ -45,7 +45,7 @@ impl<P: Cargo> OpTable<P> {
         ensures hand { IsHandOf self.now seat.new }
         ensures closed { SetsScope closing result seat.old seat.new }
     {
-        let word = self.table.shared.fetch_or::<Sets>(seat, SCOPE, CLOSED);
+        let word = self.table.fetch_or::<Sets>(seat, SCOPE, CLOSED);
         read_scope(word)
     }
 
@@ -67,7 +67,7 @@ impl<P: Cargo> OpTable<P> {
         ensures hand { IsHandOf self.now seat.new }
         ensures joins { SetsScope joining result seat.old seat.new }
     {
-        let word = self.table.shared.fetch_or::<Sets>(seat, SCOPE, JOINING);
+        let word = self.table.fetch_or::<Sets>(seat, SCOPE, JOINING);
         read_scope(word)
     }
 }

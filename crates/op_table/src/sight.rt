@@ -5,7 +5,7 @@ ghost use Rattle.life_rules.specs.declared.limits.TheConstants.{MOST_BLOCKS};
 ghost use Rattle.life_rules.specs.declared.event.SourceRef.TheVariants.{Scope};
 ghost use Rattle.table_words.specs.Layouts.{IsSpot, index, words_in};
 ghost use Rattle.table_steps.specs.Views.{IsHandOf, IsSameHand};
-ghost use Rattle.table_steps.specs.Sights.{spot_of, says_requested, IsSourceIn, MayLookAfter, IsLookedAt, StillAsked};
+ghost use Rattle.table_steps.specs.Sights.{spot_of, says_requested, IsSourceIn, MayLookAfter, IsLookedAt, StillAsked, AgreesWithTold};
 
 use crate::plays::{Regard, Sights};
 use crate::table::{Hand, OpTable, SeatOf};
@@ -48,7 +48,8 @@ impl<P: Cargo> OpTable<P> {
     /// after it yet, and the place's callback is registered on this source.
     /// Afterwards: the place is looked after. A request that was read is seen, and was read after
     /// the place was armed. One that was seen before still stands: the answer is true, where the
-    /// source can't go away under the hand.
+    /// source can't go away under the hand. So does one that the hand was told of when it came to
+    /// hold a node that hears the source, or whose children hear it.
     pub fn look_step(&self, hand: &mut Hand<P>, source: SourceRef, after: Option<Name>) -> bool
         requires table { IsHandOf self.now hand.old }
         requires source { IsSourceIn self.now source }
@@ -57,6 +58,7 @@ impl<P: Cargo> OpTable<P> {
         ensures hand { IsHandOf self.now hand.new }
         ensures looked { IsLookedAt self.now source after result hand.old hand.new }
         ensures stands { StillAsked hand.old.me.0 source result }
+        ensures told { AgreesWithTold self.now.frame.tree hand.old.me.0 source result }
     {
         self.look_after::<Brand>(&mut hand.seat, source, after)
     }
@@ -70,15 +72,17 @@ impl<P: Cargo> OpTable<P> {
         requires table { IsHandOf self.now seat.old }
         requires source { IsSourceIn self.now source }
         requires after { MayLookAfter self.now.frame.tree seat.old.me.0 source after }
+        requires tree_is { K.tree ≡ self.now.frame.tree }
         requires source_is { K.source ≡ source }
         requires after_is { K.after ≡ after }
         ensures table { IsSameHand seat.old seat.new }
         ensures hand { IsHandOf self.now seat.new }
         ensures looked { IsLookedAt self.now source after result seat.old seat.new }
         ensures stands { StillAsked seat.old.me.0 source result }
+        ensures told { AgreesWithTold self.now.frame.tree seat.old.me.0 source result }
     {
         let index = source_index(&self.frame.layout, source);
-        let word = self.table.shared.load::<Sights<K>>(seat, index);
+        let word = self.table.load::<Sights<K>>(seat, index);
         says_requested(source, word)
     }
 }

@@ -68,7 +68,7 @@ impl<P: Cargo> OpTable<P> {
         ensures skipped { IsSkipped self.now first.block result seat.old seat.new }
     {
         let index = self.frame.layout.block(first.block);
-        let word = self.table.shared.load::<Skips<K>>(seat, index);
+        let word = self.table.load::<Skips<K>>(seat, index);
         says_free(word)
     }
 }

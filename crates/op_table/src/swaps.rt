@@ -40,7 +40,7 @@ impl<P: Cargo> OpTable<P> {
     {
         let index = self.frame.layout.control(name.block, name.node);
         let slot = self.frame.layout.place(name.block, name.node);
-        self.table.shared.load::<Turns<K>>(seat, index);
-        self.table.shared.exchange(seat, slot, item)
+        self.table.load::<Turns<K>>(seat, index);
+        self.table.exchange(seat, slot, item)
     }
 }

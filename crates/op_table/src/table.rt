@@ -1,7 +1,7 @@
 //! The table and its hands.
-use atomic_table::{Seat, Table, TableRule};
+use atomic_table::TableRule;
+use listed_steps::StepTable;
 use name_set::NameSet;
-use std::alloc::Global;
 use std::marker::{Model, PhantomData};
 use table_rules::{Cargo, Frame, View};
 use table_steps::Shape;
@@ -12,16 +12,16 @@ pub struct Ruled<P> {
 }
 
 impl<P: Cargo> TableRule<Option<P>, View<P, P::Entry>, Frame<P::Over>> for Ruled<P> {
-    ghost use Rattle.table_rules.specs.Running.{Running};
+    ghost use Rattle.table_rules.specs.Traces.{Traced};
     ghost use Rattle.table_steps.specs.Views.{fresh};
 
-    ghost holds = { λ frame. Running P.Cargo frame };
+    ghost holds = { λ frame. Traced P.Cargo frame };
 
     ghost first = { λ _. fresh 0 };
 }
 
 /// What one thread knows and holds of a table. It has no bytes.
-pub(crate) type SeatOf<P> = Seat<Option<P>, View<P, <P as Cargo>::Entry>>;
+pub(crate) type SeatOf<P> = listed_steps::Hand<Option<P>, View<P, <P as Cargo>::Entry>>;
 
 /// One of the hands that work on a table. Contracts see its seat: what it knows and holds.
 #[derive(Drop)]
@@ -49,12 +49,11 @@ impl<P: Cargo> Model for Hand<P> {
 /// A table of operations. Threads share it, and step on it each by its own hand.
 #[derive(Drop)]
 pub struct OpTable<P: Cargo> {
-    pub(crate) table: Table<
+    pub(crate) table: StepTable<
         Option<P>,
         View<P, <P as Cargo>::Entry>,
         Frame<<P as Cargo>::Over>,
         Ruled<P>,
-        Global,
     >,
     pub(crate) frame: Shape,
 }
@@ -67,7 +66,7 @@ impl<P: Cargo> Model for OpTable<P> {
 
     ghost Value = { Board P.Over };
 
-    ghost view = { λ t. record { table_id = t.table.shared.table_id; frame = frame_of t.frame t.table.shared.key } };
+    ghost view = { λ t. record { table_id = t.table.table_id; frame = frame_of t.frame t.table.key } };
 
-    ghost invariant = { λ t. (t.table.shared.key ≡ frame_of t.frame t.table.shared.key) × IsShape t.frame × (t.table.shared.table_id.words ≡ words_in t.frame.layout) × (t.table.shared.table_id.slots ≡ places_in t.frame.layout) };
+    ghost invariant = { λ t. (t.table.key ≡ frame_of t.frame t.table.key) × IsShape t.frame × (t.table.table_id.words ≡ words_in t.frame.layout) × (t.table.table_id.slots ≡ places_in t.frame.layout) };
 }

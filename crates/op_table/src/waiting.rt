@@ -15,7 +15,7 @@ use table_words::control_number;
 impl<P: Cargo> OpTable<P> {
     /// Leaves the node, with the item in its home, until all of these children have reported.
     ///
-    /// Step: one store of the node's control word, held to busy with so many pending.
+    /// Step: one swap of the node's control word, held to busy with so many pending.
     /// Needs: the hand holds the node, makes no scan of its source, and has read that the children,
     /// different ones and at least one, haven't begun. The item in the node's home shows the node's
     /// start, fits, is no completion, and asks for no more children than are named. The homes of
@@ -50,6 +50,6 @@ impl<P: Cargo> OpTable<P> {
         let index = self.frame.layout.control(name.block, name.node);
         let pending = children.len() as u32;
         let busy = control_number(name.generation, ControlWord::Busy(pending));
-        self.table.shared.store::<Awaits<K, J>>(seat, index, busy);
+        self.table.store::<Awaits<K, J>>(seat, index, busy);
     }
 }

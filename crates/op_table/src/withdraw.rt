@@ -29,7 +29,8 @@ impl<P: Cargo> OpTable<P> {
     /// that another hand runs be taken for one that never ran.
     /// Needs: the hand holds the node, has read that its callback was registered, and doesn't run it.
     /// Afterwards: the hand has noted the phase. After Running or Ran it has seen the request on the
-    /// source that the node hears.
+    /// source that the node hears. Hand 0 alone runs callbacks on the scope's source, so it doesn't
+    /// answer Running there.
     pub fn withdraw_step(&self, hand: &mut Hand<P>, name: Name) -> CallbackPhase
         requires table { IsHandOf self.now hand.old }
         requires place { IsPlaceIn self.now name }
@@ -55,7 +56,6 @@ impl<P: Cargo> OpTable<P> {
         let index = self.frame.layout.callback(name.block, name.node);
         let was = self
             .table
-            .shared
             .compare_exchange::<Withdraws<K>>(seat, index, armed, removed);
         says_phase(name.generation, was)
     }

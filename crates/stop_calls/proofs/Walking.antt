@@ -13,7 +13,8 @@ use Rattle.common_lemmas.proofs.Bool.{either}
 use Rattle.atomic_table.specs.declared.shared.Seat.{Seat}
 use Rattle.table_rules.specs.declared.view.View.{View}
 use Rattle.table_rules.specs.declared.view.Scanning.{Scanning}
-use Rattle.table_rules.specs.declared.view.Seen.{Seen}
+use Rattle.listed_steps.specs.declared.seen.Seen.{Seen}
+use Rattle.listed_steps.specs.Lists.{entry}
 use Rattle.table_rules.specs.ShownViews.{scan_in}
 use Rattle.table_steps.specs.Views.{Board}
 use Rattle.table_steps.specs.Claims.{Seated, logged, word_index}
@@ -150,8 +151,8 @@ module _ {P E O : Type 0} (board : Board O) (before : Scan) (old : Seat (Option 
           count = suc w.count;
           passed = (read, now, w.passed, inr (inl (block, e)));
           at = w.at;
-          steps = record { index = i; word = told.word } ∷ w.steps;
-          me_is = looked (λ l. record { index = i; word = told.word } ∷ l) new
+          steps = entry i told.word told.word ∷ w.steps;
+          me_is = looked (λ l. entry i told.word told.word ∷ l) new
               (told.me_is ∙ ap (λ (v : View P E). (logged i told.word v, now.me.1)) (cond-false (says_free told.word) (skips tree block now.me.0) now.me.0 (sym told.answer_is)));
           first = w.first;
           began = w.began;
@@ -218,7 +219,7 @@ module _ {P E O : Type 0} (board : Board O) (before : Scan) (old : Seat (Option 
       passes-block read' new p =
           let told = p.reads.told in
           let i : ℕ = word_index board place.block in
-          let lists = λ (l : List Seen). record { index = i; word = told.word } ∷ l in
+          let lists = λ (l : List Seen). entry i told.word told.word ∷ l in
           let next_row : place.block * length tree + length tree ≤ (place.block + 1) * length tree = row_fits place.block (length tree) (place.block + 1) (length tree) (omega arith) (omega arith) in
           record {
             source_is = w.source_is;
@@ -244,7 +245,7 @@ module _ {P E O : Type 0} (board : Board O) (before : Scan) (old : Seat (Option 
           IsWalking (record { source = scan.source; block = place.block; node = place.node + 1 }) read new
       passes-place new none may told =
           let i : ℕ = run_index board place.block place.node in
-          let lists = λ (l : List Seen). record { index = i; word = told.last } ∷ listed i told.words l in
+          let lists = λ (l : List Seen). entry i told.last told.last ∷ listed i told.words l in
           let inside = n.node in
           record {
             source_is = w.source_is;
@@ -281,8 +282,7 @@ module _ {P E O : Type 0} (board : Board O) (before : Scan) (old : Seat (Option 
           let i : ℕ = run_index board place.block place.node in
           let name : Name = node_named place.block place.node (last_of told.word told.tries) in
           let behind : place.block * length tree + (place.node + 1) ≡ place.block * length tree + place.node + 1 = omega arith in
-          let entry : Seen = record { index = i; word = last_of told.word told.tries } in
-          let lists = λ (l : List Seen). entry ∷ listed i (told.word ∷ told.tries) l in
+          let lists = λ (l : List Seen). entry i (last_of told.word told.tries) told.left ∷ listed i (told.word ∷ told.tries) l in
           subst (λ (y : Name). IsFound board before old new after y) (sym told.name_is)
           (record {
             count = w.count;

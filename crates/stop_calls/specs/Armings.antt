@@ -10,7 +10,8 @@ use Rattle.atomic_table.specs.declared.shared.Seat.{Seat}
 use Rattle.table_rules.specs.declared.view.View.{View}
 use Rattle.table_steps.specs.Views.{Board}
 use Rattle.table_steps.specs.Callbacks.{IsArmed}
-use Rattle.table_steps.specs.Sights.{IsLookedAt}
+use Rattle.table_rules.specs.ShownViews.{has_source_ref}
+use Rattle.table_steps.specs.Sights.{AgreesWithTold, IsLookedAt}
 use Rattle.stop_calls.specs.declared.arming.Armed.{Armed}
 use Rattle.stop_calls.specs.declared.arming.Armed.TheVariants.{Quiet, Asked}
 
@@ -31,3 +32,5 @@ pub record IsArmedSo {P E O : Type 0} (board : Board O) (x : Name) (answer : Arm
   pub source : SourceRef
   pub nearest_is : source_for x (nearest board.frame.tree x.node) ≡ Some source
   pub looked : IsLookedAt board source (Some x) (is_asked answer) middle new
+  pub stands : has_source_ref old.me.0.seen source ≡ true → is_asked answer ≡ true
+  pub told : AgreesWithTold board.frame.tree old.me.0 source (is_asked answer)

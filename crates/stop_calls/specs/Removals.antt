@@ -12,6 +12,7 @@ use Rattle.table_rules.specs.Named.{find_by}
 use Rattle.table_rules.specs.ShownViews.{scan_in}
 use Rattle.table_steps.specs.Views.{Board}
 use Rattle.table_steps.specs.Remembers.{running}
+use Rattle.table_steps.specs.Hearings.{UnderScope}
 use Rattle.table_steps.specs.Callbacks.{is_registered, IsWithdrawn}
 use Rattle.table_steps.specs.RunEnds.{IsRunEnded, IsOwnWithdrawn}
 use Rattle.stop_calls.specs.declared.removing.Withdrawn.{Withdrawn}
@@ -68,9 +69,10 @@ module _ {P E O : Type 0} (board : Board O) (x : Name) where
   Waits (suc count) old new =
       (middle : Seat (Option P) (View P E)) × Waits count old middle × IsTried board x middle new Running
 
-  -- and then one that found none
+  -- and then one that found none. Hand 0 doesn't wait under the scope, whose callbacks no other hand runs
   pub record IsSettled (old new : Seat (Option P) (View P E)) (answer : Settled) : Type 0 where
     pub count : ℕ
     pub middle : Seat (Option P) (View P E)
     pub waited : Waits count old middle
     pub last : IsLastTry board x middle new answer
+    pub at_once : UnderScope board.frame.tree old.me.0 x (count ≡ 0)

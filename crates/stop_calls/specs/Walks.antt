@@ -5,7 +5,7 @@ use Rattle.life_rules.specs.declared.event.SourceRef.{SourceRef}
 use Rattle.life_rules.specs.declared.event.SourceRef.TheVariants.{Scope, Node}
 use Rattle.atomic_table.specs.declared.shared.Seat.{Seat}
 use Rattle.table_rules.specs.declared.view.View.{View}
-use Rattle.table_rules.specs.declared.view.Seen.{Seen}
+use Rattle.listed_steps.specs.declared.seen.Seen.{Seen}
 use Rattle.table_steps.specs.Views.{Board}
 use Rattle.table_steps.specs.Runs.{CanRun, HasPassed, HasRun}
 use Rattle.table_steps.specs.RunEnds.{passes_to, number_of}

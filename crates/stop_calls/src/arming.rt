@@ -5,7 +5,7 @@ ghost use Rattle.node_tree.specs.Tree.{nearest};
 ghost use Rattle.life_rules.specs.States.{source_for};
 ghost use Rattle.table_steps.specs.Views.{IsHandOf, IsSameHand, IsPlaceIn};
 ghost use Rattle.table_steps.specs.Callbacks.{CanArm};
-ghost use Rattle.table_steps.specs.Sights.{IsSourceIn, IsLookedAt, StillAsked};
+ghost use Rattle.table_steps.specs.Sights.{IsSourceIn, IsLookedAt, StillAsked, AgreesWithTold};
 ghost use Rattle.stop_calls.specs.Armings.{IsSourceAt, IsArmedSo};
 
 use life_rules::{Name, SourceRef};
@@ -22,7 +22,9 @@ pub enum Armed {
 }
 
 /// Whether a stop is requested on the source: the bit of the word that was read. A request is never
-/// taken back: true for a hand that has seen it, while the source can't go away under the hand.
+/// taken back: true for a hand that has seen it, while the source can't go away under the hand, and
+/// for one that was told of it when it came to hold a node that hears the source, or whose children
+/// hear it.
 ///
 /// Step: one load of the source's word.
 /// Needs: a source of the table.
@@ -34,6 +36,7 @@ pub fn stop_requested<P: Cargo>(table: &OpTable<P>, hand: &mut Hand<P>, source: 
     ensures hand { IsHandOf table.now hand.new }
     ensures looked { IsLookedAt table.now source None result hand.old hand.new }
     ensures stands { StillAsked hand.old.me.0 source result }
+    ensures told { AgreesWithTold table.now.frame.tree hand.old.me.0 source result }
 {
     table.look_step(hand, source, None)
 }
@@ -61,7 +64,8 @@ fn source_above(tree: &Tree, node: Name) -> Option<SourceRef>
 /// Step: one store of the node's callback word, never to armed; then one load of the source's word.
 /// Needs: the hand holds the node, has read that its callback was never registered, and the node
 /// hears a source.
-/// Afterwards: the place is armed, and looked after.
+/// Afterwards: the place is armed, and looked after. A request on that source that the hand had seen,
+/// or was told of when it came to hold a node, still stands.
 pub fn arm<P: Cargo>(table: &OpTable<P>, hand: &mut Hand<P>, node: Name) -> Armed
     requires table { IsHandOf table.now hand.old }
     requires place { IsPlaceIn table.now node }

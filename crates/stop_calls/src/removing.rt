@@ -1,5 +1,8 @@
 //! How a callback is removed ([stopcallback.inplace.cons], the destructor).
+ghost use Rattle.std.specs.Prelude.{◌≢◌};
+ghost use Rattle.table_steps.specs.Hearings.{UnderScope};
 ghost use Rattle.table_steps.specs.Views.{IsHandOf, IsSameHand, IsPlaceIn};
+ghost use Rattle.stop_calls.specs.declared.removing.Withdrawn.TheVariants.{Running};
 ghost use Rattle.stop_calls.specs.Removals.{MayWithdraw, IsTried, IsSettled};
 
 use life_rules::{CallbackPhase, Name};
@@ -39,7 +42,8 @@ pub enum Settled {
 /// one store, running to removed.
 /// Needs: the hand holds the node, and has read that its callback was registered. From inside: it
 /// makes no scan of the node's own source.
-/// Afterwards: but for Running, the callback doesn't run, and never will.
+/// Afterwards: but for Running, the callback doesn't run, and never will. Hand 0 doesn't answer
+/// Running under the scope, whose callbacks no other hand runs.
 pub fn try_withdraw<P: Cargo>(table: &OpTable<P>, hand: &mut Hand<P>, node: Name) -> Withdrawn
     requires table { IsHandOf table.now hand.old }
     requires place { IsPlaceIn table.now node }
@@ -47,6 +51,7 @@ pub fn try_withdraw<P: Cargo>(table: &OpTable<P>, hand: &mut Hand<P>, node: Name
     ensures table { IsSameHand hand.old hand.new }
     ensures hand { IsHandOf table.now hand.new }
     ensures tried { IsTried table.now node hand.old hand.new result }
+    ensures scope { UnderScope table.now.frame.tree hand.old.me.0 node (result ≢ Running) }
 {
     if table.runs(hand, node) {
         table.withdraw_own_step(hand, node);
@@ -65,7 +70,7 @@ pub fn try_withdraw<P: Cargo>(table: &OpTable<P>, hand: &mut Hand<P>, node: Name
 ///
 /// Step: those of `try_withdraw`, as long as the answer is Running.
 /// Needs: as `try_withdraw`.
-/// Afterwards: the callback doesn't run, and never will.
+/// Afterwards: the callback doesn't run, and never will. Under the scope hand 0 has tried once.
 pub fn withdraw<P: Cargo, R: Wait>(
     rt: &R,
     table: &OpTable<P>,

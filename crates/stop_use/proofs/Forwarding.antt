@@ -38,7 +38,7 @@ use Rattle.stop_use.proofs.Reasons.{stop-within, stop-at}
 use Rattle.stop_use.proofs.Nesting.{scan_at, first-found, first-passes, found-heard, found-runs, found-scans, over-runs, over-scans}
 
 -- a request that is made gives a scan
-module _ (board : Board (Unit {0})) (y : Name) (is : IsNode board y) (has : has_source board.frame.tree y.node ≡ true) (m m1 : Seated Item ℕ) (above : AreAbove y.node m.0.scans) (unrun : NoneHears board.frame.tree (Node y) m.0.runs) (i word : ℕ) (clear : (source_read word).requested ≡ false) (me_is : m1 ≡ asks_at (Node y) i word m) where
+module _ (board : Board (Unit {0})) (y : Name) (is : IsNode board y) (has : has_source board.frame.tree y.node ≡ true) (m m1 : Seated Item ℕ) (above : AreAbove y.node m.0.scans) (unrun : NoneHears board.frame.tree (Node y) m.0.runs) (i word left : ℕ) (clear : (source_read word).requested ≡ false) (me_is : m1 ≡ asks_at (Node y) i word left m) where
   made-scans : m1.0.scans ≡ scan_at y 0 ∷ m.0.scans
   made-scans =
       ap (λ (z : Seated Item ℕ). z.0.scans) me_is
@@ -93,7 +93,7 @@ module _ (board : Board (Unit {0})) (x : Name) (is : IsNode board x) (two : x.no
   branch-scans old new inside scan r =
       let low : x.node < 3 = omega (arith, two) in
       made board x is branch-source old.me new.me (subst (AreAbove x.node) (sym inside.scans) (low, tt))
-      (subst (NoneHears board.frame.tree (Node x)) (sym inside.runs) (branch-deaf, tt)) _ r.word r.answer_is.0 r.me_is scan r.answer_is.1
+      (subst (NoneHears board.frame.tree (Node x)) (sym inside.runs) (branch-deaf, tt)) _ r.word r.left r.answer_is.0 r.me_is scan r.answer_is.1
 
   -- what runs then is the twig's
   pub twig-is : (y : Name) (source : SourceRef) → source ≡ Node x → Hears board.frame.tree source y → y ≡ beside x 1
@@ -194,19 +194,19 @@ root-source : (board : Board (Unit {0})) (root : Name) → IsRoot board root →
 root-source board root is = ap (λ t. has_source t root.node) is.is_node.tree ∙ ap (has_source use_tree) is.three
 
 -- the failure that the hand tells first gives a scan of the root's source
-pub failed-outer : (board : Board (Unit {0})) (root : Name) → IsRoot board root → (m m1 : Seated Item ℕ) → IsIdle m → (i word : ℕ) →
-    (source_read word).requested ≡ false → m1 ≡ asks_at (Node root) i word m → (scan : Scan) → scan ≡ first_scan (Node root) →
+pub failed-outer : (board : Board (Unit {0})) (root : Name) → IsRoot board root → (m m1 : Seated Item ℕ) → IsIdle m → (i word left : ℕ) →
+    (source_read word).requested ≡ false → m1 ≡ asks_at (Node root) i word left m → (scan : Scan) → scan ≡ first_scan (Node root) →
     IsOuter board root scan m1
 unfolding begun
-failed-outer board root is m m1 idle i word clear me_is scan first =
+failed-outer board root is m m1 idle i word left clear me_is scan first =
     let above = subst (AreAbove root.node) (sym idle.scans) tt in
     let unrun = subst (NoneHears board.frame.tree (Node root)) (sym idle.runs) tt in
     let has = root-source board root is in
     subst (λ (s : Scan). IsOuter board root s m1) (sym first)
     (record {
-      makes = begun board root is.is_node has m m1 above unrun i word clear me_is;
+      makes = begun board root is.is_node has m m1 above unrun i word left clear me_is;
       source = refl;
-      runs = made-runs board root is.is_node has m m1 above unrun i word clear me_is ∙ idle.runs;
+      runs = made-runs board root is.is_node has m m1 above unrun i word left clear me_is ∙ idle.runs;
       alone = idle.scans;
     })
 

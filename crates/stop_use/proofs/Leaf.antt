@@ -49,18 +49,18 @@ module _ (board : Board (Unit {0})) (x : Name) (is : IsNode board x) (leaf : x.n
       tends-finishes ghosts board.frame x m3 read_held (λ _. None) (still-calm calm) (λ n child. refl) (Failed 0) Never ready
       (ap (λ p. Some p) never) refl (omega arith) started (inl (sym leaf)) tt
 
-  module _ (m4 : Seated Item ℕ) (i : ℕ) (did : FinishesAt ghosts (aimed board.frame x) i m3 m4) where
+  module _ (m4 : Seated Item ℕ) (i was done : ℕ) (did : FinishesAt ghosts (aimed board.frame x) i was done m3 m4) where
     inner : x.node < 3
     inner = omega (arith, leaf)
 
-    finished : FinishedAt ghosts (aimed board.frame x) i m3 m4
+    finished : FinishedAt ghosts (aimed board.frame x) i was done m3 m4
     finished = did.0 (node-inner board x is inner)
 
     pub has-failed : HasFailed x m4
     has-failed =
         record {
           entry = _;
-          owes = finished-owes board.frame x m3 m4 i ghosts finished;
+          owes = finished-owes board.frame x m3 m4 i was done ghosts finished;
           item = inside-same finished.item (Failed 0) (sym finished.home ∙ ready.own);
         }
 
@@ -68,7 +68,7 @@ module _ (board : Board (Unit {0})) (x : Name) (is : IsNode board x) (leaf : x.n
     failed-beside y owed inside apart owes =
         let f = board.frame in
         let low : x.node < 2 = omega (arith, leaf) in
-        finished-beside f x m3 m4 i ghosts finished y owed inside (leaf-family board x is low y apart)
+        finished-beside f x m3 m4 i was done ghosts finished y owed inside (leaf-family board x is low y apart)
         (phased-beside f x phase m2 m3 read y owed inside
         (swapped-beside f x (Some (Failed 0)) None m1 m2 put y owed inside apart
         (swapped-beside f x None out m m1 took y owed inside apart owes)))

@@ -102,4 +102,4 @@ module _ (board : Board (Unit {0})) (x : Name) (is : IsNode board x) where
   pub can-park : (m : Seated Item ℕ) → m.0.scans ≡ [] → HoldsNode board.frame x m → CanRest ghosts board.frame m x
   can-park m calm has =
       tends-rests ghosts board.frame x m has.held (λ _. None) calm (λ n child. refl) (Going x.node) has.tends
-      (record { start = sym has.start; fit = refl; goes_on = λ e. e }) (omega arith)
+      (record { start = sym has.start; fit = refl; goes_on = λ e. e }) (omega arith) tt

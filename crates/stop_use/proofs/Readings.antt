@@ -16,7 +16,8 @@ use Rattle.table_words.specs.Stamps.{stamp_of}
 use Rattle.atomic_table.specs.declared.shared.Seat.{Seat}
 use Rattle.table_rules.specs.declared.view.View.{View}
 use Rattle.table_rules.specs.declared.view.Held.{Held}
-use Rattle.table_rules.specs.declared.view.Seen.{Seen}
+use Rattle.listed_steps.specs.declared.seen.Seen.{Seen}
+use Rattle.listed_steps.specs.Lists.{entry}
 use Rattle.table_rules.specs.Named.{find_by}
 use Rattle.table_steps.specs.declared.block.Block.{Block}
 use Rattle.table_steps.specs.declared.report.Report.TheVariants.{Last}
@@ -40,15 +41,16 @@ use Rattle.stop_use.proofs.Steps.{same-longer, one-longer, longer-on, listed-lon
 
 -- what was read in a part of a call
 module _ (board : Board (Unit {0})) (spot : Spot) (says : ℕ → Type 0) where
-  pub just-read : (m m1 : Seated Item ℕ) (word : ℕ) → says word →
-      m1.0.steps ≡ record { index = index board.frame.layout spot; word = word } ∷ m.0.steps → HasJustRead board spot says m m1
-  just-read m m1 word said is =
-      record { word = word; said = said; earlier = m.0.steps; began = same-longer m.0.steps m.0.steps refl; newest = is }
+  pub just-read : (m m1 : Seated Item ℕ) (word left : ℕ) → says word →
+      m1.0.steps ≡ entry (index board.frame.layout spot) word left ∷ m.0.steps → HasJustRead board spot says m m1
+  just-read m m1 word left said is =
+      record { word = word; left = left; said = said; earlier = m.0.steps; began = same-longer m.0.steps m.0.steps refl; newest = is }
 
   pub just-within : (m m1 m2 : Seated Item ℕ) → GoesOn m m1 → HasJustRead board spot says m1 m2 → HasJustRead board spot says m m2
   just-within m m1 m2 first r =
       record {
         word = r.word;
+        left = r.left;
         said = r.said;
         earlier = r.earlier;
         began = longer-on m.0.steps m1.0.steps r.earlier first r.began;
@@ -99,7 +101,7 @@ module _ (board : Board (Unit {0})) where
       x.node,
       low,
       (
-        just-read board (OfControl x.block x.node) (λ word. says_begun x.generation word ≡ true) m m1 read.0 (sym read.1 ∙ so)
+        just-read board (OfControl x.block x.node) (λ word. says_begun x.generation word ≡ true) m m1 read.0 read.0 (sym read.1 ∙ so)
             (child-steps board x m m1 begun read),
         still-above x x m m1 begun so read has,
       ),
@@ -110,18 +112,18 @@ module _ (board : Board (Unit {0})) where
     registered-cause phase some read low = (
       x.node,
       low,
-      just-read board (OfCallback x.block x.node) (λ word. says_phase x.generation word ≢ Never) m m1 read.0 (λ never. some (read.1 ∙ never))
+      just-read board (OfCallback x.block x.node) (λ word. says_phase x.generation word ≢ Never) m m1 read.0 read.0 (λ never. some (read.1 ∙ never))
           (phase-steps board x m m1 phase read),
     )
 
     -- a request that was made before, on the source of x
-    pub requested-cause : has_source use_tree x.node ≡ true → (word : ℕ) → IsWordOf (Node x) word → (source_read word).requested ≡ true →
-        m1 ≡ asks_at (Node x) (index board.frame.layout (spot_of (Node x))) word m → IsStopCause board m m1 x Asked
-    requested-cause has word of_it asked is = (
+    pub requested-cause : has_source use_tree x.node ≡ true → (word left : ℕ) → IsWordOf (Node x) word → (source_read word).requested ≡ true →
+        m1 ≡ asks_at (Node x) (index board.frame.layout (spot_of (Node x))) word left m → IsStopCause board m m1 x Asked
+    requested-cause has word left of_it asked is = (
       x.node,
       has,
       read-now board (OfSource x.block x.node) (λ word. says_requested (Node x) word ≡ true) m m1
-          (just-read board (OfSource x.block x.node) (λ word. says_requested (Node x) word ≡ true) m m1 word
+          (just-read board (OfSource x.block x.node) (λ word. says_requested (Node x) word ≡ true) m m1 word left
           (and_from _ _ (eq-eqb (stamp_of word) x.generation of_it) asked) (ap steps_of is)),
     )
 
@@ -132,14 +134,14 @@ module _ (board : Board (Unit {0})) where
       let above = source-above board x is low did.source did.nearest_is in
       let y : Name = beside x above.0 in
       let asked : says_requested (Node y) did.looked.0 ≡ true = subst (λ s. says_requested s did.looked.0 ≡ true) above.2 (sym did.looked.1) in
-      let is_step : new.me.0.steps ≡ record { index = index board.frame.layout (OfSource y.block y.node); word = did.looked.0 } ∷ did.middle.me.0.steps =
-      ap steps_of did.looked.2 ∙ ap (λ s. record { index = index board.frame.layout (spot_of s); word = did.looked.0 } ∷ did.middle.me.0.steps) above.2 in
+      let is_step : new.me.0.steps ≡ entry (index board.frame.layout (OfSource y.block y.node)) did.looked.0 did.looked.0 ∷ did.middle.me.0.steps =
+      ap steps_of did.looked.2 ∙ ap (λ s. entry (index board.frame.layout (spot_of s)) did.looked.0 did.looked.0 ∷ did.middle.me.0.steps) above.2 in
       let armed : GoesOn old.me did.middle.me = one-longer _ old.me.0.steps did.middle.me.0.steps (ap steps_of did.armed.me_is) in (
         above.0,
         above.1,
         read-now board (OfSource y.block y.node) (λ word. says_requested (Node y) word ≡ true) old.me new.me
             (just-within board (OfSource y.block y.node) (λ word. says_requested (Node y) word ≡ true) old.me did.middle.me new.me armed
-            (just-read board (OfSource y.block y.node) (λ word. says_requested (Node y) word ≡ true) did.middle.me new.me did.looked.0 asked is_step)),
+            (just-read board (OfSource y.block y.node) (λ word. says_requested (Node y) word ≡ true) did.middle.me new.me did.looked.0 did.looked.0 asked is_step)),
       )
 
   -- the block that was claimed
@@ -147,13 +149,14 @@ module _ (board : Board (Unit {0})) where
       (m : Seated Item ℕ) → GoesOn new.me m → WasFree board old.me m x
   claimed-free b old new found x name m more =
       let claimed = found.claimed in
-      let s : Seen = record { index = word_index board b.index; word = claimed.word } in
+      let s : Seen = entry (word_index board b.index) claimed.word claimed.word in
       let l : List Seen = found.middle.me.0.steps in
       subst (λ (y : Name). WasFree board old.me m y) (sym name)
       (record {
         middle = new.me;
         read = record {
           word = claimed.word;
+          left = claimed.left;
           said = claimed.free;
           earlier = s ∷ l;
           began = longer-on old.me.0.steps l (s ∷ l) (searched-on board b.index old found.middle found.missed) (one-longer s l (s ∷ l) refl);
@@ -171,6 +174,7 @@ module _ (board : Board (Unit {0})) where
         middle = new.me;
         read = record {
           word = last_of told.word told.tries;
+          left = told.left;
           said = (sym (ap (λ (y : Name). y.generation) told.name_is), last-armed told.word told.tries told.armed told.later);
           earlier = listed (run_index board x.block x.node) words old.me.0.steps;
           began = listed-longer (run_index board x.block x.node) words old.me.0.steps;
@@ -187,6 +191,6 @@ module _ (board : Board (Unit {0})) where
       ap (above_it board.frame.tree) name
       ∙ kid-above board root is.is_node 0 (kid-of board root is.is_node 3 0 is.three refl)
       ∙ ap (beside root) is.three in
-      just-read board (OfControl root.block 3) (λ word. pending (control_read word) ≡ 1) m m1 told.0 told.1
-      (ap steps_of told.2.me_is
-      ∙ ap (λ (z : Name). record { index = index board.frame.layout (OfControl z.block z.node); word = told.0 } ∷ m.0.steps) above)
+      just-read board (OfControl root.block 3) (λ word. pending (control_read word) ≡ 1) m m1 told.0 told.1 told.3
+      (ap steps_of told.4.me_is
+      ∙ ap (λ (z : Name). entry (index board.frame.layout (OfControl z.block z.node)) told.0 told.1 ∷ m.0.steps) above)

@@ -1,5 +1,5 @@
 -- How the cause of a fault is told on by the calls around the one that found it.
-use Rattle.std.proofs.Common.{◌≡◌, inl, inr, ℕ, Result, Ok, Err, sym, ap, subst, true}
+use Rattle.std.proofs.Common.{◌≡◌, inl, inr, ℕ, Bool, Result, Ok, Err, sym, ap, subst, true}
 use Rattle.std.specs.Prelude.{Option, IfErr, IsErrAnd}
 use Rattle.life_rules.specs.declared.event.Name.{Name}
 use Rattle.life_rules.specs.declared.event.SourceRef.{SourceRef}
@@ -12,7 +12,7 @@ use Rattle.table_steps.specs.Views.{Board}
 use Rattle.table_steps.specs.Claims.{Seated}
 use Rattle.stop_calls.specs.declared.requesting.Request.TheVariants.{Made}
 use Rattle.stop_calls.specs.declared.scanning.Scan.{Scan}
-use Rattle.stop_calls.specs.Requests.{IsRequested}
+use Rattle.stop_calls.specs.Requests.{IsAskedFor}
 use Rattle.stop_use.specs.declared.cargo.Item.{Item}
 use Rattle.stop_use.specs.declared.node.Fault.{Fault}
 use Rattle.stop_use.specs.declared.node.Fault.TheVariants.{NoBlock, Begun, Registered, Asked, Moved, OtherPlace, Order}
@@ -58,6 +58,7 @@ module _ (board : Board (Unit {0})) where
           began = on m m1 u.before.me first u.began;
           first = u.first;
           scan = u.scan;
+          failure = u.failure;
           requested = u.requested;
           came = came-on u.scan u.first m2 m3 u.came more;
         },
@@ -144,21 +145,22 @@ module _ (board : Board (Unit {0})) where
       ]
   scan-then root scan old mid new more fault cause = stop-within old.me old.me mid.me new.me (stays old.me) more root fault cause
 
-  requested-on : (root : Name) (scan : Scan) (old first : Seat (Option Item) (View Item ℕ)) → IsRequested board (Node root) (Made scan) old first →
+  requested-on : (root : Name) (failure : Bool) (scan : Scan) (old first : Seat (Option Item) (View Item ℕ)) →
+      IsAskedFor board (Node root) failure (Made scan) old first →
       GoesOn old.me first.me
-  requested-on root scan old first requested = one-longer _ old.me.0.steps first.me.0.steps (ap steps_of requested.me_is)
+  requested-on root failure scan old first requested = one-longer _ old.me.0.steps first.me.0.steps (ap steps_of requested.me_is)
 
-  pub scan-stop : (root : Name) → has_source use_tree root.node ≡ true → (scan : Scan) (old first new : Seat (Option Item) (View Item ℕ)) →
-      IsRequested board (Node root) (Made scan) old first → (fault : Fault) → IsScanCause board root scan first new fault →
+  pub scan-stop : (root : Name) → has_source use_tree root.node ≡ true → (failure : Bool) (scan : Scan) (old first new : Seat (Option Item) (View Item ℕ)) →
+      IsAskedFor board (Node root) failure (Made scan) old first → (fault : Fault) → IsScanCause board root scan first new fault →
       IsStopCause board old.me new.me root fault
-  scan-stop root has scan old first new requested Moved cause =
+  scan-stop root has failure scan old first new requested Moved cause =
       elim cause [
         | inl came ↦ (
           root.node,
           has,
-          record { before = old; began = stays old.me; first = first; scan = scan; requested = requested; came = came },
+          record { before = old; began = stays old.me; first = first; scan = scan; failure = failure; requested = requested; came = came },
         )
-        | inr stop ↦ stop-within old.me first.me new.me new.me (requested-on root scan old first requested) (stays new.me) root Moved stop
+        | inr stop ↦ stop-within old.me first.me new.me new.me (requested-on root failure scan old first requested) (stays new.me) root Moved stop
       ]
-  scan-stop root has scan old first new requested fault cause =
-      stop-within old.me first.me new.me new.me (requested-on root scan old first requested) (stays new.me) root fault cause
+  scan-stop root has failure scan old first new requested fault cause =
+      stop-within old.me first.me new.me new.me (requested-on root failure scan old first requested) (stays new.me) root fault cause

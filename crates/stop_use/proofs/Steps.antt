@@ -10,7 +10,8 @@ use Rattle.node_tree.specs.Tree.{has_source}
 use Rattle.common_lemmas.proofs.Bool.{either}
 use Rattle.atomic_table.specs.declared.shared.Seat.{Seat}
 use Rattle.table_rules.specs.declared.view.View.{View}
-use Rattle.table_rules.specs.declared.view.Seen.{Seen}
+use Rattle.listed_steps.specs.declared.seen.Seen.{Seen}
+use Rattle.listed_steps.specs.Lists.{entry}
 use Rattle.table_steps.specs.Views.{Board}
 use Rattle.table_steps.specs.Awaits.{AwaitsAt}
 use Rattle.table_steps.specs.Begins.{IsRenewed, Begins}
@@ -60,7 +61,7 @@ stays m = same-longer m.0.steps m.0.steps refl
 pub listed-longer : (i : ℕ) (words : List ℕ) (l : List Seen) → IsLonger l (listed i words l)
 listed-longer i [] l = same-longer l l refl
 listed-longer i (word ∷ words) l =
-    let s : Seen = record { index = i; word = word } in
+    let s : Seen = entry i word word in
     longer-on l (s ∷ l) (listed i words (s ∷ l)) (one-longer s l (s ∷ l) refl) (listed-longer i words (s ∷ l))
 
 abbrev pub steps_of : Seated Item ℕ → List Seen
@@ -96,40 +97,40 @@ module _ (board : Board (Unit {0})) where
     renewed-on : IsRenewed (aimed board.frame x) m m1 → GoesOn m m1
     renewed-on did =
         either (has_source board.frame.tree x.node)
-        (λ t. one-longer _ m.0.steps m1.0.steps (ap steps_of (did.0 t).1))
+        (λ t. one-longer _ m.0.steps m1.0.steps (ap steps_of (did.0 t).did))
         (λ f. same-longer m.0.steps m1.0.steps (ap steps_of (did.1 f)))
 
   pub begun-on : (x : Name) (m m1 : Seated Item ℕ) → Begins ghosts (aimed board.frame x) m m1 → GoesOn m m1
   begun-on x m m1 did =
       on m did.middle m1 (renewed-on x m did.middle did.renewed)
-      (one-longer _ did.middle.0.steps m1.0.steps (ap steps_of did.began.me_is))
+      (one-longer _ did.middle.0.steps m1.0.steps (ap steps_of did.began.did.me_is))
 
   module _ (x : Name) (m m1 : Seated Item ℕ) where
     pub phase-steps : (phase : CallbackPhase) (read : IsPhaseAs board.frame x phase m m1) →
-        m1.0.steps ≡ record { index = run_index board x.block x.node; word = read.0 } ∷ m.0.steps
+        m1.0.steps ≡ entry (run_index board x.block x.node) read.0 read.0 ∷ m.0.steps
     phase-steps phase read = ap steps_of read.2
 
     pub phase-on : (phase : CallbackPhase) → IsPhaseAs board.frame x phase m m1 → GoesOn m m1
     phase-on phase read = one-longer _ m.0.steps m1.0.steps (phase-steps phase read)
 
     pub child-steps : (begun : Bool) (read : IsBegunAs board.frame x begun m m1) →
-        m1.0.steps ≡ record { index = control_index board x; word = read.0 } ∷ m.0.steps
+        m1.0.steps ≡ entry (control_index board x) read.0 read.0 ∷ m.0.steps
     child-steps begun read =
         ap steps_of read.2
-        ∙ ap (λ (l : List Seen). record { index = control_index board x; word = read.0 } ∷ l)
+        ∙ ap (λ (l : List Seen). entry (control_index board x) read.0 read.0 ∷ l)
         (idle-steps (says_begun x.generation read.0) (above_it board.frame.tree x) x.node m.0)
 
     pub child-on : (begun : Bool) → IsBegunAs board.frame x begun m m1 → GoesOn m m1
     child-on begun read = one-longer _ m.0.steps m1.0.steps (child-steps begun read)
 
-    pub awaits-on : (nodes : List ℕ) (i : ℕ) → AwaitsAt ghosts (aimed board.frame x) nodes i m m1 → GoesOn m m1
-    awaits-on nodes i did = one-longer _ m.0.steps m1.0.steps (ap steps_of did.me_is)
+    pub awaits-on : (nodes : List ℕ) (i read left : ℕ) → AwaitsAt ghosts (aimed board.frame x) nodes i read left m m1 → GoesOn m m1
+    awaits-on nodes i read left did = one-longer _ m.0.steps m1.0.steps (ap steps_of did.me_is)
 
-    pub rests-on : (i : ℕ) → RestsAt (aimed board.frame x) i m m1 → GoesOn m m1
-    rests-on i did = one-longer _ m.0.steps m1.0.steps (ap steps_of did.me_is)
+    pub rests-on : (i read left : ℕ) → RestsAt (aimed board.frame x) i read left m m1 → GoesOn m m1
+    rests-on i read left did = one-longer _ m.0.steps m1.0.steps (ap steps_of did.me_is)
 
-    pub finished-on : (i : ℕ) → FinishedAt ghosts (aimed board.frame x) i m m1 → GoesOn m m1
-    finished-on i did = one-longer _ m.0.steps m1.0.steps (ap steps_of did.me_is)
+    pub finished-on : (i read left : ℕ) → FinishedAt ghosts (aimed board.frame x) i read left m m1 → GoesOn m m1
+    finished-on i read left did = one-longer _ m.0.steps m1.0.steps (ap steps_of did.me_is)
 
   module _ (old new : Seat (Option Item) (View Item ℕ)) where
     pub armed-on : (x : Name) (answer : Armed) → IsArmedSo board x answer old new → GoesOn old.me new.me
@@ -151,7 +152,7 @@ module _ (board : Board (Unit {0})) where
     skipped-on block free told =
         one-longer _ old.me.0.steps new.me.0.steps
         (ap steps_of told.me_is
-        ∙ ap (λ (l : List Seen). record { index = word_index board block; word = told.word } ∷ l)
+        ∙ ap (λ (l : List Seen). entry (word_index board block) told.word told.word ∷ l)
         (skip-steps (says_free told.word) board.frame.tree block old.me.0))
 
     module _ (source : SourceRef) (block node : ℕ) where

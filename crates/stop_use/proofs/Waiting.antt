@@ -85,11 +85,11 @@ module _ (board : Board (Unit {0})) (x : Name) (is : IsNode board x) where
         tends-awaits ghosts board.frame x m held (λ _. None) calm (λ n child. refl) (Going x.node) nodes has
         (record { start = sym start; fit = refl; goes_on = λ e. e }) (omega arith) some different idle
 
-    pub waits-owes : (i n : ℕ) → AwaitsAt ghosts (aimed board.frame x) nodes i m m1 → is_child board.frame.tree x.node n ≡ true →
+    pub waits-owes : (i was left n : ℕ) → AwaitsAt ghosts (aimed board.frame x) nodes i was left m m1 → is_child board.frame.tree x.node n ≡ true →
         is_named nodes n ≡ true → path x.node ≡ above_of n → OwesKid board.frame x n m1
-    waits-owes i n did child named above =
+    waits-owes i was left n did child named above =
         subst (λ (s : List ℕ). Owes board.frame (beside x n) (record { name = beside x n; above = s; lot = [] }) None m1) above
-        (awaited-owes board.frame x m m1 i ghosts nodes did held (Going x.node) (λ _. None) n (node-places board x is) has child named)
+        (awaited-owes board.frame x m m1 i was left ghosts nodes did held (Going x.node) (λ _. None) n (node-places board x is) has child named)
 
 -- the branch waits for the twig
 module _ (board : Board (Unit {0})) (x : Name) (is : IsNode board x) (two : x.node ≡ 2) (m m1 m2 : Seated Item ℕ) (holds : HoldsNode board.frame x m) (calm : IsCalm m) (y : Name) (name : y ≡ beside x 1) (a : Bool) (no : a ≡ false) (read : IsBegunAs board.frame y a m m1) where
@@ -105,9 +105,9 @@ module _ (board : Board (Unit {0})) (x : Name) (is : IsNode board x) (two : x.no
       (noted-calm board x is holds.held m m1 holds.tends calm y 1 name twig-child a no read) (omega arith) refl
       (and_from _ _ (and_from _ _ twig-child refl) refl)
 
-  pub branch-owes : (i : ℕ) → AwaitsAt ghosts (aimed board.frame x) (1 ∷ []) i m1 m2 → OwesKid board.frame x 1 m2
-  branch-owes i did =
-      waits-owes board x is (record (holds.held) { idle = 1 ∷ holds.held.idle }) holds.start m1 m2 branch-tends (1 ∷ []) i 1 did
+  pub branch-owes : (i was left : ℕ) → AwaitsAt ghosts (aimed board.frame x) (1 ∷ []) i was left m1 m2 → OwesKid board.frame x 1 m2
+  branch-owes i was left did =
+      waits-owes board x is (record (holds.held) { idle = 1 ∷ holds.held.idle }) holds.start m1 m2 branch-tends (1 ∷ []) i was left 1 did
       twig-child refl (ap path two)
 
 -- the root's second child can be read after the first
@@ -144,12 +144,12 @@ module _ (board : Board (Unit {0})) (x : Name) (is : IsNode board x) (three : x.
       second) (omega arith) refl
       (and_from _ _ (and_from _ _ leaf-child refl) (and_from _ _ (and_from _ _ branch-child refl) refl))
 
-  module _ (i : ℕ) (did : AwaitsAt ghosts (aimed board.frame x) (0 ∷ 2 ∷ []) i m2 m3) where
+  module _ (i was busy : ℕ) (did : AwaitsAt ghosts (aimed board.frame x) (0 ∷ 2 ∷ []) i was busy m2 m3) where
     pub leaf-owes : OwesKid board.frame x 0 m3
-    leaf-owes = waits-owes board x is both_held holds.start m2 m3 both-tends (0 ∷ 2 ∷ []) i 0 did leaf-child refl (ap path three)
+    leaf-owes = waits-owes board x is both_held holds.start m2 m3 both-tends (0 ∷ 2 ∷ []) i was busy 0 did leaf-child refl (ap path three)
 
     pub branch-owed : OwesKid board.frame x 2 m3
-    branch-owed = waits-owes board x is both_held holds.start m2 m3 both-tends (0 ∷ 2 ∷ []) i 2 did branch-child refl (ap path three)
+    branch-owed = waits-owes board x is both_held holds.start m2 m3 both-tends (0 ∷ 2 ∷ []) i was busy 2 did branch-child refl (ap path three)
 
 -- the branch is owed while the leaf is taken to its end
 pub branch-stays : (board : Board (Unit {0})) (x : Name) (is : IsNode board x) → x.node ≡ 3 → (leaf branch : Name) → leaf ≡ beside x 0 → branch ≡ beside x 2 →

@@ -1,6 +1,6 @@
 -- Why an operation of this use isn't taken to its end: each fault rests on what words said that the hand read
 -- in the call. The list of its steps has them. An operation is named by any node of it.
-use Rattle.std.specs.Prelude.{◌≡◌, ◌≢◌, ◌⊎◌, ℕ, ◌<◌, true, List, ◌∷◌, ◌++◌, Option}
+use Rattle.std.specs.Prelude.{◌≡◌, ◌≢◌, ◌⊎◌, ℕ, ◌<◌, Bool, true, List, ◌∷◌, ◌++◌, Option}
 use Rattle.life_rules.specs.declared.words.BlockState.TheVariants.{Free}
 use Rattle.life_rules.specs.declared.words.CallbackPhase.TheVariants.{Never}
 use Rattle.life_rules.specs.declared.event.Name.{Name}
@@ -15,7 +15,8 @@ use Rattle.table_words.specs.Controls.{control_read}
 use Rattle.table_words.specs.Layouts.{Spot, OfBlock, OfControl, OfCallback, OfSource, index}
 use Rattle.atomic_table.specs.declared.shared.Seat.{Seat}
 use Rattle.table_rules.specs.declared.view.View.{View}
-use Rattle.table_rules.specs.declared.view.Seen.{Seen}
+use Rattle.listed_steps.specs.declared.seen.Seen.{Seen}
+use Rattle.listed_steps.specs.Lists.{entry}
 use Rattle.table_steps.specs.Views.{Board}
 use Rattle.table_steps.specs.Claims.{Seated}
 use Rattle.table_steps.specs.Readings.{says_begun, says_phase, HoldsAbove}
@@ -24,7 +25,7 @@ use Rattle.table_steps.specs.Sights.{says_requested}
 use Rattle.op_slot.specs.Searches.{IsMissedBelow}
 use Rattle.stop_calls.specs.declared.requesting.Request.TheVariants.{Made}
 use Rattle.stop_calls.specs.declared.scanning.Scan.{Scan}
-use Rattle.stop_calls.specs.Requests.{IsRequested}
+use Rattle.stop_calls.specs.Requests.{IsAskedFor}
 use Rattle.stop_calls.specs.Walks.{IsThrough}
 use Rattle.stop_use.specs.declared.cargo.Item.{Item}
 use Rattle.stop_use.specs.declared.node.Fault.{Fault}
@@ -40,13 +41,14 @@ pub record IsLonger (before after : List Seen) : Type 0 where
 abbrev pub GoesOn : Seated Item ℕ → Seated Item ℕ → Type 0
 GoesOn m m' = IsLonger m.0.steps m'.0.steps
 
--- it made at least one, and the newest is of the spot's word, which said so
+-- it made at least one, and the newest is of the spot's word, which it read saying so
 pub record HasJustRead (board : Board (Unit {0})) (spot : Spot) (says : ℕ → Type 0) (m m' : Seated Item ℕ) : Type 0 where
   pub word : ℕ
+  pub left : ℕ
   pub said : says word
   pub earlier : List Seen
   pub began : IsLonger m.0.steps earlier
-  pub newest : m'.0.steps ≡ record { index = index board.frame.layout spot; word = word } ∷ earlier
+  pub newest : m'.0.steps ≡ entry (index board.frame.layout spot) word left ∷ earlier
 
 -- one of them is
 pub record HasRead (board : Board (Unit {0})) (spot : Spot) (says : ℕ → Type 0) (m m' : Seated Item ℕ) : Type 0 where
@@ -67,7 +69,8 @@ pub record IsUnheard (board : Board (Unit {0})) (source : SourceRef) (m m' : Sea
   pub began : GoesOn m before.me
   pub first : Seat (Option Item) (View Item ℕ)
   pub scan : Scan
-  pub requested : IsRequested board source (Made scan) before first
+  pub failure : Bool
+  pub requested : IsAskedFor board source failure (Made scan) before first
   pub came : CameToNone board scan first m'
 
 module _ (board : Board (Unit {0})) (m m' : Seated Item ℕ) where

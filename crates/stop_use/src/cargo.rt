@@ -28,6 +28,8 @@ impl Cargo for Item {
 
     ghost least = { λ _. 0 };
 
+    ghost rests = { λ _ _. Unit {0} };
+
     ghost key = { λ _. tt };
 
     ghost lot = { λ _. [] };
@@ -36,5 +38,5 @@ impl Cargo for Item {
 
     ghost widens = { λ _ _ fits. fits };
 
-    ghost blames = { λ _ _ _ _ fits. fits };
+    ghost blames = { λ _ _ _ _ _ fits. fits };
 }

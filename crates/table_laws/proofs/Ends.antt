@@ -1,6 +1,6 @@
 -- A node that is done is over, its children ended before it, and nothing touches its block any more.
 use Rattle.std.proofs.Common.{◌≡◌, ℕ, ◌-◌, ◌≤◌, true, false, ◌&&◌, ◌||◌, ◌==◌, length, refl, sym, ap, ◌∙◌, subst, arith}
-use Rattle.std.specs.Prelude.{Option}
+use Rattle.std.specs.Prelude.{◌≢◌, Option}
 use Rattle.std.specs.Option.{option_map_or}
 use Rattle.std.proofs.lemmas.Bool.{and_parts, and_from, and_right, not-false, cond-true, cond-false, eq-eqb, lt-ltb, le-leb}
 use Rattle.life_rules.specs.declared.words.ControlWord.TheVariants.{Idle, Done}
@@ -43,12 +43,12 @@ use Rattle.table_laws.specs.Laws.{Has, IsOver, DoneIsOver, ParentsWait, Releases
 use Rattle.table_laws.proofs.Standing.{below, shows, among}
 
 -- the word of a node that rests reads so
-rest-reads : (x : Name) (from : Resting) → control_read (rest_word x from) ≡ resting_at from
+pub rest-reads : (x : Name) (from : Resting) → control_read (rest_word x from) ≡ resting_at from
 rest-reads x rest.Loop = let e : code_of (rest_word x rest.Loop) ≡ 2 = omega arith in ap control_of_code e
 rest-reads x rest.Pool = let e : code_of (rest_word x rest.Pool) ≡ 3 = omega arith in ap control_of_code e
 rest-reads x rest.Parked = let e : code_of (rest_word x rest.Parked) ≡ 4 = omega arith in ap control_of_code e
 
-rest-goes_on : (from : Resting) → is_done (resting_at from) ≡ false
+pub rest-goes_on : (from : Resting) → is_done (resting_at from) ≡ false
 rest-goes_on rest.Loop = refl
 rest-goes_on rest.Pool = refl
 rest-goes_on rest.Parked = refl
@@ -57,23 +57,20 @@ module _ {P E O : Type 0} (cargo : Ghosts P E O) (f : Frame O) (s : table.State 
   abbrev now : State
   now = shown f s
 
-  module _ (x : Name) (done : is_done (control_at now x) ≡ true) where
-    word : control_at now x ≡ Done
-    word = done-word (control_at now x) done
-
+  -- a node that isn't held, isn't owed and waits for nothing, and whose word says of no rest, is over
+  module _ (x : Name) (unheld : is_held (control_at now x) ≡ false) (unowed : (is_live now x && is_idle (control_at now x)) ≡ false) (unpending : pending (control_at now x) ≡ 0) where
     none-held : (h : ℕ) (v : View P E) → Has s h v → count_by (λ e. e.name) v.held x ≡ 0
     none-held h v at =
         let most = among cargo f s r h v at (λ u. u.holds) x in
         let fit = (r.stands.sound.owned.names x).held in
-        let none : one (is_held (control_at now x)) ≡ 0 = ap (λ w. one (is_held w)) word in
+        let none : one (is_held (control_at now x)) ≡ 0 = one-false unheld in
         omega (arith, most, fit, none)
 
     none-owed : (h : ℕ) (v : View P E) → Has s h v → count_by (λ e. e.name) v.owed x ≡ 0
     none-owed h v at =
         let most = among cargo f s r h v at (λ u. u.starts) x in
         let fit = (r.stands.sound.owned.names x).start in
-        let none : one (is_live now x && is_idle (control_at now x)) ≡ 0 =
-        one-false (and_right (is_live now x) (is_idle (control_at now x)) (ap is_idle word)) in
+        let none : one (is_live now x && is_idle (control_at now x)) ≡ 0 = one-false unowed in
         omega (arith, most, fit, none)
 
     none-reported : (h : ℕ) (v : View P E) (child : Name) → Has s h v → above_it f.tree child ≡ x → ¬ CanReport f.tree v child
@@ -83,10 +80,31 @@ module _ {P E O : Type 0} (cargo : Ghosts P E O) (f : Frame O) (s : table.State 
         let of_it : is_child f.tree can.parent child.node ≡ true =
         ap (λ o. option_map_or (λ q. q == can.parent) o false) can.parent_is ∙ eq-eqb can.parent can.parent refl in
         let most = weight-most now up child.node r.stands.sound (child-within f.tree can.parent child.node of_it) of_it in
-        let none : pending (control_at now up) ≡ 0 = ap (λ y. pending (control_at now y)) is ∙ ap pending word in
+        let none : pending (control_at now up) ≡ 0 = ap (λ y. pending (control_at now y)) is ∙ unpending in
         let owes = (found (λ e. e.name) v.reported child can.entry can.owes).counts in
         let all = among cargo f s r h v at (λ u. u.reports) child in
         absurd (omega (arith, most, none, owes, all))
+
+    pub now-over : ((from : Resting) → word_of f.layout s.words (OfControl x.block x.node) ≢ rest_word x from) → IsOver cargo f s x
+    now-over unrested =
+        record {
+          unheld = none-held;
+          unowed = none-owed;
+          begin = λ h m at can.
+              let none = none-owed h m.0 at in
+              let owes = (found (λ e. e.name) m.0.owed x can.owed can.owes).counts in
+              absurd (omega (arith, none, owes));
+          leave = λ h m at can.
+              let none = none-held h m.0 at in
+              let holds = (found (λ e. e.name) m.0.held x can.held can.holds).counts in
+              absurd (omega (arith, none, holds));
+          report = none-reported;
+          rest = unrested;
+        }
+
+  module _ (x : Name) (done : is_done (control_at now x) ≡ true) where
+    word : control_at now x ≡ Done
+    word = done-word (control_at now x) done
 
     none-rests : (from : Resting) → word_of f.layout s.words (OfControl x.block x.node) ≡ rest_word x from → ⊥
     none-rests from same =
@@ -111,20 +129,8 @@ module _ {P E O : Type 0} (cargo : Ghosts P E O) (f : Frame O) (s : table.State 
 
     done-over : IsOver cargo f s x
     done-over =
-        record {
-          unheld = none-held;
-          unowed = none-owed;
-          begin = λ h m at can.
-              let none = none-owed h m.0 at in
-              let owes = (found (λ e. e.name) m.0.owed x can.owed can.owes).counts in
-              absurd (omega (arith, none, owes));
-          leave = λ h m at can.
-              let none = none-held h m.0 at in
-              let holds = (found (λ e. e.name) m.0.held x can.held can.holds).counts in
-              absurd (omega (arith, none, holds));
-          report = none-reported;
-          rest = none-rests;
-        }
+        now-over x (ap is_held word) (and_right (is_live now x) (is_idle (control_at now x)) (ap is_idle word)) (ap pending word)
+        none-rests
 
   ended-kid : (h : ℕ) (m : Seated P E) (x : Name) (n : ℕ) → Has s h m.0 → CanEnd cargo f m x → is_child f.tree x.node n ≡ true →
       is_idle (control_at now (beside x n)) ≡ false →

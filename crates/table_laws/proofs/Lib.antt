@@ -3,3 +3,5 @@ mod Ends
 mod Listing
 mod Runs
 mod Misses
+mod Bounds
+mod Lasting

@@ -14,7 +14,8 @@ use Rattle.table_words.specs.Controls.{callback_read, callback_of_code, callback
 use Rattle.table_words.specs.Layouts.{OfCallback, IsSpot, index}
 use Rattle.atomic_table.specs.declared.shared.Seat.{Seat}
 use Rattle.table_rules.specs.declared.view.View.{View}
-use Rattle.table_rules.specs.declared.view.Seen.{Seen}
+use Rattle.listed_steps.specs.declared.seen.Seen.{Seen}
+use Rattle.listed_steps.specs.Lists.{entry}
 use Rattle.table_rules.specs.Named.{Each}
 use Rattle.table_rules.specs.ShownWords.{word_of}
 use Rattle.table_rules.specs.Grown.{HasRisen}
@@ -48,9 +49,9 @@ pub listed : {P E : Type 0} (l : Layout) (words : List ℕ) (v : View P E) (x : 
     Each (HasRisen l words) v.steps → lists_over l v x ≡ true → IsListed l words x
 listed l words v x spot risen lists =
     let e = any-each (says_over l x) (HasRisen l words) v.steps lists risen in
-    let parts = and_parts (e.0.index == index l (OfCallback x.block x.node)) (is_over (says_phase x.generation e.0.word)) e.1 in
-    let rises = e.2 (OfCallback x.block x.node) spot (eqb-true _ _ parts.0) in
-    let w = e.0.word in
+    let parts = and_parts (e.0.index == index l (OfCallback x.block x.node)) (is_over (says_phase x.generation e.0.left)) e.1 in
+    let rises = (e.2 (OfCallback x.block x.node) spot (eqb-true _ _ parts.0)).1 in
+    let w = e.0.left in
     either (stamp_of w == x.generation)
     (λ t. record {
       word = w;
@@ -78,19 +79,19 @@ removed-over g =
 
 module _ {P E O : Type 0} (board : Board O) (x : Name) (old new : Seat (Option P) (View P E)) where
   -- where the newest step is listed so, the list says it
-  newest-over : (word : ℕ) (earlier : List Seen) → new.me.0.steps ≡ record { index = callback_index board x; word = word } ∷ earlier →
-      is_over (says_phase x.generation word) ≡ true → lists_over board.frame.layout new.me.0 x ≡ true
-  newest-over word earlier steps over =
+  newest-over : (read left : ℕ) (earlier : List Seen) → new.me.0.steps ≡ entry (callback_index board x) read left ∷ earlier →
+      is_over (says_phase x.generation left) ≡ true → lists_over board.frame.layout new.me.0 x ≡ true
+  newest-over read left earlier steps over =
       let test = says_over board.frame.layout x in
       ap (list_any test) steps
-      ∙ or_left (test (record { index = callback_index board x; word = word })) (list_any test earlier)
+      ∙ or_left (test (entry (callback_index board x) read left)) (list_any test earlier)
       (and_from _ _ (eq-eqb (callback_index board x) (callback_index board x) refl) over)
 
   no-run-over : FoundNoRun board x old new → lists_over board.frame.layout new.me.0 x ≡ true
   no-run-over found =
       let told = found.withdrawn in
       let phase = says_phase x.generation told.word in
-      newest-over (left_by x.generation told.word) _ (ap (λ m. m.0.steps) told.me_is)
+      newest-over told.word (left_by x.generation told.word) _ (ap (λ m. m.0.steps) told.me_is)
       (either (is_armed phase)
       (λ armed.
       ap (λ w. is_over (says_phase x.generation w)) (cond-true (is_armed phase) (callback_written x.generation Removed) told.word armed)
@@ -102,9 +103,9 @@ module _ {P E O : Type 0} (board : Board O) (x : Name) (old new : Seat (Option P
   left-over : (phase : CallbackPhase) (change : View P E → View P E) → LeftCallback board x phase change old new → is_over phase ≡ true →
       lists_over board.frame.layout new.me.0 x ≡ true
   left-over phase change left over =
-      let w = left.word in
-      newest-over w _ (ap (λ m. m.0.steps) left.me_is)
-      (ap is_over (cond-true (stamp_of w == x.generation) (callback_read w) Never (eq-eqb _ _ left.stamp_is) ∙ left.reads) ∙ over)
+      let w = left.left in
+      newest-over left.read w _ (ap (λ m. m.0.steps) left.me_is)
+      (ap is_over (cond-true (stamp_of w == x.generation) (callback_read w) Never (eq-eqb _ _ left.says.stamp_is) ∙ left.says.reads) ∙ over)
 
   pub ends-over : EndsIt board x old new → lists_over board.frame.layout new.me.0 x ≡ true
   ends-over ends =

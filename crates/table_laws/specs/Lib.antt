@@ -1,2 +1,4 @@
 pub mod Listed
 pub mod Laws
+pub mod Bounds
+pub mod Lasting

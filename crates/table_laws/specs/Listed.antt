@@ -12,7 +12,7 @@ use Rattle.atomic_table.specs.Table as table
 use Rattle.atomic_table.specs.declared.shared.Seat.{Seat}
 use Rattle.table_rules.specs.declared.frame.Frame.{Frame}
 use Rattle.table_rules.specs.declared.view.View.{View}
-use Rattle.table_rules.specs.declared.view.Seen.{Seen}
+use Rattle.listed_steps.specs.declared.seen.Seen.{Seen}
 use Rattle.table_rules.specs.ShownWords.{word_of}
 use Rattle.table_rules.specs.Scenes.{shown}
 use Rattle.table_steps.specs.Views.{Board}
@@ -29,10 +29,10 @@ is_over Running = false
 is_over Ran = true
 is_over Removed = true
 
--- the step was on the callback word of x, which said at x's generation that the callback is over
+-- the step was on the callback word of x, and left it saying at x's generation that the callback is over
 abbrev pub says_over : Layout → Name → Seen → Bool
 says_over l x e =
-    e.index == index l (OfCallback x.block x.node) && is_over (says_phase x.generation e.word)
+    e.index == index l (OfCallback x.block x.node) && is_over (says_phase x.generation e.left)
 
 -- some step of the hand's list says so
 abbrev pub lists_over : {P E : Type 0} → Layout → View P E → Name → Bool

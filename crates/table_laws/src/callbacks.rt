@@ -1,5 +1,6 @@
 //! What follows for stop callbacks ([stopcallback]).
 ghost use Rattle.table_laws.specs.Laws.{NeverAgain, RunsOnce, MissesNone, RemovedForGood};
+ghost use Rattle.table_laws.specs.Lasting.{SealMissesNone};
 
 use table_rules::Cargo;
 
@@ -9,4 +10,5 @@ pub fn callbacks_run_once<P: Cargo>()
     ensures runs_once { RunsOnce P.Cargo }
     ensures removed_for_good { RemovedForGood P.Cargo }
     ensures misses_none { MissesNone P.Cargo }
+    ensures seal_misses_none { SealMissesNone P.Cargo }
 {}

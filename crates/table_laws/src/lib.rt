@@ -11,5 +11,5 @@ mod operations;
 mod scopes;
 
 pub use callbacks::callbacks_run_once;
-pub use operations::operations_end_once;
-pub use scopes::joined_scopes_are_empty;
+pub use operations::{operations_end_once, parents_end_with_all};
+pub use scopes::{joined_scopes_are_empty, scope_bits_stay};

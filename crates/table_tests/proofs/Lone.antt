@@ -110,9 +110,9 @@ module _ {P E O : Type 0} (board : Board O) (tree_is : board.frame.tree ≡ lone
   begun-leaves m m' did =
       let same_me = did.renewed.1 (no-source board tree_is x.node) in
       record {
-        runs = ap (λ (z : Seated P E). z.0.runs) did.began.me_is ∙ ap (λ (z : Seated P E). z.0.runs) same_me;
-        scans = ap (λ (z : Seated P E). z.0.scans) did.began.me_is ∙ ap (λ (z : Seated P E). z.0.scans) same_me;
-        number = ap (λ (z : Seated P E). z.0.number) did.began.me_is ∙ ap (λ (z : Seated P E). z.0.number) same_me;
+        runs = ap (λ (z : Seated P E). z.0.runs) did.began.did.me_is ∙ ap (λ (z : Seated P E). z.0.runs) same_me;
+        scans = ap (λ (z : Seated P E). z.0.scans) did.began.did.me_is ∙ ap (λ (z : Seated P E). z.0.scans) same_me;
+        number = ap (λ (z : Seated P E). z.0.number) did.began.did.me_is ∙ ap (λ (z : Seated P E). z.0.number) same_me;
       }
 
   -- the root can be finished where its callback was removed

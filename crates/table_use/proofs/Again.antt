@@ -29,12 +29,12 @@ some-same : (a b : Item) → Some a ≡ Some b → a ≡ b
 some-same a b e = cc
 
 -- a root that was taken again is emptied, finished and given back
-module _ (board : Board ℕ) (x : Name) (is : IsNode board x) (three : x.node ≡ 3) (m m1 m2 m3 m4 m5 : Seated Item Entry) (calm : IsCalm m) (i word : ℕ) (took : TakenAt ghosts (aimed board.frame x) (board.frame.over.value ∷ []) i word m m1) where
+module _ (board : Board ℕ) (x : Name) (is : IsNode board x) (three : x.node ≡ 3) (m m1 m2 m3 m4 m5 : Seated Item Entry) (calm : IsCalm m) (i word taken : ℕ) (took : TakenAt ghosts (aimed board.frame x) (board.frame.over.value ∷ []) i word taken m m1) where
   abbrev taken_held : Held Entry
   taken_held = held_as x took.start took.named took.told took.told_children None
 
   again-tends : Tends board.frame x taken_held (Some took.item) (λ _. None) m1
-  again-tends = taken-tends ghosts board.frame x m m1 (board.frame.over.value ∷ []) i word took (node-places board x is)
+  again-tends = taken-tends ghosts board.frame x m m1 (board.frame.over.value ∷ []) i word taken took (node-places board x is)
 
   pub again-home : HasHome board.frame.layout m1 x
   again-home = tends-home board.frame x m1 taken_held (Some took.item) (λ _. None) again-tends
@@ -83,20 +83,20 @@ module _ (board : Board ℕ) (x : Name) (is : IsNode board x) (three : x.node �
       again-calm : IsCalm m3
       again-calm =
           phased-calm board.frame x taken_held None (λ _. None) m2 m3 phase read
-          (swapped-calm board.frame x None o m1 m2 out (taken-calm ghosts board.frame x m m1 (board.frame.over.value ∷ []) i word took calm))
+          (swapped-calm board.frame x None o m1 m2 out (taken-calm ghosts board.frame x m m1 (board.frame.over.value ∷ []) i word taken took calm))
 
       pub again-finishes : phase ≡ Never → CanFinish ghosts board.frame m3 x
       again-finishes never =
           root-finishes ghosts board.frame x m3 (record taken_held { phase = Some phase }) (λ _. None) again-calm (λ n child. refl) Never
           again-read (ap (λ p. Some p) never) refl (node-root board x is three)
 
-      module _ (j : ℕ) (did : FinishesAt ghosts (aimed board.frame x) j m3 m4) where
+      module _ (j was done : ℕ) (did : FinishesAt ghosts (aimed board.frame x) j was done m3 m4) where
         pub again-releases : CanRelease board.frame.layout m4 x
         again-releases =
-            rooted-releases board.frame x m3 m4 j (did.1 (node-root board x is three)) (record taken_held { phase = Some phase }) (λ _. None)
+            rooted-releases board.frame x m3 m4 j was done (did.1 (node-root board x is three)) (record taken_held { phase = Some phase }) (λ _. None)
             (node-places board x is) again-read
 
-        pub again-ends : (name : Name) (k : ℕ) → ReleasesAt (aimed board.frame name) k m4 m5 → IsCalm m5
-        again-ends name k gave =
+        pub again-ends : (name : Name) (k opened free : ℕ) → ReleasesAt (aimed board.frame name) k opened free m4 m5 → IsCalm m5
+        again-ends name k opened free gave =
             ap (λ (z : Seated Item Entry). z.0.scans) gave.me_is
-            ∙ rooted-calm board.frame x m3 m4 j (did.1 (node-root board x is three)) again-calm
+            ∙ rooted-calm board.frame x m3 m4 j was done (did.1 (node-root board x is three)) again-calm

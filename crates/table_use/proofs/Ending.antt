@@ -237,4 +237,4 @@ module _ (board : Board ℕ) (x : Name) (is : IsNode board x) (three : x.node �
           (λ n child. ap (λ k. put_at 2 None last.content k) (root-below board x is three n child)) (Kept env v)
           (swapped-own board.frame x (Some (Kept env v)) None m2 m3 put last.held None (put_at 2 None last.content) (node-places board x is) own-out)
           (record { start = sym (own-start board x is m last env root-own); fit = (at.node, root-value); goes_on = λ e. e })
-          (subst (λ n. kids_asked n ≤ last.held.named) (sym at.node) (asked board x is m last))
+          (subst (λ n. kids_asked n ≤ last.held.named) (sym at.node) (asked board x is m last)) tt

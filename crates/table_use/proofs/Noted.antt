@@ -50,25 +50,25 @@ module _ (board : Board ℕ) (x : Name) (m m1 : Seated Item Entry) where
   phased-notes answer did = ap (λ (z : Seated Item Entry). z.0.noted) did.2
 
   pub reported-notes : (answer : Report) → IsReportedAs ghosts board.frame x answer m m1 → KeepsNotes m m1
-  reported-notes Last did = ap (λ (z : Seated Item Entry). z.0.noted) did.2.me_is
-  reported-notes Others did = ap (λ (z : Seated Item Entry). z.0.noted) did.2
+  reported-notes Last did = ap (λ (z : Seated Item Entry). z.0.noted) did.4.me_is
+  reported-notes Others did = ap (λ (z : Seated Item Entry). z.0.noted) did.4
 
-  pub awaited-notes : (nodes : List ℕ) (i : ℕ) → AwaitsAt ghosts (aimed board.frame x) nodes i m m1 → KeepsNotes m m1
-  awaited-notes nodes i did = ap (λ (z : Seated Item Entry). z.0.noted) did.me_is
+  pub awaited-notes : (nodes : List ℕ) (i read left : ℕ) → AwaitsAt ghosts (aimed board.frame x) nodes i read left m m1 → KeepsNotes m m1
+  awaited-notes nodes i read left did = ap (λ (z : Seated Item Entry). z.0.noted) did.me_is
 
-  pub rested-notes : (i : ℕ) → RestsAt (aimed board.frame x) i m m1 → KeepsNotes m m1
-  rested-notes i did = ap (λ (z : Seated Item Entry). z.0.noted) did.me_is
+  pub rested-notes : (i read left : ℕ) → RestsAt (aimed board.frame x) i read left m m1 → KeepsNotes m m1
+  rested-notes i read left did = ap (λ (z : Seated Item Entry). z.0.noted) did.me_is
 
   module _ (is : IsNode board x) where
-    pub finished-notes : (i : ℕ) → x.node < 3 → FinishesAt ghosts (aimed board.frame x) i m m1 → KeepsNotes m m1
-    finished-notes i below did = ap (λ (z : Seated Item Entry). z.0.noted) (did.0 (node-inner board x is below)).me_is
+    pub finished-notes : (i read left : ℕ) → x.node < 3 → FinishesAt ghosts (aimed board.frame x) i read left m m1 → KeepsNotes m m1
+    finished-notes i read left below did = ap (λ (z : Seated Item Entry). z.0.noted) (did.0 (node-inner board x is below)).me_is
 
     module _ (did : Begins ghosts (aimed board.frame x) m m1) where
       renewed : (did.middle.0.noted ≡ m.0.noted) × (did.middle.1 ≡ m.1)
       renewed =
           either (has_source board.frame.tree x.node)
           (λ t.
-          let is = (did.renewed.0 t).1 in
+          let is = (did.renewed.0 t).did in
           (ap (λ (z : Seated Item Entry). z.0.noted) is, ap (λ (z : Seated Item Entry). z.1) is))
           (λ none.
           let is = did.renewed.1 none in
@@ -77,7 +77,7 @@ module _ (board : Board ℕ) (x : Name) (m m1 : Seated Item Entry) where
       -- a node below the root begins
       pub begun-notes : x.node < 3 → KeepsNotes m m1
       begun-notes below =
-          ap (λ (z : Seated Item Entry). z.0.noted) did.began.me_is
+          ap (λ (z : Seated Item Entry). z.0.noted) did.began.did.me_is
           ∙ ap (λ b. notes_start b x (start_shown ghosts (kept (slot_of board.frame.layout x) did.middle.1)) did.middle.0.noted)
           (node-inner board x is below)
           ∙ renewed.0
@@ -89,7 +89,7 @@ module _ (board : Board ℕ) (x : Name) (m m1 : Seated Item Entry) where
           let old = did.middle.0.noted in
           let shown = start_shown ghosts (kept slot did.middle.1) in
           let entry : Rooted Entry = record { name = x; start = shown } in
-          ap (λ (z : Seated Item Entry). find_by (λ (e : Rooted Entry). e.name) z.0.noted x) did.began.me_is
+          ap (λ (z : Seated Item Entry). find_by (λ (e : Rooted Entry). e.name) z.0.noted x) did.began.did.me_is
           ∙ ap (λ b. find_by (λ (e : Rooted Entry). e.name) (notes_start b x shown old) x) (node-root board x is three)
           ∙ cond-true (same x x) (Some entry) (find_by (λ (e : Rooted Entry). e.name) old x) (same-refl x)
           ∙ ap (λ h. Some (record { name = x; start = start_shown ghosts h })) (ap (kept slot) renewed.1 ∙ owes.1.owes.home)

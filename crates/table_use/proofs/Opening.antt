@@ -5,6 +5,7 @@ use Rattle.std.specs.Option.{option_map_or}
 use Rattle.std.proofs.lemmas.Bool.{both_ways, cond-false, eq-eqb, eqb-true}
 use Rattle.life_rules.specs.declared.words.CallbackPhase.{CallbackPhase}
 use Rattle.life_rules.specs.declared.words.CallbackPhase.TheVariants.{Never}
+use Rattle.life_rules.specs.declared.words.ControlWord.TheVariants as words
 use Rattle.life_rules.specs.declared.event.Name.{Name}
 use Rattle.node_tree.specs.Tree.{is_child, parent_of}
 use Rattle.life_rules.specs.Views.{beside, same}
@@ -14,10 +15,11 @@ use Rattle.life_kept.proofs.Trees.{child-parent}
 use Rattle.table_rules.specs.declared.view.Held.{Held}
 use Rattle.table_rules.specs.declared.view.Owed.{Owed}
 use Rattle.table_rules.specs.Named.{find_by, Each}
+use Rattle.table_steps.specs.Lefts.{LeavesControl}
 use Rattle.table_steps.specs.declared.report.Report.{Report}
 use Rattle.table_steps.specs.declared.report.Report.TheVariants.{Last, Others}
 use Rattle.table_steps.specs.Views.{Board}
-use Rattle.table_steps.specs.Begins.{Begins, CanBegin}
+use Rattle.table_steps.specs.Begins.{begun_as, Begins, CanBegin}
 use Rattle.table_steps.specs.Claims.{Seated}
 use Rattle.table_steps.specs.Finishes.{CanFinish, FinishesAt}
 use Rattle.table_steps.specs.Readings.{above_it, Holds, IsPhaseAs}
@@ -27,14 +29,14 @@ use Rattle.table_steps.specs.Swaps.{HasHome}
 use Rattle.op_slot.specs.Puts.{CanPut, FitsOwed, IsPut, IsTakenOut}
 use Rattle.op_slot.specs.Tends.{aimed, AreApart, IsCalm, HasPlaces, KeepsOwed, Owes, Tends}
 use Rattle.op_slot.proofs.Places.{kids-apart}
-use Rattle.op_slot.proofs.Tending.{swapped-calm, swapped-old, swapped-own, swapped-owes, swapped-beside, begun-calm, begun-tends, begun-beside, phased-tends, phased-calm, phased-beside, last-calm, last-tends, held_as}
+use Rattle.op_slot.proofs.Tending.{swapped-calm, swapped-old, swapped-own, swapped-owes, swapped-beside, begun-calm, begun-tends, begun-beside, phased-tends, phased-calm, phased-beside, last-calm, last-tends}
 use Rattle.op_slot.proofs.Leaving.{owes-puts, owes-fits, tends-home, tends-puts, tends-finishes, finished-calm, finished-owes, finished-beside, owes-reports}
 use Rattle.table_use.specs.declared.cargo.Entry.{Entry}
 use Rattle.table_use.specs.declared.cargo.Env.{Env}
 use Rattle.table_use.specs.declared.cargo.Item.{Item}
 use Rattle.table_use.specs.declared.cargo.Item.TheVariants.{Start, Done}
 use Rattle.table_use.specs.Starts.{entry_at, above_of, path, value_at, env_of}
-use Rattle.table_use.specs.Uses.{use_tree, control_at, IsNode, IsEnv, OwesNode, OwesStart, HoldsNode, OwesDone, HoldsLast}
+use Rattle.table_use.specs.Uses.{use_tree, IsNode, IsEnv, OwesNode, OwesStart, HoldsNode, OwesDone, HoldsLast}
 use Rattle.table_use.specs.contracts.cargo.ItemCargo.TheImpl.{ghosts}
 use Rattle.table_use.proofs.Nodes.{node-places, node-inner, node-parent, leaf-alone, leaf-family, kid-above, pair-kid}
 
@@ -92,7 +94,7 @@ module _ (board : Board ℕ) (x : Name) (is : IsNode board x) where
 
     module _ (began : Begins ghosts (aimed board.frame x) m m1) where
       abbrev held : Held Entry
-      held = held_as x (path owes.0) 0 began.began.told began.began.told_children None
+      held = begun_as board.frame.tree x (path owes.0) began.began.did.told began.began.did.told_children
 
       start-begun : Tends board.frame x held (Some (Start owes.0)) (λ _. None) m1
       start-begun = begun-tends ghosts board.frame x m m1 began _ (Start owes.0) (node-places board x is) owes.1.owes
@@ -162,22 +164,25 @@ module _ (board : Board ℕ) (x : Name) (is : IsNode board x) where
             tends-finishes ghosts board.frame x m2 (record (holds.held) { phase = Some phase }) holds.kid done-calm holds.empty
             (Done env value) Never done-read (ap (λ p. Some p) never) refl (omega arith) (sym holds.start) (holds.is.node, right) tt
 
-        module _ (below : x.node < 3) (did : FinishesAt ghosts (aimed board.frame x) (control_at board.frame x) m2 m3) where
+        module _ (below : x.node < 3) (did : LeavesControl (aimed board.frame x) words.Done (FinishesAt ghosts (aimed board.frame x)) m2 m3) where
           pub done-owes : OwesDone board.frame x m3
           done-owes =
-              let at = did.0 (node-inner board x is below) in
+              let at = did.did.0 (node-inner board x is below) in
               record {
-                calm = finished-calm board.frame x m2 m3 _ ghosts at done-calm;
+                calm = finished-calm board.frame x m2 m3 _ _ _ ghosts at done-calm;
                 entry = _;
-                owes = finished-owes board.frame x m2 m3 _ ghosts at;
-                word = at.word;
-                newest = record { earlier = m2.0.steps; steps_are = ap (λ (z : Seated Item Entry). z.0.steps) at.me_is };
+                owes = finished-owes board.frame x m2 m3 _ _ _ ghosts at;
+                read = did.read;
+                left = did.left;
+                earlier = m2.0.steps;
+                steps_are = ap (λ (z : Seated Item Entry). z.0.steps) at.me_is;
+                done = did.says;
               }
 
           pub done-beside : x.node < 2 → KeepsOwed board.frame x m m3
           done-beside leaf y owed inside apart has =
               let f = board.frame in
-              finished-beside f x m2 m3 _ ghosts (did.0 (node-inner board x is below)) y owed inside (leaf-family board x is leaf y apart)
+              finished-beside f x m2 m3 _ _ _ ghosts (did.did.0 (node-inner board x is below)) y owed inside (leaf-family board x is leaf y apart)
               (phased-beside f x phase m1 m2 read y owed inside
               (swapped-beside f x (Some (Done env value)) None m m1 put y owed inside apart has))
 
@@ -192,14 +197,14 @@ module _ (board : Board ℕ) (x : Name) (is : IsNode board x) where
       pub first-calm : IsCalm m1
       first-calm =
           let said = subst (λ a. IsReportedAs ghosts board.frame x a m m1) others did in
-          ap (λ (z : Seated Item Entry). z.0.scans) said.2 ∙ done.calm
+          ap (λ (z : Seated Item Entry). z.0.scans) said.4 ∙ done.calm
 
       pub first-beside : KeepsOwed board.frame x m m1
       first-beside y owed inside apart has =
           let said = subst (λ a. IsReportedAs ghosts board.frame x a m m1) others did in
           record {
-            owes = ap (λ (z : Seated Item Entry). find_by (λ (e : Owed Entry). e.name) z.0.owed y) said.2 ∙ has.owes;
-            home = ap (λ (z : Seated Item Entry). kept (slot_of board.frame.layout y) z.1) said.2 ∙ has.home;
+            owes = ap (λ (z : Seated Item Entry). find_by (λ (e : Owed Entry). e.name) z.0.owed y) said.4 ∙ has.owes;
+            home = ap (λ (z : Seated Item Entry). kept (slot_of board.frame.layout y) z.1) said.4 ∙ has.home;
           }
 
     -- the report of a left leaf isn't the last: the hand would have the right leaf's home twice
@@ -208,7 +213,7 @@ module _ (board : Board ℕ) (x : Name) (is : IsNode board x) where
     first-others zero right answer did apart last =
         let f = board.frame in
         let l = f.layout in
-        let at = (subst (λ a. IsReportedAs ghosts f x a m m1) last did).2 in
+        let at = (subst (λ a. IsReportedAs ghosts f x a m m1) last did).4 in
         let parent : parent_of f.tree x.node ≡ Some 2 = ap (λ t. parent_of t x.node) is.tree ∙ ap (parent_of use_tree) zero in
         let above : above_it f.tree x ≡ beside x 2 = ap (λ o. option_map_or (λ p. beside x p) o x) parent in
         let both = (subst (λ (z : Seated Item Entry). Apart z.1) at.me_is apart).1 in
@@ -228,15 +233,15 @@ module _ (board : Board ℕ) (x : Name) (is : IsNode board x) (n : ℕ) (child :
   last-holds answer did last =
       let f = board.frame in
       let said = subst (λ z. IsReportedAs ghosts f z Last m m1) name (subst (λ a. IsReportedAs ghosts f y a m m1) last did) in
-      let at = said.2 in
+      let at = said.4 in
       let above = kid-above board x is n child in
       subst (λ z. HoldsLast f z m1) above
       (record {
-        calm = last-calm ghosts f _ m m1 (beside x n) _ _ _ at done.calm;
+        calm = last-calm ghosts f _ m m1 (beside x n) _ _ _ _ at done.calm;
         held = _;
         item = at.item;
         content = at.content;
-        tends = last-tends ghosts f _ m m1 (beside x n) _ _ _ at
+        tends = last-tends ghosts f _ m m1 (beside x n) _ _ _ _ at
             (subst (λ z. HasPlaces f z) (sym above) (node-places board x is));
         shows = at.shows;
         fit = λ requested. at.fit;

@@ -4,12 +4,12 @@ use Rattle.std.specs.Prelude.{Option, Some, None, IfErr, IsErrAnd}
 use Rattle.std.proofs.lemmas.Bool.{cond-true}
 use Rattle.life_rules.specs.declared.words.CallbackPhase.{CallbackPhase}
 use Rattle.life_rules.specs.declared.words.CallbackPhase.TheVariants.{Never}
-use Rattle.life_rules.specs.declared.words.ControlWord.TheVariants.{ReadyPool}
+use Rattle.life_rules.specs.declared.words.ControlWord.TheVariants.{Busy, ReadyPool}
 use Rattle.life_rules.specs.declared.event.Name.{Name}
 use Rattle.life_rules.specs.declared.event.Resting.TheVariants.{Pool}
 use Rattle.life_rules.specs.Views.{beside}
+use Rattle.listed_steps.specs.declared.seen.Seen.{Seen}
 use Rattle.table_rules.specs.declared.view.Held.{Held}
-use Rattle.table_rules.specs.declared.view.Seen.{Seen}
 use Rattle.table_rules.specs.declared.view.View.{View}
 use Rattle.table_rules.specs.Named.{find_by}
 use Rattle.table_steps.specs.declared.block.Block.{Block}
@@ -19,7 +19,8 @@ use Rattle.table_steps.specs.Views.{Board}
 use Rattle.table_steps.specs.Claims.{logged, root_name, Seated}
 use Rattle.table_steps.specs.Readings.{above_it, says_begun, notes_idle, Holds, HoldsAbove, IsBegunAs, IsPhaseAs}
 use Rattle.table_steps.specs.Reports.{IsReportedAs}
-use Rattle.table_steps.specs.Rests.{LeftControl}
+use Rattle.table_steps.specs.Lefts.{SaysControl, LeavesControl}
+use Rattle.table_steps.specs.Rests.{RestsAt}
 use Rattle.table_steps.specs.Takes.{rest_word, IsTaken, TakenAt}
 use Rattle.op_slot.specs.Puts.{IsPut, IsTakenOut}
 use Rattle.op_slot.specs.Tends.{aimed}
@@ -31,7 +32,7 @@ use Rattle.table_use.specs.declared.cargo.Item.TheVariants.{Kept}
 use Rattle.table_use.specs.declared.node.Fault.{Fault}
 use Rattle.table_use.specs.Uses.{control_at, OwesDone}
 use Rattle.table_use.specs.Notes.{HasNotedRoot, KeepsNotes}
-use Rattle.table_use.specs.Causes.{on_control, IsLeft, HasBegun, HasCallback, IsNotLast, IsLost, HasNoValue, StopsAt, StopsFor}
+use Rattle.table_use.specs.Causes.{on_control, IsLeft, HasBegun, HasCallback, IsNotLast, IsLost, HasNoValue, StopsAt, StopsAmong, StopsFor}
 use Rattle.table_use.specs.contracts.cargo.ItemCargo.TheImpl.{ghosts}
 use Rattle.table_use.proofs.Noted.{noted-still}
 
@@ -78,25 +79,29 @@ module _ (board : Board ℕ) (x : Name) (m m1 : Seated Item Entry) where
       IsNotLast board.frame x m1
   others-stops answer others read done =
       let said = subst (λ a. IsReportedAs ghosts board.frame x a m m1) others read in
-      let last = on_control board.frame (above_it board.frame.tree x) said.0 in
+      let last = on_control board.frame (above_it board.frame.tree x) said.0 said.1 in
       record {
-        word = done.word;
+        read = done.read;
+        left = done.left;
+        done = done.done;
         found = said.0;
+        fewer = said.1;
         newest = (
-          done.newest.earlier,
-          ap (λ (z : Seated Item Entry). z.0.steps) said.2 ∙ ap (λ (l : List Seen). last ∷ l) done.newest.steps_are,
+          done.earlier,
+          ap (λ (z : Seated Item Entry). z.0.steps) said.4 ∙ ap (λ (l : List Seen). last ∷ l) done.steps_are,
         );
-        others = said.1;
+        counts = said.2;
+        others = said.3;
       }
 
   -- a rest leaves the node's word so
-  pub left-rests : LeftControl board.frame.layout x ReadyPool m m1 → IsLeft board.frame x m1
+  pub left-rests : LeavesControl (aimed board.frame x) ReadyPool (RestsAt (aimed board.frame x)) m m1 → IsLeft board.frame x m1
   left-rests left =
       record {
-        word = left.word;
-        newest = record { earlier = m.0.steps; steps_are = left.left };
-        stamp_is = left.stamp_is;
-        rests = left.reads;
+        read = left.read;
+        left = left.left;
+        newest = (m.0.steps, ap (λ (z : Seated Item Entry). z.0.steps) left.did.me_is);
+        rests = left.says;
       }
 
   -- a take that didn't find the node where the hand left it
@@ -104,15 +109,15 @@ module _ (board : Board ℕ) (x : Name) (m m1 : Seated Item Entry) where
       IsLost board.frame x m1
   lost-stops took other told left =
       let said = told.1 other in
-      let last = on_control board.frame x said.0 in
+      let last = on_control board.frame x said.0 said.0 in
       record {
-        word = left.word;
+        read = left.read;
+        left = left.left;
         found = said.0;
         newest = (
-          left.newest.earlier,
-          ap (λ (z : Seated Item Entry). z.0.steps) said.2 ∙ ap (λ (l : List Seen). last ∷ l) left.newest.steps_are,
+          left.newest.0,
+          ap (λ (z : Seated Item Entry). z.0.steps) said.2 ∙ ap (λ (l : List Seen). last ∷ l) left.newest.1,
         );
-        stamp_is = left.stamp_is;
         rested = left.rests;
         other = said.1;
       }
@@ -120,7 +125,7 @@ module _ (board : Board ℕ) (x : Name) (m m1 : Seated Item Entry) where
   pub lost-notes : (took : Bool) → took ≡ false → IsTaken ghosts board.frame x Pool took m m1 → KeepsNotes m m1
   lost-notes took other told = ap (λ (z : Seated Item Entry). z.0.noted) (told.1 other).2
 
-  module _ (took : TakenAt ghosts (aimed board.frame x) (board.frame.over.value ∷ []) (control_at board.frame x) (rest_word x Pool) m m1) where
+  module _ (taken : ℕ) (says : SaysControl x (Busy 0) taken) (took : TakenAt ghosts (aimed board.frame x) (board.frame.over.value ∷ []) (control_at board.frame x) (rest_word x Pool) taken m m1) where
     pub taken-notes : KeepsNotes m m1
     taken-notes = ap (λ (z : Seated Item Entry). z.0.noted) took.me_is
 
@@ -130,11 +135,13 @@ module _ (board : Board ℕ) (x : Name) (m m1 : Seated Item Entry) where
         HasNoValue board.frame x m3
     other-stops m2 m3 home item out put holds other =
         let steps = λ (z : Seated Item Entry). z.0.steps in
-        let back = on_control board.frame x put.word in
-        let last = on_control board.frame x out.word in
+        let back = on_control board.frame x put.word put.word in
+        let last = on_control board.frame x out.word out.word in
         record {
           out = out.word;
           back = put.word;
+          taken = taken;
+          says = says;
           newest = (
             m.0.steps,
             ap steps put.me_is ∙ ap (λ (l : List Seen). back ∷ l) (ap steps out.me_is)
@@ -158,6 +165,13 @@ module _ (board : Board ℕ) (x y : Name) (m : Seated Item Entry) (fault : Fault
 -- a node is beside itself
 pub own-name : (x : Name) (n : ℕ) → x.node ≡ n → x ≡ beside x n
 own-name x n at = ap (beside x) at
+
+-- where a call may stop at a node alone, it stops among those of the block
+pub stops-own : {T : Type 0} (r : Result T Fault) (board : Board ℕ) (x : Name) (n count : ℕ) (m : Seated Item Entry) → x.node ≡ n → n < count →
+    IfErr r (StopsAt board.frame x m) → IfErr r (StopsAmong board.frame x count m)
+stops-own (Ok value) board x n count m at below stops = tt
+stops-own (Err fault) board x n count m at below stops =
+    (n, below, subst (λ (z : Name). StopsAt board.frame z m fault) (own-name x n at) stops)
 
 -- a hand that began the block's root for the number stopped at one of its nodes
 pub stops-for : (board : Board ℕ) (number : ℕ) (b : Block) (env : Env) (m m1 : Seated Item Entry) (fault : Fault) →

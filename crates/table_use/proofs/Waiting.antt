@@ -87,16 +87,16 @@ module _ (board : Board ℕ) (x : Name) (is : IsNode board x) (env : Env) (m0 m 
       tends-awaits ghosts board.frame x m held holds.kid calm holds.empty (Rest env) nodes tends
       (record { start = sym started; fit = (holds.is.node, tt); goes_on = λ e. e }) least some different idle
 
-  pub waits-owes : (i n : ℕ) → AwaitsAt ghosts (aimed board.frame x) nodes i m m1 → is_child board.frame.tree x.node n ≡ true →
+  pub waits-owes : (i read left n : ℕ) → AwaitsAt ghosts (aimed board.frame x) nodes i read left m m1 → is_child board.frame.tree x.node n ≡ true →
       is_named nodes n ≡ true → path env ≡ above_of (record env { node = n }) n →
       OwesNode board.frame (beside x n) (record env { node = n }) None m1
-  waits-owes i n did child named above =
+  waits-owes i read left n did child named above =
       let f = board.frame in
       let name = beside x n in
-      let owes = awaited-owes f x m m1 i ghosts nodes did held (Rest env) holds.kid n (node-places board x is) tends child named in
+      let owes = awaited-owes f x m m1 i read left ghosts nodes did held (Rest env) holds.kid n (node-places board x is) tends child named in
       record {
         is = record { node = refl; step = holds.is.step };
-        calm = awaited-calm f x m m1 i ghosts nodes did calm;
+        calm = awaited-calm f x m m1 i read left ghosts nodes did calm;
         owes = subst (λ (s : List Entry). Owes f name (record { name = name; above = s; lot = [] }) None m1) above
             (subst (λ inside. Owes f name (record { name = name; above = path env; lot = [] }) inside m1) (holds.empty n child) owes);
       }
@@ -122,19 +122,19 @@ module _ (board : Board ℕ) (x : Name) (is : IsNode board x) (two : x.node ≡ 
       (and_from _ _ (and_from _ _ (pair-kid board x is two 0 refl) refl)
       (and_from _ _ (and_from _ _ (pair-kid board x is two 1 refl) refl) refl))
 
-  module _ (i : ℕ) (did : AwaitsAt ghosts (aimed board.frame x) (0 ∷ 1 ∷ []) i m3 m4) where
+  module _ (i read after : ℕ) (did : AwaitsAt ghosts (aimed board.frame x) (0 ∷ 1 ∷ []) i read after m3 m4) where
     pair-path : path env ≡ entry_at env 2 ∷ entry_at env 3 ∷ []
     pair-path = ap (λ n. entry_at env n ∷ above_of env n) (holds.is.node ∙ two)
 
     pub pair-left : OwesNode board.frame (beside x 0) (record env { node = 0 }) None m4
     pair-left =
         waits-owes board x is env m m3 m4 holds (record (holds.held) { idle = 1 ∷ 0 ∷ holds.held.idle }) holds.start pair-tends pair-calm
-        (0 ∷ 1 ∷ []) i 0 did (pair-kid board x is two 0 refl) refl pair-path
+        (0 ∷ 1 ∷ []) i read after 0 did (pair-kid board x is two 0 refl) refl pair-path
 
     pub pair-right : OwesNode board.frame (beside x 1) (record env { node = 1 }) None m4
     pair-right =
         waits-owes board x is env m m3 m4 holds (record (holds.held) { idle = 1 ∷ 0 ∷ holds.held.idle }) holds.start pair-tends pair-calm
-        (0 ∷ 1 ∷ []) i 1 did (pair-kid board x is two 1 refl) refl pair-path
+        (0 ∷ 1 ∷ []) i read after 1 did (pair-kid board x is two 1 refl) refl pair-path
 
 -- a root's one child
 module _ (board : Board ℕ) (x : Name) (is : IsNode board x) (three : x.node ≡ 3) (env : Env) (m m1 m2 m3 : Seated Item Entry) (holds : HoldsNode board.frame x env m) (put : IsPut board.frame x (Rest env) m m1) (pair : Name) (pair_is : pair ≡ beside x 2) (a : Bool) (a_is : a ≡ false) (first : IsBegunAs board.frame pair a m1 m2) where
@@ -151,9 +151,9 @@ module _ (board : Board ℕ) (x : Name) (is : IsNode board x) (three : x.node �
       waits-can board x is env m m2 m3 holds (record (holds.held) { idle = 2 ∷ holds.held.idle }) holds.start one-tends one-calm
       (2 ∷ []) (omega (arith, least)) (omega arith) refl (and_from _ _ (and_from _ _ (root-kid board x is three) refl) refl)
 
-  pub one-owes : (i : ℕ) → AwaitsAt ghosts (aimed board.frame x) (2 ∷ []) i m2 m3 →
+  pub one-owes : (i read left : ℕ) → AwaitsAt ghosts (aimed board.frame x) (2 ∷ []) i read left m2 m3 →
       OwesNode board.frame (beside x 2) (record env { node = 2 }) None m3
-  one-owes i did =
+  one-owes i read left did =
       waits-owes board x is env m m2 m3 holds (record (holds.held) { idle = 2 ∷ holds.held.idle }) holds.start one-tends one-calm
-      (2 ∷ []) i 2 did (root-kid board x is three) refl
+      (2 ∷ []) i read left 2 did (root-kid board x is three) refl
       (ap (λ n. entry_at env n ∷ above_of env n) (holds.is.node ∙ three))

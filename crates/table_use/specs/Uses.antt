@@ -1,12 +1,15 @@
 -- What a hand has at each point of an operation of this use.
 use Rattle.std.specs.Prelude.{◌≡◌, ℕ, ◌*◌, ◌<◌, ◌≤◌, Bool, true, false, List, [], ◌∷◌, length, Option, Some, None, is_some}
 use Rattle.node_tree.specs.declared.node.TreeNode.{TreeNode}
+use Rattle.life_rules.specs.declared.words.ControlWord.TheVariants.{Done}
 use Rattle.life_rules.specs.declared.event.Name.{Name}
 use Rattle.node_tree.specs.Tree.{is_child}
 use Rattle.common_lemmas.specs.Sums.{total}
 use Rattle.common_lemmas.specs.Sums.{one}
 use Rattle.life_rules.specs.Views.{beside}
 use Rattle.table_words.specs.Layouts.{OfControl, index}
+use Rattle.listed_steps.specs.declared.seen.Seen.{Seen}
+use Rattle.listed_steps.specs.Lists.{entry}
 use Rattle.table_rules.specs.declared.frame.Frame.{Frame}
 use Rattle.table_rules.specs.declared.view.Held.{Held}
 use Rattle.table_rules.specs.declared.view.Reported.{Reported}
@@ -16,7 +19,7 @@ use Rattle.table_rules.specs.declared.view.View.{View}
 use Rattle.table_steps.specs.Views.{Board}
 use Rattle.table_steps.specs.declared.block.Block.{Block}
 use Rattle.table_steps.specs.Claims.{Seated, root_name}
-use Rattle.table_steps.specs.Runs.{IsNewest}
+use Rattle.table_steps.specs.Lefts.{SaysControl}
 use Rattle.table_steps.specs.Steps.{LeftAllEmpty}
 use Rattle.op_slot.specs.Tends.{IsCalm, KeepsOwed, OwesReport, Owes, Tends}
 use Rattle.table_use.specs.declared.cargo.Entry.{Entry}
@@ -70,13 +73,16 @@ module _ (f : Frame ℕ) (x : Name) where
     pub empty : (n : ℕ) → is_child f.tree x.node n ≡ true → kid n ≡ None
     pub tends : Tends f x held None kid m
 
-  -- the hand owes the node's report, and its newest step is on the node's control word
+  -- the hand owes the node's report, and its newest step left the node done
   pub record OwesDone (m : Seated Item Entry) : Type 0 where
     pub calm : IsCalm m
+    pub read : ℕ
+    pub left : ℕ
+    pub earlier : List Seen
+    pub steps_are : m.0.steps ≡ entry (control_at f x) read left ∷ earlier
+    pub done : SaysControl x Done left
     pub entry : Reported Item Entry
     pub owes : OwesReport x entry m
-    pub word : ℕ
-    pub newest : IsNewest (control_at f x) word m.0
 
   -- the hand holds the node after the last report
   pub record HoldsLast (m : Seated Item Entry) : Type 0 where

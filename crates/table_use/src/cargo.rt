@@ -47,6 +47,8 @@ impl Cargo for Item {
 
     ghost least = { least_of };
 
+    ghost rests = { λ _ _. Unit {0} };
+
     ghost key = { key_of };
 
     ghost lot = { λ _. [] };
@@ -55,5 +57,5 @@ impl Cargo for Item {
 
     ghost widens = { λ _ _ fits. fits };
 
-    ghost blames = { λ _ _ _ _ fits. fits };
+    ghost blames = { λ _ _ _ _ _ fits. fits };
 }

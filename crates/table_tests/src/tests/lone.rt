@@ -32,6 +32,8 @@ impl Cargo for Token {
 
     ghost least = { λ _. 0 };
 
+    ghost rests = { λ _ _. Unit {0} };
+
     ghost key = { λ _. tt };
 
     ghost lot = { λ _. [] };
@@ -40,7 +42,7 @@ impl Cargo for Token {
 
     ghost widens = { λ _ _ _. tt };
 
-    ghost blames = { λ _ _ _ _ _. tt };
+    ghost blames = { λ _ _ _ _ _ _. tt };
 }
 
 // A tree of a root alone.

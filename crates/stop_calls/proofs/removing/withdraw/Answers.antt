@@ -1,5 +1,6 @@
 use Rattle.std.proofs.Common.{◌∙◌, suc}
-use Rattle.stop_calls.proofs.Waiting.{again}
+use Rattle.stop_calls.specs.declared.removing.Settled.TheVariants.{NeverRan, Ran, OwnHand}
+use Rattle.stop_calls.proofs.Waiting.{again, settled-so}
 use Rattle.stop_calls.proofs.removing.withdraw.Goals as goal
 
 pub loop-preserved : goal.loop-preserved
@@ -14,3 +15,18 @@ loop-preserved g c =
       may = again c.args.table.now c.args.node c.loop.hand c.try_withdraw.new.hand before.may tried;
       waited = (suc before.waited.0, (c.loop.hand, before.waited.1, tried));
     }
+
+pub returns-in-NeverRan-clause-settled : goal.returns-in-NeverRan-clause-settled
+returns-in-NeverRan-clause-settled g c =
+    settled-so c.args.table.now c.args.node c.args.hand.now c.loop.hand c.try_withdraw.new.hand NeverRan c.loop.invariant.waited
+    c.in-NeverRan.ensures.tried
+
+pub returns-in-Ran-clause-settled : goal.returns-in-Ran-clause-settled
+returns-in-Ran-clause-settled g c =
+    settled-so c.args.table.now c.args.node c.args.hand.now c.loop.hand c.try_withdraw.new.hand Ran c.loop.invariant.waited
+    c.in-Ran.ensures.tried
+
+pub returns-in-OwnHand-clause-settled : goal.returns-in-OwnHand-clause-settled
+returns-in-OwnHand-clause-settled g c =
+    settled-so c.args.table.now c.args.node c.args.hand.now c.loop.hand c.try_withdraw.new.hand OwnHand c.loop.invariant.waited
+    c.in-OwnHand.ensures.tried

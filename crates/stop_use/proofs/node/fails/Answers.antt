@@ -17,13 +17,13 @@ pub returns-clause-failed : goal.returns-clause-failed
 returns-clause-failed c =
     has-failed c.args.table.now c.args.x c.requires.node c.requires.leaf c.args.hand.now.me c.take_home-start.new.hand.me c.put_home.new.hand.me c.phase_of.new.hand.me
     c.requires.holds c.take_home-start.result c.take_home-start.ensures.taken c.put_home.ensures.put c.phase_of.result c.phase_of.ensures.phase
-    c.finish.new.hand.me _ c.finish.ensures.finished
+    c.finish.new.hand.me _ _ _ c.finish.ensures.finished.did
 
 pub returns-clause-beside : goal.returns-clause-beside
 returns-clause-beside c =
     failed-beside c.args.table.now c.args.x c.requires.node c.requires.leaf c.args.hand.now.me c.take_home-start.new.hand.me c.put_home.new.hand.me c.phase_of.new.hand.me
     c.requires.holds c.take_home-start.result c.take_home-start.ensures.taken c.put_home.ensures.put c.phase_of.result c.phase_of.ensures.phase
-    c.finish.new.hand.me _ c.finish.ensures.finished
+    c.finish.new.hand.me _ _ _ c.finish.ensures.finished.did
 
 pub returns-clause-steps : goal.returns-clause-steps
 returns-clause-steps c =
@@ -35,8 +35,8 @@ returns-clause-steps c =
     (swapped-on board c.args.x c.take_home-start.new.hand.me c.put_home.new.hand.me _ _ c.put_home.ensures.put)
     (on c.put_home.new.hand.me c.phase_of.new.hand.me c.finish.new.hand.me
     (phase-on board c.args.x c.put_home.new.hand.me c.phase_of.new.hand.me c.phase_of.result c.phase_of.ensures.phase)
-    (finished-on board c.args.x c.phase_of.new.hand.me c.finish.new.hand.me _
-    (c.finish.ensures.finished.0 (node-inner board c.args.x c.requires.node (omega (arith, leaf)))))))
+    (finished-on board c.args.x c.phase_of.new.hand.me c.finish.new.hand.me _ _ _
+    (c.finish.ensures.finished.did.0 (node-inner board c.args.x c.requires.node (omega (arith, leaf)))))))
 
 pub returns-then-is_registered-clause-fault : goal.returns-then-is_registered-clause-fault
 returns-then-is_registered-clause-fault c =

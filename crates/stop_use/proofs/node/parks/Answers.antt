@@ -8,4 +8,4 @@ park-requires-clause-needs c κs =
 
 pub returns-clause-steps : goal.returns-clause-steps
 returns-clause-steps c =
-    rests-on c.args.table.now c.args.x c.args.hand.now.me c.park.new.hand.me _ c.park.ensures.rests
+    rests-on c.args.table.now c.args.x c.args.hand.now.me c.park.new.hand.me _ _ _ c.park.ensures.rests.did

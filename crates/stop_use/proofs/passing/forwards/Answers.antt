@@ -1,4 +1,4 @@
-use Rattle.std.proofs.Common.{ap, ◌∙◌}
+use Rattle.std.proofs.Common.{false, ap, ◌∙◌}
 use Rattle.node_tree.specs.Tree.{has_source}
 use Rattle.stop_calls.specs.declared.scanning.Scan.{Scan}
 use Rattle.stop_use.proofs.Forwarding.{branch-scans, twig-is}
@@ -39,6 +39,7 @@ returns-in-None-clause-fault c = (
     began = stays c.args.hand.now.me;
     first = c.request_stop.new.hand;
     scan = c.in-Made.scan;
+    failure = false;
     requested = c.in-Made.ensures.requested;
     came = record {
       last = c.runs_one-first.new.hand;
@@ -57,7 +58,7 @@ pub returns-in-Already-clause-fault : goal.returns-in-Already-clause-fault
 returns-in-Already-clause-fault c =
     let requested = c.in-Already.ensures.requested in
     requested-cause c.args.table.now c.args.place c.args.hand.now.me c.request_stop.new.hand.me (ap (has_source use_tree) c.if-place-ne2.false)
-    requested.word requested.is_of requested.answer_is requested.me_is
+    requested.word requested.left requested.is_of requested.answer_is requested.me_is
 
 pub returns-then-place-ne2-clause-steps : goal.returns-then-place-ne2-clause-steps
 returns-then-place-ne2-clause-steps c = stays c.args.hand.now.me

@@ -16,13 +16,13 @@ pub returns-clause-twig : goal.returns-clause-twig
 returns-clause-twig c =
     branch-owes c.args.table.now c.args.branch c.requires.node c.requires.branch c.args.hand.now.me c.has_begun.new.hand.me c.await_children.new.hand.me
     c.requires.holds c.requires.idle c.beside-twig.result c.beside-twig.ensures c.has_begun.result c.if-has_begun.false c.has_begun.ensures.begun
-    _ c.await_children.ensures.awaits
+    _ _ _ c.await_children.ensures.awaits.did
 
 pub returns-clause-steps : goal.returns-clause-steps
 returns-clause-steps c =
     on c.args.hand.now.me c.has_begun.new.hand.me c.await_children.new.hand.me
     (child-on c.args.table.now c.beside-twig.result c.args.hand.now.me c.has_begun.new.hand.me c.has_begun.result c.has_begun.ensures.begun)
-    (awaits-on c.args.table.now c.args.branch c.has_begun.new.hand.me c.await_children.new.hand.me _ _ c.await_children.ensures.awaits)
+    (awaits-on c.args.table.now c.args.branch c.has_begun.new.hand.me c.await_children.new.hand.me _ _ _ _ c.await_children.ensures.awaits.did)
 
 pub returns-then-has_begun-clause-fault : goal.returns-then-has_begun-clause-fault
 returns-then-has_begun-clause-fault c =

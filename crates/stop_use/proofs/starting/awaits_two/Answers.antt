@@ -24,14 +24,14 @@ returns-clause-leaf c =
     leaf-owes c.args.table.now c.args.root c.requires.root.is_node c.requires.root.three c.args.hand.now.me c.has_begun.new.hand.me c.has_begun-2.new.hand.me c.await_children.new.hand.me
     c.requires.holds c.requires.idle c.beside-leaf.result c.beside-branch.result c.beside-leaf.ensures c.beside-branch.ensures
     c.has_begun.result c.has_begun-2.result c.if-has_begun.false c.if-has_begun-2.false c.has_begun.ensures.begun c.has_begun-2.ensures.begun
-    _ c.await_children.ensures.awaits
+    _ _ _ c.await_children.ensures.awaits.did
 
 pub returns-clause-branch : goal.returns-clause-branch
 returns-clause-branch c =
     branch-owed c.args.table.now c.args.root c.requires.root.is_node c.requires.root.three c.args.hand.now.me c.has_begun.new.hand.me c.has_begun-2.new.hand.me c.await_children.new.hand.me
     c.requires.holds c.requires.idle c.beside-leaf.result c.beside-branch.result c.beside-leaf.ensures c.beside-branch.ensures
     c.has_begun.result c.has_begun-2.result c.if-has_begun.false c.if-has_begun-2.false c.has_begun.ensures.begun c.has_begun-2.ensures.begun
-    _ c.await_children.ensures.awaits
+    _ _ _ c.await_children.ensures.awaits.did
 
 pub returns-clause-steps : goal.returns-clause-steps
 returns-clause-steps c =
@@ -40,7 +40,7 @@ returns-clause-steps c =
     (child-on board c.beside-leaf.result c.args.hand.now.me c.has_begun.new.hand.me c.has_begun.result c.has_begun.ensures.begun)
     (on c.has_begun.new.hand.me c.has_begun-2.new.hand.me c.await_children.new.hand.me
     (child-on board c.beside-branch.result c.has_begun.new.hand.me c.has_begun-2.new.hand.me c.has_begun-2.result c.has_begun-2.ensures.begun)
-    (awaits-on board c.args.root c.has_begun-2.new.hand.me c.await_children.new.hand.me _ _ c.await_children.ensures.awaits))
+    (awaits-on board c.args.root c.has_begun-2.new.hand.me c.await_children.new.hand.me _ _ _ _ c.await_children.ensures.awaits.did))
 
 pub returns-then-has_begun-clause-fault : goal.returns-then-has_begun-clause-fault
 returns-then-has_begun-clause-fault c =

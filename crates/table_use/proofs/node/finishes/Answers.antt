@@ -46,7 +46,7 @@ returns-clause-beside c =
 
 pub returns-clause-notes : goal.returns-clause-notes
 returns-clause-notes c =
-    finished-notes c.args.table.now c.args.x c.phase_of.new.hand.me c.finish.new.hand.me c.requires.node _ c.requires.inner c.finish.ensures.finished
+    finished-notes c.args.table.now c.args.x c.phase_of.new.hand.me c.finish.new.hand.me c.requires.node _ _ _ c.requires.inner c.finish.ensures.finished.did
     ∙ phased-notes c.args.table.now c.args.x c.put_home.new.hand.me c.phase_of.new.hand.me c.phase_of.result c.phase_of.ensures.phase
     ∙ swapped-notes c.args.table.now c.args.x c.args.hand.now.me c.put_home.new.hand.me _ _ c.put_home.ensures.put
 

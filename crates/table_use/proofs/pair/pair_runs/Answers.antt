@@ -7,7 +7,7 @@ use Rattle.table_use.specs.Causes.{StopsAmong}
 use Rattle.table_use.proofs.Nodes.{kid-node, pair-kid}
 use Rattle.op_slot.proofs.Tending.{apart-sym}
 use Rattle.table_use.proofs.Opening.{kept-owed, pair-apart}
-use Rattle.table_use.proofs.Stopping.{hands-on, stops-beside}
+use Rattle.table_use.proofs.Stopping.{hands-on, stops-beside, stops-own}
 use Rattle.table_use.proofs.pair.pair_runs.Goals as goal
 
 pub puts_start-requires-clause-node : goal.puts_start-requires-clause-node
@@ -123,3 +123,8 @@ returns-in_err-reports_last-clause-fault c =
     hands-on c.from_residual-in_err-reports_last.result (StopsAmong c.args.table.now.frame c.args.pair 3 c.reports_last.new.hand.me) _
     c.from_residual-in_err-reports_last.ensures.1
     (1, omega arith, c.in_err-reports_last.ensures.fault)
+
+pub returns-clause-fault : goal.returns-clause-fault
+returns-clause-fault c =
+    stops-own c.ends_with_two.result c.args.table.now c.args.pair 2 3 c.ends_with_two.new.hand.me c.requires.pair (omega arith)
+    c.ends_with_two.ensures.fault

@@ -48,18 +48,18 @@ returns-clause-left c =
     pair-left c.args.table.now c.args.pair c.requires.node c.requires.pair c.args.env c.args.hand.now.me c.put_home.new.hand.me c.has_begun.new.hand.me c.has_begun-2.new.hand.me c.await_children.new.hand.me
     c.requires.holds c.put_home.ensures.put c.beside-left.result c.beside-right.result c.beside-left.ensures c.beside-right.ensures
     c.has_begun.result c.has_begun-2.result c.if-has_begun.false c.if-has_begun-2.false c.has_begun.ensures.begun c.has_begun-2.ensures.begun
-    _ c.await_children.ensures.awaits
+    _ _ _ c.await_children.ensures.awaits.did
 
 pub returns-clause-right : goal.returns-clause-right
 returns-clause-right c =
     pair-right c.args.table.now c.args.pair c.requires.node c.requires.pair c.args.env c.args.hand.now.me c.put_home.new.hand.me c.has_begun.new.hand.me c.has_begun-2.new.hand.me c.await_children.new.hand.me
     c.requires.holds c.put_home.ensures.put c.beside-left.result c.beside-right.result c.beside-left.ensures c.beside-right.ensures
     c.has_begun.result c.has_begun-2.result c.if-has_begun.false c.if-has_begun-2.false c.has_begun.ensures.begun c.has_begun-2.ensures.begun
-    _ c.await_children.ensures.awaits
+    _ _ _ c.await_children.ensures.awaits.did
 
 pub returns-clause-notes : goal.returns-clause-notes
 returns-clause-notes c =
-    awaited-notes c.args.table.now c.args.pair c.has_begun-2.new.hand.me c.await_children.new.hand.me _ _ c.await_children.ensures.awaits
+    awaited-notes c.args.table.now c.args.pair c.has_begun-2.new.hand.me c.await_children.new.hand.me _ _ _ _ c.await_children.ensures.awaits.did
     ∙ read-notes c.args.table.now c.beside-right.result c.has_begun.new.hand.me c.has_begun-2.new.hand.me _ c.has_begun-2.ensures.begun
     ∙ read-notes c.args.table.now c.beside-left.result c.put_home.new.hand.me c.has_begun.new.hand.me _ c.has_begun.ensures.begun
     ∙ swapped-notes c.args.table.now c.args.pair c.args.hand.now.me c.put_home.new.hand.me _ _ c.put_home.ensures.put

@@ -15,21 +15,21 @@ take_home-requires-clause-home c κs =
     let root = named-node c.args.table.now c.root-root.result c.args.block.index c.args.block.generation c.requires.tree
     c.root-root.ensures.place c.root-root.ensures.name in
     again-home c.args.table.now c.root-root.result root.0 root.1 c.args.hand.now.me c.take.new.hand.me c.take.new.hand.me c.take.new.hand.me c.take.new.hand.me c.take.new.hand.me
-    c.requires.calm _ _ (c.take.ensures.taken.0 c.if-not-take.false)
+    c.requires.calm _ _ _ (c.take.ensures.taken.0 c.if-not-take.false).2
 
 pub phase_of-requires-clause-holds : goal.phase_of-requires-clause-holds
 phase_of-requires-clause-holds c κs =
     let root = named-node c.args.table.now c.root-root.result c.args.block.index c.args.block.generation c.requires.tree
     c.root-root.ensures.place c.root-root.ensures.name in
     again-held c.args.table.now c.root-root.result root.0 root.1 c.args.hand.now.me c.take.new.hand.me c.take_home.new.hand.me c.take_home.new.hand.me c.take_home.new.hand.me c.take_home.new.hand.me
-    c.requires.calm _ _ (c.take.ensures.taken.0 c.if-not-take.false) c.take_home.result c.take_home.ensures.taken
+    c.requires.calm _ _ _ (c.take.ensures.taken.0 c.if-not-take.false).2 c.take_home.result c.take_home.ensures.taken
 
 pub finish-requires-clause-needs : goal.finish-requires-clause-needs
 finish-requires-clause-needs c κs =
     let root = named-node c.args.table.now c.root-root.result c.args.block.index c.args.block.generation c.requires.tree
     c.root-root.ensures.place c.root-root.ensures.name in
     again-finishes c.args.table.now c.root-root.result root.0 root.1 c.args.hand.now.me c.take.new.hand.me c.take_home.new.hand.me c.phase_of.new.hand.me c.phase_of.new.hand.me c.phase_of.new.hand.me
-    c.requires.calm _ _ (c.take.ensures.taken.0 c.if-not-take.false) c.take_home.result c.take_home.ensures.taken
+    c.requires.calm _ _ _ (c.take.ensures.taken.0 c.if-not-take.false).2 c.take_home.result c.take_home.ensures.taken
     c.phase_of.result c.phase_of.ensures.phase (c.is_registered.ensures.never c.if-is_registered.false)
 
 pub release-requires-clause-needs : goal.release-requires-clause-needs
@@ -38,23 +38,23 @@ release-requires-clause-needs c κs =
     c.root-root.ensures.place c.root-root.ensures.name in
     subst (λ (x : Name). CanRelease c.args.table.now.frame.layout c.finish.new.hand.me x) c.root-root.ensures.name
     (again-releases c.args.table.now c.root-root.result root.0 root.1 c.args.hand.now.me c.take.new.hand.me c.take_home.new.hand.me c.phase_of.new.hand.me c.finish.new.hand.me c.finish.new.hand.me
-    c.requires.calm _ _ (c.take.ensures.taken.0 c.if-not-take.false) c.take_home.result c.take_home.ensures.taken
-    c.phase_of.result c.phase_of.ensures.phase _ c.finish.ensures.finished)
+    c.requires.calm _ _ _ (c.take.ensures.taken.0 c.if-not-take.false).2 c.take_home.result c.take_home.ensures.taken
+    c.phase_of.result c.phase_of.ensures.phase _ _ _ c.finish.ensures.finished.did)
 
 pub returns-clause-calm : goal.returns-clause-calm
 returns-clause-calm c =
     let root = named-node c.args.table.now c.root-root.result c.args.block.index c.args.block.generation c.requires.tree
     c.root-root.ensures.place c.root-root.ensures.name in
     again-ends c.args.table.now c.root-root.result root.0 root.1 c.args.hand.now.me c.take.new.hand.me c.take_home.new.hand.me c.phase_of.new.hand.me c.finish.new.hand.me c.release.new.hand.me
-    c.requires.calm _ _ (c.take.ensures.taken.0 c.if-not-take.false) c.take_home.result c.take_home.ensures.taken
-    c.phase_of.result c.phase_of.ensures.phase _ c.finish.ensures.finished _ _ c.release.ensures.released
+    c.requires.calm _ _ _ (c.take.ensures.taken.0 c.if-not-take.false).2 c.take_home.result c.take_home.ensures.taken
+    c.phase_of.result c.phase_of.ensures.phase _ _ _ c.finish.ensures.finished.did _ _ _ _ c.release.ensures.released.did
 
 pub returns-clause-answer : goal.returns-clause-answer
 returns-clause-answer c =
     let root = named-node c.args.table.now c.root-root.result c.args.block.index c.args.block.generation c.requires.tree
     c.root-root.ensures.place c.root-root.ensures.name in
     again-value c.args.table.now c.root-root.result root.0 root.1 c.args.hand.now.me c.take.new.hand.me c.take_home.new.hand.me c.take_home.new.hand.me c.take_home.new.hand.me c.take_home.new.hand.me
-    c.requires.calm _ _ (c.take.ensures.taken.0 c.if-not-take.false) c.take_home.result c.take_home.ensures.taken _ _ (c.unwrap-item.ensures ∙ ap Some c.in-Kept.is)
+    c.requires.calm _ _ _ (c.take.ensures.taken.0 c.if-not-take.false).2 c.take_home.result c.take_home.ensures.taken _ _ (c.unwrap-item.ensures ∙ ap Some c.in-Kept.is)
 
 pub returns-then-not-take-clause-notes : goal.returns-then-not-take-clause-notes
 returns-then-not-take-clause-notes c =
@@ -71,31 +71,31 @@ unwrap-item-requires c =
     let root = named-node c.args.table.now c.root-root.result c.args.block.index c.args.block.generation c.requires.tree
     c.root-root.ensures.place c.root-root.ensures.name in
     again-full c.args.table.now c.root-root.result root.0 root.1 c.args.hand.now.me c.take.new.hand.me c.take_home.new.hand.me c.take_home.new.hand.me c.take_home.new.hand.me c.take_home.new.hand.me
-    c.requires.calm _ _ (c.take.ensures.taken.0 c.if-not-take.false) c.take_home.result c.take_home.ensures.taken
+    c.requires.calm _ _ _ (c.take.ensures.taken.0 c.if-not-take.false).2 c.take_home.result c.take_home.ensures.taken
 
 pub put_home-requires-clause-needs : goal.put_home-requires-clause-needs
 put_home-requires-clause-needs c κs =
     let root = named-node c.args.table.now c.root-root.result c.args.block.index c.args.block.generation c.requires.tree
     c.root-root.ensures.place c.root-root.ensures.name in
     again-puts c.args.table.now c.root-root.result root.0 root.1 c.args.hand.now.me c.take.new.hand.me c.take_home.new.hand.me c.take_home.new.hand.me c.take_home.new.hand.me c.take_home.new.hand.me
-    c.requires.calm _ _ (c.take.ensures.taken.0 c.if-not-take.false) c.take_home.result c.take_home.ensures.taken
+    c.requires.calm _ _ _ (c.take.ensures.taken.0 c.if-not-take.false).2 c.take_home.result c.take_home.ensures.taken
     c.unwrap-item.result c.unwrap-item.ensures
 
 pub returns-in_default-clause-notes : goal.returns-in_default-clause-notes
 returns-in_default-clause-notes c =
     swapped-notes c.args.table.now c.root-root.result c.take_home.new.hand.me c.put_home.new.hand.me _ _ c.put_home.ensures.put
     ∙ swapped-notes c.args.table.now c.root-root.result c.take.new.hand.me c.take_home.new.hand.me _ _ c.take_home.ensures.taken
-    ∙ taken-notes c.args.table.now c.root-root.result c.args.hand.now.me c.take.new.hand.me (c.take.ensures.taken.0 c.if-not-take.false)
+    ∙ taken-notes c.args.table.now c.root-root.result c.args.hand.now.me c.take.new.hand.me _ (c.take.ensures.taken.0 c.if-not-take.false).1 (c.take.ensures.taken.0 c.if-not-take.false).2
 
 pub returns-in_default-clause-fault : goal.returns-in_default-clause-fault
 returns-in_default-clause-fault c =
     let root = named-node c.args.table.now c.root-root.result c.args.block.index c.args.block.generation c.requires.tree
     c.root-root.ensures.place c.root-root.ensures.name in
     subst (λ (x : Name). StopsAt c.args.table.now.frame x c.put_home.new.hand.me OtherItem) c.root-root.ensures.name
-    (other-stops c.args.table.now c.root-root.result c.args.hand.now.me c.take.new.hand.me (c.take.ensures.taken.0 c.if-not-take.false)
+    (other-stops c.args.table.now c.root-root.result c.args.hand.now.me c.take.new.hand.me _ (c.take.ensures.taken.0 c.if-not-take.false).1 (c.take.ensures.taken.0 c.if-not-take.false).2
     c.take_home.new.hand.me c.put_home.new.hand.me c.take_home.result c.unwrap-item.result c.take_home.ensures.taken c.put_home.ensures.put
     (again-back c.args.table.now c.root-root.result root.0 root.1 c.args.hand.now.me c.take.new.hand.me c.take_home.new.hand.me c.put_home.new.hand.me c.put_home.new.hand.me c.put_home.new.hand.me
-    c.requires.calm _ _ (c.take.ensures.taken.0 c.if-not-take.false) c.take_home.result c.take_home.ensures.taken
+    c.requires.calm _ _ _ (c.take.ensures.taken.0 c.if-not-take.false).2 c.take_home.result c.take_home.ensures.taken
     c.unwrap-item.result c.put_home.ensures.put)
     c.in_default.not-Kept)
 
@@ -103,7 +103,7 @@ pub returns-then-is_registered-clause-notes : goal.returns-then-is_registered-cl
 returns-then-is_registered-clause-notes c =
     phased-notes c.args.table.now c.root-root.result c.take_home.new.hand.me c.phase_of.new.hand.me c.phase_of.result c.phase_of.ensures.phase
     ∙ swapped-notes c.args.table.now c.root-root.result c.take.new.hand.me c.take_home.new.hand.me _ _ c.take_home.ensures.taken
-    ∙ taken-notes c.args.table.now c.root-root.result c.args.hand.now.me c.take.new.hand.me (c.take.ensures.taken.0 c.if-not-take.false)
+    ∙ taken-notes c.args.table.now c.root-root.result c.args.hand.now.me c.take.new.hand.me _ (c.take.ensures.taken.0 c.if-not-take.false).1 (c.take.ensures.taken.0 c.if-not-take.false).2
 
 pub returns-then-is_registered-clause-fault : goal.returns-then-is_registered-clause-fault
 returns-then-is_registered-clause-fault c =
@@ -113,4 +113,4 @@ returns-then-is_registered-clause-fault c =
     (phase-stops c.args.table.now c.root-root.result c.take_home.new.hand.me c.phase_of.new.hand.me c.phase_of.result
     (c.is_registered.ensures.other c.if-is_registered.true) c.phase_of.ensures.phase
     (again-still c.args.table.now c.root-root.result root.0 root.1 c.args.hand.now.me c.take.new.hand.me c.take_home.new.hand.me c.phase_of.new.hand.me c.phase_of.new.hand.me c.phase_of.new.hand.me
-    c.requires.calm _ _ (c.take.ensures.taken.0 c.if-not-take.false) c.take_home.result c.take_home.ensures.taken c.phase_of.result c.phase_of.ensures.phase))
+    c.requires.calm _ _ _ (c.take.ensures.taken.0 c.if-not-take.false).2 c.take_home.result c.take_home.ensures.taken c.phase_of.result c.phase_of.ensures.phase))

@@ -64,7 +64,7 @@ rest-requires-clause-needs c κs =
 
 pub returns-clause-calm : goal.returns-clause-calm
 returns-clause-calm c =
-    rested-calm c.args.table.now.frame c.args.root c.put_home.new.hand.me c.rest.new.hand.me _ c.rest.ensures.rests
+    rested-calm c.args.table.now.frame c.args.root c.put_home.new.hand.me c.rest.new.hand.me _ _ _ c.rest.ensures.rests.did
     (keeps-calm c.args.table.now c.args.root c.requires.node c.requires.root c.args.hand.now.me c.take_home.new.hand.me c.take_home-2.new.hand.me c.put_home.new.hand.me c.requires.last
     c.beside.result c.beside.ensures c.take_home.result c.take_home-2.result c.take_home.ensures.taken c.take_home-2.ensures.taken _ _ _ (c.unwrap.ensures ∙ ap Some c.delivered-parcel.ensures)
     c.unwrap-2.result c.unwrap-2.ensures c.env_in-env.ensures
@@ -72,11 +72,11 @@ returns-clause-calm c =
 
 pub returns-clause-left : goal.returns-clause-left
 returns-clause-left c =
-    left-rests c.args.table.now c.args.root c.put_home.new.hand.me c.rest.new.hand.me c.rest.ensures.wrote
+    left-rests c.args.table.now c.args.root c.put_home.new.hand.me c.rest.new.hand.me c.rest.ensures.rests
 
 pub returns-clause-notes : goal.returns-clause-notes
 returns-clause-notes c =
-    rested-notes c.args.table.now c.args.root c.put_home.new.hand.me c.rest.new.hand.me _ c.rest.ensures.rests
+    rested-notes c.args.table.now c.args.root c.put_home.new.hand.me c.rest.new.hand.me _ _ _ c.rest.ensures.rests.did
     ∙ swapped-notes c.args.table.now c.args.root c.take_home-2.new.hand.me c.put_home.new.hand.me _ _ c.put_home.ensures.put
     ∙ swapped-notes c.args.table.now c.args.root c.take_home.new.hand.me c.take_home-2.new.hand.me _ _ c.take_home-2.ensures.taken
     ∙ swapped-notes c.args.table.now c.beside.result c.args.hand.now.me c.take_home.new.hand.me _ _ c.take_home.ensures.taken

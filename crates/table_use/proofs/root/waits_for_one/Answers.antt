@@ -38,11 +38,11 @@ returns-clause-pair c =
     one-owes c.args.table.now c.args.root c.requires.node c.requires.root c.args.env c.args.hand.now.me c.put_home.new.hand.me c.has_begun.new.hand.me c.await_children.new.hand.me
     c.requires.holds c.put_home.ensures.put c.beside-pair.result c.beside-pair.ensures c.has_begun.result c.if-has_begun.false
     c.has_begun.ensures.begun
-    _ c.await_children.ensures.awaits
+    _ _ _ c.await_children.ensures.awaits.did
 
 pub returns-clause-notes : goal.returns-clause-notes
 returns-clause-notes c =
-    awaited-notes c.args.table.now c.args.root c.has_begun.new.hand.me c.await_children.new.hand.me _ _ c.await_children.ensures.awaits
+    awaited-notes c.args.table.now c.args.root c.has_begun.new.hand.me c.await_children.new.hand.me _ _ _ _ c.await_children.ensures.awaits.did
     ∙ read-notes c.args.table.now c.beside-pair.result c.put_home.new.hand.me c.has_begun.new.hand.me _ c.has_begun.ensures.begun
     ∙ swapped-notes c.args.table.now c.args.root c.args.hand.now.me c.put_home.new.hand.me _ _ c.put_home.ensures.put
 

@@ -1,6 +1,4 @@
 use Rattle.std.proofs.Common.{arith, sym, ap, ◌∙◌, subst}
-use Rattle.life_rules.specs.declared.words.CallbackPhase.TheVariants.{Running}
-use Rattle.table_words.specs.Controls.{callback_written}
 use Rattle.table_words.specs.Layouts.{OfCallback, index}
 use Rattle.table_steps.specs.Slots.{IsSeated}
 use Rattle.table_kept.proofs.Hands.{hand-seated, hand-logged}
@@ -15,50 +13,50 @@ compare_exchange-was-requires g t c =
     let within = c.callback-index.ensures.within in (
       c.requires.table.table_is ∙ sym (ap (λ b. b.table_id) c.self.view_is),
       omega (arith, counts, within),
-      runs-at g.P.Cargo c.args.self.now.frame c.self.inside.table.shared.key _ c.args.seat.now.id
+      runs-at g.P.Cargo c.args.self.now.frame c.self.inside.table.key _ c.args.seat.now.id
           c.callback-index.result c.args.source g.J.Regard.source c.args.block c.args.node g.K.Subject.aim c.args.seat.now.me
           (sym (ap (λ b. b.frame) c.self.view_is) ∙ sym c.self.invariant.0)
           (c.callback-index.ensures.value ∙ ap (λ b. index b.frame.layout (OfCallback c.args.block c.args.node)) c.self.view_is)
           c.requires.subject c.requires.source_is c.requires.needs c.requires.block
           c.args.word c.callback_number-running.result c.requires.armed c.requires.newest
-          (c.callback_number-running.ensures.value ∙ ap (λ n. callback_written n Running) c.stamp-generation.ensures)
-          (c.callback_number-running.ensures.stamp ∙ c.stamp-generation.ensures) c.callback_number-running.ensures.phase,
+          (c.callback_number-running.ensures.stamp ∙ c.stamp-generation.ensures) c.callback_number-running.ensures.phase c.requires.table.seated.itself,
     )
 
 pub run_from-requires-clause-table : goal.run_from-requires-clause-table
 run_from-requires-clause-table g t c κs within =
-    hand-logged c.args.self.now c.args.seat.now c.compare_exchange-was.new.seat c.requires.table c.compare_exchange-was.ensures.0
+    hand-logged c.args.self.now c.args.seat.now c.compare_exchange-was.new.hand c.requires.table c.compare_exchange-was.ensures.0
     (run_index c.args.self.now c.args.block c.args.node) c.compare_exchange-was.result
     (met-armed c.args.self.now c.args.source c.args.block c.args.node c.callback-index.result c.compare_exchange-was.result g.K.Subject.aim
-    g.J.Regard.source c.args.seat.now.me c.compare_exchange-was.new.seat.me
+    g.J.Regard.source c.args.seat.now.me c.compare_exchange-was.new.hand.me
     (c.callback-index.ensures.value ∙ ap (λ b. index b.frame.layout (OfCallback c.args.block c.args.node)) c.self.view_is)
-    (sym c.says_armed.ensures ∙ c.if-says_armed.true) (c.compare_exchange-was.ensures.2.1 c.if-was-word.false).0)
+    (sym c.says_armed.ensures ∙ c.if-says_armed.true) (c.compare_exchange-was.ensures.2.rest.1 c.if-was-word.false).0)
 
 pub returns-then-was-word-clause-hand : goal.returns-then-was-word-clause-hand
 returns-then-was-word-clause-hand g t c =
     let b = c.args.self.now in
     let aim = g.K.Subject.aim in
-    hand-seated b c.args.seat.now c.compare_exchange-was.new.seat c.requires.table c.compare_exchange-was.ensures.0
-    (subst (IsSeated b.frame.tree b.frame.layout) (sym (c.compare_exchange-was.ensures.2.0 c.if-was-word.true).0)
+    hand-seated b c.args.seat.now c.compare_exchange-was.new.hand c.requires.table c.compare_exchange-was.ensures.0
+    (subst (IsSeated b.frame.tree b.frame.layout) (sym (c.compare_exchange-was.ensures.2.rest.0 c.if-was-word.true).0)
     (run-seated b.frame.tree b.frame.layout c.callback-index.result c.compare_exchange-was.result c.args.seat.now.me c.requires.table.seated
-    (node_named aim.name.block aim.name.node c.compare_exchange-was.result)))
+    c.callback_number-running.result (node_named aim.name.block aim.name.node c.compare_exchange-was.result)))
 
 pub returns-then-was-word-clause-run : goal.returns-then-was-word-clause-run
 returns-then-was-word-clause-run g t c =
-    won c.args.self.now c.args.source c.args.block c.args.node c.args.seat.now c.compare_exchange-was.new.seat c.args.word
-    c.stamp-generation.result c.callback-index.result c.compare_exchange-was.result g.K.Subject.aim g.J.Regard.source
+    won c.args.self.now c.args.source c.args.block c.args.node c.args.seat.now c.compare_exchange-was.new.hand c.args.word
+    c.stamp-generation.result c.callback-index.result c.compare_exchange-was.result c.callback_number-running.result g.K.Subject.aim g.J.Regard.source
     (c.callback-index.ensures.value ∙ ap (λ b. index b.frame.layout (OfCallback c.args.block c.args.node)) c.self.view_is)
     c.requires.subject c.requires.source_is c.stamp-generation.ensures c.if-was-word.true
-    (c.compare_exchange-was.ensures.2.0 c.if-was-word.true)
+    c.callback_number-running.ensures.stamp c.callback_number-running.ensures.phase
+    (c.compare_exchange-was.ensures.2.rest.0 c.if-was-word.true)
 
 pub returns-then-says_armed-clause-run : goal.returns-then-says_armed-clause-run
 returns-then-says_armed-clause-run g t c =
     let armed = sym c.says_armed.ensures ∙ c.if-says_armed.true in
-    let told = c.compare_exchange-was.ensures.2.1 c.if-was-word.false in
-    tried c.args.self.now c.args.source c.args.block c.args.node c.args.seat.now c.compare_exchange-was.new.seat c.run_from.new.seat
+    let told = c.compare_exchange-was.ensures.2.rest.1 c.if-was-word.false in
+    tried c.args.self.now c.args.source c.args.block c.args.node c.args.seat.now c.compare_exchange-was.new.hand c.run_from.new.seat
     c.compare_exchange-was.result armed
     (met-armed c.args.self.now c.args.source c.args.block c.args.node c.callback-index.result c.compare_exchange-was.result g.K.Subject.aim
-    g.J.Regard.source c.args.seat.now.me c.compare_exchange-was.new.seat.me
+    g.J.Regard.source c.args.seat.now.me c.compare_exchange-was.new.hand.me
     (c.callback-index.ensures.value ∙ ap (λ b. index b.frame.layout (OfCallback c.args.block c.args.node)) c.self.view_is)
     armed told.0)
     c.args.word c.run_from.result (told.1 armed) c.run_from.ensures.run
@@ -66,17 +64,17 @@ returns-then-says_armed-clause-run g t c =
 pub returns-else-says_armed-clause-hand : goal.returns-else-says_armed-clause-hand
 returns-else-says_armed-clause-hand g t c =
     let b = c.args.self.now in
-    hand-seated b c.args.seat.now c.compare_exchange-was.new.seat c.requires.table c.compare_exchange-was.ensures.0
-    (subst (IsSeated b.frame.tree b.frame.layout) (sym (c.compare_exchange-was.ensures.2.1 c.if-was-word.false).0)
+    hand-seated b c.args.seat.now c.compare_exchange-was.new.hand c.requires.table c.compare_exchange-was.ensures.0
+    (subst (IsSeated b.frame.tree b.frame.layout) (sym (c.compare_exchange-was.ensures.2.rest.1 c.if-was-word.false).0)
     (met-seated b.frame.tree b.frame.layout c.callback-index.result c.compare_exchange-was.result c.args.seat.now.me c.requires.table.seated
     g.K.Subject.aim g.J.Regard.source))
 
 pub returns-else-says_armed-clause-run : goal.returns-else-says_armed-clause-run
 returns-else-says_armed-clause-run g t c =
     let unarmed = sym c.says_armed.ensures ∙ c.if-says_armed.false in
-    lost c.args.self.now c.args.source c.args.block c.args.node c.args.seat.now c.compare_exchange-was.new.seat c.args.word
+    lost c.args.self.now c.args.source c.args.block c.args.node c.args.seat.now c.compare_exchange-was.new.hand c.args.word
     c.compare_exchange-was.result unarmed
     (met-unarmed c.args.self.now c.args.source c.args.block c.args.node c.callback-index.result c.compare_exchange-was.result
-    g.K.Subject.aim g.J.Regard.source c.args.seat.now.me c.compare_exchange-was.new.seat.me
+    g.K.Subject.aim g.J.Regard.source c.args.seat.now.me c.compare_exchange-was.new.hand.me
     (c.callback-index.ensures.value ∙ ap (λ b. index b.frame.layout (OfCallback c.args.block c.args.node)) c.self.view_is)
-    c.requires.subject c.requires.source_is unarmed (c.compare_exchange-was.ensures.2.1 c.if-was-word.false).0)
+    c.requires.subject c.requires.source_is unarmed (c.compare_exchange-was.ensures.2.rest.1 c.if-was-word.false).0)

@@ -1,7 +1,7 @@
 use Rattle.std.proofs.Common.{arith, sym, ap, ◌∙◌, subst}
 use Rattle.table_words.specs.Layouts.{OfCallback, index}
 use Rattle.table_steps.specs.Slots.{IsSeated}
-use Rattle.table_steps.specs.Claims.{logged}
+use Rattle.table_steps.specs.Claims.{with_step}
 use Rattle.table_steps.specs.Callbacks.{arms}
 use Rattle.table_kept.proofs.Hands.{hand-seated}
 use Rattle.table_kept.proofs.ArmRuns.{arms-at, arm-seated}
@@ -13,30 +13,30 @@ store-requires g c =
     let within = c.callback-index.ensures.within in (
       c.requires.table.table_is ∙ sym (ap (λ b. b.table_id) c.self.view_is),
       omega (arith, counts, within),
-      arms-at g.P.Cargo c.args.self.now.frame c.self.inside.table.shared.key _ c.args.seat.now.id
+      arms-at g.P.Cargo c.args.self.now.frame c.self.inside.table.key _ c.args.seat.now.id
           c.callback-index.result c.callback_number-armed.result c.args.name g.K.Subject.aim.name c.args.seat.now.me
           (sym (ap (λ b. b.frame) c.self.view_is) ∙ sym c.self.invariant.0)
           (c.callback-index.ensures.value ∙ ap (λ b. index b.frame.layout (OfCallback c.args.name.block c.args.name.node)) c.self.view_is)
           (ap (λ a. a.name) c.requires.subject) c.requires.needs
-          c.callback_number-armed.ensures.stamp c.callback_number-armed.ensures.phase,
+          c.callback_number-armed.ensures.stamp c.callback_number-armed.ensures.phase c.requires.table.seated.itself,
     )
 
 pub returns-clause-hand : goal.returns-clause-hand
 returns-clause-hand g c =
     let b = c.args.self.now in
-    hand-seated b c.args.seat.now c.store.new.seat c.requires.table c.store.ensures.0
-    (subst (IsSeated b.frame.tree b.frame.layout) (sym c.store.ensures.2)
-    (arm-seated b.frame.tree b.frame.layout c.callback-index.result c.callback_number-armed.result g.K.Subject.aim.name
+    hand-seated b c.args.seat.now c.store.new.hand c.requires.table c.store.ensures.0
+    (subst (IsSeated b.frame.tree b.frame.layout) (sym c.store.ensures.2.1.rest)
+    (arm-seated b.frame.tree b.frame.layout c.callback-index.result c.store.ensures.2.0 c.callback_number-armed.result g.K.Subject.aim.name
     c.args.seat.now.me c.requires.table.seated))
 
 pub returns-clause-armed : goal.returns-clause-armed
 returns-clause-armed g c =
     record {
-      word = c.callback_number-armed.result;
-      stamp_is = c.callback_number-armed.ensures.stamp;
-      reads = c.callback_number-armed.ensures.phase;
-      me_is = c.store.ensures.2
-          ∙ ap (λ a. (logged c.callback-index.result c.callback_number-armed.result (arms a.name c.args.seat.now.me.0), c.args.seat.now.me.1)) c.requires.subject
-          ∙ ap (λ i. (logged i c.callback_number-armed.result (arms c.args.name c.args.seat.now.me.0), c.args.seat.now.me.1))
+      read = c.store.ensures.2.0;
+      left = c.callback_number-armed.result;
+      says = record { stamp_is = c.callback_number-armed.ensures.stamp; reads = c.callback_number-armed.ensures.phase };
+      me_is = c.store.ensures.2.1.rest
+          ∙ ap (λ a. (with_step c.callback-index.result c.store.ensures.2.0 c.callback_number-armed.result (arms a.name c.args.seat.now.me.0), c.args.seat.now.me.1)) c.requires.subject
+          ∙ ap (λ i. (with_step i c.store.ensures.2.0 c.callback_number-armed.result (arms c.args.name c.args.seat.now.me.0), c.args.seat.now.me.1))
           (c.callback-index.ensures.value ∙ ap (λ b. index b.frame.layout (OfCallback c.args.name.block c.args.name.node)) c.self.view_is);
     }

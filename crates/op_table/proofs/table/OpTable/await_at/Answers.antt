@@ -11,26 +11,27 @@ store-requires g c =
     let within = c.control-index.ensures.within in (
       c.requires.table.table_is ∙ sym (ap (λ b. b.table_id) c.self.view_is),
       omega (arith, counts, within),
-      awaits-at g.P.Cargo c.args.self.now.frame c.self.inside.table.shared.key _ c.args.seat.now.id
+      awaits-at g.P.Cargo c.args.self.now.frame c.self.inside.table.key _ c.args.seat.now.id
           c.control-index.result c.control_number-busy.result c.args.name c.args.children.now g.J.Naming.names
           g.K.Subject.aim c.args.seat.now.me
           (sym (ap (λ b. b.frame) c.self.view_is) ∙ sym c.self.invariant.0)
           (c.control-index.ensures.value ∙ ap (λ b. index b.frame.layout (OfControl c.args.name.block c.args.name.node)) c.self.view_is)
           c.requires.subject c.requires.names c.requires.table.seated c.requires.needs c.control_number-busy.ensures.stamp
-          c.control_number-busy.ensures.control,
+          c.control_number-busy.ensures.control c.requires.table.seated.itself,
     )
 
 pub returns-clause-awaits : goal.returns-clause-awaits
 returns-clause-awaits g c =
-    awaits-told g.P.Cargo c.args.self.now.frame c.control-index.result c.args.name c.args.children.now g.J.Naming.names
-    g.K.Subject.aim c.args.seat.now.me c.store.new.seat.me
+    awaits-told g.P.Cargo c.args.self.now.frame c.control-index.result c.store.ensures.2.0 c.control_number-busy.result c.args.name c.args.children.now g.J.Naming.names
+    g.K.Subject.aim c.args.seat.now.me c.store.new.hand.me
     (c.control-index.ensures.value ∙ ap (λ b. index b.frame.layout (OfControl c.args.name.block c.args.name.node)) c.self.view_is)
-    c.requires.subject c.requires.names c.store.ensures.2
+    c.requires.subject c.requires.names c.control_number-busy.ensures.stamp c.control_number-busy.ensures.control
+    c.store.ensures.2.1.rest
 
 pub returns-clause-hand : goal.returns-clause-hand
 returns-clause-hand g c =
-    hand-aimed c.args.self.now c.args.seat.now c.store.new.seat c.requires.table c.store.ensures.0 c.args.name
-    g.K.Subject.aim c.requires.subject (λ _. c.store.ensures.2.seated)
+    hand-aimed c.args.self.now c.args.seat.now c.store.new.hand c.requires.table c.store.ensures.0 c.args.name
+    g.K.Subject.aim c.requires.subject (λ _. c.store.ensures.2.1.rest.seated)
 
 pub overflow_cast-pending : goal.overflow_cast-pending
 overflow_cast-pending g c =

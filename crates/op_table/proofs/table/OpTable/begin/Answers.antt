@@ -27,9 +27,9 @@ pub invariant_of-hand : goal.invariant_of-hand
 invariant_of-hand g c =
     let can = subst (λ s. CanBegin g.P.Cargo c.args.self.now.frame s.me c.args.name) (sym c.hand.view_is) c.requires.needs in
     remembers-begun c.args.self.now c.hand.inside.seat c.begin_at.new.seat c.hand.inside.owed c.remove.new.self c.hand.invariant
-    (c.begin_at.ensures.table.0 ∙ c.renew.ensures.table.0) c.remove.ensures.layout g.P.Cargo _ c.args.name c.renew.new.seat.me
+    (c.begin_at.ensures.table.0 ∙ c.renew.ensures.table.0) c.remove.ensures.layout g.P.Cargo _ _ _ c.args.name c.renew.new.seat.me
     (has-owed c.hand.inside.seat c.hand.inside.owed c.hand.invariant c.args.name (record { owed = can.owed; owes = can.owes }))
-    c.renew.ensures.renewed c.begin_at.ensures.begun c.remove.ensures.has
+    c.renew.ensures.renewed c.begin_at.ensures.begun.did c.remove.ensures.has
 
 pub returns-clause-begun : goal.returns-clause-begun
 returns-clause-begun g c =
@@ -39,6 +39,6 @@ returns-clause-begun g c =
       middle = c.renew.new.seat.me;
       renewed = c.renew.ensures.renewed;
       began = c.begin_at.ensures.begun;
-      goes_on = begun-goes-on g.P.Cargo c.args.self.now.frame _ c.args.name c.hand.inside.seat.me c.renew.new.seat.me
-          c.begin_at.new.seat.me can c.renew.ensures.renewed c.begin_at.ensures.begun c.begin_at.ensures.hand.seated;
+      goes_on = begun-goes-on g.P.Cargo c.args.self.now.frame _ _ _ c.args.name c.hand.inside.seat.me c.renew.new.seat.me
+          c.begin_at.new.seat.me can c.renew.ensures.renewed c.begin_at.ensures.begun.did c.begin_at.ensures.hand.seated;
     })

@@ -9,15 +9,15 @@ store-requires g c =
     let within = c.control-index.ensures.within in (
       c.requires.table.table_is ∙ sym (ap (λ b. b.table_id) c.self.view_is),
       omega (arith, counts, within),
-      begins-at g.P.Cargo c.args.self.now.frame c.self.inside.table.shared.key _ c.args.seat.now.id
+      begins-at g.P.Cargo c.args.self.now.frame c.self.inside.table.key _ c.args.seat.now.id
           c.control-index.result c.control_number-held.result c.args.name g.K.Subject.aim c.args.seat.now.me
           (sym (ap (λ b. b.frame) c.self.view_is) ∙ sym c.self.invariant.0) (c.control-index.ensures.value ∙ ap (λ b. index b.frame.layout (OfControl c.args.name.block c.args.name.node)) c.self.view_is)
-          c.requires.subject c.requires.needs c.requires.renewed c.control_number-held.ensures.stamp c.control_number-held.ensures.control,
+          c.requires.subject c.requires.needs c.requires.renewed c.control_number-held.ensures.stamp c.control_number-held.ensures.control c.requires.table.seated.itself,
     )
 
 pub returns-clause-begun : goal.returns-clause-begun
 returns-clause-begun g c =
-    begins-told g.P.Cargo c.args.self.now.frame c.control-index.result c.args.name g.K.Subject.aim c.args.seat.now.me
-    c.store.new.seat.me
+    begins-told g.P.Cargo c.args.self.now.frame c.control-index.result c.store.ensures.2.0 c.control_number-held.result c.args.name g.K.Subject.aim c.args.seat.now.me
+    c.store.new.hand.me
     (c.control-index.ensures.value ∙ ap (λ b. index b.frame.layout (OfControl c.args.name.block c.args.name.node)) c.self.view_is)
-    c.requires.subject c.store.ensures.2
+    c.requires.subject c.control_number-held.ensures.stamp c.control_number-held.ensures.control c.store.ensures.2.1.rest

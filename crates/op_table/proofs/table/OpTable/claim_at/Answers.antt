@@ -12,16 +12,16 @@ load-found-requires g c =
     let within = c.block-index.ensures.within in (
       c.requires.table.table_is ∙ sym (ap (λ b. b.table_id) c.self.view_is),
       omega (arith, counts, within),
-      looks_allowed g.P.Cargo c.self.inside.table.shared.key _ c.args.seat.now.id c.block-index.result
-          c.args.seat.now.me.0 c.args.seat.now.me.1,
+      looks_allowed g.P.Cargo c.self.inside.table.key _ c.args.seat.now.id c.block-index.result
+          c.args.seat.now.me.0 c.args.seat.now.me.1 c.requires.table.seated.itself,
     )
 
 pub returns-in-Free-clause-claimed : goal.returns-in-Free-clause-claimed
 returns-in-Free-clause-claimed g c =
     told g.row.P.Denot g.row.P-Entry.Denot c.args.self.now c.args.block c.load-found.result c.args.seat.now
-    c.load-found.new.seat c.claim_from.new.seat
+    c.load-found.new.hand c.claim_from.new.seat
     (seen_at c.args.self.now c.args.block c.block-index.result c.load-found.result c.args.seat.now
-    c.load-found.new.seat c.block-index.ensures.value c.load-found.ensures.2)
+    c.load-found.new.hand c.block-index.ensures.value c.load-found.ensures.2.rest)
     (ap (λ w. is_free w.state) (sym c.read_block.ensures) ∙ ap is_free c.in-Free.is) c.claim_from.result
     c.claim_from.ensures.claimed
 
@@ -32,13 +32,13 @@ returns-in-Open g c =
     (λ (e : c.read_block.result.state ≡ Retired). ap is_free e) c.in-Open.is in
     record {
       table = (c.load-found.ensures.0, c.load-found.ensures.1);
-      hand = hand-logged c.args.self.now c.args.seat.now c.load-found.new.seat c.requires.table c.load-found.ensures.0
-          c.block-index.result c.load-found.result c.load-found.ensures.2;
+      hand = hand-logged c.args.self.now c.args.seat.now c.load-found.new.hand c.requires.table c.load-found.ensures.0
+          c.block-index.result c.load-found.result c.load-found.ensures.2.rest;
       claimed = inl (record {
         word = c.load-found.result;
         taken = ap (λ w. is_free w.state) (sym c.read_block.ensures) ∙ free;
         me_is = seen_at c.args.self.now c.args.block c.block-index.result c.load-found.result c.args.seat.now
-            c.load-found.new.seat c.block-index.ensures.value c.load-found.ensures.2;
+            c.load-found.new.hand c.block-index.ensures.value c.load-found.ensures.2.rest;
       });
       owed = tt;
     }

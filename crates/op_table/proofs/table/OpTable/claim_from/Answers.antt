@@ -15,40 +15,40 @@ compare_exchange-was-requires g c =
     let within = c.block-index.ensures.within in (
       c.requires.table.table_is ∙ sym (ap (λ b. b.table_id) c.self.view_is),
       omega (arith, counts, within),
-      claims_at g.P.Cargo c.args.self.now.frame c.self.inside.table.shared.key _ c.args.seat.now.id c.args.block
+      claims_at g.P.Cargo c.args.self.now.frame c.self.inside.table.key _ c.args.seat.now.id c.args.block
           c.block-index.result c.args.found c.block_number-open.result c.args.seat.now.me
           (root_name c.args.self.now c.args.block (block_read c.args.found).generation) g.K.Subject.aim frame
           c.requires.table.seated.itself c.requires.block c.block-index.ensures.value c.requires.free
           (c.block_number-open.ensures.reads
           ∙ ap (λ (n : ℕ). record { generation = n; state = Open }) c.stamp-generation.ensures)
-          refl c.requires.subject,
+          refl c.requires.subject c.requires.table.seated.itself,
     )
 
 pub returns-then-was-found-clause-claimed : goal.returns-then-was-found-clause-claimed
 returns-then-was-found-clause-claimed g c =
     won g.row.P.Denot g.row.P-Entry.Denot c.args.self.now c.args.block c.args.found c.stamp-generation.result
-    c.block-index.result c.compare_exchange-was.result g.K.Subject.aim c.args.seat.now
-    c.compare_exchange-was.new.seat c.stamp-generation.ensures c.block-index.ensures.value c.if-was-found.true
-    c.requires.subject (c.compare_exchange-was.ensures.2.0 c.if-was-found.true).0
+    c.block-index.result c.compare_exchange-was.result c.block_number-open.result g.K.Subject.aim c.args.seat.now
+    c.compare_exchange-was.new.hand c.stamp-generation.ensures c.block-index.ensures.value c.if-was-found.true
+    c.requires.subject c.block_number-open.ensures.reads (c.compare_exchange-was.ensures.2.rest.0 c.if-was-found.true).3 (c.compare_exchange-was.ensures.2.rest.0 c.if-was-found.true).0
 
 pub returns-then-was-found-clause-hand : goal.returns-then-was-found-clause-hand
 returns-then-was-found-clause-hand g c =
-    hand-aimed c.args.self.now c.args.seat.now c.compare_exchange-was.new.seat c.requires.table
+    hand-aimed c.args.self.now c.args.seat.now c.compare_exchange-was.new.hand c.requires.table
     c.compare_exchange-was.ensures.0 (root_name c.args.self.now c.args.block (block_read c.args.found).generation)
-    g.K.Subject.aim c.requires.subject (c.compare_exchange-was.ensures.2.0 c.if-was-found.true).1
+    g.K.Subject.aim c.requires.subject (c.compare_exchange-was.ensures.2.rest.0 c.if-was-found.true).1
 
 pub returns-else-was-found-clause-hand : goal.returns-else-was-found-clause-hand
 returns-else-was-found-clause-hand g c =
-    hand-logged c.args.self.now c.args.seat.now c.compare_exchange-was.new.seat c.requires.table
+    hand-logged c.args.self.now c.args.seat.now c.compare_exchange-was.new.hand c.requires.table
     c.compare_exchange-was.ensures.0 c.block-index.result c.compare_exchange-was.result
-    (c.compare_exchange-was.ensures.2.1 c.if-was-found.false)
+    (c.compare_exchange-was.ensures.2.rest.1 c.if-was-found.false)
 
 pub returns-else-was-found-clause-claimed : goal.returns-else-was-found-clause-claimed
 returns-else-was-found-clause-claimed g c =
     record {
       other = c.compare_exchange-was.result;
       differs = c.if-was-found.false;
-      me_is = c.compare_exchange-was.ensures.2.1 c.if-was-found.false
+      me_is = c.compare_exchange-was.ensures.2.rest.1 c.if-was-found.false
           ∙ ap (λ i. (logged i c.compare_exchange-was.result c.args.seat.now.me.0, c.args.seat.now.me.1))
           c.block-index.ensures.value;
     }
@@ -57,4 +57,4 @@ pub returns-then-was-found-clause-owed : goal.returns-then-was-found-clause-owed
 returns-then-was-found-clause-owed g c =
     subst (OwesNoneThere c.args.seat.now.me.0)
     (ap (λ a. a.name) c.requires.subject ∙ ap (root_name c.args.self.now c.args.block) (sym c.stamp-generation.ensures))
-    (c.compare_exchange-was.ensures.2.0 c.if-was-found.true).2
+    (c.compare_exchange-was.ensures.2.rest.0 c.if-was-found.true).2

@@ -2,7 +2,8 @@ use Rattle.std.proofs.Common.{◌^◌, arith, sym, ap, ◌∙◌}
 use Rattle.std.specs.Prelude.{bit_or}
 use Rattle.table_steps.specs.ScopeSets.{closing}
 use Rattle.table_kept.proofs.Masks.{reads-closed}
-use Rattle.table_kept.proofs.ScopeLeft.{sets-closed, hand-twice}
+use Rattle.table_kept.proofs.Hands.{hand-listed}
+use Rattle.table_kept.proofs.ScopeLeft.{sets-closed}
 use Rattle.op_table.proofs.table.OpTable.close_at.Goals as goal
 
 pub fetch_or-word-requires : goal.fetch_or-word-requires
@@ -10,13 +11,13 @@ fetch_or-word-requires g c =
     let counts = c.self.invariant.2 in (
       c.requires.table.table_is ∙ sym (ap (λ b. b.table_id) c.self.view_is),
       omega (arith, counts),
-      sets-closed g.P.Cargo c.self.inside.table.shared.key _ c.args.seat.now.id c.args.seat.now.me,
+      sets-closed g.P.Cargo c.self.inside.table.key _ c.args.seat.now.id c.args.seat.now.me c.requires.table.seated.itself,
     )
 
 pub returns-clause-hand : goal.returns-clause-hand
 returns-clause-hand g c =
-    hand-twice c.args.self.now c.args.seat.now c.fetch_or-word.new.seat c.requires.table c.fetch_or-word.ensures.0
-    c.fetch_or-word.result (bit_or c.fetch_or-word.result (2 ^ 33)) c.fetch_or-word.ensures.2
+    hand-listed c.args.self.now c.args.seat.now c.fetch_or-word.new.hand c.requires.table c.fetch_or-word.ensures.0
+    0 c.fetch_or-word.result (bit_or c.fetch_or-word.result (2 ^ 33)) c.fetch_or-word.ensures.2.rest
 
 pub returns-clause-closed : goal.returns-clause-closed
 returns-clause-closed g c =
@@ -26,5 +27,5 @@ returns-clause-closed g c =
       answer_is = c.read_scope.ensures;
       left = bit_or read (2 ^ 33);
       left_is = reads-closed read ∙ ap closing (sym c.read_scope.ensures);
-      me_is = c.fetch_or-word.ensures.2;
+      me_is = c.fetch_or-word.ensures.2.rest;
     }

@@ -8,6 +8,6 @@ load-requires g c =
     let within = c.control-index.ensures.within in (
       c.requires.table.table_is ∙ sym (ap (λ b. b.table_id) c.self.view_is),
       omega (arith, counts, within),
-      looks_allowed g.P.Cargo c.self.inside.table.shared.key _ c.args.seat.now.id c.control-index.result
-          c.args.seat.now.me.0 c.args.seat.now.me.1,
+      looks_allowed g.P.Cargo c.self.inside.table.key _ c.args.seat.now.id c.control-index.result
+          c.args.seat.now.me.0 c.args.seat.now.me.1 c.requires.table.seated.itself,
     )

@@ -10,23 +10,23 @@ store-requires g c =
     let within = c.control-index.ensures.within in (
       c.requires.table.table_is ∙ sym (ap (λ b. b.table_id) c.self.view_is),
       omega (arith, counts, within),
-      finishes-at g.P.Cargo c.args.self.now.frame c.self.inside.table.shared.key _ c.args.seat.now.id
+      finishes-at g.P.Cargo c.args.self.now.frame c.self.inside.table.key _ c.args.seat.now.id
           c.control-index.result c.control_number-done.result c.args.name g.K.Subject.aim c.args.seat.now.me
           (sym (ap (λ b. b.frame) c.self.view_is) ∙ sym c.self.invariant.0)
           (c.control-index.ensures.value ∙ ap (λ b. index b.frame.layout (OfControl c.args.name.block c.args.name.node)) c.self.view_is)
           c.requires.subject c.requires.table.seated c.requires.needs c.control_number-done.ensures.stamp
-          c.control_number-done.ensures.control,
+          c.control_number-done.ensures.control c.requires.table.seated.itself,
     )
 
 pub returns-clause-finished : goal.returns-clause-finished
 returns-clause-finished g c =
-    finishes-told g.P.Cargo c.args.self.now.frame c.control-index.result c.args.name g.K.Subject.aim c.args.seat.now.me
-    c.store.new.seat.me
+    finishes-told g.P.Cargo c.args.self.now.frame c.control-index.result c.store.ensures.2.0 c.control_number-done.result c.args.name g.K.Subject.aim c.args.seat.now.me
+    c.store.new.hand.me
     (c.control-index.ensures.value ∙ ap (λ b. index b.frame.layout (OfControl c.args.name.block c.args.name.node)) c.self.view_is)
-    c.requires.subject c.store.ensures.2
+    c.requires.subject c.control_number-done.ensures.stamp c.control_number-done.ensures.control c.store.ensures.2.1.rest
 
 pub returns-clause-hand : goal.returns-clause-hand
 returns-clause-hand g c =
-    hand-aimed c.args.self.now c.args.seat.now c.store.new.seat c.requires.table c.store.ensures.0 c.args.name
+    hand-aimed c.args.self.now c.args.seat.now c.store.new.hand c.requires.table c.store.ensures.0 c.args.name
     g.K.Subject.aim c.requires.subject
-    (λ _. finished-seated g.P.Cargo g.K.Subject.aim c.control-index.result c.args.seat.now.me c.store.new.seat.me c.store.ensures.2)
+    (λ _. finished-seated g.P.Cargo g.K.Subject.aim c.control-index.result c.store.ensures.2.0 c.control_number-done.result c.args.seat.now.me c.store.new.hand.me c.store.ensures.2.1.rest)

@@ -2,7 +2,8 @@ use Rattle.std.proofs.Common.{◌^◌, arith, sym, ap, ◌∙◌}
 use Rattle.std.specs.Prelude.{bit_or}
 use Rattle.table_steps.specs.ScopeSets.{joining}
 use Rattle.table_kept.proofs.Masks.{reads-joining}
-use Rattle.table_kept.proofs.ScopeLeft.{sets-joining, hand-twice}
+use Rattle.table_kept.proofs.Hands.{hand-listed}
+use Rattle.table_kept.proofs.ScopeLeft.{sets-joining}
 use Rattle.op_table.proofs.table.OpTable.join_at.Goals as goal
 
 pub fetch_or-word-requires : goal.fetch_or-word-requires
@@ -10,13 +11,13 @@ fetch_or-word-requires g c =
     let counts = c.self.invariant.2 in (
       c.requires.table.table_is ∙ sym (ap (λ b. b.table_id) c.self.view_is),
       omega (arith, counts),
-      sets-joining g.P.Cargo c.self.inside.table.shared.key _ c.args.seat.now.id c.args.seat.now.me,
+      sets-joining g.P.Cargo c.self.inside.table.key _ c.args.seat.now.id c.args.seat.now.me c.requires.table.seated.itself,
     )
 
 pub returns-clause-hand : goal.returns-clause-hand
 returns-clause-hand g c =
-    hand-twice c.args.self.now c.args.seat.now c.fetch_or-word.new.seat c.requires.table c.fetch_or-word.ensures.0
-    c.fetch_or-word.result (bit_or c.fetch_or-word.result (2 ^ 34)) c.fetch_or-word.ensures.2
+    hand-listed c.args.self.now c.args.seat.now c.fetch_or-word.new.hand c.requires.table c.fetch_or-word.ensures.0
+    0 c.fetch_or-word.result (bit_or c.fetch_or-word.result (2 ^ 34)) c.fetch_or-word.ensures.2.rest
 
 pub returns-clause-joins : goal.returns-clause-joins
 returns-clause-joins g c =
@@ -26,5 +27,5 @@ returns-clause-joins g c =
       answer_is = c.read_scope.ensures;
       left = bit_or read (2 ^ 34);
       left_is = reads-joining read ∙ ap joining (sym c.read_scope.ensures);
-      me_is = c.fetch_or-word.ensures.2;
+      me_is = c.fetch_or-word.ensures.2.rest;
     }

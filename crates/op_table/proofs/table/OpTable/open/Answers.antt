@@ -3,6 +3,8 @@ use Rattle.node_tree.specs.Tree.{IsTree}
 use Rattle.node_tree.specs.declared.node.TheConstants.{MOST_NODES}
 use Rattle.table_kept.proofs.Opening.{framed, opens_with}
 use Rattle.table_kept.proofs.PoppedHands.{have-none}
+use Rattle.table_kept.proofs.AsOpened.{stays-as-opened}
+use Rattle.table_steps.specs.Openings.{StaysAsOpened}
 use Rattle.op_table.proofs.table.OpTable.open.Goals as goal
 
 pub vacant-requires : goal.vacant-requires
@@ -17,3 +19,8 @@ vacant-requires g c =
 pub hands_of-requires-clause-seats : goal.hands_of-requires-clause-seats
 hands_of-requires-clause-seats g c κs within =
     have-none _ c.args.hands c.in_ok-seats.seats.items c.in_ok-seats.ensures
+
+pub returns-clause-vacant : goal.returns-clause-vacant
+returns-clause-vacant g c =
+    subst (StaysAsOpened g.P.Cargo _) (sym (c.in_ok-all.ensures {u = tt}))
+    (stays-as-opened g.P.Cargo _ c.args.hands c.in_ok-seats.seats.items c.in_ok-seats.ensures)

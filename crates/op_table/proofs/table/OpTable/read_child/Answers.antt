@@ -12,11 +12,11 @@ load-word-requires g c =
     let within = c.control-index.ensures.within in (
       c.requires.table.table_is ∙ sym (ap (λ b. b.table_id) c.self.view_is),
       omega (arith, counts, within),
-      child-at g.P.Cargo c.args.self.now.frame c.self.inside.table.shared.key _ c.args.seat.now.id
+      child-at g.P.Cargo c.args.self.now.frame c.self.inside.table.key _ c.args.seat.now.id
           c.control-index.result c.args.child g.K.Subject.aim.name g.J.Subject.aim.name c.args.seat.now.me
           (sym (ap (λ b. b.frame) c.self.view_is) ∙ sym c.self.invariant.0)
           (c.control-index.ensures.value ∙ ap (λ b. index b.frame.layout (OfControl c.args.child.block c.args.child.node)) c.self.view_is)
-          (ap (λ a. a.name) c.requires.parent) (ap (λ a. a.name) c.requires.child) c.requires.holds,
+          (ap (λ a. a.name) c.requires.parent) (ap (λ a. a.name) c.requires.child) c.requires.holds c.requires.table.seated.itself,
     )
 
 pub returns-clause-begun : goal.returns-clause-begun
@@ -24,7 +24,7 @@ returns-clause-begun g c =
     let above = above_it c.args.self.now.frame.tree c.args.child in (
       c.load-word.result,
       c.says_begun.ensures,
-      c.load-word.ensures.2
+      c.load-word.ensures.2.rest
           ∙ ap (λ a. reads_child a.name g.J.Subject.aim.name c.control-index.result c.load-word.result c.args.seat.now.me) c.requires.parent
           ∙ ap (λ a. reads_child above a.name c.control-index.result c.load-word.result c.args.seat.now.me) c.requires.child
           ∙ ap (λ i. reads_child above c.args.child i c.load-word.result c.args.seat.now.me)
@@ -34,7 +34,7 @@ returns-clause-begun g c =
 pub returns-clause-hand : goal.returns-clause-hand
 returns-clause-hand g c =
     let b = c.args.self.now in
-    hand-seated b c.args.seat.now c.load-word.new.seat c.requires.table c.load-word.ensures.0
-    (subst (IsSeated b.frame.tree b.frame.layout) (sym c.load-word.ensures.2)
+    hand-seated b c.args.seat.now c.load-word.new.hand c.requires.table c.load-word.ensures.0
+    (subst (IsSeated b.frame.tree b.frame.layout) (sym c.load-word.ensures.2.rest)
     (child-seated b.frame.tree b.frame.layout g.K.Subject.aim.name g.J.Subject.aim.name c.control-index.result c.load-word.result
     c.args.seat.now.me c.requires.table.seated))

@@ -12,18 +12,18 @@ load-word-requires g c =
     let within = c.callback-index.ensures.within in (
       c.requires.table.table_is ∙ sym (ap (λ b. b.table_id) c.self.view_is),
       omega (arith, counts, within),
-      phase-at g.P.Cargo c.args.self.now.frame c.self.inside.table.shared.key _ c.args.seat.now.id
+      phase-at g.P.Cargo c.args.self.now.frame c.self.inside.table.key _ c.args.seat.now.id
           c.callback-index.result c.args.name g.K.Subject.aim.name c.args.seat.now.me
           (sym (ap (λ b. b.frame) c.self.view_is) ∙ sym c.self.invariant.0)
           (c.callback-index.ensures.value ∙ ap (λ b. index b.frame.layout (OfCallback c.args.name.block c.args.name.node)) c.self.view_is)
-          (ap (λ a. a.name) c.requires.subject) c.requires.holds,
+          (ap (λ a. a.name) c.requires.subject) c.requires.holds c.requires.table.seated.itself,
     )
 
 pub returns-clause-phase : goal.returns-clause-phase
 returns-clause-phase g c = (
   c.load-word.result,
   c.says_phase.ensures,
-  c.load-word.ensures.2
+  c.load-word.ensures.2.rest
       ∙ ap (λ a. reads_phase a.name c.callback-index.result c.load-word.result c.args.seat.now.me) c.requires.subject
       ∙ ap (λ i. reads_phase c.args.name i c.load-word.result c.args.seat.now.me)
       (c.callback-index.ensures.value ∙ ap (λ b. index b.frame.layout (OfCallback c.args.name.block c.args.name.node)) c.self.view_is),
@@ -32,7 +32,7 @@ returns-clause-phase g c = (
 pub returns-clause-hand : goal.returns-clause-hand
 returns-clause-hand g c =
     let b = c.args.self.now in
-    hand-seated b c.args.seat.now c.load-word.new.seat c.requires.table c.load-word.ensures.0
-    (subst (IsSeated b.frame.tree b.frame.layout) (sym c.load-word.ensures.2)
+    hand-seated b c.args.seat.now c.load-word.new.hand c.requires.table c.load-word.ensures.0
+    (subst (IsSeated b.frame.tree b.frame.layout) (sym c.load-word.ensures.2.rest)
     (phase-seated b.frame.tree b.frame.layout g.K.Subject.aim.name c.callback-index.result c.load-word.result
     c.args.seat.now.me c.requires.table.seated))

@@ -1,7 +1,6 @@
 use Rattle.std.proofs.Common.{arith, sym, ap, ◌∙◌}
 use Rattle.table_steps.specs.Claims.{root_name}
 use Rattle.table_kept.proofs.Hands.{hand-aimed}
-use Rattle.table_kept.proofs.Loads.{left-under}
 use Rattle.table_kept.proofs.ReleaseAllowed.{releases-at, releases-told, empties-told, stay-empty}
 use Rattle.op_table.proofs.table.OpTable.release_at.Goals as goal
 
@@ -11,41 +10,32 @@ store-requires g c =
     let within = c.block-index.ensures.within in (
       c.requires.table.table_is ∙ sym (ap (λ b. b.table_id) c.self.view_is),
       omega (arith, counts, within),
-      releases-at g.P.Cargo c.args.self.now.frame c.self.inside.table.shared.key _ c.args.seat.now.id
+      releases-at g.P.Cargo c.args.self.now.frame c.self.inside.table.key _ c.args.seat.now.id
           c.block-index.result c.block_number-free.result c.args.block.index c.args.block.generation g.J.Site.hand
           g.K.Subject.aim g.J.Site.frames c.args.seat.now.me (sym (ap (λ b. b.frame) c.self.view_is) ∙ sym c.self.invariant.0) c.block-index.ensures.value
           c.requires.subject c.requires.frames c.requires.site c.requires.table.seated c.requires.needs
-          (c.block_number-free.ensures.reads ∙ c.word_after.ensures),
+          (c.block_number-free.ensures.reads ∙ c.word_after.ensures) c.requires.table.seated.itself,
     )
 
 pub returns-clause-released : goal.returns-clause-released
 returns-clause-released g c =
-    releases-told g.P.Cargo c.args.self.now.frame c.block-index.result c.args.block.index g.J.Site.hand
-    c.block_number-free.result (root_name c.args.self.now c.args.block.index c.args.block.generation)
-    g.K.Subject.aim g.J.Site.frames c.args.seat.now.me c.store.new.seat.me c.block-index.ensures.value
-    c.requires.subject c.store.ensures.2
+    releases-told g.P.Cargo c.args.self.now.frame c.block-index.result g.J.Site.hand c.store.ensures.2.0
+    c.block_number-free.result _ (root_name c.args.self.now c.args.block.index c.args.block.generation)
+    g.K.Subject.aim g.J.Site.frames c.args.seat.now.me c.store.new.hand.me c.block-index.ensures.value
+    c.requires.subject (c.block_number-free.ensures.reads ∙ c.word_after.ensures) c.store.ensures.2.1.rest
 
 pub returns-clause-hand : goal.returns-clause-hand
 returns-clause-hand g c =
-    hand-aimed c.args.self.now c.args.seat.now c.store.new.seat c.requires.table c.store.ensures.0
+    hand-aimed c.args.self.now c.args.seat.now c.store.new.hand c.requires.table c.store.ensures.0
     (root_name c.args.self.now c.args.block.index c.args.block.generation) g.K.Subject.aim c.requires.subject
-    (λ _. c.store.ensures.2.0.seated)
-
-pub returns-clause-wrote : goal.returns-clause-wrote
-returns-clause-wrote g c =
-    record {
-      word = c.block_number-free.result;
-      reads = c.block_number-free.ensures.reads ∙ c.word_after.ensures;
-      left = left-under c.block-index.result _ c.block_number-free.result c.args.seat.now.me c.store.new.seat.me
-          c.block-index.ensures.value c.store.ensures.2.1;
-    }
+    (λ _. c.store.ensures.2.1.rest.0.seated)
 
 pub returns-clause-empty : goal.returns-clause-empty
 returns-clause-empty g c =
-    empties-told g.P.Cargo c.args.self.now.frame c.block-index.result g.J.Site.hand c.store.new.seat.id
-    c.block_number-free.result (root_name c.args.self.now c.args.block.index c.args.block.generation)
-    g.K.Subject.aim g.J.Site.frames c.args.seat.now.me c.store.new.seat.me c.requires.subject
-    c.requires.frames (c.requires.site ∙ sym c.store.ensures.1) c.store.ensures.2
+    empties-told g.P.Cargo c.args.self.now.frame c.block-index.result g.J.Site.hand c.store.new.hand.id
+    c.store.ensures.2.0 c.block_number-free.result (root_name c.args.self.now c.args.block.index c.args.block.generation)
+    g.K.Subject.aim g.J.Site.frames c.args.seat.now.me c.store.new.hand.me c.requires.subject
+    c.requires.frames (c.requires.site ∙ sym c.store.ensures.1) c.store.ensures.2.1.rest
 
 pub returns-clause-stay : goal.returns-clause-stay
 returns-clause-stay g c = stay-empty g.P.Cargo c.args.self.now.frame c.args.block.index c.requires.block

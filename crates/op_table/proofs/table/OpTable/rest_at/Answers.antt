@@ -2,7 +2,6 @@ use Rattle.std.proofs.Common.{arith, sym, ap, ◌∙◌}
 use Rattle.life_rules.specs.Words.{pending}
 use Rattle.table_words.specs.Layouts.{OfControl, index}
 use Rattle.table_kept.proofs.Hands.{hand-aimed}
-use Rattle.table_kept.proofs.Loads.{left-under}
 use Rattle.table_kept.proofs.RestTold.{rest-pending, rests-at, rests-told}
 use Rattle.op_table.proofs.table.OpTable.rest_at.Goals as goal
 
@@ -16,33 +15,23 @@ store-requires g c =
     let within = c.control-index.ensures.within in (
       c.requires.table.table_is ∙ sym (ap (λ b. b.table_id) c.self.view_is),
       omega (arith, counts, within),
-      rests-at g.P.Cargo c.args.self.now.frame c.self.inside.table.shared.key _ c.args.seat.now.id
+      rests-at g.P.Cargo c.args.self.now.frame c.self.inside.table.key _ c.args.seat.now.id
           c.control-index.result c.control_number-rests.result c.args.name c.args.to g.K.Subject.aim c.args.seat.now.me
           (sym (ap (λ b. b.frame) c.self.view_is) ∙ sym c.self.invariant.0)
           (c.control-index.ensures.value ∙ ap (λ b. index b.frame.layout (OfControl c.args.name.block c.args.name.node)) c.self.view_is)
           c.requires.subject c.requires.table.seated c.requires.needs c.control_number-rests.ensures.stamp
-          (c.control_number-rests.ensures.control ∙ c.word_at.ensures),
+          (c.control_number-rests.ensures.control ∙ c.word_at.ensures) c.requires.table.seated.itself,
     )
 
 pub returns-clause-rests : goal.returns-clause-rests
 returns-clause-rests g c =
-    rests-told g.P.Cargo c.args.self.now.frame c.control-index.result c.args.name g.K.Subject.aim c.args.seat.now.me
-    c.store.new.seat.me
+    rests-told g.P.Cargo c.args.self.now.frame c.control-index.result c.store.ensures.2.0 c.control_number-rests.result c.args.name c.args.to g.K.Subject.aim c.args.seat.now.me
+    c.store.new.hand.me
     (c.control-index.ensures.value ∙ ap (λ b. index b.frame.layout (OfControl c.args.name.block c.args.name.node)) c.self.view_is)
-    c.requires.subject c.store.ensures.2.0
+    c.requires.subject c.control_number-rests.ensures.stamp (c.control_number-rests.ensures.control ∙ c.word_at.ensures)
+    c.store.ensures.2.1.rest
 
 pub returns-clause-hand : goal.returns-clause-hand
 returns-clause-hand g c =
-    hand-aimed c.args.self.now c.args.seat.now c.store.new.seat c.requires.table c.store.ensures.0 c.args.name
-    g.K.Subject.aim c.requires.subject (λ _. c.store.ensures.2.0.seated)
-
-pub returns-clause-wrote : goal.returns-clause-wrote
-returns-clause-wrote g c =
-    record {
-      word = c.control_number-rests.result;
-      stamp_is = c.control_number-rests.ensures.stamp;
-      reads = c.control_number-rests.ensures.control ∙ c.word_at.ensures;
-      left = left-under c.control-index.result _ c.control_number-rests.result c.args.seat.now.me c.store.new.seat.me
-          (c.control-index.ensures.value ∙ ap (λ b. index b.frame.layout (OfControl c.args.name.block c.args.name.node)) c.self.view_is)
-          c.store.ensures.2.1;
-    }
+    hand-aimed c.args.self.now c.args.seat.now c.store.new.hand c.requires.table c.store.ensures.0 c.args.name
+    g.K.Subject.aim c.requires.subject (λ _. c.store.ensures.2.1.rest.seated)

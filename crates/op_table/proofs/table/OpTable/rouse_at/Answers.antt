@@ -1,7 +1,10 @@
-use Rattle.std.proofs.Common.{arith, ◌==◌, sym, ap, ◌∙◌}
+use Rattle.std.proofs.Common.{arith, ◌==◌, sym, ap, ◌∙◌, subst}
+use prog.Atomic.{either}
+use Rattle.life_rules.specs.declared.words.ControlWord.TheVariants.{ReadyLoop}
 use Rattle.table_words.specs.Layouts.{OfControl, index}
-use Rattle.table_steps.specs.Claims.{logged}
-use Rattle.table_kept.proofs.Hands.{hand-logged}
+use Rattle.table_steps.specs.Claims.{with_step}
+use Rattle.table_steps.specs.Lefts.{SaysControl}
+use Rattle.table_kept.proofs.Hands.{hand-listed}
 use Rattle.table_kept.proofs.RouseRuns.{rouses-at}
 use Rattle.op_table.proofs.table.OpTable.rouse_at.Goals as goal
 
@@ -11,26 +14,34 @@ compare_exchange-was-requires g c =
     let within = c.control-index.ensures.within in (
       c.requires.table.table_is ∙ sym (ap (λ b. b.table_id) c.self.view_is),
       omega (arith, counts, within),
-      rouses-at g.P.Cargo c.args.self.now.frame c.self.inside.table.shared.key _ c.args.seat.now.id
+      rouses-at g.P.Cargo c.args.self.now.frame c.self.inside.table.key _ c.args.seat.now.id
           c.control-index.result c.control_number-parked.result c.control_number-ready.result c.args.name c.args.seat.now.me
           (sym (ap (λ b. b.frame) c.self.view_is) ∙ sym c.self.invariant.0)
           (c.control-index.ensures.value ∙ ap (λ b. index b.frame.layout (OfControl c.args.name.block c.args.name.node)) c.self.view_is)
           c.requires.place.block c.requires.place.node c.requires.rouses
           c.control_number-parked.ensures.stamp c.control_number-parked.ensures.control
-          c.control_number-ready.ensures.stamp c.control_number-ready.ensures.control,
+          c.control_number-ready.ensures.stamp c.control_number-ready.ensures.control c.requires.table.seated.itself,
     )
 
 pub returns-clause-hand : goal.returns-clause-hand
 returns-clause-hand g c =
-    hand-logged c.args.self.now c.args.seat.now c.compare_exchange-was.new.seat c.requires.table
-    c.compare_exchange-was.ensures.0 c.control-index.result c.compare_exchange-was.result c.compare_exchange-was.ensures.2
+    hand-listed c.args.self.now c.args.seat.now c.compare_exchange-was.new.hand c.requires.table
+    c.compare_exchange-was.ensures.0 c.control-index.result c.compare_exchange-was.result _ c.compare_exchange-was.ensures.2.rest
 
 pub returns-clause-roused : goal.returns-clause-roused
 returns-clause-roused g c =
+    let was = c.compare_exchange-was.result in
+    let parked = c.control_number-parked.result in
+    let ready = c.control_number-ready.result in
     record {
-      word = c.compare_exchange-was.result;
-      answer_is = ap (λ n. c.compare_exchange-was.result == n) c.control_number-parked.ensures.value;
-      me_is = c.compare_exchange-was.ensures.2
-          ∙ ap (λ i. (logged i c.compare_exchange-was.result c.args.seat.now.me.0, c.args.seat.now.me.1))
+      word = was;
+      left = either (was == parked) ready was;
+      answer_is = ap (λ n. was == n) c.control_number-parked.ensures.value;
+      roused = λ yes.
+          subst (SaysControl c.args.name ReadyLoop) (sym (ap (λ b. either b ready was) yes))
+          (record { stamp_is = c.control_number-ready.ensures.stamp; reads = c.control_number-ready.ensures.control });
+      stayed = λ no. ap (λ b. either b ready was) no;
+      me_is = c.compare_exchange-was.ensures.2.rest
+          ∙ ap (λ i. (with_step i was (either (was == parked) ready was) c.args.seat.now.me.0, c.args.seat.now.me.1))
           (c.control-index.ensures.value ∙ ap (λ b. index b.frame.layout (OfControl c.args.name.block c.args.name.node)) c.self.view_is);
     }

@@ -13,46 +13,46 @@ load-word-requires g c =
     let within = c.callback-index.ensures.within in (
       c.requires.table.table_is ∙ sym (ap (λ b. b.table_id) c.self.view_is),
       omega (arith, counts, within),
-      meets-at g.P.Cargo c.args.self.now.frame c.self.inside.table.shared.key _ c.args.seat.now.id
+      meets-at g.P.Cargo c.args.self.now.frame c.self.inside.table.key _ c.args.seat.now.id
           c.callback-index.result c.args.source g.J.Regard.source c.args.block c.args.node g.K.Subject.aim c.args.seat.now.me
           (sym (ap (λ b. b.frame) c.self.view_is) ∙ sym c.self.invariant.0)
           (c.callback-index.ensures.value ∙ ap (λ b. index b.frame.layout (OfCallback c.args.block c.args.node)) c.self.view_is)
-          c.requires.subject c.requires.source_is c.requires.needs c.requires.block,
+          c.requires.subject c.requires.source_is c.requires.needs c.requires.block c.requires.table.seated.itself,
     )
 
 pub run_from-requires-clause-table : goal.run_from-requires-clause-table
 run_from-requires-clause-table g c κs within =
-    hand-logged c.args.self.now c.args.seat.now c.load-word.new.seat c.requires.table c.load-word.ensures.0
+    hand-logged c.args.self.now c.args.seat.now c.load-word.new.hand c.requires.table c.load-word.ensures.0
     (run_index c.args.self.now c.args.block c.args.node) c.load-word.result
     (met-armed c.args.self.now c.args.source c.args.block c.args.node c.callback-index.result c.load-word.result g.K.Subject.aim
-    g.J.Regard.source c.args.seat.now.me c.load-word.new.seat.me
+    g.J.Regard.source c.args.seat.now.me c.load-word.new.hand.me
     (c.callback-index.ensures.value ∙ ap (λ b. index b.frame.layout (OfCallback c.args.block c.args.node)) c.self.view_is)
-    (sym c.says_armed.ensures ∙ c.if-says_armed.true) c.load-word.ensures.2)
+    (sym c.says_armed.ensures ∙ c.if-says_armed.true) c.load-word.ensures.2.rest)
 
 pub run_from-requires-clause-newest : goal.run_from-requires-clause-newest
 run_from-requires-clause-newest g c κs within =
-    newest-logged (run_index c.args.self.now c.args.block c.args.node) c.load-word.result c.args.seat.now.me c.load-word.new.seat.me
+    newest-logged (run_index c.args.self.now c.args.block c.args.node) c.load-word.result c.args.seat.now.me c.load-word.new.hand.me
     (met-armed c.args.self.now c.args.source c.args.block c.args.node c.callback-index.result c.load-word.result g.K.Subject.aim
-    g.J.Regard.source c.args.seat.now.me c.load-word.new.seat.me
+    g.J.Regard.source c.args.seat.now.me c.load-word.new.hand.me
     (c.callback-index.ensures.value ∙ ap (λ b. index b.frame.layout (OfCallback c.args.block c.args.node)) c.self.view_is)
-    (sym c.says_armed.ensures ∙ c.if-says_armed.true) c.load-word.ensures.2)
+    (sym c.says_armed.ensures ∙ c.if-says_armed.true) c.load-word.ensures.2.rest)
 
 pub returns-then-says_armed-clause-run : goal.returns-then-says_armed-clause-run
 returns-then-says_armed-clause-run g c =
     let armed = sym c.says_armed.ensures ∙ c.if-says_armed.true in
-    from-armed c.args.self.now c.args.source c.args.block c.args.node c.args.seat.now c.load-word.new.seat c.run_from.new.seat
+    from-armed c.args.self.now c.args.source c.args.block c.args.node c.args.seat.now c.load-word.new.hand c.run_from.new.seat
     c.load-word.result armed
     (met-armed c.args.self.now c.args.source c.args.block c.args.node c.callback-index.result c.load-word.result g.K.Subject.aim
-    g.J.Regard.source c.args.seat.now.me c.load-word.new.seat.me
+    g.J.Regard.source c.args.seat.now.me c.load-word.new.hand.me
     (c.callback-index.ensures.value ∙ ap (λ b. index b.frame.layout (OfCallback c.args.block c.args.node)) c.self.view_is)
-    armed c.load-word.ensures.2)
+    armed c.load-word.ensures.2.rest)
     c.run_from.result c.run_from.ensures.run
 
 pub returns-else-says_armed-clause-hand : goal.returns-else-says_armed-clause-hand
 returns-else-says_armed-clause-hand g c =
     let b = c.args.self.now in
-    hand-seated b c.args.seat.now c.load-word.new.seat c.requires.table c.load-word.ensures.0
-    (subst (IsSeated b.frame.tree b.frame.layout) (sym c.load-word.ensures.2)
+    hand-seated b c.args.seat.now c.load-word.new.hand c.requires.table c.load-word.ensures.0
+    (subst (IsSeated b.frame.tree b.frame.layout) (sym c.load-word.ensures.2.rest)
     (met-seated b.frame.tree b.frame.layout c.callback-index.result c.load-word.result c.args.seat.now.me c.requires.table.seated
     g.K.Subject.aim g.J.Regard.source))
 
@@ -65,7 +65,7 @@ returns-else-says_armed-clause-run g c =
       last = c.load-word.result;
       unarmed = unarmed;
       me_is = met-unarmed c.args.self.now c.args.source c.args.block c.args.node c.callback-index.result c.load-word.result
-          g.K.Subject.aim g.J.Regard.source c.args.seat.now.me c.load-word.new.seat.me
+          g.K.Subject.aim g.J.Regard.source c.args.seat.now.me c.load-word.new.hand.me
           (c.callback-index.ensures.value ∙ ap (λ b. index b.frame.layout (OfCallback c.args.block c.args.node)) c.self.view_is)
-          c.requires.subject c.requires.source_is unarmed c.load-word.ensures.2;
+          c.requires.subject c.requires.source_is unarmed c.load-word.ensures.2.rest;
     }

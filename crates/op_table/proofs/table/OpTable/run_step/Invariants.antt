@@ -7,4 +7,4 @@ abbrev pub ghosts-run_at-K-Subject : goal.ghosts-run_at-K-Subject
 ghosts-run_at-K-Subject g a = record { aim = aim_at a.self.now (place_named a.block a.node) }
 
 abbrev pub ghosts-run_at-J-Regard : goal.ghosts-run_at-J-Regard
-ghosts-run_at-J-Regard g a = record { source = a.source; after = None }
+ghosts-run_at-J-Regard g a = record { tree = a.self.now.frame.tree; source = a.source; after = None }

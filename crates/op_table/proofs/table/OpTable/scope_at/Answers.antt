@@ -8,15 +8,15 @@ load-word-requires g c =
     let counts = c.self.invariant.2 in (
       c.requires.table.table_is ∙ sym (ap (λ b. b.table_id) c.self.view_is),
       omega (arith, counts),
-      looks_allowed g.P.Cargo c.self.inside.table.shared.key _ c.args.seat.now.id 0
-          c.args.seat.now.me.0 c.args.seat.now.me.1,
+      looks_allowed g.P.Cargo c.self.inside.table.key _ c.args.seat.now.id 0
+          c.args.seat.now.me.0 c.args.seat.now.me.1 c.requires.table.seated.itself,
     )
 
 pub returns-clause-hand : goal.returns-clause-hand
 returns-clause-hand g c =
-    hand-logged c.args.self.now c.args.seat.now c.load-word.new.seat c.requires.table c.load-word.ensures.0
-    0 c.load-word.result c.load-word.ensures.2
+    hand-logged c.args.self.now c.args.seat.now c.load-word.new.hand c.requires.table c.load-word.ensures.0
+    0 c.load-word.result c.load-word.ensures.2.rest
 
 pub returns-clause-read : goal.returns-clause-read
 returns-clause-read g c =
-    record { word = c.load-word.result; answer_is = c.read_scope.ensures; me_is = c.load-word.ensures.2 }
+    record { word = c.load-word.result; answer_is = c.read_scope.ensures; me_is = c.load-word.ensures.2.rest }

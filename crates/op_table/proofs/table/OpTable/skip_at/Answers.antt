@@ -12,18 +12,18 @@ load-word-requires g c =
     let within = c.block-index.ensures.within in (
       c.requires.table.table_is ∙ sym (ap (λ b. b.table_id) c.self.view_is),
       omega (arith, counts, within),
-      skips-at g.P.Cargo c.args.self.now.frame c.self.inside.table.shared.key _ c.args.seat.now.id
+      skips-at g.P.Cargo c.args.self.now.frame c.self.inside.table.key _ c.args.seat.now.id
           c.block-index.result c.args.first g.K.Subject.aim c.args.seat.now.me
           (sym (ap (λ b. b.frame) c.self.view_is) ∙ sym c.self.invariant.0)
           (c.block-index.ensures.value ∙ ap (λ b. index b.frame.layout (OfBlock c.args.first.block)) c.self.view_is)
-          c.requires.subject c.requires.needs c.requires.block,
+          c.requires.subject c.requires.needs c.requires.block c.requires.table.seated.itself,
     )
 
 pub returns-clause-hand : goal.returns-clause-hand
 returns-clause-hand g c =
     let b = c.args.self.now in
-    hand-seated b c.args.seat.now c.load-word.new.seat c.requires.table c.load-word.ensures.0
-    (subst (IsSeated b.frame.tree b.frame.layout) (sym c.load-word.ensures.2)
+    hand-seated b c.args.seat.now c.load-word.new.hand c.requires.table c.load-word.ensures.0
+    (subst (IsSeated b.frame.tree b.frame.layout) (sym c.load-word.ensures.2.rest)
     (skip-seated b.frame.tree b.frame.layout c.block-index.result c.load-word.result g.K.Subject.aim.tree g.K.Subject.aim.name.block
     c.args.seat.now.me c.requires.table.seated))
 
@@ -34,7 +34,7 @@ returns-clause-skipped g c =
     record {
       word = word;
       answer_is = c.says_free.ensures;
-      me_is = c.load-word.ensures.2
+      me_is = c.load-word.ensures.2.rest
           ∙ ap (λ (a : Aim). skips_at a.tree a.name.block c.block-index.result word m) c.requires.subject
           ∙ ap (λ i. skips_at c.args.self.now.frame.tree c.args.first.block i word m)
           (c.block-index.ensures.value ∙ ap (λ b. index b.frame.layout (OfBlock c.args.first.block)) c.self.view_is);

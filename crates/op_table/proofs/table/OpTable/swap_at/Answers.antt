@@ -12,17 +12,17 @@ load-requires g c =
     let within = c.control-index.ensures.within in (
       c.requires.table.table_is ∙ sym (ap (λ b. b.table_id) c.self.view_is),
       omega (arith, counts, within),
-      turns-at g.P.Cargo c.args.self.now.frame c.self.inside.table.shared.key _ c.args.seat.now.id
+      turns-at g.P.Cargo c.args.self.now.frame c.self.inside.table.key _ c.args.seat.now.id
           c.control-index.result c.args.name g.K.Subject.aim c.args.seat.now.me
           (sym (ap (λ b. b.frame) c.self.view_is) ∙ sym c.self.invariant.0) c.requires.subject c.requires.table.seated
-          c.requires.home,
+          c.requires.home c.requires.table.seated.itself,
     )
 
 pub exchange-requires : goal.exchange-requires
 exchange-requires g c = (
   c.load.ensures.0 ∙ (c.requires.table.table_is ∙ sym (ap (λ b. b.table_id) c.self.view_is)),
   turned-first c.place-slot.result g.K.Subject.aim c.control-index.result c.load.result c.args.seat.now.me
-      c.load.new.seat.me c.load.ensures.2
+      c.load.new.hand.me c.load.ensures.2.rest
       (c.place-slot.ensures.value ∙ ap (λ b. slot_of b.frame.layout c.args.name) c.self.view_is
       ∙ ap (λ a. slot_of a.layout a.name) (sym c.requires.subject)),
 )
@@ -30,17 +30,17 @@ exchange-requires g c = (
 pub returns-clause-swapped : goal.returns-clause-swapped
 returns-clause-swapped g c =
     swapped-told c.args.self.now.frame c.control-index.result c.place-slot.result c.load.result c.args.name
-    g.K.Subject.aim c.args.item c.exchange.result c.args.seat.now.me c.load.new.seat.me c.exchange.new.seat.me
+    g.K.Subject.aim c.args.item c.exchange.result c.args.seat.now.me c.load.new.hand.me c.exchange.new.hand.me
     (c.control-index.ensures.value ∙ ap (λ b. index b.frame.layout (OfControl c.args.name.block c.args.name.node)) c.self.view_is)
     (c.place-slot.ensures.value ∙ ap (λ b. slot_of b.frame.layout c.args.name) c.self.view_is)
-    c.requires.subject c.load.ensures.2 c.exchange.ensures.2 c.exchange.ensures.3
+    c.requires.subject c.load.ensures.2.rest c.exchange.ensures.2 c.exchange.ensures.3
 
 pub returns-clause-hand : goal.returns-clause-hand
 returns-clause-hand g c =
-    hand-seated c.args.self.now c.args.seat.now c.exchange.new.seat c.requires.table
+    hand-seated c.args.self.now c.args.seat.now c.exchange.new.hand c.requires.table
     (c.exchange.ensures.0 ∙ c.load.ensures.0)
     (swapped-seated c.args.self.now.frame c.control-index.result c.place-slot.result c.load.result c.args.name
-    g.K.Subject.aim c.args.item c.exchange.result c.args.seat.now.me c.load.new.seat.me c.exchange.new.seat.me
+    g.K.Subject.aim c.args.item c.exchange.result c.args.seat.now.me c.load.new.hand.me c.exchange.new.hand.me
     (c.control-index.ensures.value ∙ ap (λ b. index b.frame.layout (OfControl c.args.name.block c.args.name.node)) c.self.view_is)
     (c.place-slot.ensures.value ∙ ap (λ b. slot_of b.frame.layout c.args.name) c.self.view_is)
-    c.requires.subject c.load.ensures.2 c.exchange.ensures.2 c.exchange.ensures.3)
+    c.requires.subject c.load.ensures.2.rest c.exchange.ensures.2 c.exchange.ensures.3)

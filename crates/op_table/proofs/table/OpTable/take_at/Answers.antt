@@ -16,31 +16,32 @@ compare_exchange-was-requires g c =
     let within = c.control-index.ensures.within in (
       c.requires.table.table_is ∙ sym (ap (λ b. b.table_id) c.self.view_is),
       omega (arith, counts, within),
-      takes-at g.P.Cargo c.args.self.now.frame c.self.inside.table.shared.key _ c.args.seat.now.id
+      takes-at g.P.Cargo c.args.self.now.frame c.self.inside.table.key _ c.args.seat.now.id
           c.control-index.result c.control_number-rests.result c.control_number-held.result c.args.name c.args.from
           g.K.Subject.aim g.J.Keyed.overs c.args.seat.now.me
           (sym (ap (λ b. b.frame) c.self.view_is) ∙ sym c.self.invariant.0)
           (c.control-index.ensures.value ∙ ap (λ b. index b.frame.layout (OfControl c.args.name.block c.args.name.node)) c.self.view_is)
           c.requires.subject c.requires.key c.requires.place.block c.requires.place.node c.requires.serves
           c.control_number-rests.ensures.stamp (c.control_number-rests.ensures.control ∙ c.word_at.ensures)
-          c.control_number-held.ensures.stamp c.control_number-held.ensures.control,
+          c.control_number-held.ensures.stamp c.control_number-held.ensures.control c.requires.table.seated.itself,
     )
 
 pub returns-clause-hand : goal.returns-clause-hand
 returns-clause-hand g c =
-    hand-aimed c.args.self.now c.args.seat.now c.compare_exchange-was.new.seat c.requires.table
+    hand-aimed c.args.self.now c.args.seat.now c.compare_exchange-was.new.hand c.requires.table
     c.compare_exchange-was.ensures.0 c.args.name g.K.Subject.aim c.requires.subject
-    (taken-seated g.P.Cargo g.K.Subject.aim g.J.Keyed.overs c.self.inside.table.shared.table_id.slots
+    (taken-seated g.P.Cargo g.K.Subject.aim g.J.Keyed.overs c.self.inside.table.table_id.slots
     c.control-index.result c.control_number-rests.result
-    c.control_number-held.result c.args.seat.now.me c.compare_exchange-was.new.seat.me c.compare_exchange-was.result
-    c.compare_exchange-was.ensures.2)
+    c.control_number-held.result c.args.seat.now.me c.compare_exchange-was.new.hand.me c.compare_exchange-was.result
+    c.compare_exchange-was.ensures.2.rest)
 
 pub returns-clause-taken : goal.returns-clause-taken
 returns-clause-taken g c =
-    takes-told g.P.Cargo c.args.self.now.frame c.self.inside.table.shared.table_id.slots c.control-index.result
+    takes-told g.P.Cargo c.args.self.now.frame c.self.inside.table.table_id.slots c.control-index.result
     c.control_number-rests.result c.control_number-held.result c.args.name c.args.from g.K.Subject.aim g.J.Keyed.overs
-    c.args.seat.now.me c.compare_exchange-was.new.seat.me c.compare_exchange-was.result _
+    c.args.seat.now.me c.compare_exchange-was.new.hand.me c.compare_exchange-was.result _
     (c.control-index.ensures.value ∙ ap (λ b. index b.frame.layout (OfControl c.args.name.block c.args.name.node)) c.self.view_is)
     c.requires.subject c.requires.key
-    (c.control_number-rests.ensures.value ∙ ap (control_written c.args.name.generation) c.word_at.ensures) refl
-    c.compare_exchange-was.ensures.2
+    (c.control_number-rests.ensures.value ∙ ap (control_written c.args.name.generation) c.word_at.ensures)
+    (record { stamp_is = c.control_number-held.ensures.stamp; reads = c.control_number-held.ensures.control }) refl
+    c.compare_exchange-was.ensures.2.rest

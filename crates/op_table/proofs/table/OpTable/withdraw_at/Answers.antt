@@ -1,8 +1,10 @@
-use Rattle.std.proofs.Common.{arith, sym, ap, ◌∙◌, subst}
+use Rattle.std.proofs.Common.{◌≢◌, arith, sym, ap, ◌∙◌, subst}
+use Rattle.life_rules.specs.declared.words.CallbackPhase.TheVariants.{Running}
 use Rattle.table_words.specs.Layouts.{OfCallback, index}
 use Rattle.table_steps.specs.Slots.{Aim, IsSeated}
-use Rattle.table_steps.specs.Claims.{logged}
+use Rattle.table_steps.specs.Claims.{with_step}
 use Rattle.table_steps.specs.Readings.{says_phase}
+use Rattle.table_steps.specs.Hearings.{UnderScope}
 use Rattle.table_steps.specs.Callbacks.{is_registered, withdraws, left_by}
 use Rattle.table_kept.proofs.Hands.{hand-seated}
 use Rattle.table_kept.proofs.WithdrawAllowed.{withdraws-at, withdrawn-seated}
@@ -14,22 +16,22 @@ compare_exchange-was-requires g c =
     let within = c.callback-index.ensures.within in (
       c.requires.table.table_is ∙ sym (ap (λ b. b.table_id) c.self.view_is),
       omega (arith, counts, within),
-      withdraws-at g.P.Cargo c.args.self.now.frame c.self.inside.table.shared.key _ c.args.seat.now.id
+      withdraws-at g.P.Cargo c.args.self.now.frame c.self.inside.table.key _ c.args.seat.now.id
           c.callback-index.result c.callback_number-armed.result c.callback_number-removed.result c.args.name g.K.Subject.aim c.args.seat.now.me
           (sym (ap (λ b. b.frame) c.self.view_is) ∙ sym c.self.invariant.0)
           (c.callback-index.ensures.value ∙ ap (λ b. index b.frame.layout (OfCallback c.args.name.block c.args.name.node)) c.self.view_is)
           c.requires.subject c.requires.needs c.callback_number-armed.ensures.value
           c.callback_number-armed.ensures.stamp c.callback_number-armed.ensures.phase
           c.callback_number-removed.ensures.value
-          c.callback_number-removed.ensures.stamp c.callback_number-removed.ensures.phase,
+          c.callback_number-removed.ensures.stamp c.callback_number-removed.ensures.phase c.requires.table.seated.itself,
     )
 
 pub returns-clause-hand : goal.returns-clause-hand
 returns-clause-hand g c =
     let b = c.args.self.now in
-    hand-seated b c.args.seat.now c.compare_exchange-was.new.seat c.requires.table c.compare_exchange-was.ensures.0
-    (subst (IsSeated b.frame.tree b.frame.layout) (sym c.compare_exchange-was.ensures.2.0)
-    (withdrawn-seated b.frame.tree b.frame.layout c.callback-index.result
+    hand-seated b c.args.seat.now c.compare_exchange-was.new.hand c.requires.table c.compare_exchange-was.ensures.0
+    (subst (IsSeated b.frame.tree b.frame.layout) (sym c.compare_exchange-was.ensures.2.rest.0)
+    (withdrawn-seated b.frame.tree b.frame.layout c.callback-index.result c.compare_exchange-was.result
     (left_by g.K.Subject.aim.name.generation c.compare_exchange-was.result) g.K.Subject.aim.tree g.K.Subject.aim.name
     (says_phase g.K.Subject.aim.name.generation c.compare_exchange-was.result) c.args.seat.now.me c.requires.table.seated))
 
@@ -41,10 +43,13 @@ returns-clause-withdrawn g c =
       word = word;
       answer_is = c.says_phase.ensures;
       registered = ap is_registered (c.says_phase.ensures ∙ ap (λ (a : Aim). says_phase a.name.generation word) (sym c.requires.subject))
-          ∙ c.compare_exchange-was.ensures.2.1;
-      me_is = c.compare_exchange-was.ensures.2.0
-          ∙ ap (λ (a : Aim). (logged c.callback-index.result (left_by a.name.generation word) (withdraws a.tree a.name (says_phase a.name.generation word) m.0), m.1)) c.requires.subject
-          ∙ ap (λ p. (logged c.callback-index.result (left_by c.args.name.generation word) (withdraws c.args.self.now.frame.tree c.args.name p m.0), m.1)) (sym c.says_phase.ensures)
-          ∙ ap (λ i. (logged i (left_by c.args.name.generation word) (withdraws c.args.self.now.frame.tree c.args.name c.says_phase.result m.0), m.1))
+          ∙ c.compare_exchange-was.ensures.2.rest.1;
+      scope = subst (λ p. UnderScope c.args.self.now.frame.tree m.0 c.args.name (p ≢ Running)) (sym c.says_phase.ensures)
+          (subst (λ (a : Aim). UnderScope a.tree m.0 a.name (says_phase a.name.generation word ≢ Running)) c.requires.subject
+          c.compare_exchange-was.ensures.2.rest.2);
+      me_is = c.compare_exchange-was.ensures.2.rest.0
+          ∙ ap (λ (a : Aim). (with_step c.callback-index.result word (left_by a.name.generation word) (withdraws a.tree a.name (says_phase a.name.generation word) m.0), m.1)) c.requires.subject
+          ∙ ap (λ p. (with_step c.callback-index.result word (left_by c.args.name.generation word) (withdraws c.args.self.now.frame.tree c.args.name p m.0), m.1)) (sym c.says_phase.ensures)
+          ∙ ap (λ i. (with_step i word (left_by c.args.name.generation word) (withdraws c.args.self.now.frame.tree c.args.name c.says_phase.result m.0), m.1))
           (c.callback-index.ensures.value ∙ ap (λ b. index b.frame.layout (OfCallback c.args.name.block c.args.name.node)) c.self.view_is);
     }
