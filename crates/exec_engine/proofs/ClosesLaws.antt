@@ -12,7 +12,8 @@ use Rattle.record_loop.specs.declared.ending.Ending.{Ending}
 use Rattle.record_loop.specs.declared.printer.Form.{Form}
 use Rattle.record_loop.specs.declared.printer.Form.TheVariants.{Summary}
 use Rattle.record_loop.specs.Generated.{generated_lines}
-use Rattle.record_loop.specs.Printing.{Finished}
+use Rattle.record_loop.specs.Printing.{Finished, HoldsAllBut}
+use Rattle.record_loop.proofs.PrintingLaws.{HoldsAllBut-summary}
 use Rattle.record_loop.specs.Ran.{Answered, Ran}
 use Rattle.record_loop.specs.Standing.{Opening}
 use Rattle.run_rules.specs.PlanTerms.{window_of}
@@ -46,6 +47,7 @@ module _ (plan : Blueprint) (task : Task) (p : Blueprint) (window : ℕ) (same :
         takes = subst (λ (o : Origin). Takes o plan.settings.input before after ending.end ran.rest records) (sym is) (record { bytes = ran.bytes; reads = ran.reads; are = refl });
         lawful = ran.answered.lawful;
         finished = subst (λ (o : Origin). Finished (form_for o) old new ending.summary ending.lost ran.answered.outcomes) (sym is) ran.answered.finished;
+        begun = subst (λ (o : Origin). HoldsAllBut (window_of plan task.window) (form_for o) old new ran.answered.outcomes) (sym is) ran.begun;
         cause = ran.cause;
         still = still;
         later = later;
@@ -66,6 +68,8 @@ module _ (plan : Blueprint) (task : Task) (p : Blueprint) (window : ℕ) (same :
         takes = subst (λ (o : Origin). Takes o plan.settings.input source source ending.end [] records) (sym is) (record { ended = ended; none = refl; same = refl; are = ap (λ (k : Kind). generated_lines k count) of });
         lawful = answered.lawful;
         finished = subst (λ (o : Origin). Finished (form_for o) old new ending.summary ending.lost answered.outcomes) (sym is) answered.finished;
+        begun = subst (λ (o : Origin). HoldsAllBut (window_of plan task.window) (form_for o) old new answered.outcomes) (sym is)
+            (HoldsAllBut-summary (window_of plan task.window) answered.outcomes answered.finished.wrote.part);
         cause = λ fault kept. absurd (let wrong : Fault ≡ Ended = sym fault ∙ ended in cc);
         still = λ _. refl;
         later = omega arith;

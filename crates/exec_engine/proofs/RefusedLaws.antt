@@ -3,12 +3,13 @@ use Rattle.std.proofs.Common.{◌≡◌, ◌≢◌, ◌⊎◌, ℕ, ◌+◌, ◌
 use Rattle.std.specs.Prelude.{Result, Ok, Err}
 use Rattle.exec_io.specs.Shelves.{Texts, Stands}
 use Rattle.exec_io.proofs.GivenLemmas.{given-stands}
+use Rattle.plan_rules.specs.Exclusion.{exclude_each_other}
 use Rattle.plan_shape.specs.Blueprint.{Blueprint}
 use Rattle.plan_reader.specs.declared.fault.PlanFault.{PlanFault}
 use Rattle.plan_reader.specs.declared.fault.PlanFault.TheVariants.{TooLong, NotJson, Form, UnknownName, Limit, Kinds, Excluded, NoMemory}
 use Rattle.plan_reader.specs.declared.read.TheConstants.{MOST_PLAN_BYTES}
 use Rattle.plan_reader.specs.Plans.{found_in}
-use Rattle.plan_reader.specs.PlanFile.{IsPlanOf, IsFaultOf, IsAccepted, Matches, excludes, IsRefused as IsRefusedFor}
+use Rattle.plan_reader.specs.PlanFile.{IsPlanOf, IsFaultOf, IsAccepted, Matches, IsRefused as IsRefusedFor}
 use Rattle.exec_engine.specs.Opening.{IsRefused, HasPlan, HasRefusal}
 
 -- a result has one answer
@@ -39,8 +40,8 @@ not-refused bytes plan Kinds is refused =
     there is.2.matches
 not-refused bytes plan Excluded is refused =
     let there : IsRefusedFor is.0 Excluded = subst (λ found. IsRefusedFor found Excluded) (sym (one-ok is.1 refused.1.1)) refused.1.2 in
-    let P : Blueprint → Type 0 = λ p. IsFalse (excludes p.settings) in
-    not-true (excludes is.0.plan.settings) there.1 (subst P is.2.same is.2.rules)
+    let P : Blueprint → Type 0 = λ p. IsFalse (exclude_each_other p.settings) in
+    not-true (exclude_each_other is.0.plan.settings) there.1 (subst P is.2.same is.2.rules)
 not-refused bytes plan NoMemory is refused = refused.0 refl
 
 module _ {texts : Option Texts} {name : List ℕ} where

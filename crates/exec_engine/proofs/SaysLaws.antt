@@ -12,6 +12,7 @@ use Rattle.plan_shape.specs.Blueprint.{Blueprint}
 use Rattle.record_lines.specs.declared.ending.End.{End}
 use Rattle.record_lines.specs.declared.ending.End.TheVariants.{Ended, Fault, Limit as LimitEnd}
 use Rattle.record_loop.specs.declared.ending.Ending.{Ending}
+use Rattle.record_loop.proofs.PrintingLaws.{HoldsAllBut-whole}
 use Rattle.exec_status.specs.declared.status.Status.{Status}
 use Rattle.exec_status.specs.declared.status.Status.TheVariants.{AllValues, NotAllValues, Usage, PlanRefused, NoMemory, ReadFault, WriteFault, Limit}
 use Rattle.exec_status.proofs.Concluding.{IsOfRun}
@@ -28,7 +29,7 @@ use Rattle.exec_engine.specs.Taken.{LeavesSource}
 module _ (task : Task) (old new : Outside) where
   module _ {plan : Blueprint} (has : HasPlan old.shelf.texts task.plan.now plan) (ending : Ending) (closes : Closes plan task old.records new.records old.out new.out ending) where
     -- the lines of a run, by its end
-    closed-lines : Lines task old new ending.end closes.rest closes.outcomes
+    abbrev closed-lines : Lines task old new ending.end closes.rest closes.outcomes
     closed-lines = record { plan = plan; has = has; records = closes.records; takes = closes.takes; lawful = closes.lawful }
 
     -- all that was written, where no write was lost
@@ -45,6 +46,7 @@ module _ (task : Task) (old new : Outside) where
       lines = closed-lines;
       all = λ still. absurd (still (closes.finished.wrote.cause lost));
       front = closes.finished.wrote.part;
+      begun = closes.begun;
       whole = λ still. absurd (still (closes.finished.wrote.cause lost));
       cause = λ still is. absurd (still (closes.finished.wrote.cause lost));
     }
@@ -91,6 +93,7 @@ module _ (task : Task) (old new : Outside) where
         lines = prints.1;
         all = λ _. refl;
         front = AppendsFront-whole prints.3;
+        begun = HoldsAllBut-whole _ prints.0 prints.3;
         whole = λ _. prints.3;
         cause = λ _. cause;
       }

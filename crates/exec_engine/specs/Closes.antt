@@ -7,8 +7,9 @@ use Rattle.exec_io.specs.Untouched.{IsUntouched}
 use Rattle.plan_shape.specs.Blueprint.{Blueprint}
 use Rattle.record_lines.specs.declared.ending.End.TheVariants.{Fault}
 use Rattle.record_loop.specs.declared.ending.Ending.{Ending}
-use Rattle.record_loop.specs.Printing.{Finished}
+use Rattle.record_loop.specs.Printing.{Finished, HoldsAllBut}
 use Rattle.run_rules.specs.Lawful.{Lawful}
+use Rattle.run_rules.specs.PlanTerms.{window_of}
 use Rattle.exec_status.specs.declared.status.Status.{Status}
 use Rattle.exec_status.specs.declared.status.Status.TheVariants.{NoMemory}
 use Rattle.exec_engine.specs.declared.task.Task.{Task}
@@ -18,7 +19,8 @@ use Rattle.exec_engine.specs.Taken.{Takes, LeavesSource}
 use Rattle.exec_engine.specs.Tasks.{form_for}
 
 -- Records were taken until the end that the ending names, and their outcomes are lawful and written.
--- Where no write was lost, all was taken that was read, and a fault is the source's.
+-- Where no write was lost, all was taken that was read, and a fault is the source's. No record was
+-- begun after a lost write: those whose lines don't stand whole in out are a window at most.
 pub record Closes (plan : Blueprint) (task : Task) (before after : SourceView) (old new : SinkView)
     (ending : Ending) : Type 0 where
   pub outcomes : List Outcome
@@ -28,6 +30,7 @@ pub record Closes (plan : Blueprint) (task : Task) (before after : SourceView) (
   pub all : ending.lost ≡ false → rest ≡ []
   pub lawful : Lawful (terms_for task plan) records outcomes
   pub finished : Finished (form_for task.origin) old new ending.summary ending.lost outcomes
+  pub begun : HoldsAllBut (window_of plan task.window) (form_for task.origin) old new outcomes
   pub cause : ending.end ≡ Fault → ending.lost ≡ false → Rose before.faults after.faults
   pub still : ending.end ≢ Fault → after.faults ≡ before.faults
   pub later : before.faults ≤ after.faults

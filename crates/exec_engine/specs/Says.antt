@@ -11,7 +11,7 @@ use Rattle.plain_runs.specs.PlainWork.{WantsMemory}
 use Rattle.plan_shape.specs.Blueprint.{Blueprint}
 use Rattle.record_lines.specs.declared.ending.End.{End}
 use Rattle.record_lines.specs.declared.ending.End.TheVariants.{Ended, Fault, Limit as LimitEnd}
-use Rattle.record_loop.specs.Printing.{text_of}
+use Rattle.record_loop.specs.Printing.{HoldsAllBut, text_of}
 use Rattle.run_rules.specs.Lawful.{Terms, Lawful}
 use Rattle.run_rules.specs.PlanTerms.{terms_of, window_of}
 use Rattle.exec_status.specs.declared.status.Status.{Status}
@@ -61,9 +61,10 @@ module _ (task : Task) (old new : Outside) where
       × Appends old.out.written new.out.written (text_of (form_for task.origin) outcomes)
       × (new.out.faults ≡ old.out.faults)
 
-  -- A front of the lines of the records that were taken was written. Where no call of out failed it is
-  -- the whole, all records that were read were taken, and the reading came to its end, to a limit, or to
-  -- a fault of the source.
+  -- A front of the lines of the records that were taken was written, all lines whole but of a window of
+  -- records at most: none was begun after a lost write. Where no call of out failed it is the whole, all
+  -- records that were read were taken, and the reading came to its end, to a limit, or to a fault of the
+  -- source.
   pub record PrintsFront : Type 0 where
     pub end : End
     pub rest : List ℕ
@@ -71,6 +72,8 @@ module _ (task : Task) (old new : Outside) where
     pub lines : Lines end rest outcomes
     pub all : ¬ Rose old.out.faults new.out.faults → rest ≡ []
     pub front : AppendsFront old.out.written new.out.written (text_of (form_for task.origin) outcomes)
+    pub begun : HoldsAllBut (window_of lines.plan task.window) (form_for task.origin) old.out new.out
+        outcomes
     pub whole : ¬ Rose old.out.faults new.out.faults
         → Appends old.out.written new.out.written (text_of (form_for task.origin) outcomes)
     pub cause : ¬ Rose old.out.faults new.out.faults → end ≡ Fault → SourceFailed

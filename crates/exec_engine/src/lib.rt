@@ -18,8 +18,6 @@ mod opening;
 mod plan_run;
 mod refusal;
 mod task;
-#[cfg(test)]
-mod tests;
 
 pub use engine::run;
 pub use exec_status::Status;

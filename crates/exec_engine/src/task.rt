@@ -6,7 +6,7 @@ use exec_words::Options;
 use record_loop::Form;
 
 /// Where the records of a run come from.
-#[derive(Clone, Copy, Debug)]
+#[derive(Clone, Copy)]
 pub enum Origin {
     /// They are read from a source, and this is written of their outcomes.
     Source(Form),
@@ -15,7 +15,7 @@ pub enum Origin {
 }
 
 /// What a command asks of a run.
-#[derive(Clone, Copy, Debug)]
+#[derive(Clone, Copy)]
 pub struct Task<'a> {
     /// The name of the plan.
     pub plan: &'a str,

@@ -11,8 +11,6 @@ mod line;
 mod put;
 mod sorts;
 mod summary;
-#[cfg(test)]
-mod tests;
 
 pub use line::put_summary;
 pub use sorts::is_error;

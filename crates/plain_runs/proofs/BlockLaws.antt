@@ -2,7 +2,8 @@
 use Rattle.std.proofs.Common.{◌≡◌, ◌≢◌, ◌⊎◌, ℕ, ◌^◌, ◌+◌, ◌<◌, ◌≤◌, Bool, true, false, List, [], ◌∷◌, ◌++◌, length, get_or, set, replicate, Option, Some, None, IsSome, refl, sym, ap, ◌∙◌, subst, inl, inr, length-append, arith}
 use Rattle.std.proofs.lemmas.Bool.{cases_eq, cases_lt}
 use Rattle.std.proofs.lemmas.Grind.{common_steps}
-use Rattle.std.proofs.lemmas.List.{get_or-set_same, get_or-set_other, get_or-replicate, get_or_past, length-replicate, replicate-append-replicate}
+use Rattle.std.proofs.lemmas.List.{get_or-set_same, get_or-set_other, get_or_past, length-replicate, replicate-append-replicate}
+use Rattle.common_lemmas.proofs.Lists.{get_or-replicate_same}
 use Rattle.std.proofs.Math.ListN.{length-set}
 use Rattle.std.specs.Option.{option_map}
 use Rattle.exec_value.specs.Kinds.{HasKind}
@@ -82,18 +83,11 @@ free-more free is are =
     is ∙ ap (λ (bs : List (Option Started)). bs ++ None ∷ []) are ∙ replicate-append-replicate (length free) 1 None
     ∙ ap (λ n. replicate n None) (sym (ap length is ∙ length-append free (None ∷ [])))
 
--- free blocks have nothing
-free-none : (blocks b : ℕ) → get_or (replicate {A = Option Started} blocks None) b None ≡ None
-free-none blocks b = elim (cases_lt b blocks) [
-  | inl less ↦ get_or-replicate blocks b None None less
-  | inr more ↦ get_or_past (replicate blocks None) b None (simp length-replicate more)
-]
-
--- and are sound
+-- free blocks are sound
 pub sound-free : (plan : Blueprint) (blocks : ℕ) (small : Bool) (items : List (Option Started)) → items ≡ replicate blocks None → 0 < blocks → blocks ≤ 2 ^ 16 → KindsMatch plan.nodes plan.settings.input → (small ≡ false → ¬ IsSmall plan) → IsSound plan items 0 small
 sound-free plan blocks small items free some few kinds wants = record {
   matching = kinds;
-  kinds = λ b started is. absurd (let e : None ≡ Some started = sym (ap (λ (bs : List (Option Started)). get_or bs b None) free ∙ free-none blocks b) ∙ is in cc);
+  kinds = λ b started is. absurd (let e : None ≡ Some started = sym (ap (λ (bs : List (Option Started)). get_or bs b None) free ∙ get_or-replicate_same blocks b None) ∙ is in cc);
   wants = wants;
   within = omega (arith, count, some);
   few = omega (arith, count, few);

@@ -16,7 +16,5 @@ mod evaluate;
 mod plain;
 mod small;
 mod started;
-#[cfg(test)]
-mod tests;
 
 pub use plain::PlainRuns;

@@ -5,7 +5,7 @@ ghost use Rattle.std.specs.Prelude.{◌≡◌, ◌<◌, vec_len, length, is_none
 use exec_value::Datum;
 
 /// An operation that was started: it is evaluated once its completion is asked for.
-#[derive(Debug, Drop)]
+#[derive(Drop)]
 pub struct Started {
     pub(crate) number: u32,
     pub(crate) datum: Datum,

@@ -1,5 +1,6 @@
 -- A builder's nodes are a forest, and stay one with a node that isn't refused.
-use Rattle.std.proofs.Common.{◌≡◌, ℕ, ◌+◌, ◌-◌, ◌<◌, Bool, true, false, cond, List, ◌++◌, length, Option, Some, None, refl, sym, ap, ◌∙◌, inl, inr, arith}
+use Rattle.std.proofs.Common.{◌≡◌, ℕ, ◌+◌, ◌-◌, ◌<◌, true, false, cond, List, ◌++◌, length, Option, Some, None, refl, sym, ap, ◌∙◌, inl, inr, arith}
+use Rattle.std.proofs.Math.Bool.{or-false}
 use Rattle.std.specs.Prelude.{◌||◌, All, nat_eq}
 use Rattle.std.specs.Option.{option_or}
 use Rattle.std.specs.List.{list_any, range_with_len}
@@ -17,10 +18,6 @@ use Rattle.plan_shape.proofs.ListLemmas.{all_members, range_member, range_below,
 use Rattle.plan_shape.proofs.ForestLaws.{no_parent}
 use Rattle.plan_builder.proofs.RefusalLemmas.{allowed, lawful, free_within, free_parent, free_child}
 use Rattle.plan_builder.proofs.ParentLemmas.{parent_of-with_node}
-
-pub or_false : (b : Bool) → (b || false) ≡ b
-or_false true = refl
-or_false false = refl
 
 or_nothing : {X : Type 0} (o : Option X) → option_or o None ≡ o
 or_nothing None = refl
@@ -57,7 +54,7 @@ pub old_child : (nodes : List Node) (node : Node) (k : ℕ) → k < length nodes
 old_child nodes node k l =
     is_new_child nodes node k
     ∙ ap (λ b. list_any (nat_eq k) (named_by node) || b) (range_below (length nodes) (part_count node) k l)
-    ∙ or_false (list_any (nat_eq k) (named_by node))
+    ∙ or-false (list_any (nat_eq k) (named_by node))
 
 -- each part is one
 pub part_child : (nodes : List Node) (node : Node) (i : ℕ) → i < part_count node →
@@ -85,7 +82,7 @@ new_below nodes node new =
           let parts : list_any (nat_eq k) (range_with_len (length nodes) (part_count node)) ≡ false =
           range_above (length nodes) (part_count node) k after in
           let named : list_any (nat_eq k) (named_by node) ≡ true =
-          sym (or_false (list_any (nat_eq k) (named_by node)))
+          sym (or-false (list_any (nat_eq k) (named_by node)))
           ∙ ap (λ b. list_any (nat_eq k) (named_by node) || b) (sym parts)
           ∙ sym (is_new_child nodes node k) ∙ h in
           absurd (omega (arith, after, named_within nodes node new k named))

@@ -14,8 +14,6 @@ mod named;
 mod position;
 mod push;
 mod room;
-#[cfg(test)]
-mod tests;
 mod tree;
 
 pub use builder::PlanBuilder;

@@ -6,6 +6,7 @@ use Rattle.std.specs.Result.{IsErrOf}
 use Rattle.std.proofs.lemmas.Bool.{false≢true, ltb-true, ltb-false, lt-ltb}
 use Rattle.serde_json.specs.Data.{Data}
 use Rattle.plan_rules.specs.declared.settings.Settings.{Settings}
+use Rattle.plan_rules.specs.Exclusion.{exclude_each_other}
 use Rattle.plan_shape.specs.declared.fault.BuildFault.{BuildFault}
 use Rattle.plan_shape.specs.Blueprint.{Blueprint}
 use Rattle.plan_parts.specs.declared.reading.Faults.{Faults}
@@ -23,7 +24,7 @@ use Rattle.plan_kinds.specs.Reached.{IsFirstMismatch}
 use Rattle.sig_check.specs.declared.fault.SigFault.{SigFault}
 use Rattle.sig_check.specs.declared.fault.SigFault.TheVariants as sig
 use Rattle.sig_check.specs.Checked.{IsFaultOf as IsCheckFault}
-use Rattle.plan_reader.specs.PlanFile.{IsAccepted, IsFaultOf, IsPlanOf, IsRefused, Matches, excludes, kinds_fault}
+use Rattle.plan_reader.specs.PlanFile.{IsAccepted, IsFaultOf, IsPlanOf, IsRefused, Matches, kinds_fault}
 
 -- what a walk finds wrong
 abbrev IsOfWalk : PlanFault → Type 0
@@ -182,7 +183,7 @@ no_refusal found plan Excluded other accepted refused =
     let rules = accepted.rules in
     let excluded = refused.1 in
     let same = accepted.same in
-    let P : Blueprint → Type 0 = λ p. IsFalse (excludes p.settings) in
+    let P : Blueprint → Type 0 = λ p. IsFalse (exclude_each_other p.settings) in
     let kept = subst P same rules in
     false≢true (sym kept ∙ excluded)
 no_refusal found plan NoMemory other accepted refused = other refl

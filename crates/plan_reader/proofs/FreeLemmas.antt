@@ -18,7 +18,8 @@ use Rattle.plan_shape.specs.Refusals.{is_used, used_child}
 use Rattle.plan_shape.proofs.LeastLemmas.{least-None}
 use Rattle.plan_shape.proofs.ListLemmas.{all_members, range_above}
 use Rattle.plan_builder.proofs.AddedLemmas.{Standing, standing, stands_new, stands_old, stands_part, length-with_node}
-use Rattle.plan_builder.proofs.ForestLemmas.{is_new_child, kept_parent, old_child, or_false, part_child}
+use Rattle.plan_builder.proofs.ForestLemmas.{is_new_child, kept_parent, old_child, part_child}
+use Rattle.std.proofs.Math.Bool.{or-false}
 use Rattle.plan_builder.proofs.ParentLemmas.{parent_of-with_node}
 use Rattle.plan_reader.specs.Roots.{AreTidy, ChildrenFirst}
 
@@ -31,7 +32,7 @@ abbrev pub NamesNodes : List Node → Node → Type 0
 NamesNodes nodes node = (n : ℕ) → IsOf (named_by node) n → n < length nodes
 
 pub is-one : (n k : ℕ) → IsOf (k ∷ []) n → n ≡ k
-is-one n k is = eqb-true n k (sym (or_false (nat_eq n k)) ∙ is)
+is-one n k is = eqb-true n k (sym (or-false (nat_eq n k)) ∙ is)
 
 pub not_one : (n k : ℕ) → (n ≡ k → ⊥) → list_any (nat_eq n) (k ∷ []) ≡ false
 not_one n k other = ap (λ b. b || false) (ne_eqb n k other)

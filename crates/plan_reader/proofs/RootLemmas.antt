@@ -11,7 +11,7 @@ use Rattle.plan_shape.specs.Added.{number_of, with_node}
 use Rattle.plan_shape.specs.Finish.{is_of_version_2}
 use Rattle.plan_shape.specs.Parents.{is_free, parent_of}
 use Rattle.plan_builder.proofs.AddedLemmas.{length-with_node}
-use Rattle.plan_builder.proofs.ForestLemmas.{or_false}
+use Rattle.std.proofs.Math.Bool.{or-false, and-true, and-not_self}
 use Rattle.plan_builder.proofs.RefusalLemmas.{free_within}
 use Rattle.plan_reader.specs.Roots.{AreTidy}
 use Rattle.plan_reader.proofs.FreeLemmas.{IsOf, count-append, count-none, count-one, free-new, free-old, is-one, not_one, tidy-more}
@@ -71,7 +71,7 @@ rooted-append is_first old new newer ks js r s =
                 s.kept n before ∙ r.free n past
                 ∙ sym (list_any-append (nat_eq n) ks js
                 ∙ ap (λ b. list_any (nat_eq n) ks || b) (none_of_second n before)
-                ∙ or_false (list_any (nat_eq n) ks))
+                ∙ or-false (list_any (nat_eq n) ks))
             | inr from ↦
                 s.free n from
                 ∙ sym (list_any-append (nat_eq n) ks js
@@ -91,14 +91,6 @@ rooted-append is_first old new newer ks js r s =
     }
 
 -- a node over all of them
-and_true : (b : Bool) → (b && true) ≡ b
-and_true true = refl
-and_true false = refl
-
-pub and_not : (b : Bool) → (b && not b) ≡ false
-and_not true = refl
-and_not false = refl
-
 pub rooted-over : (is_first : Bool) (old new : List Node) (roots : List ℕ) (node : Node)
     → Rooted is_first old new roots → named_by node ≡ roots
     → (is_first ≡ true → is_of_version_2 node ≡ false)
@@ -121,14 +113,14 @@ rooted-over is_first old new roots node r named early =
           absurd (omega (arith, before, r.behind n (sym (same n) ∙ t)))) in
           free-old new node n (omega (arith, before, r.longer))
           ∙ ap (λ b. is_free new n && not b) other
-          ∙ and_true (is_free new n)
+          ∙ and-true (is_free new n)
           ∙ r.kept n before;
       free = λ n past.
           elim (cases_lt n (length new)) [
             | inl before ↦
                 free-old new node n before
                 ∙ ap (λ b. b && not (list_any (nat_eq n) (named_by node))) (r.free n past ∙ sym (same n))
-                ∙ and_not (list_any (nat_eq n) (named_by node))
+                ∙ and-not_self (list_any (nat_eq n) (named_by node))
                 ∙ sym (not_one n last (λ e. absurd (omega (arith, before, e, long))))
             | inr from ↦
                 free-new new node n r.tidy.ordered within from

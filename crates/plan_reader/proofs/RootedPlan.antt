@@ -13,7 +13,7 @@ use Rattle.plan_shape.specs.Least.{least}
 use Rattle.plan_shape.specs.Parents.{is_free}
 use Rattle.plan_shape.specs.Refusals.{fault_if}
 use Rattle.plan_shape.proofs.LeastLemmas.{least-None}
-use Rattle.plan_builder.proofs.ForestLemmas.{or_false}
+use Rattle.std.proofs.Math.Bool.{or-false, and-false, and-not_self}
 use Rattle.plan_parts.specs.declared.reading.Reading.{Reading}
 use Rattle.plan_parts.specs.declared.reading.Reading.TheVariants.{Good, Bad}
 use Rattle.plan_parts.specs.Reading.{IfGood, any_fault}
@@ -22,7 +22,6 @@ use Rattle.plan_reader.specs.Plans.{is_first_version, known_settings, walked_of}
 use Rattle.plan_reader.specs.Roots.{HasOneRoot, IsTidy}
 use Rattle.plan_reader.specs.Walked.{Walked, at_start, last, walk}
 use Rattle.plan_reader.specs.declared.plan.TheConstants.{MOST_LEVELS}
-use Rattle.plan_reader.proofs.RootLemmas.{and_not}
 use Rattle.plan_reader.proofs.RootedWalk.{Leads, child-leads, walk-gives_root}
 use Rattle.plan_reader.proofs.SettingsLemmas.{IsFirstOf, known_settings-first}
 
@@ -32,10 +31,6 @@ start-tidy is_first none = record {
   ordered = λ child parent t. absurd (false≢true t);
   early = λ first n. refl;
 }
-
-and_false : (b : Bool) → (b && false) ≡ false
-and_false true = refl
-and_false false = refl
 
 -- one root, and nodes of the plan's version
 record IsRooted (w : Walked) (settings : Settings) : Type 0 where
@@ -67,16 +62,16 @@ leads-rooted : (is_first : Bool) (w : Walked) (settings : Settings)
 leads-rooted is_first w settings leads version none =
     let r = (leads none).rooted in
     let free : (n : ℕ) → is_free w.nodes n ≡ nat_eq n (last w) =
-    λ n. r.free n (omega arith) ∙ or_false (nat_eq n (last w)) in
+    λ n. r.free n (omega arith) ∙ or-false (nat_eq n (last w)) in
     record {
       root = free (last w) ∙ eq-eqb (last w) (last w) refl;
       loose = λ n within.
-          ap (λ b. b && not (nat_eq n (last w))) (free n) ∙ and_not (nat_eq n (last w));
+          ap (λ b. b && not (nat_eq n (last w))) (free n) ∙ and-not_self (nat_eq n (last w));
       new = λ n within.
           either (settings.version == 1)
           (λ t.
           ap (λ b. settings.version == 1 && b) (r.tidy.early (version (eqb-true settings.version 1 t)) n)
-          ∙ and_false (settings.version == 1))
+          ∙ and-false (settings.version == 1))
           (λ f. ap (λ b. b && passes is_of_version_2 w.nodes n) f);
     }
 

@@ -1,9 +1,7 @@
 -- What bytes are: a plan, or bytes that are refused for one of seven causes. Of these facts exactly one
 -- holds of any bytes.
-use Rattle.std.specs.Prelude.{◌≡◌, ◌≤◌, ⊤, ℕ, Bool, true, false, ◌&&◌, ◌||◌, IsTrue, IsFalse, List, length, is_some, Ok, Err}
-use Rattle.node_tree.specs.declared.scope_kind.ScopeKind.{ScopeKind}
-use Rattle.node_tree.specs.declared.scope_kind.ScopeKind.TheVariants.{Simple, Counting}
-use Rattle.plan_rules.specs.declared.settings.Settings.{Settings}
+use Rattle.std.specs.Prelude.{◌≡◌, ◌≤◌, ⊤, ℕ, true, IsTrue, IsFalse, List, length, Ok, Err}
+use Rattle.plan_rules.specs.Exclusion.{exclude_each_other}
 use Rattle.plan_shape.specs.Blueprint.{Blueprint}
 use Rattle.plan_kinds.specs.Reached.{KindsMatch}
 use Rattle.sig_check.specs.declared.fault.SigFault.{SigFault}
@@ -14,14 +12,6 @@ use Rattle.plan_reader.specs.declared.fault.PlanFault.TheVariants.{Kinds, Exclud
 use Rattle.plan_reader.specs.declared.read.TheConstants.{MOST_PLAN_BYTES}
 use Rattle.plan_reader.specs.Plans.{found_in}
 
-abbrev pub is_simple : ScopeKind → Bool
-is_simple Simple = true
-is_simple Counting = false
-
--- a stop rule is set, and the scope is a simple one, which takes no stop request
-abbrev pub excludes : Settings → Bool
-excludes settings = is_simple settings.scope && (is_some settings.stop_after || settings.on_error_stop)
-
 -- the kinds of a plan match, the jobs of its bulks among them
 pub record Matches (found : Found) : Type 0 where
   pub elements : found.elements ≡ true
@@ -31,12 +21,12 @@ pub record Matches (found : Found) : Type 0 where
 pub record IsAccepted (found : Found) (plan : Blueprint) : Type 0 where
   pub same : plan ≡ found.plan
   pub matches : Matches found
-  pub rules : IsFalse (excludes plan.settings)
+  pub rules : IsFalse (exclude_each_other plan.settings)
 
 -- a plan that was read is refused: its kinds don't match, or they do and its settings exclude each other
 abbrev pub IsRefused : Found → PlanFault → Type 0
 IsRefused found Kinds = Matches found → ⊥
-IsRefused found Excluded = Matches found × IsTrue (excludes found.plan.settings)
+IsRefused found Excluded = Matches found × IsTrue (exclude_each_other found.plan.settings)
 IsRefused found NoMemory = ⊤
 IsRefused found fault = ⊥
 

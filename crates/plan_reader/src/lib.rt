@@ -24,8 +24,6 @@ mod node_word;
 mod plan;
 mod read;
 mod settings;
-#[cfg(test)]
-mod tests;
 mod walk;
 
 pub use fault::PlanFault;

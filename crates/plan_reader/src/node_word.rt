@@ -3,7 +3,7 @@ ghost use Rattle.std.specs.Prelude.{◌≡◌, map};
 ghost use Rattle.plan_reader.specs.NodeWords.{adaptor_named, adaptor_keys, early_node_named, later_node_named, leaf_keys, leaf_named, let_named, node_keys, node_named, other_node_named};
 
 /// A node without children.
-#[derive(Clone, Copy, Debug, PartialEq, Eq)]
+#[derive(Clone, Copy, PartialEq, Eq)]
 pub enum Leaf {
     Input,
     Just,
@@ -15,7 +15,7 @@ pub enum Leaf {
 }
 
 /// A node over one child. `Unstoppable` is of version 2.
-#[derive(Clone, Copy, Debug, PartialEq, Eq)]
+#[derive(Clone, Copy, PartialEq, Eq)]
 pub enum Adaptor {
     Then,
     UponError,
@@ -28,7 +28,7 @@ pub enum Adaptor {
 }
 
 /// A node over one child and bodies.
-#[derive(Clone, Copy, Debug, PartialEq, Eq)]
+#[derive(Clone, Copy, PartialEq, Eq)]
 pub enum Let {
     Value,
     Error,
@@ -36,7 +36,7 @@ pub enum Let {
 }
 
 /// What a node of a file is called. `Ahead` is of version 2.
-#[derive(Clone, Copy, Debug, PartialEq, Eq)]
+#[derive(Clone, Copy, PartialEq, Eq)]
 pub enum NodeWord {
     Leaf(Leaf),
     Adaptor(Adaptor),

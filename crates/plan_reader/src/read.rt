@@ -5,13 +5,11 @@ ghost use Rattle.serde_json.specs.View.{view};
 ghost use Rattle.plan_shape.specs.Blueprint.{Blueprint};
 ghost use Rattle.plan_reader.specs.declared.fault.PlanFault.{PlanFault};
 ghost use Rattle.plan_reader.specs.Plans.{found_in, json_of};
-ghost use Rattle.plan_reader.specs.PlanFile.{IsAccepted, IsFaultOf, IsPlanOf, IsRefused, Matches, excludes, kinds_fault};
+ghost use Rattle.plan_reader.specs.PlanFile.{IsAccepted, IsFaultOf, IsPlanOf, IsRefused, Matches, kinds_fault};
 
 use crate::fault::PlanFault;
 use crate::found::Found;
 use crate::plan::plan_of;
-use node_tree::ScopeKind;
-use plan_rules::Settings;
 use plan_shape::Plan;
 use serde_json::Value;
 use sig_check::{SigFault, check};
@@ -82,7 +80,7 @@ fn with_rules(found: Found) -> Result<Plan, PlanFault>
     ensures ok { IfOk result (IsAccepted found) }
     ensures err { IfErr result (IsRefused found) }
 {
-    if excludes(found.plan.settings()) {
+    if found.plan.settings().exclude_each_other() {
         return Err(PlanFault::Excluded);
     }
     Ok(found.plan)
@@ -122,15 +120,5 @@ fn kinds_fault(fault: SigFault) -> PlanFault
     match fault {
         SigFault::Kinds(_) => PlanFault::Kinds,
         SigFault::NoMemory => PlanFault::NoMemory,
-    }
-}
-
-/// Whether these settings exclude each other.
-fn excludes(settings: &Settings) -> bool
-    ensures { result ≡ excludes settings.now }
-{
-    match settings.scope {
-        ScopeKind::Simple => settings.stop_after.is_some() || settings.on_error_stop,
-        ScopeKind::Counting => false,
     }
 }

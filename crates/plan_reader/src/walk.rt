@@ -25,7 +25,7 @@ use std::alloc::{AllocError, Global};
 use std::marker::Model;
 
 /// Where a walk stands, seen as the nodes that it made and what it found wrong.
-#[derive(Debug, Drop)]
+#[derive(Drop)]
 pub(crate) struct Walk {
     builder: PlanBuilder,
     last: NodeId,

@@ -5,3 +5,4 @@ pub mod Bulks
 pub mod Allowed
 pub mod Settle
 pub mod Calm
+pub mod Exclusion

@@ -1,4 +1,6 @@
 //! What a plan says beside its nodes.
+ghost use Rattle.std.specs.Prelude.{◌≡◌};
+
 use exec_value::Kind;
 use node_tree::ScopeKind;
 
@@ -15,4 +17,19 @@ pub struct Settings {
     pub stop_after: Option<u32>,
     /// Whether a stop is requested after the first line that is an error.
     pub on_error_stop: bool,
+}
+
+impl Settings {
+    ghost use Rattle.plan_rules.specs.Exclusion.{exclude_each_other};
+
+    /// Whether these settings exclude each other: a rule requests a stop of a simple scope, which
+    /// takes no stop request.
+    pub fn exclude_each_other(&self) -> bool
+        ensures { result ≡ exclude_each_other self.now }
+    {
+        match self.scope {
+            ScopeKind::Simple => self.stop_after.is_some() || self.on_error_stop,
+            ScopeKind::Counting => false,
+        }
+    }
 }

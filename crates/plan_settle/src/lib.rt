@@ -14,7 +14,5 @@ mod join;
 mod leaf;
 mod pick;
 mod settling;
-#[cfg(test)]
-mod tests;
 
 pub use settling::{settle, settle_asked};

@@ -19,8 +19,6 @@ mod node;
 mod order;
 mod own;
 mod plan;
-#[cfg(test)]
-mod tests;
 
 pub use order::is_in_file_order;
 pub use plan::write_plan;

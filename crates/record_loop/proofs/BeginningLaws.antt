@@ -1,27 +1,26 @@
 -- How the next record is put in flight.
-use Rattle.std.proofs.Common.{◌≡◌, ◌≢◌, ◌⊎◌, ℕ, ◌+◌, ◌<◌, ◌≤◌, Bool, true, false, List, [], ◌∷◌, ◌++◌, length, Option, Some, None, refl, sym, ap, ◌∙◌, subst, inl, inr, append_assoc, length-append, arith}
+use Rattle.std.proofs.Common.{◌≡◌, ℕ, ◌+◌, ◌<◌, ◌≤◌, Bool, true, false, List, [], ◌∷◌, ◌++◌, length, Option, Some, None, refl, sym, ap, ◌∙◌, subst, inl, append_assoc, length-append, arith}
 use Rattle.std.specs.Prelude.{is_some, option_and_then}
 use Rattle.std.proofs.lemmas.Bool.{leb-false}
 use Rattle.std.proofs.Common.{nat_le}
 use Rattle.exec_value.specs.Record.{record_of}
 use Rattle.exec_value.specs.declared.kinds.Kind.{Kind}
-use Rattle.exec_value.specs.declared.kinds.Kind.TheVariants.{Int}
 use Rattle.plan_rules.specs.declared.settings.Settings.{Settings}
 use Rattle.plan_shape.specs.Blueprint.{Blueprint}
 use Rattle.record_lines.specs.Lines.{text_of}
-use Rattle.run_rules.specs.Lawful.{Terms, datum_of}
-use Rattle.run_rules.specs.Moments.{Moment, is_asked, IsCaused, IsTimely}
-use Rattle.run_rules.specs.StopStates.{rules_of}
-use Rattle.record_loop.specs.Slots.{BeginsSlot, BeginsText}
+use Rattle.run_rules.specs.Lawful.{datum_of}
+use Rattle.run_rules.specs.Moments.{Moment, is_asked, IsCaused}
+use Rattle.record_loop.specs.Slots.{BeginsSlot}
 use Rattle.record_loop.specs.declared.in_flight.InFlight.{InFlight}
 use Rattle.record_loop.specs.declared.printer.Printer.{Printer}
 use Rattle.record_loop.specs.declared.slot.Slot.{Slot}
 use Rattle.record_loop.specs.declared.slot.Slot.TheVariants.{Running, Bad, NoMemory}
 use Rattle.record_loop.specs.Flights.{read_of}
-use Rattle.record_loop.specs.Printing.{Printed}
+use Rattle.record_loop.specs.Printing.{MayBegin, Printed}
 use Rattle.exec_io.specs.Views.{SinkView}
-use Rattle.record_loop.specs.Standing.{Opening, terms_at, IsBegun, StandsFor, StandForAll, Standing, Counted}
-use Rattle.record_loop.specs.Works.{Begun, Work, Keeps}
+use Rattle.record_loop.specs.Standing.{Opening, terms_at, StandsFor, StandForAll, Standing, Counted}
+use Rattle.record_loop.specs.Works.{Work, Keeps}
+use Rattle.record_loop.proofs.PrintingLaws.{HoldsAllBut-all}
 use Rattle.record_loop.proofs.SlotLaws.{StandForAll-kept, StandForAll-push}
 use Rattle.record_loop.proofs.StandingLaws.{read-lines, read-count}
 
@@ -69,9 +68,9 @@ module _ {Wants : Blueprint → Type 0} {opening : Opening} {lines : List (List 
       of NoMemory wants = inl (λ int. wants.0 (kind-is ∙ int))
 
   -- the next record is in flight
-  pub Counted-begins : next.slots.items ≡ flight.slots.items ++ slot ∷ [] → next.slots.capacity ≡ flight.slots.capacity → length flight.slots.items < flight.slots.capacity
+  pub Counted-begins : MayBegin flight.printer → next.slots.items ≡ flight.slots.items ++ slot ∷ [] → next.slots.capacity ≡ flight.slots.capacity → length flight.slots.items < flight.slots.capacity
       → next.printer ≡ flight.printer → next.settings ≡ flight.settings → next.requested ≡ flight.requested → Standing Wants opening (length (lines ++ line ∷ [])) (lines ++ line ∷ []) new now next
-  Counted-begins items capacity room printer settings requested =
+  Counted-begins may items capacity room printer settings requested =
       let standing = counted.standing in
       let keeps = begun-keeps old new kind number text slot begins in
       let place : number ≡ length standing.outcomes + length flight.slots.items + 1 = omega (arith, number-is, read-lines standing) in
@@ -93,5 +92,6 @@ module _ {Wants : Blueprint → Type 0} {opening : Opening} {lines : List (List 
         settings_are = settings ∙ standing.settings_are;
         window_is = capacity ∙ standing.window_is;
         fits = omega (arith, ap length items, length-append flight.slots.items (slot ∷ []), room, standing.window_is);
+        held = HoldsAllBut-all _ may standing.printed;
         may_run = standing.may_run;
       }

@@ -1,34 +1,34 @@
 -- What stands once all records are written.
-use Rattle.std.proofs.Common.{◌≡◌, ◌≢◌, ◌⊎◌, ℕ, ◌+◌, ◌<◌, ◌≤◌, Bool, true, false, List, [], ◌∷◌, ◌++◌, length, Option, Some, None, refl, sym, ap, ◌∙◌, subst, inl, inr, length-append, append-nil, arith}
+use Rattle.std.proofs.Common.{◌≡◌, ◌≢◌, ℕ, ◌+◌, ◌<◌, Bool, true, false, List, [], ◌∷◌, ◌++◌, length, Option, refl, sym, ap, ◌∙◌, subst, inl, inr, length-append, append-nil, arith}
 use Rattle.std.proofs.lemmas.List.{nil_from_length}
 use Rattle.std.specs.Io.KnownBytes.{Consumes}
 use Rattle.exec_io.specs.Causes.{Rose}
 use Rattle.plan_shape.specs.Blueprint.{Blueprint}
 use Rattle.record_lines.specs.declared.ending.End.{End}
 use Rattle.record_lines.specs.declared.ending.End.TheVariants.{Ended, Fault, Limit}
-use Rattle.record_lines.specs.declared.limits.TheConstants.{MOST_RECORDS, MOST_BYTES}
+use Rattle.record_lines.specs.declared.limits.TheConstants.{MOST_RECORDS}
 use Rattle.record_lines.specs.declared.line_end.LineEnd.{LineEnd}
 use Rattle.record_lines.specs.Lines.{whole_lines, rest_of, without_cr}
-use Rattle.record_lines.specs.Records.{records_of, last_line, IsBeyond}
-use Rattle.record_lines.specs.Cutters.{Held, StandsAfter, HasLine, EndsStream}
+use Rattle.record_lines.specs.Records.{records_of, last_line}
+use Rattle.record_lines.specs.Cutters.{Held, StandsAfter, EndsStream}
 use Rattle.run_rules.specs.Lawful.{Lawful}
 use Rattle.run_rules.specs.Moments.{IsCaused, Licensed}
 use Rattle.run_rules.proofs.LicenseLaws.{Lawful-from_licensed}
 use Rattle.run_rules.proofs.PlanLaws.{plan-covers}
-use Rattle.record_loop.specs.Cutting.{IsCutting}
 use Rattle.record_loop.specs.declared.ending.Ending.{Ending}
 use Rattle.record_loop.specs.declared.in_flight.InFlight.{InFlight}
 use Rattle.record_loop.specs.declared.session.Session.{Session}
 use Rattle.record_loop.specs.Flights.{read_of}
-use Rattle.record_loop.specs.Printing.{Printed, Finished}
-use Rattle.record_loop.specs.Ran.{Answered, Ran}
+use Rattle.record_loop.specs.Printing.{AppendsAtLeast, Printed, Finished}
+use Rattle.record_loop.specs.Ran.{Ran}
 use Rattle.record_loop.specs.Reading.{SessionState, on, HasRoom, TakenAt, IsThrough, Halts, HasHalted, Reads, AllTaken}
 use Rattle.exec_io.specs.Views.{SinkView}
 use Rattle.exec_io.specs.Views.{SourceView}
 use Rattle.record_loop.specs.Standing.{Opening, terms_at, RunState, at, Standing, StandsAt}
 use Rattle.record_loop.specs.Works.{Work}
+use Rattle.record_loop.proofs.PrintingLaws.{HoldsAllBut-grows}
 use Rattle.record_loop.proofs.StandingLaws.{read-lines, waiting-length}
-use Rattle.record_loop.proofs.ReadingLaws.{taken-count, taken-within, stands-as}
+use Rattle.record_loop.proofs.ReadingLaws.{taken-count, taken-within}
 
 -- a write that isn't lost in the end wasn't lost before
 pub not-lost : (before after : Bool) → (before ≡ true → after ≡ true) → after ≡ false → before ≡ false
@@ -81,7 +81,7 @@ module _ {Wants : Blueprint → Type 0} {opening : Opening} {source left : Optio
 
   -- the input ended, and its last record is taken, where there is one
   pub AllTaken-ended : {before after : Work} {now later : SinkView} {session : Session} (end : End) (flight : InFlight) → end ≡ Ended → (halts : Halts Wants opening end source left (on before now session))
-      → (StandsAfter session.cutter halts.bytes → StandsAt Wants opening (whole_lines halts.bytes) (at before now session.flight) → StandsAt Wants opening (records_of halts.bytes Ended) (at after later flight))
+      → (StandsAfter session.cutter halts.bytes → session.flight.printer.lost ≡ false → StandsAt Wants opening (whole_lines halts.bytes) (at before now session.flight) → StandsAt Wants opening (records_of halts.bytes Ended) (at after later flight))
       → AllTaken Wants opening end source left (at after later flight)
   AllTaken-ended Ended flight is halts takes = record {
     bytes = halts.bytes;
@@ -93,7 +93,7 @@ module _ {Wants : Blueprint → Type 0} {opening : Opening} {source left : Optio
       within = λ _. taken-within halts.stops.taken;
     };
     all = λ _. refl;
-    standing = takes halts.stops.taken.stands halts.stops.taken.standing;
+    standing = takes halts.stops.taken.stands halts.stops.kept halts.stops.taken.standing;
   }
   AllTaken-ended Fault flight is halts takes = cc
   AllTaken-ended Limit flight is halts takes = cc
@@ -117,19 +117,21 @@ last-few {bytes = bytes} place new end taken ends = by taken.room
 pub Ran-closes : {Wants : Blueprint → Type 0} {opening : Opening} {work : Work} {now later : SinkView} {flight : InFlight} (end : End) (before after : SourceView) (ending : Ending)
     → (taken : AllTaken Wants opening end before.left after.left (at work now flight)) → flight.slots.items ≡ []
     → (flight.printer.lost ≡ true → ending.lost ≡ true)
+    → ((outcomes : _) → Printed opening.form opening.sink now flight.printer outcomes → AppendsAtLeast now.written later.written [])
     → ((outcomes : _) → Printed opening.form opening.sink now flight.printer outcomes → Finished opening.form opening.sink later ending.summary ending.lost outcomes)
     → ending.end ≡ end → (end ≡ Fault → ending.lost ≡ false → Rose before.faults after.faults) → Ran Wants opening before after later ending
-Ran-closes {Wants = Wants} {opening = opening} {later = later} {flight = flight} end before after ending taken none stays closes is cause = record {
+Ran-closes {Wants = Wants} {opening = opening} {later = later} {flight = flight} end before after ending taken none stays grows closes is cause = record {
   bytes = taken.bytes;
   rest = taken.rest;
   reads = subst (λ (e : End). Reads before.left after.left e taken.bytes taken.rest) (sym is) taken.reads;
   all = λ kept. taken.all (not-lost flight.printer.lost ending.lost stays kept);
-  answered = subst (λ (e : End). Answered Wants opening (records_of taken.bytes e) later ending) (sym is) (record {
+  answered = record {
     outcomes = taken.standing.outcomes;
-    lawful = all-lawful taken.standing none;
+    lawful = subst (λ (e : End). Lawful (terms_at Wants opening) (records_of taken.bytes e) taken.standing.outcomes) (sym is) (all-lawful taken.standing none);
     finished = closes taken.standing.outcomes taken.standing.printed;
-  });
+  };
   cause = λ fault kept. cause (sym is ∙ fault) kept;
+  begun = HoldsAllBut-grows taken.standing.held (grows taken.standing.outcomes taken.standing.printed) (omega arith);
 }
 
 -- a session whose input ended has taken the bytes, and written all

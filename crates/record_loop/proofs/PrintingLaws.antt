@@ -1,21 +1,20 @@
 -- How one more outcome is printed.
-use Rattle.std.proofs.Common.{◌≡◌, ◌⊎◌, ℕ, ◌+◌, Bool, true, false, List, [], ◌∷◌, ◌++◌, length, Option, IfSome, Result, Ok, Err, is_err, OnOk, refl, sym, ap, ◌∙◌, subst, inl, inr, append_assoc, append-nil, arith}
+use Rattle.std.proofs.Common.{◌≡◌, ◌⊎◌, ℕ, ◌+◌, ◌≤◌, Bool, true, false, List, [], ◌∷◌, ◌++◌, length, take, Option, IfSome, Result, Ok, Err, is_err, OnOk, refl, sym, ap, ◌∙◌, subst, inl, inr, zero-le, append_assoc, append-nil, length-append, arith}
 use Rattle.exec_io.specs.declared.fault.Failed.{Failed}
-use Rattle.exec_io.specs.Causes.{Rose, HasCause}
+use Rattle.exec_io.specs.Causes.{HasCause}
 use Rattle.exec_io.specs.Sinks.{Appends}
 use Rattle.exec_io.proofs.SinkLemmas.{Appends-nil, Appends-trans}
 use Rattle.exec_value.specs.declared.outcome.Outcome.{Outcome}
 use Rattle.outcome_lines.specs.Line.{line_of, text_from}
 use Rattle.outcome_lines.specs.Summary.{summary_of}
 use Rattle.exec_io.specs.Writing.{AppendsFront, Puts}
-use Rattle.exec_io.proofs.PutsLemmas.{AppendsFront-none, AppendsFront-cut, AppendsFront-then}
+use Rattle.exec_io.proofs.PutsLemmas.{AppendsFront-whole, AppendsFront-none, AppendsFront-cut, AppendsFront-then}
 use Rattle.line_summary.specs.Counting.{Summarizes}
 use Rattle.record_loop.specs.declared.printer.Form.{Form}
 use Rattle.record_loop.specs.declared.printer.Form.TheVariants.{Lines, Summary}
 use Rattle.record_loop.specs.declared.printer.Printer.{Printer}
 use Rattle.exec_io.specs.Views.{SinkView}
-use Rattle.record_loop.specs.Printing.{Wrote, text_so_far, text_of, Printed, Finished}
-use Rattle.exec_io.specs.Untouched.{IsHandedOn}
+use Rattle.record_loop.specs.Printing.{Wrote, text_so_far, text_of, AppendsAtLeast, HoldsAllBut, MayBegin, Printed}
 
 -- a test has one answer
 pub differ : {b : Bool} → b ≡ true → b ≡ false → ⊥
@@ -179,3 +178,77 @@ Printed-counts {form = form} {start = start} {now = now} {old = old} {new = new}
 
     kept : Wrote (text_so_far form outcomes) start now new.due new.lost → Wrote (text_so_far form (outcomes ++ outcome ∷ [])) start now new.due new.lost
     kept = of_lines form refl (reason why)
+
+-- nothing is done to out
+pub AtLeast-nil : (told : Option (List ℕ)) → AppendsAtLeast told told []
+AtLeast-nil told = record { more = []; grown = Appends-nil told }
+
+-- a front of a text is written
+pub AtLeast-front : {old new : Option (List ℕ)} {text : List ℕ} → AppendsFront old new text → AppendsAtLeast old new []
+AtLeast-front {text = text} front = record { more = take front.count text; grown = front.grown }
+
+-- a text is written, and more may be
+AtLeast-whole : {old new : Option (List ℕ)} (text : List ℕ) → Appends old new text → AppendsAtLeast old new text
+AtLeast-whole {old = old} {new = new} text all = record { more = []; grown = subst (Appends old new) (sym (append-nil text)) all }
+
+-- what was written stays
+pub AtLeast-then : {old mid new : Option (List ℕ)} {text : List ℕ} → AppendsAtLeast old mid text → AppendsAtLeast mid new [] → AppendsAtLeast old new text
+AtLeast-then {old = old} {new = new} {text = text} first second = record {
+  more = first.more ++ second.more;
+  grown = subst (Appends old new) (append_assoc text first.more second.more) (Appends-trans first.grown second.grown);
+}
+
+-- no outcome is printed yet
+pub HoldsAllBut-none : (most : ℕ) (form : Form) (start : SinkView) → HoldsAllBut most form start start []
+HoldsAllBut-none most form start = record { whole = []; rest = []; split = refl; few = zero-le; held = by form }
+  where
+    by : (f : Form) → AppendsAtLeast start.written start.written (text_so_far f [])
+    by Lines = AtLeast-nil start.written
+    by Summary = AtLeast-nil start.written
+
+-- where one more record may be begun, the text of all that are printed stands there whole
+pub HoldsAllBut-all : {form : Form} {start now : SinkView} {printer : Printer} {outcomes : List Outcome} (most : ℕ) → MayBegin printer → Printed form start now printer outcomes → HoldsAllBut most form start now outcomes
+HoldsAllBut-all {form = form} {start = start} {now = now} {printer = printer} {outcomes = outcomes} most may printed = record {
+  whole = outcomes;
+  rest = [];
+  split = sym (append-nil outcomes);
+  few = zero-le;
+  held = by form may printed.form_is printed.wrote;
+}
+  where
+    by : (f : Form) → MayBegin printer → printer.form ≡ f → Wrote (text_so_far f outcomes) start now printer.due printer.lost → AppendsAtLeast start.written now.written (text_so_far f outcomes)
+    by f (inl kept) is wrote = AtLeast-whole (text_so_far f outcomes) (wrote.whole kept)
+    by Summary (inr summary) is wrote = AtLeast-front wrote.part
+    by Lines (inr summary) is wrote = absurd (let e : Lines ≡ Summary = sym is ∙ summary in cc)
+
+-- the same outcomes stand there later
+pub HoldsAllBut-grows : {most next : ℕ} {form : Form} {start now later : SinkView} {outcomes : List Outcome} → HoldsAllBut most form start now outcomes → AppendsAtLeast now.written later.written [] → most ≤ next → HoldsAllBut next form start later outcomes
+HoldsAllBut-grows holds grows within = record {
+  whole = holds.whole;
+  rest = holds.rest;
+  split = holds.split;
+  few = omega (arith, within, holds.few);
+  held = AtLeast-then holds.held grows;
+}
+
+-- one more outcome is printed, and may be missing
+pub HoldsAllBut-more : {most next : ℕ} {form : Form} {start now later : SinkView} {outcomes : List Outcome} (outcome : Outcome) → HoldsAllBut most form start now outcomes → AppendsAtLeast now.written later.written [] → most + 1 ≤ next → HoldsAllBut next form start later (outcomes ++ outcome ∷ [])
+HoldsAllBut-more outcome holds grows within = record {
+  whole = holds.whole;
+  rest = holds.rest ++ outcome ∷ [];
+  split = ap (λ os. os ++ outcome ∷ []) holds.split ∙ append_assoc holds.whole holds.rest (outcome ∷ []);
+  few = omega (arith, length-append holds.rest (outcome ∷ []), within, holds.few);
+  held = AtLeast-then holds.held grows;
+}
+
+-- where all outcomes are finished their text stands there whole
+pub HoldsAllBut-whole : {form : Form} {start now : SinkView} (most : ℕ) (outcomes : List Outcome) → Appends start.written now.written (text_of form outcomes) → HoldsAllBut most form start now outcomes
+HoldsAllBut-whole {form = form} {start = start} {now = now} most outcomes wrote = record { whole = outcomes; rest = []; split = sym (append-nil outcomes); few = zero-le; held = by form wrote }
+  where
+    by : (f : Form) → Appends start.written now.written (text_of f outcomes) → AppendsAtLeast start.written now.written (text_so_far f outcomes)
+    by Lines all = AtLeast-whole (text_from 1 outcomes) all
+    by Summary all = AtLeast-front (AppendsFront-whole all)
+
+-- where a summary is to come no text is due before
+pub HoldsAllBut-summary : {start now : SinkView} {text : List ℕ} (most : ℕ) (outcomes : List Outcome) → AppendsFront start.written now.written text → HoldsAllBut most Summary start now outcomes
+HoldsAllBut-summary most outcomes front = record { whole = outcomes; rest = []; split = sym (append-nil outcomes); few = zero-le; held = AtLeast-front front }

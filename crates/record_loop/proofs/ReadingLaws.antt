@@ -1,5 +1,5 @@
 -- How a session takes the bytes of a source.
-use Rattle.std.proofs.Common.{◌≡◌, ◌≢◌, ◌⊎◌, ℕ, ◌+◌, ◌<◌, ◌≤◌, Bool, true, false, List, [], ◌∷◌, ◌++◌, length, take, drop, Option, Some, None, refl, sym, ap, ◌∙◌, subst, inl, inr, length-append, append_assoc, append-nil, length-drop, arith}
+use Rattle.std.proofs.Common.{◌≡◌, ◌≢◌, ℕ, ◌+◌, ◌<◌, ◌≤◌, Bool, true, false, List, [], ◌∷◌, ◌++◌, length, take, drop, Option, Some, None, refl, sym, ap, ◌∙◌, subst, inl, inr, length-append, append_assoc, append-nil, length-drop, arith}
 use Rattle.std.proofs.lemmas.List.Elements.{All-nil}
 use Rattle.std.specs.Option.{unwrap_or}
 use Rattle.std.specs.Io.KnownBytes.{Consumes, Keeps, IsAtEnd}
@@ -11,7 +11,7 @@ use Rattle.record_lines.specs.declared.limits.TheConstants.{LINE_FEED, MOST_RECO
 use Rattle.record_lines.specs.declared.line_end.LineEnd.{LineEnd}
 use Rattle.record_lines.specs.Lines.{whole_lines, rest_of, cut}
 use Rattle.record_lines.specs.LineEnds.{through}
-use Rattle.record_lines.specs.Records.{records_of, IsBeyond}
+use Rattle.record_lines.specs.Records.{IsBeyond}
 use Rattle.record_lines.specs.Cutters.{Held, StandsAfter, GoesOn, HasLine, EndsLine, line_after}
 use Rattle.record_lines.proofs.LineLaws.{rest_of-line}
 use Rattle.record_lines.proofs.LimitLaws.{limited_lines-full}
@@ -25,7 +25,7 @@ use Rattle.record_loop.specs.CaughtUp.{HasCaughtUp}
 use Rattle.record_loop.specs.Printing.{Wrote, text_so_far}
 use Rattle.record_loop.specs.ReadStarts.{start_of}
 use Rattle.exec_io.specs.Views.{SinkView, SourceView}
-use Rattle.record_loop.specs.Standing.{Opening, RunState, at, Standing, StandsAt}
+use Rattle.record_loop.specs.Standing.{Opening, RunState, at, StandsAt}
 use Rattle.record_loop.specs.Works.{Work}
 use Rattle.record_loop.proofs.StandingLaws.{read-count, read-lines}
 
@@ -235,13 +235,13 @@ module _ {Wants : Blueprint → Type 0} {opening : Opening} where
   }
 
   -- the source is at its end
-  pub Halts-ended : {source left : Option (List ℕ)} {place : SessionState} (rest : Option (List ℕ)) (count : ℕ) (piece : List ℕ) → count ≡ 0 → Consumes left rest (take count piece) → IsAtEnd rest → place.session.flight.slots.items ≡ [] → Going Wants opening source left place → Halts Wants opening Ended source rest place
-  Halts-ended {source = source} {left = left} rest count piece none consumed at_end written going = record {
+  pub Halts-ended : {source left : Option (List ℕ)} {place : SessionState} (rest : Option (List ℕ)) (count : ℕ) (piece : List ℕ) → count ≡ 0 → Consumes left rest (take count piece) → IsAtEnd rest → place.session.flight.slots.items ≡ [] → place.session.flight.printer.lost ≡ false → Going Wants opening source left place → Halts Wants opening Ended source rest place
+  Halts-ended {source = source} {left = left} rest count piece none consumed at_end written kept going = record {
     bytes = going.bytes;
     consumed = subst (Consumes source rest) (append-nil going.bytes)
         (Consumes-trans source left rest going.bytes [] going.consumed (subst (λ (n : ℕ). Consumes left rest (take n piece)) none consumed));
     at_end = λ _. at_end;
-    stops = record { taken = going.taken; none = written };
+    stops = record { taken = going.taken; none = written; kept = kept };
   }
 
   -- nothing is read yet

@@ -1,36 +1,37 @@
 -- How a run goes on, record by record.
-use Rattle.std.proofs.Common.{◌≡◌, ◌≢◌, ◌⊎◌, ℕ, ◌+◌, ◌-◌, ◌<◌, ◌≤◌, Bool, true, false, not, ◌||◌, List, [], ◌∷◌, ◌++◌, length, drop, Option, Some, None, slice_get, refl, sym, ap, ◌∙◌, subst, inl, inr, append_assoc, append-nil, length-append, arith}
-use Rattle.std.specs.Prelude.{is_some, option_and_then}
-use Rattle.exec_value.specs.declared.kinds.Kind.{Kind}
+use Rattle.std.proofs.Common.{◌≡◌, ℕ, ◌+◌, ◌<◌, ◌≤◌, Bool, true, false, not, ◌||◌, List, [], length, Option, Some, None, refl, sym, ap, ◌∙◌, subst, length-append, arith}
+use Rattle.std.specs.Prelude.{◌&&◌, IsFalse, is_some}
 use Rattle.exec_value.specs.declared.outcome.Outcome.{Outcome}
-use Rattle.outcome_lines.specs.Summary.{is_error}
-use Rattle.node_tree.specs.declared.scope_kind.ScopeKind.TheVariants.{Counting}
+use Rattle.node_tree.specs.declared.scope_kind.ScopeKind.{ScopeKind}
+use Rattle.node_tree.specs.declared.scope_kind.ScopeKind.TheVariants.{Simple, Counting}
 use Rattle.plan_rules.specs.declared.settings.Settings.{Settings}
+use Rattle.plan_rules.specs.Exclusion.{is_simple, has_stop_rule}
 use Rattle.plan_shape.specs.Blueprint.{Blueprint}
-use Rattle.record_lines.specs.Lines.{text_of}
-use Rattle.run_rules.specs.Lawful.{Terms, MayEnd, datum_of}
-use Rattle.run_rules.specs.Moments.{Moment, license, is_asked, IsCaused, IsTimely, IsQuiet, Licensed}
-use Rattle.run_rules.specs.PlanTerms.{terms_of, MayRun, has_stop_rule}
+use Rattle.run_rules.specs.Moments.{Moment, IsCaused, IsQuiet, Licensed}
+use Rattle.run_rules.specs.PlanTerms.{MayRun}
 use Rattle.run_rules.specs.StopStates.{StopRules, rules_of}
-use Rattle.run_rules.proofs.LicenseLaws.{Licensed-nil, Licensed-more, Licensed-asks}
-use Rattle.run_rules.proofs.MomentLaws.{quiet-nil, quiet-read, timely-read, timely-more, quiet-write, timely-write, timely-written}
-use Rattle.record_loop.specs.Slots.{BeginsSlot, BeginsText}
+use Rattle.run_rules.proofs.LicenseLaws.{Licensed-nil, Licensed-asks}
+use Rattle.run_rules.proofs.MomentLaws.{quiet-nil, quiet-read, timely-read, timely-more}
 use Rattle.record_loop.specs.Flights.{IsFresh, read_of}
 use Rattle.record_loop.specs.declared.in_flight.InFlight.{InFlight}
 use Rattle.record_loop.specs.declared.printer.Printer.{Printer}
 use Rattle.record_loop.specs.declared.slot.Slot.{Slot}
-use Rattle.record_loop.specs.declared.slot.Slot.TheVariants.{Running, Bad, NoMemory}
-use Rattle.record_loop.specs.Printing.{Printed}
-use Rattle.record_loop.specs.Slots.{HasOperation, Settles}
+use Rattle.record_loop.specs.Printing.{AppendsAtLeast, Printed}
 use Rattle.exec_io.specs.Views.{SinkView}
-use Rattle.record_loop.specs.Standing.{Opening, terms_at, IsBegun, StandsFor, StandForAll, Standing, Counted}
-use Rattle.record_loop.specs.Works.{Begun, Work, Keeps, Begins, Requests}
-use Rattle.record_loop.proofs.SlotLaws.{StandForAll-length, StandForAll-kept, StandsFor-kept, StandForAll-asks, StandForAll-push, StandsFor-operation, MayEnd-settles, Settles-plan, StandForAll-settles}
+use Rattle.record_loop.specs.Standing.{Opening, terms_at, StandForAll, Standing, Counted}
+use Rattle.record_loop.specs.Works.{Work, Requests}
+use Rattle.record_loop.proofs.PrintingLaws.{AtLeast-nil, HoldsAllBut-none, HoldsAllBut-grows}
+use Rattle.record_loop.proofs.SlotLaws.{StandForAll-length, StandForAll-kept, StandForAll-asks}
 
 -- a request that was made makes the two records of it agree
 asked-none : {b : Bool} {moment : Option Moment} → b ≡ is_some moment → b ≡ false → moment ≡ None
 asked-none {moment = None} is not = refl
 asked-none {moment = Some m} is not = absurd (let e : true ≡ false = sym is ∙ not in cc)
+
+-- settings that don't exclude each other have a stop rule over a counting scope alone
+rules-count : (scope : ScopeKind) (rule : Bool) → IsFalse (is_simple scope && rule) → rule ≡ true → scope ≡ Counting
+rules-count Counting rule free set = refl
+rules-count Simple rule free set = absurd (let wrong : true ≡ false = sym set ∙ free in cc)
 
 module _ {Wants : Blueprint → Type 0} {opening : Opening} {read : ℕ} {lines : List (List ℕ)} {work : Work} {now : SinkView} {flight : InFlight} (standing : Standing Wants opening read lines work now flight) where
   -- the slots are as many as the records without a line
@@ -48,7 +49,8 @@ module _ {Wants : Blueprint → Type 0} {opening : Opening} {read : ℕ} {lines 
   pub counting : has_stop_rule flight.settings ≡ true → work.plan.settings.scope ≡ Counting
   counting set =
       let P : Settings → Type 0 = λ s. has_stop_rule s ≡ true in
-      ap (λ (p : Blueprint). p.settings.scope) standing.plan_is ∙ standing.may_run.counting (subst P standing.settings_are set)
+      ap (λ (p : Blueprint). p.settings.scope) standing.plan_is
+      ∙ rules-count opening.plan.settings.scope (has_stop_rule opening.plan.settings) standing.may_run.rules (subst P standing.settings_are set)
 
 -- the first rule, or the second, is set
 pub after-set : (settings : Settings) (k : ℕ) → settings.stop_after ≡ Some k → has_stop_rule settings ≡ true
@@ -84,15 +86,16 @@ Standing-fresh Wants opening work flight fresh requested plan may_run = record {
   settings_are = fresh.settings_are;
   window_is = fresh.capacity;
   fits = omega (arith, ap length fresh.slots);
+  held = HoldsAllBut-none _ opening.form opening.sink;
   may_run = may_run;
 }
 
 -- what was printed is handed on
 pub Standing-hands : {Wants : Blueprint → Type 0} {opening : Opening} {read : ℕ} {lines : List (List ℕ)} {work : Work} {now later : SinkView} {old new : InFlight}
     → ((outcomes : List Outcome) → Printed opening.form opening.sink now old.printer outcomes → Printed opening.form opening.sink later new.printer outcomes)
-    → new.slots ≡ old.slots → new.requested ≡ old.requested → new.settings ≡ old.settings
+    → AppendsAtLeast now.written later.written [] → new.slots ≡ old.slots → new.requested ≡ old.requested → new.settings ≡ old.settings
     → Standing Wants opening read lines work now old → Standing Wants opening read lines work later new
-Standing-hands {Wants = Wants} {opening = opening} {work = work} {old = old} {new = new} hands slots requested settings standing = record {
+Standing-hands {Wants = Wants} {opening = opening} {work = work} {old = old} {new = new} hands grows slots requested settings standing = record {
   outcomes = standing.outcomes;
   front = standing.front;
   back = standing.back;
@@ -108,6 +111,7 @@ Standing-hands {Wants = Wants} {opening = opening} {work = work} {old = old} {ne
   settings_are = settings ∙ standing.settings_are;
   window_is = ap (λ (s : _). s.capacity) slots ∙ standing.window_is;
   fits = omega (arith, ap (λ (s : _). length s.items) slots, standing.fits);
+  held = HoldsAllBut-grows standing.held grows (omega (arith, ap (λ (s : _). length s.items) slots));
   may_run = standing.may_run;
 }
 
@@ -142,6 +146,7 @@ Standing-counts {Wants = Wants} {opening = opening} {lines = lines} {flight = fl
     settings_are = standing.settings_are;
     window_is = standing.window_is;
     fits = standing.fits;
+    held = standing.held;
     may_run = standing.may_run;
   };
   early = early-moment (rules_of opening.plan.settings) opening.window (length lines) standing.outcomes standing.moment standing.caused;
@@ -174,6 +179,7 @@ module _ {Wants : Blueprint → Type 0} {opening : Opening} {lines : List (List 
       settings_are = settings ∙ standing.settings_are;
       window_is = ap (λ s. s.capacity) slots ∙ standing.window_is;
       fits = omega (arith, ap (λ s. length s.items) slots, standing.fits);
+      held = HoldsAllBut-grows standing.held (AtLeast-nil now.written) (omega (arith, ap (λ s. length s.items) slots));
       may_run = standing.may_run;
     };
   }

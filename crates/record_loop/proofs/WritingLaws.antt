@@ -1,22 +1,23 @@
 -- How the first record in flight is written.
-use Rattle.std.proofs.Common.{◌≡◌, ◌≢◌, ◌⊎◌, ℕ, ◌+◌, ◌-◌, ◌<◌, ◌≤◌, Bool, true, false, List, [], ◌∷◌, ◌++◌, length, drop, Option, Some, None, slice_get, refl, sym, ap, ◌∙◌, subst, inl, inr, append_assoc, length-append, arith}
+use Rattle.std.proofs.Common.{◌≡◌, ℕ, ◌+◌, ◌<◌, true, false, List, [], ◌∷◌, ◌++◌, length, drop, Option, Some, None, slice_get, refl, sym, ap, ◌∙◌, subst, append_assoc, length-append, arith}
 use Rattle.std.specs.Prelude.{is_some}
 use Rattle.exec_value.specs.declared.outcome.Outcome.{Outcome}
 use Rattle.outcome_lines.specs.Summary.{is_error}
 use Rattle.plan_rules.specs.declared.settings.Settings.{Settings}
 use Rattle.plan_shape.specs.Blueprint.{Blueprint}
-use Rattle.run_rules.specs.Lawful.{Terms, MayEnd}
-use Rattle.run_rules.specs.Moments.{Moment, license, IsCaused, IsTimely, IsQuiet, Licensed}
+use Rattle.run_rules.specs.Lawful.{Terms}
+use Rattle.run_rules.specs.Moments.{Moment, IsCaused, IsTimely, IsQuiet, Licensed}
 use Rattle.run_rules.specs.StopStates.{rules_of}
 use Rattle.run_rules.proofs.LicenseLaws.{Licensed-more, Licensed-asks}
 use Rattle.run_rules.proofs.MomentLaws.{quiet-write, timely-write, timely-written}
 use Rattle.record_loop.specs.declared.in_flight.InFlight.{InFlight}
 use Rattle.record_loop.specs.declared.slot.Slot.{Slot}
-use Rattle.record_loop.specs.Printing.{Printed}
+use Rattle.record_loop.specs.Printing.{AppendsAtLeast, Printed}
 use Rattle.record_loop.specs.Slots.{HasOperation, Settles}
 use Rattle.exec_io.specs.Views.{SinkView}
 use Rattle.record_loop.specs.Standing.{Opening, terms_at, StandsFor, StandForAll, Standing}
 use Rattle.record_loop.specs.Works.{Work, Requests}
+use Rattle.record_loop.proofs.PrintingLaws.{HoldsAllBut-more}
 use Rattle.record_loop.proofs.SlotLaws.{StandForAll-kept, StandForAll-asks, StandsFor-operation, MayEnd-settles, Settles-plan, StandForAll-settles}
 use Rattle.record_loop.proofs.StandingLaws.{read-lines}
 
@@ -50,6 +51,7 @@ first-operation {Wants = Wants} {opening = opening} {work = work} {flight = flig
 module _ {Wants : Blueprint → Type 0} {opening : Opening} {lines : List (List ℕ)} {old : Work} {now : SinkView} {flight : InFlight} (mid : Work) (later : SinkView) (next : InFlight) (slot : Slot) (outcome : Outcome)
     (standing : Standing Wants opening (length lines) lines old now flight) (is : slice_get flight.slots.items 0 ≡ Some slot) (settles : Settles Wants old mid slot outcome)
     (prints : (outcomes : List Outcome) → Printed opening.form opening.sink now flight.printer outcomes → Printed opening.form opening.sink later next.printer (outcomes ++ outcome ∷ []))
+    (grows : AppendsAtLeast now.written later.written [])
     (items : next.slots.items ≡ drop 1 flight.slots.items) (capacity : next.slots.capacity ≡ flight.slots.capacity) (settings : next.settings ≡ flight.settings) where
   first : First (terms_at Wants opening) old standing.moment (length standing.outcomes) slot flight.slots.items standing.back
   first = first-of (terms_at Wants opening) old standing.moment (length standing.outcomes) slot flight.slots.items standing.back is standing.waiting
@@ -82,6 +84,7 @@ module _ {Wants : Blueprint → Type 0} {opening : Opening} {lines : List (List 
     settings_are = settings ∙ standing.settings_are;
     window_is = capacity ∙ standing.window_is;
     fits = omega (arith, ap length items, first.fewer, standing.fits);
+    held = HoldsAllBut-more outcome standing.held grows (omega (arith, ap length items, first.fewer, standing.fits));
     may_run = standing.may_run;
   }
 

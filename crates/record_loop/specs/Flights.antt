@@ -2,12 +2,12 @@
 use Rattle.std.specs.Prelude.{◌≡◌, ℕ, ◌+◌, true, false, [], length}
 use Rattle.node_tree.specs.declared.scope_kind.ScopeKind.TheVariants.{Counting}
 use Rattle.plan_rules.specs.declared.settings.Settings.{Settings}
+use Rattle.plan_rules.specs.Exclusion.{has_stop_rule}
 use Rattle.record_loop.specs.declared.in_flight.InFlight.{InFlight}
 use Rattle.record_loop.specs.declared.printer.Form.{Form}
 use Rattle.record_loop.specs.Printing.{Printed}
 use Rattle.exec_io.specs.Views.{SinkView}
 use Rattle.record_loop.specs.Works.{Work}
-use Rattle.run_rules.specs.PlanTerms.{has_stop_rule}
 
 -- How many records were read: those that are written, and those in flight.
 abbrev pub read_of : InFlight → ℕ

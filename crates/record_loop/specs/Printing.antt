@@ -1,5 +1,5 @@
 -- What a printer has written.
-use Rattle.std.specs.Prelude.{◌≡◌, ℕ, ◌≤◌, Bool, true, false, List, []}
+use Rattle.std.specs.Prelude.{◌≡◌, ◌⊎◌, ℕ, ◌≤◌, Bool, true, false, List, [], ◌∷◌, ◌++◌, length, Option}
 use Rattle.exec_io.specs.Causes.{Rose}
 use Rattle.exec_io.specs.Sinks.{Appends}
 use Rattle.outcome_lines.specs.Line.{text_from}
@@ -34,6 +34,25 @@ abbrev pub text_of : Form → List Outcome → List ℕ
 text_of Lines outcomes = text_from 1 outcomes
 text_of Summary outcomes = summary_of outcomes
 
+-- What is told afterwards was told before, and has grown by this text, and maybe by more.
+pub record AppendsAtLeast (old new : Option (List ℕ)) (text : List ℕ) : Type 0 where
+  pub more : List ℕ
+  pub grown : Appends old new (text ++ more)
+
+-- Since the start the text of these outcomes was written whole, but of so many of the last at most.
+-- Where a summary is to come, no text is due.
+pub record HoldsAllBut (most : ℕ) (form : Form) (start now : SinkView) (outcomes : List Outcome)
+    : Type 0 where
+  pub whole : List Outcome
+  pub rest : List Outcome
+  pub split : outcomes ≡ whole ++ rest
+  pub few : length rest ≤ most
+  pub held : AppendsAtLeast start.written now.written (text_so_far form whole)
+
+-- One more record may be begun: no write was lost, or nothing is written before all are done.
+abbrev pub MayBegin : Printer → Type 0
+MayBegin printer = (printer.lost ≡ false) ⊎ (printer.form ≡ Summary)
+
 -- Since the start the printer has printed these outcomes.
 pub record Printed (form : Form) (start now : SinkView) (printer : Printer)
     (outcomes : List Outcome) : Type 0 where
@@ -46,3 +65,45 @@ pub record Finished (form : Form) (start now : SinkView) (summary : SummaryCount
     (outcomes : List Outcome) : Type 0 where
   pub counted : Summarizes summary outcomes
   pub wrote : Wrote (text_of form outcomes) start now false lost
+
+-- What a call sees of a printer: the sink, and the printer itself.
+pub record PrinterState : Type 0 where
+  pub sink : SinkView
+  pub printer : Printer
+
+abbrev pub over : SinkView → Printer → PrinterState
+over sink printer = record { sink = sink; printer = printer }
+
+-- The outcomes that were printed are printed afterwards, and this one after them.
+abbrev pub PrintsNext : Outcome → PrinterState → PrinterState → Type 0
+PrintsNext outcome old new =
+    (form : Form) (start : SinkView) (outcomes : List Outcome)
+    → Printed form start old.sink old.printer outcomes
+    → Printed form start new.sink new.printer (outcomes ++ outcome ∷ [])
+
+-- Each text that was written is written afterwards.
+abbrev pub KeepsWritten : PrinterState → PrinterState → Type 0
+KeepsWritten old new =
+    (text : List ℕ) (start : SinkView) → Wrote text start old.sink old.printer.due old.printer.lost
+    → Wrote text start new.sink new.printer.due new.printer.lost
+
+-- The outcomes that were printed are all, and what is to come after them is written.
+abbrev pub WritesRest : PrinterState → PrinterState → Type 0
+WritesRest old new =
+    (form : Form) (start : SinkView) (outcomes : List Outcome)
+    → Printed form start old.sink old.printer outcomes
+    → Wrote (text_of form outcomes) start new.sink new.printer.due new.printer.lost
+
+-- The outcomes that were printed are all, and finished.
+abbrev pub FinishesAll : PrinterState → SinkView → SummaryCounts → Bool → Type 0
+FinishesAll old now summary lost =
+    (form : Form) (start : SinkView) (outcomes : List Outcome)
+    → Printed form start old.sink old.printer outcomes
+    → Finished form start now summary lost outcomes
+
+-- Where outcomes were printed, all that out held is there afterwards, and maybe more.
+abbrev pub OnlyAppends : PrinterState → SinkView → Type 0
+OnlyAppends old now =
+    (form : Form) (start : SinkView) (outcomes : List Outcome)
+    → Printed form start old.sink old.printer outcomes
+    → AppendsAtLeast old.sink.written now.written []

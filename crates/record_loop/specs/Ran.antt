@@ -3,12 +3,11 @@ use Rattle.std.specs.Prelude.{◌≡◌, false, ℕ, List, []}
 use Rattle.exec_io.specs.Causes.{Rose}
 use Rattle.exec_value.specs.declared.outcome.Outcome.{Outcome}
 use Rattle.plan_shape.specs.Blueprint.{Blueprint}
-use Rattle.record_lines.specs.declared.ending.End.{End}
 use Rattle.record_lines.specs.declared.ending.End.TheVariants.{Fault}
 use Rattle.record_lines.specs.Records.{records_of}
 use Rattle.record_loop.specs.declared.ending.Ending.{Ending}
-use Rattle.record_loop.specs.Printing.{Finished}
-use Rattle.record_loop.specs.Reading.{Reads}
+use Rattle.record_loop.specs.Printing.{Finished, HoldsAllBut}
+use Rattle.record_loop.specs.Reading.{Reads, SessionState, TakenAt}
 use Rattle.exec_io.specs.Views.{SinkView}
 use Rattle.exec_io.specs.Views.{SourceView}
 use Rattle.record_loop.specs.Standing.{Opening, terms_at}
@@ -22,7 +21,9 @@ pub record Answered (WantsMemory : Blueprint → Type 0) (opening : Opening)
   pub finished : Finished opening.form opening.sink now ending.summary ending.lost outcomes
 
 -- Bytes were read until the end that the ending names, and their records are answered, but of a rest
--- that was read when a write was lost. Where none was, a fault is the source's.
+-- that was read when a write was lost. Where none was, a fault is the source's. No record was begun
+-- after a lost write: the records whose lines don't stand whole in out are a window at most, those
+-- that were in flight then.
 pub record Ran (WantsMemory : Blueprint → Type 0) (opening : Opening) (before after : SourceView)
     (now : SinkView) (ending : Ending) : Type 0 where
   pub bytes : List ℕ
@@ -31,3 +32,11 @@ pub record Ran (WantsMemory : Blueprint → Type 0) (opening : Opening) (before 
   pub all : ending.lost ≡ false → rest ≡ []
   pub answered : Answered WantsMemory opening (records_of bytes ending.end) now ending
   pub cause : ending.end ≡ Fault → ending.lost ≡ false → Rose before.faults after.faults
+  pub begun : HoldsAllBut opening.window opening.form opening.sink now answered.outcomes
+
+-- From a session that starts in any opening the run over its records was this.
+abbrev pub RunsFrom : (Blueprint → Type 0) → SessionState → SourceView → SourceView → SinkView
+    → Ending → Type 0
+RunsFrom WantsMemory place before after now ending =
+    (opening : Opening) → TakenAt WantsMemory opening [] place
+    → Ran WantsMemory opening before after now ending

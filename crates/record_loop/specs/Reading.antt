@@ -1,5 +1,5 @@
 -- What a session over the bytes of a source has read, and where it stands.
-use Rattle.std.specs.Prelude.{◌≡◌, ◌≢◌, ◌⊎◌, ℕ, ◌<◌, ◌≤◌, Bool, true, false, List, [], ◌++◌, length, Option, None, Some}
+use Rattle.std.specs.Prelude.{◌≡◌, ◌≢◌, ◌⊎◌, ℕ, ◌<◌, ◌≤◌, false, List, [], ◌++◌, length, Option, None, Some}
 use Rattle.std.specs.Io.KnownBytes.{Consumes, IsAtEnd}
 use Rattle.plan_shape.specs.Blueprint.{Blueprint}
 use Rattle.record_lines.specs.declared.ending.End.{End}
@@ -8,7 +8,6 @@ use Rattle.record_lines.specs.declared.limits.TheConstants.{MOST_RECORDS}
 use Rattle.record_lines.specs.Lines.{whole_lines, rest_of}
 use Rattle.record_lines.specs.Records.{records_of, IsBeyond}
 use Rattle.record_lines.specs.Cutters.{StandsAfter}
-use Rattle.record_loop.specs.declared.in_flight.InFlight.{InFlight}
 use Rattle.record_loop.specs.declared.session.Session.{Session}
 use Rattle.exec_io.specs.Views.{SinkView}
 use Rattle.record_loop.specs.CaughtUp.{HasCaughtUp}
@@ -90,11 +89,12 @@ pub record BreaksOff (WantsMemory : Blueprint → Type 0) (opening : Opening) (b
   pub within : ¬ IsBeyond front
   pub standing : StandsAt WantsMemory opening (whole_lines front) run
 
--- All is taken and written, and nothing is left to read.
+-- All is taken and written, no write was lost, and nothing is left to read.
 pub record IsThrough (WantsMemory : Blueprint → Type 0) (opening : Opening) (bytes : List ℕ)
     (place : SessionState) : Type 0 where
   pub taken : TakenAt WantsMemory opening bytes place
   pub none : place.session.flight.slots.items ≡ []
+  pub kept : place.session.flight.printer.lost ≡ false
 
 -- How a session stands after the last bytes that it read.
 abbrev pub Stops : (Blueprint → Type 0) → Opening → End → List ℕ → SessionState → Type 0

@@ -1,15 +1,16 @@
 -- How the records, the operations and the lines stand to each other while a run goes on.
-use Rattle.std.specs.Prelude.{◌≡◌, ◌≤◌, ℕ, ◌+◌, Bool, List, [], ◌∷◌, ◌++◌, length, Option, Some, None, is_some}
+use Rattle.std.specs.Prelude.{◌≡◌, ◌≤◌, ℕ, ◌+◌, ◌-◌, List, [], ◌∷◌, ◌++◌, length, Option, Some, None, is_some}
 use Rattle.exec_value.specs.declared.data.Datum.{Datum}
 use Rattle.exec_value.specs.declared.outcome.Outcome.{Outcome}
 use Rattle.plan_shape.specs.Blueprint.{Blueprint}
+use Rattle.record_lines.specs.Lines.{text_of}
 use Rattle.record_loop.specs.declared.in_flight.InFlight.{InFlight}
 use Rattle.record_loop.specs.declared.printer.Form.{Form}
 use Rattle.record_loop.specs.declared.slot.Slot.{Slot}
 use Rattle.record_loop.specs.declared.slot.Slot.TheVariants.{Running, Bad, NoMemory}
-use Rattle.record_loop.specs.Printing.{Printed}
+use Rattle.record_loop.specs.Printing.{Printed, HoldsAllBut, MayBegin}
 use Rattle.exec_io.specs.Views.{SinkView}
-use Rattle.record_loop.specs.Works.{Begun, Work}
+use Rattle.record_loop.specs.Works.{Work}
 use Rattle.run_rules.specs.Lawful.{Terms, datum_of}
 use Rattle.run_rules.specs.Moments.{Moment, is_asked, IsCaused, Licensed}
 use Rattle.run_rules.specs.PlanTerms.{terms_of, MayRun}
@@ -57,7 +58,8 @@ StandForAll terms work moment before (slot ∷ slots) (line ∷ lines) =
 
 -- Of the records of these lines the first have outcomes, which are licensed and printed, and slots
 -- stand for the rest. The request was made at the moment at which it was due, by so many records
--- that were read.
+-- that were read. Those whose text doesn't stand whole in out, with those in the slots, are a window
+-- at most: none was begun after a lost write.
 pub record Standing (WantsMemory : Blueprint → Type 0) (opening : Opening) (read : ℕ)
     (lines : List (List ℕ)) (work : Work) (now : SinkView) (flight : InFlight) : Type 0 where
   pub outcomes : List Outcome
@@ -76,6 +78,8 @@ pub record Standing (WantsMemory : Blueprint → Type 0) (opening : Opening) (re
   pub settings_are : flight.settings ≡ opening.plan.settings
   pub window_is : flight.slots.capacity ≡ opening.window
   pub fits : length flight.slots.items ≤ opening.window
+  pub held : HoldsAllBut (opening.window - length flight.slots.items) opening.form opening.sink now
+      outcomes
   pub may_run : MayRun opening.plan.settings
 
 -- The next record is counted, and in no slot yet. A request that was made came before it is begun.
@@ -131,17 +135,19 @@ CountsNext WantsMemory old new =
     (opening : Opening) (lines : List (List ℕ)) → StandsAt WantsMemory opening lines old
     → CountsAt WantsMemory opening lines new
 
--- The counted record, of a line with this text, is in flight.
-abbrev pub BeginsNext : (Blueprint → Type 0) → (List ℕ → Type 0) → RunState → RunState → Type 0
-BeginsNext WantsMemory IsText old new =
-    (opening : Opening) (lines : List (List ℕ)) (line : List ℕ) → IsText line
-    → CountsAt WantsMemory opening lines old → StandsAt WantsMemory opening (lines ++ line ∷ []) new
+-- The counted record, of a line with this text, may be begun and is in flight.
+abbrev pub BeginsNext : (Blueprint → Type 0) → Option (List ℕ) → RunState → RunState → Type 0
+BeginsNext WantsMemory text old new =
+    (opening : Opening) (lines : List (List ℕ)) (line : List ℕ) → text ≡ text_of line
+    → MayBegin old.flight.printer → CountsAt WantsMemory opening lines old
+    → StandsAt WantsMemory opening (lines ++ line ∷ []) new
 
--- The run stands so with the record of a line more, whose text this is.
-abbrev pub Takes : (Blueprint → Type 0) → (List ℕ → Type 0) → RunState → RunState → Type 0
-Takes WantsMemory IsText old new =
-    (opening : Opening) (lines : List (List ℕ)) (line : List ℕ) → IsText line
-    → StandsAt WantsMemory opening lines old → StandsAt WantsMemory opening (lines ++ line ∷ []) new
+-- The run stands so with the record of a line more, whose text this is, and which may be begun.
+abbrev pub Takes : (Blueprint → Type 0) → Option (List ℕ) → RunState → RunState → Type 0
+Takes WantsMemory text old new =
+    (opening : Opening) (lines : List (List ℕ)) (line : List ℕ) → text ≡ text_of line
+    → MayBegin old.flight.printer → StandsAt WantsMemory opening lines old
+    → StandsAt WantsMemory opening (lines ++ line ∷ []) new
 
 -- A run that has read no record stands afterwards with the records of these lines.
 abbrev pub TakesFirst : (Blueprint → Type 0) → List (List ℕ) → RunState → RunState → Type 0

@@ -55,7 +55,8 @@ fn show(kind: Kind, number: u32, line: &mut Vec<u8>)
     }
 }
 
-/// Takes the first generated records, so many.
+/// Takes the first generated records, so many. Nothing is written of them before all are taken, so
+/// no write is lost meanwhile.
 fn take_all<R: Wait + Sync, O: Operations, K: Sink>(
     rt: &R,
     alloc: Global,
@@ -70,6 +71,7 @@ fn take_all<R: Wait + Sync, O: Operations, K: Sink>(
     requires room { LINE ≤ vec_capacity line.old }
     requires few { count ≤ MOST_RECORDS }
     requires none { read_of flight.old ≡ 0 }
+    requires summary { flight.old.printer.form ≡ Form.Summary }
     requires new { StandsEmpty O.WantsMemory
         (at (O.state operations.old) (K.told out.old) flight.old) }
     ensures takes { TakesFirst O.WantsMemory (generated_lines kind count)

@@ -1,9 +1,8 @@
 //! The records that were read and aren't written yet, and the lines of those that are.
-ghost use Rattle.std.specs.Prelude.{◌≡◌, ◌<◌, ◌≤◌, ◌+◌, ◌-◌, true, false, [], ◌∷◌, ◌++◌, length, ℕ, List, IfOk, Some};
+ghost use Rattle.std.specs.Prelude.{◌≡◌, ◌<◌, ◌≤◌, ◌+◌, ◌-◌, true, false, [], length, IfOk, Some};
 ghost use Rattle.std.specs.Option.{option_copied};
 ghost use Rattle.std.specs.Thread.{IsSync};
 ghost use Rattle.node_tree.specs.declared.scope_kind.ScopeKind.{ScopeKind};
-ghost use Rattle.record_lines.specs.Lines.{text_of};
 ghost use Rattle.record_lines.specs.declared.limits.TheConstants.{MOST_RECORDS};
 ghost use Rattle.exec_io.specs.Views.{SinkView};
 ghost use Rattle.outcome_lines.specs.Summary.{is_error};
@@ -54,12 +53,10 @@ pub struct InFlight {
 }
 
 impl InFlight {
-    ghost use Rattle.exec_value.specs.declared.outcome.Outcome.{Outcome};
-    ghost use Rattle.record_loop.specs.declared.printer.Form.{Form};
     ghost use Rattle.record_loop.specs.declared.in_flight.InFlight.{InFlight};
     ghost use Rattle.record_loop.specs.Standing.{at, IsGoing, MayTake, Stays, CountsNext, BeginsNext, Takes};
     ghost use Rattle.record_loop.specs.Flights.{IsFresh, read_of, Requested, MayAsk};
-    ghost use Rattle.record_loop.specs.Printing.{Wrote, Printed, Finished};
+    ghost use Rattle.record_loop.specs.Printing.{over, AppendsAtLeast, KeepsWritten, FinishesAll, OnlyAppends};
 
     /// No records, and room for so many at once: all the memory that is taken for them.
     pub fn open(
@@ -174,8 +171,7 @@ impl InFlight {
         ensures capacity { self.new.slots.capacity ≡ self.old.slots.capacity }
         ensures printer { self.new.printer ≡ self.old.printer }
         ensures read { read_of self.new ≡ read_of self.old + 1 }
-        ensures begun { (sink : SinkView) → BeginsNext O.WantsMemory
-            (λ line. option_copied text.entry ≡ text_of line)
+        ensures begun { (sink : SinkView) → BeginsNext O.WantsMemory (option_copied text.entry)
             (at (O.state operations.old) sink self.old)
             (at (O.state operations.new) sink self.new) }
     {
@@ -207,7 +203,8 @@ impl InFlight {
         self.write_next(rt, alloc, operations, out);
     }
 
-    /// Takes the next record, whose line has this text. There is room for it.
+    /// Takes the next record, whose line has this text. There is room for it, and it may be begun:
+    /// no write was lost.
     pub fn take<R: Wait + Sync, O: Operations>(
         &mut self,
         rt: &R,
@@ -221,8 +218,7 @@ impl InFlight {
         requires few { read_of self.old < MOST_RECORDS }
         ensures printer { self.new.printer ≡ self.old.printer }
         ensures read { read_of self.new ≡ read_of self.old + 1 }
-        ensures takes { (sink : SinkView) → Takes O.WantsMemory
-            (λ line. option_copied text.entry ≡ text_of line)
+        ensures takes { (sink : SinkView) → Takes O.WantsMemory (option_copied text.entry)
             (at (O.state operations.old) sink self.old)
             (at (O.state operations.new) sink self.new) }
     {
@@ -266,12 +262,10 @@ impl InFlight {
         ensures settings { self.new.settings ≡ self.old.settings }
         ensures form { self.new.printer.form ≡ self.old.printer.form }
         ensures summary { self.new.printer.summary ≡ self.old.printer.summary }
-        ensures wrote { (text : List ℕ) (start : SinkView) →
-            Wrote text start (K.told out.old)
-            self.old.printer.due self.old.printer.lost →
-            Wrote text start (K.told out.new)
-            self.new.printer.due self.new.printer.lost }
+        ensures wrote { KeepsWritten
+            (over (K.told out.old) self.old.printer) (over (K.told out.new) self.new.printer) }
         ensures settled { self.new.printer.lost ≡ false → self.new.printer.due ≡ false }
+        ensures grows { AppendsAtLeast (K.told out.old).written (K.told out.new).written [] }
     {
         self.printer.hand_on(out);
     }
@@ -281,11 +275,9 @@ impl InFlight {
     pub fn close<K: Sink>(self, end: End, out: &mut K) -> Ending
         ensures end { result.end ≡ end }
         ensures stays_lost { self.printer.lost ≡ true → result.lost ≡ true }
-        ensures closed { (form : Form) (start : SinkView) (outcomes : List Outcome) →
-            Printed form start (K.told out.old) self.printer
-            outcomes →
-            Finished form start (K.told out.new)
-            result.summary result.lost outcomes }
+        ensures closed { FinishesAll (over (K.told out.old) self.printer)
+            (K.told out.new) result.summary result.lost }
+        ensures grows { OnlyAppends (over (K.told out.old) self.printer) (K.told out.new) }
     {
         let InFlight {
             slots: _,

@@ -1,6 +1,5 @@
 //! Outcomes to out: a line for each, or one line for all.
-ghost use Rattle.std.specs.Prelude.{◌≡◌, ◌<◌, ◌+◌, ◌-◌, ◌^◌, [], ◌∷◌, ◌++◌, ℕ, List, false, true};
-ghost use Rattle.exec_value.specs.declared.outcome.Outcome.{Outcome};
+ghost use Rattle.std.specs.Prelude.{◌≡◌, ◌<◌, ◌+◌, ◌-◌, ◌^◌, [], false, true};
 ghost use Rattle.exec_io.specs.Views.{SinkView};
 
 use exec_io::Sink;
@@ -33,7 +32,7 @@ impl Form {
 }
 
 /// Prints outcomes, and counts them. After a lost write it goes on counting.
-#[derive(Clone, Copy, Debug)]
+#[derive(Clone, Copy)]
 pub struct Printer {
     form: Form,
     summary: Summary,
@@ -44,8 +43,7 @@ pub struct Printer {
 }
 
 impl Printer {
-    ghost use Rattle.record_loop.specs.Printing.{Wrote, text_of, Printed, Finished};
-    ghost use Rattle.record_loop.specs.declared.printer.Form.{Form};
+    ghost use Rattle.record_loop.specs.Printing.{over, AppendsAtLeast, Printed, PrintsNext, KeepsWritten, WritesRest, FinishesAll, OnlyAppends};
 
     /// A printer that has printed nothing.
     pub fn new(form: Form) -> Printer
@@ -86,11 +84,9 @@ impl Printer {
         requires few { self.old.summary.lines < 2 ^ 32 - 1 }
         ensures lines { self.new.summary.lines ≡ self.old.summary.lines + 1 }
         ensures stays_lost { self.old.lost ≡ true → self.new.lost ≡ true }
-        ensures prints { (form : Form) (start : SinkView) (outcomes : List Outcome) →
-            Printed form start (K.told out.old) self.old
-            outcomes →
-            Printed form start (K.told out.new) self.new
-            (outcomes ++ outcome.now ∷ []) }
+        ensures prints { PrintsNext outcome.now
+            (over (K.told out.old) self.old) (over (K.told out.new) self.new) }
+        ensures grows { AppendsAtLeast (K.told out.old).written (K.told out.new).written [] }
     {
         self.summary.count(outcome);
         if self.lost {
@@ -109,13 +105,11 @@ impl Printer {
     pub fn hand_on<K: Sink>(&mut self, out: &mut K)
         ensures form { self.new.form ≡ self.old.form }
         ensures summary { self.new.summary ≡ self.old.summary }
-        ensures wrote { (text : List ℕ) (start : SinkView) →
-            Wrote text start (K.told out.old)
-            self.old.due self.old.lost →
-            Wrote text start (K.told out.new)
-            self.new.due self.new.lost }
+        ensures wrote { KeepsWritten
+            (over (K.told out.old) self.old) (over (K.told out.new) self.new) }
         ensures settled { self.new.lost ≡ false → self.new.due ≡ false }
         ensures stays_lost { self.old.lost ≡ true → self.new.lost ≡ true }
+        ensures grows { AppendsAtLeast (K.told out.old).written (K.told out.new).written [] }
     {
         if self.lost {
             return;
@@ -132,12 +126,10 @@ impl Printer {
     /// Writes the one line in place of all others, where that is the form.
     fn put_rest<K: Sink>(&mut self, out: &mut K)
         ensures summary { self.new.summary ≡ self.old.summary }
-        ensures wrote { (form : Form) (start : SinkView) (outcomes : List Outcome) →
-            Printed form start (K.told out.old) self.old
-            outcomes →
-            Wrote (text_of form outcomes) start
-            (K.told out.new) self.new.due self.new.lost }
+        ensures wrote { WritesRest
+            (over (K.told out.old) self.old) (over (K.told out.new) self.new) }
         ensures stays_lost { self.old.lost ≡ true → self.new.lost ≡ true }
+        ensures grows { OnlyAppends (over (K.told out.old) self.old) (K.told out.new) }
     {
         if self.lost {
             return;
@@ -153,12 +145,10 @@ impl Printer {
 
     /// Writes what is left to write once all outcomes are printed, and hands it on.
     pub fn close<K: Sink>(&mut self, out: &mut K)
-        ensures closed { (form : Form) (start : SinkView) (outcomes : List Outcome) →
-            Printed form start (K.told out.old) self.old
-            outcomes →
-            Finished form start (K.told out.new)
-            self.new.summary self.new.lost outcomes }
+        ensures closed { FinishesAll (over (K.told out.old) self.old)
+            (K.told out.new) self.new.summary self.new.lost }
         ensures stays_lost { self.old.lost ≡ true → self.new.lost ≡ true }
+        ensures grows { OnlyAppends (over (K.told out.old) self.old) (K.told out.new) }
     {
         self.put_rest(out);
         self.hand_on(out);

@@ -6,7 +6,6 @@ ghost use Rattle.exec_io.specs.Views.{SinkView};
 ghost use Rattle.record_lines.specs.declared.ending.End.{End};
 ghost use Rattle.record_lines.specs.declared.limits.TheConstants.{MOST_RECORDS, MOST_BYTES};
 ghost use Rattle.record_loop.specs.Flights.{read_of};
-ghost use Rattle.record_loop.specs.Standing.{Opening};
 
 use crate::ending::Ending;
 use crate::in_flight::InFlight;
@@ -39,10 +38,8 @@ pub struct Session {
 }
 
 impl Session {
-    ghost use Rattle.record_loop.specs.Reading.{on, TakenAt, IsTaking, StaysTaking, TakesFront, TakesPiece, Going, ReadsOn, ReadsCaughtUp, HasHalted, TakesAll, StartsAt};
-    ghost use Rattle.record_loop.specs.CaughtUp.{HasCaughtUp};
-    ghost use Rattle.record_loop.specs.Ran.{Ran};
-    ghost use Rattle.record_loop.specs.ReadStarts.{ReadsOnly};
+    ghost use Rattle.record_loop.specs.Reading.{on, IsTaking, StaysTaking, TakesFront, TakesPiece, Going, ReadsOn, ReadsCaughtUp, HasHalted, TakesAll, StartsAt};
+    ghost use Rattle.record_loop.specs.Ran.{RunsFrom};
     ghost use Rattle.record_loop.specs.Standing.{at, MayTake};
     ghost use Rattle.record_loop.specs.Cutting.{IsCutting};
 
@@ -67,7 +64,6 @@ impl Session {
         operations: &mut O,
     ) -> &'a [u8]
         requires sync { IsSync R.row }
-        requires kept { self.old.flight.printer.lost ≡ false }
         requires few { read_of self.old.flight < MOST_RECORDS }
         requires room { length self.old.flight.slots.items < self.old.flight.slots.capacity }
         requires fits { self.old.taken + length piece.now ≤ MOST_BYTES }
@@ -76,7 +72,8 @@ impl Session {
         ensures taken { self.new.taken + length result.now ≡ self.old.taken + length piece.now }
         ensures shorter { length result.now < length piece.now }
         ensures printer { self.new.flight.printer ≡ self.old.flight.printer }
-        ensures advances { (sink : SinkView) → TakesFront O.WantsMemory piece.now result.now
+        ensures advances { (sink : SinkView) → self.old.flight.printer.lost ≡ false →
+            TakesFront O.WantsMemory piece.now result.now
             (on (O.state operations.old) sink self.old)
             (on (O.state operations.new) sink self.new) }
     {
@@ -327,14 +324,11 @@ impl Session {
         ensures later { (S.told records.old).faults ≤ (S.told records.new).faults }
         ensures still { result.end ≢ End.Fault
             → (S.told records.new).faults ≡ (S.told records.old).faults }
-        ensures reads { (opening : Opening) →
-            TakenAt O.WantsMemory opening [] (on (O.state operations.old) (K.told out.old) self) →
-            ReadsOnly (HasCaughtUp opening (S.told records.old).left)
+        ensures reads { ReadsCaughtUp O.WantsMemory (S.told records.old).left
+            (on (O.state operations.old) (K.told out.old) self)
             (S.reads records.old) (S.reads records.new) }
-        ensures ran { (opening : Opening) →
-            TakenAt O.WantsMemory opening [] (on (O.state operations.old) (K.told out.old) self) →
-            Ran O.WantsMemory opening (S.told records.old) (S.told records.new)
-            (K.told out.new) result }
+        ensures ran { RunsFrom O.WantsMemory (on (O.state operations.old) (K.told out.old) self)
+            (S.told records.old) (S.told records.new) (K.told out.new) result }
     {
         let end = self.read_all(rt, alloc, buffer, operations, records, out);
         let mut flight = self.take_rest(rt, alloc, end, operations);

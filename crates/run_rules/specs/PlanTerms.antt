@@ -1,16 +1,15 @@
 -- What a plan asks of the lines.
-use Rattle.std.specs.Prelude.{◌≡◌, ◌≢◌, ◌⊎◌, ℕ, ◌-◌, ◌<◌, min, Bool, true, ◌||◌, List, [], ◌∷◌, length, Option, IfSome, is_some, if◌then◌else◌}
+use Rattle.std.specs.Prelude.{◌≢◌, ◌⊎◌, ℕ, ◌-◌, ◌<◌, min, IsFalse, List, [], ◌∷◌, length, IfSome, if◌then◌else◌}
 use Rattle.std.specs.List.{list_any}
 use Rattle.exec_value.specs.declared.data.Datum.{Datum}
 use Rattle.exec_value.specs.declared.kinds.Kind.{Kind}
 use Rattle.exec_value.specs.declared.kinds.Kind.TheVariants.{Int}
 use Rattle.exec_value.specs.declared.outcome.Completion.{Completion}
-use Rattle.node_tree.specs.declared.scope_kind.ScopeKind.{ScopeKind}
-use Rattle.node_tree.specs.declared.scope_kind.ScopeKind.TheVariants.{Counting}
 use Rattle.plan_rules.specs.declared.node.Node.{Node}
 use Rattle.plan_rules.specs.declared.settings.Settings.{Settings}
 use Rattle.plan_rules.specs.declared.stop.StopState.{StopState}
 use Rattle.plan_rules.specs.Allowed.{Allowed}
+use Rattle.plan_rules.specs.Exclusion.{exclude_each_other}
 use Rattle.plan_shape.specs.Blueprint.{Blueprint}
 use Rattle.plan_shape.specs.Finish.{is_ahead}
 use Rattle.run_rules.specs.declared.window.TheConstants.{MOST_WITH_AHEAD}
@@ -43,12 +42,8 @@ terms_of WantsMemory plan window = record {
 abbrev pub window_of : Blueprint → ℕ → ℕ
 window_of plan window = if list_any is_ahead plan.nodes then min window MOST_WITH_AHEAD else window
 
--- Does a rule of these settings request a stop?
-abbrev pub has_stop_rule : Settings → Bool
-has_stop_rule settings = is_some settings.stop_after || settings.on_error_stop
-
--- Settings with which a plan may be run: records are counted from 1, and a stop is requested of a
--- counting scope alone.
+-- Settings with which a plan may be run: records are counted from 1, and the settings don't exclude
+-- each other.
 pub record MayRun (settings : Settings) : Type 0 where
   pub stop_after : IfSome settings.stop_after (λ k. 0 < k)
-  pub counting : has_stop_rule settings ≡ true → settings.scope ≡ Counting
+  pub rules : IsFalse (exclude_each_other settings)

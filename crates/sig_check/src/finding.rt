@@ -12,7 +12,7 @@ use plan_rules::Node;
 use plan_shape::Plan;
 
 /// A node's signature, and whether its kinds match.
-#[derive(Debug, Drop)]
+#[derive(Drop)]
 pub(crate) struct Finding {
     pub(crate) sig: Sig,
     pub(crate) matches: bool,

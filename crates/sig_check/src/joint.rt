@@ -9,7 +9,7 @@ use exec_value::DATA;
 use plan_kinds::{KindList, Sig};
 
 /// What several values are, one after the other.
-#[derive(Debug, Drop)]
+#[derive(Drop)]
 pub(crate) enum Joint {
     /// One of them is never a value.
     Never,

@@ -15,8 +15,6 @@ mod matching;
 mod runs;
 mod shapes;
 mod sigs;
-#[cfg(test)]
-mod tests;
 mod values;
 mod walk;
 

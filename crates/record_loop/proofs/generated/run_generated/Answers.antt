@@ -1,5 +1,3 @@
-use Rattle.std.proofs.Common.{ap, subst}
-use Rattle.plan_rules.specs.declared.settings.Settings.{Settings}
 use Rattle.record_loop.specs.declared.printer.Form.TheVariants.{Summary}
 use Rattle.record_loop.specs.Generated.{generated_lines}
 use Rattle.record_loop.specs.Standing.{opening_of}
@@ -19,6 +17,10 @@ take_all-requires-clause-new g c = λ κs lives.
 pub take_all-requires-clause-none : goal.take_all-requires-clause-none
 take_all-requires-clause-none g c = λ κs lives.
     fresh-none (g.K.Sink.told c.args.out.now) c.in_ok-flight.ensures
+
+pub take_all-requires-clause-summary : goal.take_all-requires-clause-summary
+take_all-requires-clause-summary g c = λ κs lives.
+    (c.in_ok-flight.ensures.printed (g.K.Sink.told c.args.out.now)).form_is
 
 pub write_all-requires-clause-going : goal.write_all-requires-clause-going
 write_all-requires-clause-going g c = λ κs lives.

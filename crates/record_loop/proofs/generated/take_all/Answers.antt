@@ -1,4 +1,4 @@
-use Rattle.std.proofs.Common.{◌≡◌, ℕ, ◌+◌, List, length, Some, sym, ap, ◌∙◌, arith}
+use Rattle.std.proofs.Common.{◌≡◌, ℕ, ◌+◌, List, length, Some, sym, ap, ◌∙◌, inr, arith}
 use Rattle.record_loop.specs.Generated.{shown_as, generated, generated_lines}
 use Rattle.record_loop.proofs.GeneratedLaws.{generated_lines-more, short-text}
 use Rattle.record_loop.proofs.ReadingLaws.{stands-as}
@@ -29,7 +29,9 @@ loop-before-preserved g c =
       read = c.take.ensures.read ∙ ap (λ (n : ℕ). n + 1) (c.make_room.ensures.read ∙ c.loop-before.invariant.read);
       room = c.show.ensures.room;
       takes = λ opening standing.
+          let roomy = c.make_room.ensures.stays opening (generated_lines kind before) (c.loop-before.invariant.takes opening standing) in
           stands-as _ (generated_lines-more kind before)
-          (c.take.ensures.takes (g.K.Sink.told c.make_room.new.out) opening (generated_lines kind before) line (ap (λ (l : List ℕ). Some l) (c.as_slice.ensures.value ∙ shown) ∙ short)
-          (c.make_room.ensures.stays opening (generated_lines kind before) (c.loop-before.invariant.takes opening standing)));
+          (c.take.ensures.takes (g.K.Sink.told c.make_room.new.out) opening (generated_lines kind before) line
+          (ap (λ (l : List ℕ). Some l) (c.as_slice.ensures.value ∙ shown) ∙ short)
+          (inr (roomy.printed.form_is ∙ sym standing.printed.form_is ∙ c.requires.summary)) roomy);
     }

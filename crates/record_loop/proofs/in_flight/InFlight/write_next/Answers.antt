@@ -1,9 +1,10 @@
-use Rattle.std.proofs.Common.{◌≡◌, ℕ, List, [], ◌∷◌, ◌++◌, drop, length, Option, None, Some, slice_get, refl, sym, ap, ◌∙◌, subst, length-drop, arith}
+use Rattle.std.proofs.Common.{◌≡◌, List, [], ◌∷◌, ◌++◌, drop, length, None, slice_get, refl, sym, ap, ◌∙◌, subst, length-drop, arith}
 use Rattle.std.proofs.lemmas.Option.{slice_get_within}
 use Rattle.circular_buffer.specs.Buffer.{Buffer, buffer}
 use Rattle.record_loop.specs.declared.printer.Printer.{Printer}
 use Rattle.record_loop.specs.declared.slot.Slot.{Slot}
 use Rattle.record_loop.specs.Printing.{Printed}
+use Rattle.record_loop.proofs.PrintingLaws.{AtLeast-nil}
 use Rattle.record_loop.proofs.StandingLaws.{Standing-hands}
 use Rattle.record_loop.proofs.WritingLaws.{Standing-writes, Standing-fails}
 use Rattle.record_loop.proofs.in_flight.InFlight.write_next.Goals as goal
@@ -16,7 +17,7 @@ none-dropped (slot ∷ slots) is = cc
 pub returns-in_default-clause-stays : goal.returns-in_default-clause-stays
 returns-in_default-clause-stays g c = λ opening lines standing.
     let slots = c.args.self.now.slots in
-    Standing-hands (λ outcomes printed. printed)
+    Standing-hands (λ outcomes printed. printed) (AtLeast-nil (g.K.Sink.told c.args.out.now).written)
     (c.pop_front.ensures.items ∙ ap (λ (items : List Slot). buffer items slots.capacity) (none-dropped slots.items (sym c.in_default.is ∙ c.pop_front.ensures.value)))
     refl refl standing
 
@@ -25,7 +26,7 @@ returns-then-not-failed-clause-stays g c = λ opening lines standing.
     let popped = c.pop_front.ensures.items in
     Standing-writes (g.O.Operations.state c.outcome_of-outcome.new.operations) _ _ c.in-Some.slot c.outcome_of-outcome.result standing
     (sym c.pop_front.ensures.value ∙ c.in-Some.is) c.outcome_of-outcome.ensures
-    (λ outcomes. c.print.ensures.prints opening.form opening.sink outcomes)
+    (λ outcomes. c.print.ensures.prints opening.form opening.sink outcomes) c.print.ensures.grows
     (ap (λ (b : Buffer Slot). b.items) popped) (ap (λ (b : Buffer Slot). b.capacity) popped) refl
     (c.is_failure-failed.ensures.no c.if-not-failed.true) refl
 
@@ -38,6 +39,7 @@ returns-clause-stays g c = λ opening lines standing.
     Standing-fails (g.O.Operations.state c.outcome_of-outcome.new.operations) later c.request.new.self c.in-Some.slot c.outcome_of-outcome.result standing
     (sym c.pop_front.ensures.value ∙ c.in-Some.is) c.outcome_of-outcome.ensures
     (λ outcomes printed. subst (λ (p : Printer). Printed opening.form opening.sink later p (outcomes ++ c.outcome_of-outcome.result ∷ [])) (sym requested.printer) (c.print.ensures.prints opening.form opening.sink outcomes printed))
+    c.print.ensures.grows
     (ap (λ (b : Buffer Slot). b.items) (requested.slots ∙ popped)) (ap (λ (b : Buffer Slot). b.capacity) (requested.slots ∙ popped)) requested.settings_are
     failed.0 failed.1 c.request.ensures.again c.request.ensures.first requested.requested
 

@@ -1,5 +1,5 @@
-use Rattle.std.proofs.Common.{refl, sym, ◌∙◌, inl, inr, ap}
-use Rattle.record_loop.proofs.PrintingLaws.{Printed-counts, Printed-line}
+use Rattle.std.proofs.Common.{refl, sym, ◌∙◌, inl, inr}
+use Rattle.record_loop.proofs.PrintingLaws.{Printed-counts, Printed-line, AtLeast-nil, AtLeast-front}
 use Rattle.record_loop.proofs.printer.Printer.print.Goals as goal
 
 pub returns-then-self-clause-prints : goal.returns-then-self-clause-prints
@@ -19,3 +19,15 @@ pub returns-else-is_err-clause-prints : goal.returns-else-is_err-clause-prints
 returns-else-is_err-clause-prints g c = λ form start outcomes printed.
     Printed-line c.args.outcome.now _ printed (c.count.ensures.counts outcomes printed.counted)
     (c.has_lines.ensures.yes c.if-not-has_lines.false) c.if-self.false (c.from.ensures ∙ c.lines.ensures ∙ c.count.ensures.lines) c.put_line.ensures refl refl (c.if-self.false ∙ sym (sym c.is_err.ensures.value ∙ c.if-is_err.false))
+
+pub returns-then-self-clause-grows : goal.returns-then-self-clause-grows
+returns-then-self-clause-grows g c = AtLeast-nil (g.K.Sink.told c.args.out.now).written
+
+pub returns-then-not-has_lines-clause-grows : goal.returns-then-not-has_lines-clause-grows
+returns-then-not-has_lines-clause-grows g c = AtLeast-nil (g.K.Sink.told c.args.out.now).written
+
+pub returns-then-is_err-clause-grows : goal.returns-then-is_err-clause-grows
+returns-then-is_err-clause-grows g c = AtLeast-front c.put_line.ensures.part
+
+pub returns-else-is_err-clause-grows : goal.returns-else-is_err-clause-grows
+returns-else-is_err-clause-grows g c = AtLeast-front c.put_line.ensures.part

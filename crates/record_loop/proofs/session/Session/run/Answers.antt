@@ -23,11 +23,6 @@ write_all-requires-clause-going g c = λ κs lives.
     let all = c.take_rest-flight.ensures.all (g.K.Sink.told c.read_all-end.new.out) new.opening source left (c.read_all-end.ensures.halts new.opening source (Going-nil source new.taken)) in
     record { opening = new.opening; lines = records_of all.bytes c.read_all-end.result; standing = all.standing }
 
-pub returns-clause-reads : goal.returns-clause-reads
-returns-clause-reads g c = λ opening taken.
-    let source = (g.S.RecordSource.told c.args.records.now).left in
-    c.read_all-end.ensures.reads opening source (Going-nil source taken)
-
 pub returns-clause-ran : goal.returns-clause-ran
 returns-clause-ran g c = λ opening taken.
     let source = (g.S.RecordSource.told c.args.records.now).left in
@@ -35,6 +30,7 @@ returns-clause-ran g c = λ opening taken.
     let all = c.take_rest-flight.ensures.all (g.K.Sink.told c.read_all-end.new.out) opening source left (c.read_all-end.ensures.halts opening source (Going-nil source taken)) in
     Ran-closes c.read_all-end.result (g.S.RecordSource.told c.args.records.now) (g.S.RecordSource.told c.read_all-end.new.records) c.close.result
     (AllTaken-stays (c.write_all.ensures.stays opening) c.write_all.ensures.stays_lost all) c.write_all.ensures.none c.close.ensures.stays_lost
+    (λ outcomes. c.close.ensures.grows opening.form opening.sink outcomes)
     (λ outcomes. c.close.ensures.closed opening.form opening.sink outcomes) c.close.ensures.end
     (λ fault kept.
     c.read_all-end.ensures.cause fault

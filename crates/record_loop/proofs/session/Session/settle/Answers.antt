@@ -1,5 +1,4 @@
 use Rattle.std.proofs.Common.{refl}
-use Rattle.record_lines.specs.Lines.{whole_lines}
 use Rattle.record_loop.proofs.PrintingLaws.{Printed-same}
 use Rattle.record_loop.proofs.StandingLaws.{Standing-hands}
 use Rattle.record_loop.proofs.ReadingLaws.{TakenAt-stays}
@@ -10,6 +9,6 @@ returns-clause-stays g c = λ opening bytes taken.
     let handed = c.hand_on.ensures in
     TakenAt-stays
     (λ lines standing.
-    Standing-hands (λ outcomes. Printed-same handed.form handed.summary (λ text. handed.wrote text opening.sink))
+    Standing-hands (λ outcomes. Printed-same handed.form handed.summary (λ text. handed.wrote text opening.sink)) handed.grows
     handed.slots handed.requested handed.settings (c.write_all.ensures.stays opening lines standing))
     refl refl taken

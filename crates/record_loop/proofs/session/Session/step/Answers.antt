@@ -1,4 +1,4 @@
-use Rattle.std.proofs.Common.{refl, take, rules}
+use Rattle.std.proofs.Common.{take, rules}
 use Rattle.record_loop.specs.ReadStarts.{start_of}
 use Rattle.record_loop.proofs.ReadStartLaws.{ReadsOnly-nil, ReadsOnly-one}
 use Rattle.record_loop.proofs.ReadingLaws.{Going-stays, Goes-piece, Halts-fault, Halts-ended, Keeps-nil, caught-up}
@@ -26,7 +26,7 @@ returns-in_default-clause-goes g c = λ opening source going.
 pub returns-then-count-eq0-clause-goes : goal.returns-then-count-eq0-clause-goes
 returns-then-count-eq0-clause-goes g c = λ opening source going.
     Halts-ended (g.S.RecordSource.told c.read_beside-answer.new.self).left c.in-Ok.count c.read_beside-answer.new.buf c.if-count-eq0.true c.in-Ok.ensures.bytes.0
-    (c.in-Ok.ensures.bytes.1 c.if-count-eq0.true (search rules)) c.settle.ensures.none (Going-stays (c.settle.ensures.stays opening) going)
+    (c.in-Ok.ensures.bytes.1 c.if-count-eq0.true (search rules)) c.settle.ensures.none (search rules) (Going-stays (c.settle.ensures.stays opening) going)
 
 pub returns-clause-reads : goal.returns-clause-reads
 returns-clause-reads g c = λ opening source going.

@@ -31,7 +31,7 @@ loop-left-preserved g c = record {
   advances = λ opening bytes taken.
       Advances-trans bytes c.args.piece.now c.loop-left.left.now c.take_line-left.result.now
       (Advances-stays (c.make_room.ensures.stays opening) (c.loop-left.invariant.advances opening bytes taken))
-      (c.take_line-left.ensures.advances (g.K.Sink.told c.make_room.new.out) opening);
+      (c.take_line-left.ensures.advances (g.K.Sink.told c.make_room.new.out) (search rules) opening);
 }
 
 pub returns-clause-takes : goal.returns-clause-takes

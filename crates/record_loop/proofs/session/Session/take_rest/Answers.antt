@@ -1,4 +1,4 @@
-use Rattle.std.proofs.Common.{sym, ap, length, ◌∙◌, arith}
+use Rattle.std.proofs.Common.{sym, ap, length, ◌∙◌, inl, arith}
 use Rattle.record_lines.specs.Lines.{whole_lines, rest_of, without_cr}
 use Rattle.record_loop.specs.Reading.{on}
 use Rattle.record_loop.proofs.ReadingLaws.{stands-as}
@@ -12,7 +12,7 @@ returns-then-not-has_ended-clause-all g c = λ sink opening source left halts.
 pub returns-in_default-clause-all : goal.returns-in_default-clause-all
 returns-in_default-clause-all g c = λ sink opening source left halts.
     AllTaken-ended c.args.end c.args.self.flight (c.has_ended.ensures.yes c.if-not-has_ended.false) halts
-    (λ stands standing. stands-as _ (sym (c.in_default.ensures.last halts.bytes stands)) standing)
+    (λ stands kept standing. stands-as _ (sym (c.in_default.ensures.last halts.bytes stands)) standing)
 
 pub take-requires-clause-few : goal.take-requires-clause-few
 take-requires-clause-few g c = λ κs lives.
@@ -37,7 +37,7 @@ take-requires-clause-going g c = λ κs lives.
 pub returns-clause-all : goal.returns-clause-all
 returns-clause-all g c = λ sink opening source left halts.
     AllTaken-ended c.args.end c.take.new.self (c.has_ended.ensures.yes c.if-not-has_ended.false) halts
-    (λ stands standing.
+    (λ stands kept standing.
     let ends = c.in-Some.ensures.last halts.bytes stands in
     stands-as _ (sym ends.lines)
-    (c.take.ensures.takes sink opening (whole_lines halts.bytes) (without_cr (rest_of halts.bytes)) (c.text.ensures.value ∙ ends.line.text) standing))
+    (c.take.ensures.takes sink opening (whole_lines halts.bytes) (without_cr (rest_of halts.bytes)) (c.text.ensures.value ∙ ends.line.text) (inl kept) standing))
