@@ -16,8 +16,6 @@ mod put;
 mod shelf;
 mod sink;
 mod source;
-#[cfg(test)]
-mod tests;
 
 pub use fault::{Failed, ShelfFault};
 pub use mem_shelf::MemShelf;

@@ -11,8 +11,6 @@ mod job;
 mod kinds;
 mod numbers;
 mod operands;
-#[cfg(test)]
-mod tests;
 mod texts;
 
 pub use answer::apply;

@@ -14,8 +14,6 @@ mod file;
 mod notes;
 mod status;
 mod telling;
-#[cfg(test)]
-mod tests;
 
 pub use file::FileFault;
 pub use notes::{conclude, note_of, refuse};

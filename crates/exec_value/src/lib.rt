@@ -17,8 +17,6 @@ mod outcome;
 mod record;
 mod short;
 mod sum;
-#[cfg(test)]
-mod tests;
 mod txt;
 
 pub use data::{Data, Datum, copy_data};

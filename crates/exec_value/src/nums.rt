@@ -82,18 +82,3 @@ impl PartialEq for Nums {
 impl Eq for Nums {
     ghost laws = { lists_equiv int_eq_equiv };
 }
-
-#[cfg(test)]
-mod tests {
-    use super::*;
-    use std::test::Fail;
-
-    #[test]
-    fn the_copies_of_a_row_share_its_numbers(rt: HostRuntime) -> Result<(), Fail> {
-        let row = Nums::from_vec(vec![in rt.alloc(); 1; NUMBERS]?)?;
-        let copy = row.clone()?;
-        assert_eq!(rt; ArcSlice::strong_count(&row.numbers), 2);
-        assert_eq!(rt; copy.as_slice().len(), NUMBERS);
-        Ok(())
-    }
-}

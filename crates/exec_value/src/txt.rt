@@ -218,35 +218,3 @@ impl PartialEq for Txt {
 impl Eq for Txt {
     ghost laws = { nat_list_eq_equiv };
 }
-
-#[cfg(test)]
-mod tests {
-    use super::*;
-    use std::test::Fail;
-
-    /// How many texts share the bytes of this one, or 0 where they stand in place.
-    fn owners(text: &Txt) -> usize {
-        match &text.kept {
-            Kept::InPlace(_) => 0,
-            Kept::Shared(bytes) => ArcSlice::strong_count(bytes),
-        }
-    }
-
-    #[test]
-    fn the_copies_of_a_long_text_share_its_bytes(rt: HostRuntime) -> Result<(), Fail> {
-        let alloc = rt.alloc();
-        let bytes = vec![in alloc; b'x'; TEXT_BYTES - 1]?;
-        let mut text = Txt::from_bytes(alloc, &bytes)?;
-        if text.as_bytes().len() < TEXT_BYTES {
-            text.append(&Txt::short(alloc, "y"))?;
-        }
-        let copy = text.clone()?;
-        assert_eq!(rt; owners(&text), 2);
-        assert_eq!(rt; copy.as_bytes().len(), TEXT_BYTES);
-        let name = Txt::from_text(alloc, "a-name-of-23-bytes-has-")?;
-        let short = Txt::from_text(alloc, "a-name-of-22-bytes-has")?;
-        let copies = (name.clone()?, short.clone()?);
-        assert_eq!(rt; (owners(&copies.0), owners(&copies.1)), (2, 0));
-        Ok(())
-    }
-}

@@ -4,6 +4,7 @@ use Rattle.std.specs.Prelude.{if◌then◌else◌}
 use Rattle.std.specs.Borrow.{Bor}
 use Rattle.std.specs.Option.{option_map, option_and_then}
 use Rattle.std.proofs.lemmas.Bool.{cond-true}
+use Rattle.std.proofs.lemmas.Option.{same_Some}
 use Rattle.exec_words.specs.declared.command.Order.{Order}
 use Rattle.exec_words.specs.declared.number.TheConstants.{MOST_WORKERS, MOST_WINDOW}
 use Rattle.exec_words.specs.declared.reading.Reading.{Reading}
@@ -108,9 +109,6 @@ module _ (name : Bor (List ℕ)) where
   summary-apart (Some p) (Some c) workers window order true = refl
   summary-apart (Some p) (Some c) workers window order false = refl
 
-some-same : {A : Type 0} (x y : A) → Some x ≡ Some y → x ≡ y
-some-same x y e = cc
-
 none-some : {A G : Type 0} (x : A) → None ≡ Some x → G
 none-some x e = cc
 
@@ -125,8 +123,8 @@ calmly P holds r none = subst P (calm-is r none) (holds r.plan r.count r.workers
 
 named-keeps : (name : Bor (List ℕ)) (plan count : Option (Bor (List ℕ))) (workers window : Option ℕ) (order : Option Order) (summary : Bool) (s : Reading) →
     with_name name (calm plan count workers window order summary) ≡ Some s → s.awaits ≡ None
-named-keeps name None count workers window order summary s e = ap (λ (r : Reading). r.awaits) (sym (some-same (calm (Some name) count workers window order summary) s e))
-named-keeps name (Some p) None workers window order summary s e = ap (λ (r : Reading). r.awaits) (sym (some-same (calm (Some p) (Some name) workers window order summary) s e))
+named-keeps name None count workers window order summary s e = ap (λ (r : Reading). r.awaits) (sym (same_Some (calm (Some name) count workers window order summary) s e))
+named-keeps name (Some p) None workers window order summary s e = ap (λ (r : Reading). r.awaits) (sym (same_Some (calm (Some p) (Some name) workers window order summary) s e))
 named-keeps name (Some p) (Some c) workers window order summary s e = none-some s e
 
 name-does : (name : Bor (List ℕ)) → is_name name.now ≡ true → Does name (with_name name)
@@ -139,7 +137,7 @@ name-does name is = record {
 
 map-keeps : {A : Type 0} (f : A → Reading) → ((a : A) → (f a).awaits ≡ None) → (given : Option A) (s : Reading) → option_map f given ≡ Some s → s.awaits ≡ None
 map-keeps f none None s e = none-some s e
-map-keeps f none (Some a) s e = ap (λ (r : Reading). r.awaits) (sym (some-same (f a) s e)) ∙ none a
+map-keeps f none (Some a) s e = ap (λ (r : Reading). r.awaits) (sym (same_Some (f a) s e)) ∙ none a
 
 value-keeps : (setting : Setting) (value : List ℕ) (r s : Reading) → with_value setting value r ≡ Some s → s.awaits ≡ None
 value-keeps Workers value r s e = map-keeps (λ n. record r { workers = Some n; awaits = None }) (λ _. refl) (once r.workers (number_between 0 MOST_WORKERS value)) s e
@@ -155,7 +153,7 @@ value-does setting value word is = record {
 summary-keeps : (plan count : Option (Bor (List ℕ))) (workers window : Option ℕ) (order : Option Order) (summary : Bool) (s : Reading) →
     with_summary (calm plan count workers window order summary) ≡ Some s → s.awaits ≡ None
 summary-keeps plan count workers window order true s e = none-some s e
-summary-keeps plan count workers window order false s e = ap (λ (r : Reading). r.awaits) (sym (some-same (calm plan count workers window order true) s e))
+summary-keeps plan count workers window order false s e = ap (λ (r : Reading). r.awaits) (sym (same_Some (calm plan count workers window order true) s e))
 
 summary-does : (word : Bor (List ℕ)) → word.now ≡ codes "--summary" → Does word with_summary
 summary-does word is = record {

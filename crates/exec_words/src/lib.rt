@@ -15,8 +15,6 @@ mod command;
 mod law;
 mod number;
 mod reading;
-#[cfg(test)]
-mod tests;
 mod usage;
 mod words;
 

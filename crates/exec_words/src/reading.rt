@@ -13,7 +13,7 @@ use crate::command::Order;
 use crate::number::{MOST_WINDOW, MOST_WORKERS, number_between};
 
 /// The options that take a value.
-#[derive(Clone, Copy, Debug, PartialEq, Eq)]
+#[derive(Clone, Copy, PartialEq, Eq)]
 pub enum Setting {
     Workers,
     Window,
@@ -21,7 +21,7 @@ pub enum Setting {
 }
 
 /// What the words behind the first one have said so far.
-#[derive(Clone, Copy, Debug)]
+#[derive(Clone, Copy)]
 pub struct Reading<'a> {
     /// The first word that is a name, and the second.
     pub plan: Option<&'a str>,

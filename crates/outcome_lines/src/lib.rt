@@ -8,8 +8,6 @@
 mod law;
 mod line;
 mod put;
-#[cfg(test)]
-mod tests;
 
 pub use law::text_names_outcomes;
 pub use line::put_line;

@@ -5,6 +5,7 @@ use Rattle.std.proofs.lemmas.List.Elements.{All-nil, All-cons, All-append}
 use Rattle.record_lines.specs.declared.limits.TheConstants.{LINE_FEED}
 use Rattle.record_lines.specs.Lines.{Cut, cut, whole_lines, rest_of, without_cr, HasNoLineFeed}
 use Rattle.record_lines.proofs.CutLaws.{cut-append, cut-no_line_feed, cut-line, rest-no_line_feed}
+use Rattle.common_lemmas.proofs.Lists.{slice_get-append_middle}
 
 -- no bytes have no lines and no rest
 pub whole_lines-nil : whole_lines [] ≡ []
@@ -100,10 +101,6 @@ take-whole_lines a b =
     ap (take (length (whole_lines a))) (whole_lines-append a b)
     ∙ take_at (whole_lines a) (whole_lines (rest_of a ++ b)) (length (whole_lines a)) refl
 
-slice_get-append : {A : Type 0} (xs : List A) (x : A) (ys : List A) → slice_get (xs ++ x ∷ ys) (length xs) ≡ Some x
-slice_get-append [] x ys = refl
-slice_get-append (z ∷ xs) x ys = slice_get-append xs x ys
-
 -- a line's number: it stands behind the lines that were whole before it, whatever bytes follow
 pub slice_get-whole_lines : (bytes front more : List ℕ) → HasNoLineFeed front
     → slice_get (whole_lines ((bytes ++ (front ++ LINE_FEED ∷ [])) ++ more)) (length (whole_lines bytes)) ≡ Some (without_cr (rest_of bytes ++ front))
@@ -114,4 +111,4 @@ slice_get-whole_lines bytes front more free =
     let split : whole_lines (through ++ more) ≡ whole_lines bytes ++ line ∷ later =
     whole_lines-append through more ∙ ap (λ lines. lines ++ later) (whole_lines-line bytes front free)
     ∙ append_assoc (whole_lines bytes) (line ∷ []) later in
-    ap (λ lines. slice_get lines (length (whole_lines bytes))) split ∙ slice_get-append (whole_lines bytes) line later
+    ap (λ lines. slice_get lines (length (whole_lines bytes))) split ∙ slice_get-append_middle (whole_lines bytes) line later

@@ -17,8 +17,6 @@ mod ending;
 mod law;
 mod limits;
 mod line_end;
-#[cfg(test)]
-mod tests;
 mod text;
 
 pub use cutting::Cutter;

@@ -22,8 +22,6 @@ mod limits;
 mod links;
 mod lists;
 mod settling;
-#[cfg(test)]
-mod tests;
 mod wheel;
 
 pub use commands::{Command, Reply, run};

@@ -11,7 +11,7 @@ use replay_core::{FILE_BYTES, TraceFault};
 use std::alloc::Global;
 
 /// Why a file is none of a trace or a schedule.
-#[derive(Clone, Copy, Debug, PartialEq, Eq)]
+#[derive(Clone, Copy, PartialEq, Eq)]
 pub enum Refusal {
     /// It has more than `FILE_BYTES` bytes.
     TooLong,

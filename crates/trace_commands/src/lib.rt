@@ -13,8 +13,6 @@
 mod checking;
 mod file;
 mod replaying;
-#[cfg(test)]
-mod tests;
 
 pub use checking::check_file;
 pub use replaying::replay_file;

@@ -1,0 +1,30 @@
+//! The tests, by what they use, and the settings that they share.
+mod building;
+mod examples;
+mod reading;
+mod runs;
+mod settling;
+mod signatures;
+mod writing;
+
+use exec_value::Kind;
+use node_tree::ScopeKind;
+use plan_rules::Settings;
+
+/// Int records, and no stop.
+const OF_INTS: Settings = Settings {
+    version: 2,
+    input: Kind::Int,
+    scope: ScopeKind::Counting,
+    stop_after: None,
+    on_error_stop: false,
+};
+
+/// The same of the first version.
+const OF_VERSION_1: Settings = Settings {
+    version: 1,
+    input: Kind::Int,
+    scope: ScopeKind::Counting,
+    stop_after: None,
+    on_error_stop: false,
+};

@@ -1,0 +1,159 @@
+//! Runs over records: what no file of cases can show of them.
+ghost use Rattle.std.specs.Thread.{IsSync};
+ghost use Rattle.plain_runs.specs.PlainWork.{work_of, WantsMemory};
+
+use super::OF_INTS;
+use exec_io::{MemSink, MemSource};
+use exec_job::Job;
+use exec_value::{Completion, Datum};
+use plain_runs::PlainRuns;
+use plan_builder::{BuildFault, Context, PlanBuilder};
+use plan_shape::Plan;
+use record_lines::End;
+use record_loop::{Ending, Form, Operations, run_records};
+use run_rules::may_run;
+use sig_check::check;
+use std::alloc::Global;
+use std::process::Abort;
+use std::sync::Wait;
+use std::test::Fail;
+
+/// One more than the record, from the pool.
+fn adding(alloc: Global) -> Result<Plan, BuildFault> {
+    let mut builder = PlanBuilder::new(alloc);
+    let input = builder.input()?;
+    let added = builder.then(input, Job::Add(1))?;
+    let root = builder.starts_on(Context::Pool, added)?;
+    builder.finish(root, OF_INTS)
+}
+
+/// Operations that go on by turns: one is started, and collected, only where a turn came before.
+#[derive(Drop)]
+struct InTurns<'a> {
+    runs: PlainRuns<'a>,
+    turned: bool,
+}
+
+impl<'a> Operations for InTurns<'a> {
+    ghost state = { λ s. work_of s.runs };
+
+    ghost WantsMemory = { WantsMemory };
+
+    fn start<R: Wait + Sync>(
+        &mut self,
+        rt: &R,
+        alloc: Global,
+        number: u32,
+        datum: Datum,
+    ) -> Result<u32, Datum> {
+        if !self.turned {
+            return Err(datum);
+        }
+        self.turned = false;
+        self.runs.start(rt, alloc, number, datum)
+    }
+
+    fn turn<R: Wait + Sync>(&mut self, rt: &R, alloc: Global) {
+        self.turned = true;
+        self.runs.turn(rt, alloc)
+    }
+
+    fn collect<R: Wait + Sync>(&mut self, rt: &R, block: u32) -> Option<Completion> {
+        if !self.turned {
+            return None;
+        }
+        self.turned = false;
+        self.runs.collect(rt, block)
+    }
+
+    fn request<R: Wait + Sync>(&mut self, rt: &R) {
+        self.runs.request(rt)
+    }
+}
+
+/// What a run left.
+#[derive(Drop)]
+struct Ran {
+    ending: Ending,
+    out: MemSink,
+}
+
+/// A run of `adding` in turns, with a window of 2, over a source of these bytes and a sink.
+fn run<R: Wait + Abort + Sync>(
+    rt: &R,
+    alloc: Global,
+    mut records: MemSource,
+    mut out: MemSink,
+) -> Result<Ran, Fail>
+    requires { IsSync R.row }
+{
+    let plan = adding(alloc)?;
+    check(alloc, &plan)?;
+    let settings = *plan.settings();
+    assert!(rt; may_run(&settings));
+    let mut operations = InTurns {
+        runs: PlainRuns::open(alloc, &plan, 2)?,
+        turned: false,
+    };
+    let ending = run_records(
+        rt,
+        alloc,
+        settings,
+        2,
+        Form::Lines,
+        &mut operations,
+        &mut records,
+        &mut out,
+    )?;
+    Ok(Ran { ending, out })
+}
+
+#[test]
+fn operations_that_need_turns_are_waited_for(rt: HostRuntime) -> Result<(), Fail> {
+    let alloc = rt.alloc();
+    let source = MemSource::new(b"5\n-1\n7\n".to_vec(alloc)?, Vec::new(alloc));
+    let ran = run(
+        &rt,
+        alloc,
+        source,
+        MemSink::new(alloc, 4096, Vec::new(alloc)),
+    )?;
+    assert_eq!(rt;
+        ran.out.bytes(),
+        b"1 value 6\n2 value 0\n3 value 8\n".as_slice()
+    );
+    assert_eq!(rt; ran.ending.end(), End::Ended);
+    Ok(())
+}
+
+#[test]
+fn lines_whose_line_feed_was_read_are_written_at_a_fault(rt: HostRuntime) -> Result<(), Fail> {
+    let alloc = rt.alloc();
+    let source = MemSource::new(b"5\n-1\n7".to_vec(alloc)?, vec![in alloc; 2u64]?);
+    let ran = run(
+        &rt,
+        alloc,
+        source,
+        MemSink::new(alloc, 4096, Vec::new(alloc)),
+    )?;
+    assert_eq!(rt; ran.out.bytes(), b"1 value 6\n2 value 0\n".as_slice());
+    assert_eq!(rt; ran.ending.end(), End::Fault);
+    assert!(rt; !ran.ending.is_lost());
+    Ok(())
+}
+
+#[test]
+fn after_a_lost_write_no_record_is_begun(rt: HostRuntime) -> Result<(), Fail> {
+    let alloc = rt.alloc();
+    let source = MemSource::new(b"5\n-1\n7\n8\n9\n".to_vec(alloc)?, Vec::new(alloc));
+    let ran = run(
+        &rt,
+        alloc,
+        source,
+        MemSink::new(alloc, 1, vec![in alloc; 3u64]?),
+    )?;
+    assert_eq!(rt; ran.out.bytes(), b"1 ".as_slice());
+    assert!(rt; ran.ending.is_lost());
+    assert_eq!(rt; ran.ending.summary().lines(), 2);
+    Ok(())
+}

@@ -1,0 +1,9 @@
+mod jobs;
+mod names;
+mod outcomes;
+mod records;
+mod streams;
+mod summaries;
+mod values;
+mod wheel;
+mod words;

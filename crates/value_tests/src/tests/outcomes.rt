@@ -1,0 +1,27 @@
+//! A line that is cut off, and one that no case of the program has. What lines say else is told by
+//! tests/cases/values.json.
+use exec_io::{Failed, MemSink};
+use exec_value::{Completion, Outcome};
+use outcome_lines::put_line;
+use std::test::Fail;
+
+#[test]
+fn a_sink_that_fails_has_a_front_of_the_line(rt: HostRuntime) -> Result<(), Fail> {
+    let alloc = rt.alloc();
+    let mut sink = MemSink::new(alloc, 1, vec![in alloc; 3]?);
+    assert_eq!(rt;
+        put_line(u64::MAX, &Outcome::BadRecord, &mut sink),
+        Err(Failed)
+    );
+    assert_eq!(rt; sink.bytes(), b"18".as_slice());
+    Ok(())
+}
+
+#[test]
+fn a_line_says_that_memory_ran_out(rt: HostRuntime) {
+    let alloc = rt.alloc();
+    let mut sink = MemSink::new(alloc, 64, Vec::new(alloc));
+    let outcome = Outcome::Done(Completion::NoMemory);
+    assert_eq!(rt; put_line(1_000_000, &outcome, &mut sink), Ok(()));
+    assert_eq!(rt; sink.bytes(), b"1000000 out-of-memory\n".as_slice());
+}

@@ -1,0 +1,189 @@
+//! Worked examples of a wheel.
+ghost use Rattle.std.specs.Prelude.{◌<◌, ◌≤◌};
+
+use std::alloc::{AllocError, Global};
+use std::process::Abort;
+use std::test::Fail;
+use timer_wheel::{Command, LAST_TURN, MOST_TURNS, Reply, Wheel, run};
+
+/// Adds a pair; stops the test where there can't be such a pair.
+fn add(rt: &impl Abort, wheel: &mut Wheel, place: u32, turns: u32) -> bool {
+    assert!(rt; place < wheel.places() && turns <= MOST_TURNS);
+    wheel.add(place, turns)
+}
+
+/// Goes on to this turn, and asks for no place on the way.
+fn go_on_to(rt: &impl Abort, wheel: &mut Wheel, turn: u64) {
+    for _ in wheel.turn()..turn {
+        assert!(rt; wheel.turn() < LAST_TURN);
+        wheel.advance();
+    }
+}
+
+#[test]
+fn a_place_is_given_at_its_turn_and_not_before(rt: HostRuntime) -> Result<(), Fail> {
+    let mut wheel = Wheel::open(rt.alloc(), 10)?;
+    for (place, turns) in [(3, 5), (4, 5), (9, 200), (1, 0)] {
+        assert!(rt; add(&rt, &mut wheel, place, turns));
+    }
+    assert_eq!(rt; wheel.due(), Some(1));
+    assert_eq!(rt; wheel.due(), None);
+    assert!(rt; wheel.remove(4));
+    assert!(rt; !wheel.remove(4));
+    for (turn, place) in [(4, None), (5, Some(3)), (199, None), (200, Some(9))] {
+        go_on_to(&rt, &mut wheel, turn);
+        assert_eq!(rt; wheel.due(), place, "at turn {turn}");
+        assert_eq!(rt; wheel.due(), None);
+    }
+    Ok(())
+}
+
+#[test]
+fn a_second_pair_of_a_place_is_refused(rt: HostRuntime) -> Result<(), Fail> {
+    let mut wheel = Wheel::open(rt.alloc(), 2)?;
+    assert!(rt; add(&rt, &mut wheel, 1, 3));
+    assert!(rt; !add(&rt, &mut wheel, 1, 0));
+    assert_eq!(rt; wheel.due(), None);
+    assert!(rt; !wheel.remove(2));
+    go_on_to(&rt, &mut wheel, 3);
+    assert_eq!(rt; wheel.turn(), 3);
+    assert_eq!(rt; wheel.due(), Some(1));
+    assert!(rt; add(&rt, &mut wheel, 1, 0));
+    Ok(())
+}
+
+#[test]
+fn a_delay_of_any_length_comes_at_exactly_its_turn(rt: HostRuntime) -> Result<(), Fail> {
+    let delays = [127, 128, 16_383, 16_384, 1_000_000];
+    for start in [0u64, 16_300] {
+        let mut wheel = Wheel::open(rt.alloc(), 5)?;
+        go_on_to(&rt, &mut wheel, start);
+        for (place, turns) in (0..5).zip(delays) {
+            assert!(rt; add(&rt, &mut wheel, place, turns));
+        }
+        for turns in 1..=1_000_000u32 {
+            assert!(rt; wheel.turn() < LAST_TURN);
+            wheel.advance();
+            let place = (0..5).find(|place| delays.get(*place) == Some(&turns));
+            assert_eq!(rt;
+                wheel.due(),
+                place.map(|place| place as u32),
+                "{turns} turns from {start}"
+            );
+        }
+    }
+    Ok(())
+}
+
+#[test]
+fn a_list_of_calls_has_its_replies(rt: HostRuntime) -> Result<(), Fail> {
+    let mut wheel = Wheel::open(rt.alloc(), 2)?;
+    let calls = [
+        (Command::Add { place: 0, turns: 1 }, Reply::Added(true)),
+        (Command::Add { place: 0, turns: 2 }, Reply::Added(false)),
+        (Command::Due, Reply::Taken(None)),
+        (Command::Advance, Reply::Advanced),
+        (Command::Due, Reply::Taken(Some(0))),
+        (Command::Remove { place: 0 }, Reply::Removed(false)),
+    ];
+    let commands = calls.map(|(command, _)| command);
+    let replies = run(rt.alloc(), &mut wheel, &commands)?;
+    assert_eq!(rt;
+        replies.as_slice(),
+        calls.map(|(_, reply)| reply).as_slice()
+    );
+    Ok(())
+}
+
+/// Numbers that look random, from a linear congruence.
+#[derive(Drop)]
+struct Dice {
+    seed: u64,
+}
+
+impl Dice {
+    fn roll(&mut self, sides: u32) -> u32
+        requires { 0 < sides }
+        ensures { result < sides }
+    {
+        self.seed = self
+            .seed
+            .wrapping_mul(6_364_136_223_846_793_005)
+            .wrapping_add(1_442_695_040_888_963_407);
+        ((self.seed >> 33) % u64::from(sides)) as u32
+    }
+
+    fn delay(&mut self) -> u32 {
+        match self.roll(4) {
+            0 => self.roll(3),
+            1 => 126 + self.roll(5),
+            2 => self.roll(1_000),
+            _ => self.roll(20_000),
+        }
+    }
+}
+
+/// The places that the plain list gives at this turn, which it then has no more.
+fn plain_due(
+    alloc: Global,
+    plain: &mut Vec<Option<u64>>,
+    turn: u64,
+) -> Result<Vec<usize>, AllocError> {
+    let mut places = Vec::new(alloc);
+    for (place, due) in plain.iter_mut().enumerate() {
+        if due.is_some_and(|due| due <= turn) {
+            *due = None;
+            places.push(place)?;
+        }
+    }
+    Ok(places)
+}
+
+/// The places that the wheel gives at this turn.
+fn wheel_due(alloc: Global, wheel: &mut Wheel) -> Result<Vec<usize>, AllocError> {
+    let mut places = Vec::new(alloc);
+    for _ in 0..=wheel.places() {
+        let Some(place) = wheel.due() else {
+            break;
+        };
+        places.push(place as usize)?;
+    }
+    places.sort()?;
+    Ok(places)
+}
+
+#[test]
+fn ten_thousand_calls_are_those_of_a_plain_list(rt: HostRuntime) -> Result<(), Fail> {
+    let alloc = rt.alloc();
+    let mut dice = Dice { seed: 48 };
+    let mut wheel = Wheel::open(alloc, 300)?;
+    let mut plain: Vec<Option<u64>> = vec![in alloc; None; 300]?;
+    go_on_to(&rt, &mut wheel, 14_000);
+    for call in 0..10_000 {
+        let place = dice.roll(300);
+        assert!(rt; (place as usize) < plain.len());
+        match dice.roll(6) {
+            0 => {
+                let turns = dice.delay();
+                let is_free = plain[place as usize].is_none();
+                if is_free {
+                    plain[place as usize] = Some(wheel.turn() + u64::from(turns));
+                }
+                assert_eq!(rt; add(&rt, &mut wheel, place, turns), is_free, "call {call}");
+            }
+            1 => {
+                let is_there = plain[place as usize].take().is_some();
+                assert_eq!(rt; wheel.remove(place), is_there, "call {call}");
+            }
+            2 => {
+                let expected = plain_due(alloc, &mut plain, wheel.turn())?;
+                assert_eq!(rt; wheel_due(alloc, &mut wheel)?, expected, "call {call}");
+            }
+            _ => {
+                let next = wheel.turn() + 1;
+                go_on_to(&rt, &mut wheel, next);
+            }
+        }
+    }
+    Ok(())
+}
