@@ -1,4 +1,4 @@
-# `make try` runs the sample before any proof, in a minute and a half on a new machine.
+# `make try` runs the sample before any proof, in under a minute on four free cores.
 # `make run` proves the program and runs the sample: about an hour of processor time on a new machine, seconds later.
 # `make test` is the gate: everything is proved, and the proved program is tested.
 
