@@ -207,6 +207,18 @@ def tell(title, found):
         print(f"  {what}\n    wanted  {wanted}\n    got     {got}")
 
 
+def try_each(chosen, attempt, threads):
+    """Tries these side by side, each a title and what is tried, and tells what is found at those that fail. The answer
+    is how many passed and how many failed."""
+    with ThreadPoolExecutor(threads) as pool:
+        answers = list(pool.map(lambda it: attempt(it[1]), chosen))
+    for (title, _), found in zip(chosen, answers):
+        if found:
+            tell(title, found)
+    failed = sum(1 for found in answers if found)
+    return len(chosen) - failed, failed
+
+
 def run(program, words=()):
     """Runs the cases of all files. The answer is how many passed and how many failed."""
     program = os.path.abspath(program)
@@ -216,13 +228,7 @@ def run(program, words=()):
             title = f"{name}: {case.get('name') if of_type(case, dict) else case}"
             if not words or any(word in title for word in words):
                 chosen.append((title, case))
-    with ThreadPoolExecutor(2 * (os.cpu_count() or 1)) as threads:
-        answers = list(threads.map(lambda it: run_case(program, it[1]), chosen))
-    for (title, _), found in zip(chosen, answers):
-        if found:
-            tell(title, found)
-    failed = sum(1 for found in answers if found)
-    return len(chosen) - failed, failed
+    return try_each(chosen, lambda case: run_case(program, case), 2 * (os.cpu_count() or 1))
 
 
 def main():

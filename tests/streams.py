@@ -17,9 +17,8 @@ import tempfile
 import threading
 import time
 import tty
-from concurrent.futures import ThreadPoolExecutor
 
-from run_cases import PROGRAM, shown, tell
+from run_cases import PROGRAM, shown, try_each
 
 SECONDS = 120
 QUIET = 0.3
@@ -321,15 +320,12 @@ def attempt(test, program):
 def run(program, words=()):
     """Runs the tests. The answer is how many passed and how many failed."""
     program = os.path.abspath(program)
-    sentences = {test: test.__name__.replace("_", " ") for test in TESTS}
-    chosen = [test for test in TESTS if not words or any(word in sentences[test] for word in words)]
-    with ThreadPoolExecutor(len(TESTS)) as threads:
-        answers = list(threads.map(lambda test: attempt(test, program), chosen))
-    for test, found in zip(chosen, answers):
-        if found:
-            tell(f"streams.py: {sentences[test]}", found)
-    failed = sum(1 for found in answers if found)
-    return len(chosen) - failed, failed
+    chosen = []
+    for test in TESTS:
+        sentence = test.__name__.replace("_", " ")
+        if not words or any(word in sentence for word in words):
+            chosen.append((f"streams.py: {sentence}", test))
+    return try_each(chosen, lambda test: attempt(test, program), len(TESTS))
 
 
 def main():
