@@ -1,5 +1,5 @@
 -- What the objects in memory show of themselves.
-use Rattle.std.specs.Prelude.{◌≡◌, if◌then◌else◌, min, length, Option, None, Some, ℕ, ◌+◌, List, [], ◌++◌, take, map, zip, Bool, true, false, String, Vec, string_bytes, vec_items}
+use Rattle.std.specs.Prelude.{◌≡◌, if◌then◌else◌, min, length, None, Some, ℕ, ◌+◌, List, [], ◌++◌, take, map, zip, Bool, true, false, String, Vec, string_bytes, vec_items}
 use Rattle.std.specs.declared.alloc.Global.{Global}
 use Rattle.exec_io.specs.Calls.{Calls, no_calls, after_call}
 use Rattle.exec_io.specs.Shelves.{Texts}

@@ -59,10 +59,10 @@ impl Shelf for MemShelf {
     ghost told = { shelf_view };
 
     fn read(&mut self, alloc: Global, name: &str, max: usize) -> Result<Vec<u8>, ShelfFault>
-        ensures text { IfSome (shelf_view self.old).texts (λ known. ReadsText known name.now max result) }
+        ensures text { ReadsText self.old.texts name.now max result }
         ensures most { IfOk result (λ bytes. vec_len bytes ≤ max + 1) }
         ensures same { (shelf_view self.new).texts ≡ (shelf_view self.old).texts }
-        ensures cause { HasShelfCause (shelf_view self.old).faults (shelf_view self.new).faults result }
+        ensures cause { HasShelfCause self.old.calls.faults self.new.calls.faults result }
 
         // It fails exactly at the calls that are to fail, and where no text has the name.
         ensures listed { IsTrue (is_to_fail self.old.calls) → IsErrOf result ShelfFault.Failed }

@@ -3,7 +3,7 @@ ghost use Rattle.std.specs.Prelude.{◌==◌, ◌&&◌, nat_le, ◌≡◌, ◌<�
 ghost use Rattle.exec_io.specs.Calls.{no_calls, is_to_fail, after_call};
 ghost use Rattle.exec_io.specs.Causes.{HasCause};
 ghost use Rattle.exec_io.specs.Memory.{SinkState, sink_view, no_bytes, after_write, after_finish, after_failure};
-ghost use Rattle.exec_io.specs.Sinks.{Appends, AddsAtMost};
+ghost use Rattle.exec_io.specs.Sinks.{Appends, AddsAtMost, HoldsNoMore};
 
 use crate::calls::Calls;
 use crate::{Failed, Sink, Steady};
@@ -68,8 +68,8 @@ impl Sink for MemSink {
         ensures held { IfOk result (λ n.
             AddsAtMost (sink_view self.old).outstanding (sink_view self.new).outstanding n) }
         ensures held_err { OnErr result
-            (AddsAtMost (sink_view self.old).outstanding (sink_view self.new).outstanding 0) }
-        ensures cause { HasCause (sink_view self.old).faults (sink_view self.new).faults result }
+            (HoldsNoMore (sink_view self.old) (sink_view self.new)) }
+        ensures cause { HasCause self.old.calls.faults self.new.calls.faults result }
 
         // It fails at the calls that are to fail, and where it takes nothing or finds no memory.
         ensures listed { IsTrue (is_to_fail self.old.calls) → IsErr result }
@@ -91,10 +91,10 @@ impl Sink for MemSink {
 
     fn finish(&mut self) -> Result<(), Failed>
         ensures written { Appends (sink_view self.old).written (sink_view self.new).written [] }
-        ensures held { AddsAtMost (sink_view self.old).outstanding (sink_view self.new).outstanding 0 }
+        ensures held { HoldsNoMore (sink_view self.old) (sink_view self.new) }
         ensures handed_on { OnOk result
             (IfSome (sink_view self.new).outstanding (λ count. count ≡ 0)) }
-        ensures cause { HasCause (sink_view self.old).faults (sink_view self.new).faults result }
+        ensures cause { HasCause self.old.calls.faults self.new.calls.faults result }
 
         ensures failed { is_err result ≡ is_to_fail self.old.calls }
         ensures after_ok { OnOk result (self.new ≡ after_finish self.old) }

@@ -63,7 +63,7 @@ impl Source for MemSource {
         ensures bound { ReadsAtMost result buf.new }
         ensures bytes { ReadConsumes (source_view self.old).left (source_view self.new).left
             result buf.new }
-        ensures cause { HasCause (source_view self.old).faults (source_view self.new).faults result }
+        ensures cause { HasCause self.old.calls.faults self.new.calls.faults result }
 
         // It fails exactly at the calls that are to fail, and else gives what there is room for.
         ensures failed { is_err result ≡ is_to_fail self.old.calls }

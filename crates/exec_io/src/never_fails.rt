@@ -4,7 +4,7 @@ ghost use Rattle.std.specs.Io.{ReadsAtMost};
 ghost use Rattle.std.specs.Io.KnownBytes.{ReadConsumes};
 ghost use Rattle.exec_io.specs.Causes.{HasCause};
 ghost use Rattle.exec_io.specs.Memory.{NeverFailsState, WritesInner, after_finish, steady_source, steady_sink};
-ghost use Rattle.exec_io.specs.Sinks.{Appends, AddsAtMost};
+ghost use Rattle.exec_io.specs.Sinks.{Appends, AddsAtMost, HoldsNoMore};
 
 use crate::{Failed, MemSink, MemSource, Sink, Source};
 use std::marker::Model;
@@ -56,7 +56,7 @@ impl Source for NeverFails<MemSource> {
         ensures bound { ReadsAtMost result buf.new }
         ensures bytes { ReadConsumes (steady_source self.old).left (steady_source self.new).left
             result buf.new }
-        ensures cause { HasCause (steady_source self.old).faults (steady_source self.new).faults result }
+        ensures cause { HasCause 0 0 result }
 
         ensures full { IfOk result (λ n. n ≡ min (length self.old.inner.left) (length buf.old)) }
     {
@@ -78,8 +78,8 @@ impl Sink for NeverFails<MemSink> {
         ensures held { IfOk result (λ n.
             AddsAtMost (steady_sink self.old).outstanding (steady_sink self.new).outstanding n) }
         ensures held_err { OnErr result
-            (AddsAtMost (steady_sink self.old).outstanding (steady_sink self.new).outstanding 0) }
-        ensures cause { HasCause (steady_sink self.old).faults (steady_sink self.new).faults result }
+            (HoldsNoMore (steady_sink self.old) (steady_sink self.new)) }
+        ensures cause { HasCause 0 0 result }
 
         // While it tells, it does what the object under it does.
         ensures telling { IsTrue self.new.tells
@@ -98,10 +98,10 @@ impl Sink for NeverFails<MemSink> {
 
     fn finish(&mut self) -> Result<(), Failed>
         ensures written { Appends (steady_sink self.old).written (steady_sink self.new).written [] }
-        ensures held { AddsAtMost (steady_sink self.old).outstanding (steady_sink self.new).outstanding 0 }
+        ensures held { HoldsNoMore (steady_sink self.old) (steady_sink self.new) }
         ensures handed_on { OnOk result
             (IfSome (steady_sink self.new).outstanding (λ count. count ≡ 0)) }
-        ensures cause { HasCause (steady_sink self.old).faults (steady_sink self.new).faults result }
+        ensures cause { HasCause 0 0 result }
 
         ensures after { self.new ≡ record self.old { inner = after_finish self.old.inner } }
     {

@@ -1,7 +1,7 @@
 //! Where bytes are written to.
 ghost use Rattle.std.specs.Prelude.{◌≡◌, ◌<◌, ◌≤◌, [], length, take, IfOk, OnErr, OnOk, IfSome};
 ghost use Rattle.exec_io.specs.Causes.{HasCause};
-ghost use Rattle.exec_io.specs.Sinks.{Appends, AddsAtMost};
+ghost use Rattle.exec_io.specs.Sinks.{Appends, AddsAtMost, HoldsNoMore};
 ghost use Rattle.exec_io.specs.Views.{SinkView};
 
 use crate::Failed;
@@ -24,13 +24,13 @@ pub trait Sink {
         ensures held { IfOk result
             (λ n. AddsAtMost (told self.old).outstanding (told self.new).outstanding n) }
         ensures held_err { OnErr result
-            (AddsAtMost (told self.old).outstanding (told self.new).outstanding 0) }
+            (HoldsNoMore (told self.old) (told self.new)) }
         ensures cause { HasCause (told self.old).faults (told self.new).faults result };
 
     /// Hands on what was kept back, and appends nothing. After `Ok` no byte is left to hand on.
     fn finish(&mut self) -> Result<(), Failed>
         ensures written { Appends (told self.old).written (told self.new).written [] }
-        ensures held { AddsAtMost (told self.old).outstanding (told self.new).outstanding 0 }
+        ensures held { HoldsNoMore (told self.old) (told self.new) }
         ensures handed_on { OnOk result (IfSome (told self.new).outstanding (λ count. count ≡ 0)) }
         ensures cause { HasCause (told self.old).faults (told self.new).faults result };
 }

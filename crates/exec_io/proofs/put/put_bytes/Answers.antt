@@ -1,5 +1,5 @@
 use Rattle.std.proofs.Common.{arith, length-drop}
-use Rattle.exec_io.proofs.PutsLemmas.{Puts-nil, Puts-more, Puts-stopped, rest_of}
+use Rattle.exec_io.proofs.PutsLemmas.{Puts-more, rest_of}
 use Rattle.exec_io.proofs.put.put_bytes.Goals as goal
 
 pub loop-done-preserved : goal.loop-done-preserved
