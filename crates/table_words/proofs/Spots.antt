@@ -1,50 +1,62 @@
 -- Two words of one table lie at two indexes: an index tells which word it is.
-use Rattle.std.proofs.Common.{◌≡◌, ℕ, ◌+◌, ◌-◌, ◌*◌, ◌/◌, ◌%◌, ◌<◌, ◌==◌, if◌then◌else◌, arith, sym, ap, ap₂, ◌∙◌, refl}
-use Rattle.std.specs.Prelude.{nat_lt}
+use Rattle.std.proofs.Common.{◌≡◌, ℕ, ◌+◌, ◌-◌, ◌*◌, ◌/◌, ◌%◌, ◌<◌, ◌≤◌, ◌==◌, false, cond, arith, sym, ap, ap₂, ◌∙◌, refl}
+use Rattle.std.specs.Prelude.{nat_lt, if◌then◌else◌}
 use Rattle.std.proofs.lemmas.Nat.{div-mul-add, mod-mul-add, mul-add-lt}
+use Rattle.std.proofs.lemmas.Bool.{cond-false, ne_eqb}
 use Rattle.std.proofs.lemmas.Bool.Decides.{nat_tests}
 use Rattle.table_words.specs.declared.layout.Layout.{Layout}
-use Rattle.table_words.specs.Layouts.{Spot, TheScope, TheScopeSource, OfBlock, OfControl, OfCallback, OfSource, IsSpot, index, place_number, words_in, places_in}
+use Rattle.table_words.specs.Layouts.{Spot, TheScope, TheScopeSource, OfBlock, OfControl, OfCallback, OfSource, IsSpot, index, place_number, words_in, places_in, block_words, word_of_block}
 
 -- the number of a place is below the number of places
 pub place-within : (l : Layout) (b n : ℕ) → b < l.blocks → n < l.nodes → place_number l b n < places_in l
 place-within l b n hb hn = omega (arith, mul-add-lt b l.nodes n l.blocks hb hn, native.Mathlib.Nat.mul_comm l.nodes l.blocks)
 
--- the place of this number
-place_of : Layout → (ℕ → ℕ → Spot) → ℕ → Spot
-place_of l kind p = kind (p / l.nodes) (p % l.nodes)
-
-place_of-number : (l : Layout) (kind : ℕ → ℕ → Spot) (b n : ℕ) → n < l.nodes → place_of l kind (place_number l b n) ≡ kind b n
-unfolding place_of
-place_of-number l kind b n hn = ap₂ kind (div-mul-add b l.nodes n hn) (mod-mul-add b l.nodes n hn)
+-- which word of a block has so many before it
+abbrev spot_in : Layout → ℕ → ℕ → Spot
+spot_in l b before =
+    if before == 0 then OfBlock b else (
+    if nat_lt before (1 + l.nodes) then OfControl b (before - 1) else (
+    if nat_lt before (1 + 2 * l.nodes) then OfCallback b (before - (1 + l.nodes))
+    else OfSource b (before - (1 + 2 * l.nodes))))
 
 -- which word lies there
-spot_at : Layout → ℕ → Spot
+abbrev spot_at : Layout → ℕ → Spot
 spot_at l i =
     if i == 0 then TheScope else (
-    if i == 1 then TheScopeSource else (
-    if nat_lt i (2 + l.blocks) then OfBlock (i - 2) else (
-    if nat_lt i (2 + l.blocks + places_in l) then place_of l OfControl (i - (2 + l.blocks)) else (
-    if nat_lt i (2 + l.blocks + 2 * places_in l) then place_of l OfCallback (i - (2 + l.blocks + places_in l))
-    else place_of l OfSource (i - (2 + l.blocks + 2 * places_in l))))))
+    if i == 16 then TheScopeSource else spot_in l ((i - 32) / block_words l) ((i - 32) % block_words l))
+
+module _ (l : Layout) (b before : ℕ) (less : before < block_words l) where
+  -- behind the scope's two words it is a word of a block
+  spot_at-word : spot_at l (word_of_block l b before) ≡ spot_in l b before
+  spot_at-word =
+      let i = word_of_block l b before in
+      let inside : ℕ = b * block_words l + before in
+      let off : i - 32 ≡ inside = omega arith in
+      cond-false (i == 0) _ _ (ne_eqb i 0 (λ e. absurd (omega arith)))
+      ∙ cond-false (i == 16) _ _ (ne_eqb i 16 (λ e. absurd (omega arith)))
+      ∙ ap (λ k. spot_in l (k / block_words l) (k % block_words l)) off
+      ∙ ap₂ (spot_in l) (div-mul-add b (block_words l) before less) (mod-mul-add b (block_words l) before less)
+
+  pub word-within : b < l.blocks → word_of_block l b before < words_in l
+  word-within hb =
+      omega (arith, mul-add-lt b (block_words l) before l.blocks hb less, native.Mathlib.Nat.mul_comm (block_words l) l.blocks)
 
 spot_at-index : (l : Layout) (x : Spot) → IsSpot l x → spot_at l (index l x) ≡ x
-unfolding spot_at
 spot_at-index l TheScope is = refl
 spot_at-index l TheScopeSource is = refl
-spot_at-index l (OfBlock b) is = grind (arith, nat_tests)
+spot_at-index l (OfBlock b) is = spot_at-word l b 0 (omega arith)
 spot_at-index l (OfControl b n) is =
-    let w = place-within l b n is.0 is.1 in
-    let e = place_of-number l OfControl b n is.1 in
-    grind (arith, nat_tests)
+    let n_is = is.1 in
+    let here : spot_in l b (1 + n) ≡ OfControl b n = grind (arith, nat_tests) in
+    spot_at-word l b (1 + n) (omega (arith, n_is)) ∙ here
 spot_at-index l (OfCallback b n) is =
-    let w = place-within l b n is.0 is.1 in
-    let e = place_of-number l OfCallback b n is.1 in
-    grind (arith, nat_tests)
+    let n_is = is.1 in
+    let here : spot_in l b (1 + l.nodes + n) ≡ OfCallback b n = grind (arith, nat_tests) in
+    spot_at-word l b (1 + l.nodes + n) (omega (arith, n_is)) ∙ here
 spot_at-index l (OfSource b n) is =
-    let w = place-within l b n is.0 is.1 in
-    let e = place_of-number l OfSource b n is.1 in
-    grind (arith, nat_tests)
+    let n_is = is.1 in
+    let here : spot_in l b (1 + 2 * l.nodes + n) ≡ OfSource b n = grind (arith, nat_tests) in
+    spot_at-word l b (1 + 2 * l.nodes + n) (omega (arith, n_is)) ∙ here
 
 pub apart : (l : Layout) (x y : Spot) → IsSpot l x → IsSpot l y → index l x ≡ index l y → x ≡ y
 apart l x y is_x is_y same =
@@ -53,7 +65,7 @@ apart l x y is_x is_y same =
 pub within : (l : Layout) (x : Spot) → IsSpot l x → index l x < words_in l
 within l TheScope is = omega arith
 within l TheScopeSource is = omega arith
-within l (OfBlock b) is = omega arith
-within l (OfControl b n) is = omega (arith, place-within l b n is.0 is.1)
-within l (OfCallback b n) is = omega (arith, place-within l b n is.0 is.1)
-within l (OfSource b n) is = omega (arith, place-within l b n is.0 is.1)
+within l (OfBlock b) is = word-within l b 0 (omega arith) is
+within l (OfControl b n) is = let n_is = is.1 in word-within l b (1 + n) (omega (arith, n_is)) is.0
+within l (OfCallback b n) is = let n_is = is.1 in word-within l b (1 + l.nodes + n) (omega (arith, n_is)) is.0
+within l (OfSource b n) is = let n_is = is.1 in word-within l b (1 + 2 * l.nodes + n) (omega (arith, n_is)) is.0

@@ -1,5 +1,7 @@
--- Where the words of a table lie: the scope's two, then one of each block, then one of each place for
--- control, for callback and for source. Homes are numbered as places are.
+-- Where the words of a table lie: the scope's two, and then those of each block together: its own, and
+-- one of each place for control, for callback and for source. Between the words of two blocks, and round
+-- each of the scope's, 15 are left free, so that no two of them share a cache line. Homes are numbered as
+-- places are.
 use Rattle.std.specs.Prelude.{ℕ, ◌+◌, ◌*◌, ◌<◌}
 use Rattle.table_words.specs.declared.layout.Layout.{Layout}
 
@@ -25,18 +27,26 @@ IsSpot l (OfSource b n) = (b < l.blocks) × (n < l.nodes)
 abbrev pub places_in : Layout → ℕ
 places_in l = l.blocks * l.nodes
 
+-- how many words lie from one block's to the next one's: its own, three of each place, and 15 free ones
+abbrev pub block_words : Layout → ℕ
+block_words l = 3 * l.nodes + 16
+
 -- the number of words
 abbrev pub words_in : Layout → ℕ
-words_in l = 2 + l.blocks + 3 * places_in l
+words_in l = 32 + l.blocks * block_words l
 
 -- the number of a place: rising block, then rising node
 abbrev pub place_number : Layout → ℕ → ℕ → ℕ
 place_number l b n = b * l.nodes + n
 
+-- the word of a block that has so many of its words before it
+abbrev pub word_of_block : Layout → ℕ → ℕ → ℕ
+word_of_block l b before = 32 + (b * block_words l + before)
+
 abbrev pub index : Layout → Spot → ℕ
 index l TheScope = 0
-index l TheScopeSource = 1
-index l (OfBlock b) = 2 + b
-index l (OfControl b n) = 2 + l.blocks + place_number l b n
-index l (OfCallback b n) = 2 + l.blocks + places_in l + place_number l b n
-index l (OfSource b n) = 2 + l.blocks + 2 * places_in l + place_number l b n
+index l TheScopeSource = 16
+index l (OfBlock b) = word_of_block l b 0
+index l (OfControl b n) = word_of_block l b (1 + n)
+index l (OfCallback b n) = word_of_block l b (1 + l.nodes + n)
+index l (OfSource b n) = word_of_block l b (1 + 2 * l.nodes + n)

@@ -6,5 +6,5 @@ use crate::layout::{SCOPE, SCOPE_SOURCE};
 /// Where the scope's two words lie.
 pub fn scope_words_lie_so()
     ensures scope { SCOPE ≡ 0 }
-    ensures source { SCOPE_SOURCE ≡ 1 }
+    ensures source { SCOPE_SOURCE ≡ 16 }
 {}

@@ -1,8 +1,8 @@
 //! Where the words and the homes of a table lie.
-ghost use Rattle.std.specs.Prelude.{◌≡◌, ℕ, ◌≤◌, ◌<◌};
+ghost use Rattle.std.specs.Prelude.{◌≡◌, ℕ, ◌≤◌, ◌<◌, ◌+◌, ◌*◌};
 ghost use Rattle.life_rules.specs.declared.limits.TheConstants.{MOST_BLOCKS};
 ghost use Rattle.node_tree.specs.declared.node.TheConstants.{MOST_NODES};
-ghost use Rattle.table_words.specs.Layouts.{Spot, TheScope, TheScopeSource, OfBlock, OfControl, OfCallback, OfSource, IsSpot, index, place_number, words_in, places_in};
+ghost use Rattle.table_words.specs.Layouts.{Spot, TheScope, TheScopeSource, OfBlock, OfControl, OfCallback, OfSource, IsSpot, index, place_number, words_in, places_in, block_words, word_of_block};
 
 /// The blocks of a table, and the places of each: one for every node of the tree.
 #[derive(Clone, Copy, Debug, PartialEq, Eq)]
@@ -17,9 +17,13 @@ pub struct Layout {
 pub const SCOPE: usize = 0;
 
 /// The index of the word of the scope's source.
-pub const SCOPE_SOURCE: usize = 1;
+pub const SCOPE_SOURCE: usize = 16;
 
-const FIRST_BLOCK: usize = 2;
+/// How many words are left free behind those of each block, so that hands on two blocks share no
+/// cache line.
+const FREE: usize = 15;
+
+const FIRST_BLOCK: usize = 32;
 
 impl Layout {
     /// The number of places, which is that of homes.
@@ -37,7 +41,28 @@ impl Layout {
         requires nodes { self.now.nodes ≤ MOST_NODES }
         ensures { result ≡ words_in self.now }
     {
-        FIRST_BLOCK + self.blocks as usize + 3 * self.places()
+        FIRST_BLOCK + self.blocks as usize * self.block_words()
+    }
+
+    // How many words lie from one block's to the next one's.
+    fn block_words(&self) -> usize
+        requires nodes { self.now.nodes ≤ MOST_NODES }
+        ensures value { result ≡ block_words self.now }
+        ensures few { result ≤ 3 * MOST_NODES + 16 }
+    {
+        1 + 3 * self.nodes as usize + FREE
+    }
+
+    // The index of the word of a block that has so many of its words before it.
+    fn word_of_block(&self, block: u32, before: usize) -> usize
+        requires blocks { self.now.blocks ≤ MOST_BLOCKS }
+        requires nodes { self.now.nodes ≤ MOST_NODES }
+        requires block { block < self.now.blocks }
+        requires before { before < block_words self.now }
+        ensures value { result ≡ word_of_block self.now block before }
+        ensures within { result < words_in self.now }
+    {
+        FIRST_BLOCK + block as usize * self.block_words() + before
     }
 
     /// The number of a place, which is that of its home.
@@ -55,11 +80,12 @@ impl Layout {
     /// The index of a block's word.
     pub fn block(&self, block: u32) -> usize
         requires blocks { self.now.blocks ≤ MOST_BLOCKS }
+        requires nodes { self.now.nodes ≤ MOST_NODES }
         requires block { block < self.now.blocks }
         ensures value { result ≡ index self.now (OfBlock block) }
         ensures within { result < words_in self.now }
     {
-        FIRST_BLOCK + block as usize
+        self.word_of_block(block, 0)
     }
 
     /// The index of a place's control word.
@@ -71,7 +97,7 @@ impl Layout {
         ensures value { result ≡ index self.now (OfControl block node) }
         ensures within { result < words_in self.now }
     {
-        FIRST_BLOCK + self.blocks as usize + self.place(block, node)
+        self.word_of_block(block, 1 + node as usize)
     }
 
     /// The index of a place's callback word.
@@ -83,7 +109,7 @@ impl Layout {
         ensures value { result ≡ index self.now (OfCallback block node) }
         ensures within { result < words_in self.now }
     {
-        FIRST_BLOCK + self.blocks as usize + self.places() + self.place(block, node)
+        self.word_of_block(block, 1 + self.nodes as usize + node as usize)
     }
 
     /// The index of a place's source word.
@@ -95,7 +121,7 @@ impl Layout {
         ensures value { result ≡ index self.now (OfSource block node) }
         ensures within { result < words_in self.now }
     {
-        FIRST_BLOCK + self.blocks as usize + 2 * self.places() + self.place(block, node)
+        self.word_of_block(block, 1 + 2 * self.nodes as usize + node as usize)
     }
 }
 
