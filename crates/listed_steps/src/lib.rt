@@ -2,8 +2,8 @@
 //!
 //! It stands on atomic_table alone. A hand has a view, which the caller chooses, and in that view a
 //! list of the hand's own steps, newest first. Each step here puts exactly one entry in front of
-//! that list: which word it was, what it read there, and what it left there. Nothing else does:
-//! a split and a join leave the lists alone. So whoever reads the list knows what was done, whatever
+//! that list: which word it was, what it read there, and what it left there. Nothing else does: a
+//! split and a join leave the lists alone. So whoever reads the list knows what was done, whatever
 //! else a caller's Play says of view and slots.
 //!
 //!     load .. fetch_sub    entry read left :: steps

@@ -1,8 +1,8 @@
 //! How a callback is registered ([stopcallback]).
 ghost use Rattle.std.specs.Prelude.{◌≡◌};
+ghost use Rattle.life_rules.specs.declared.words.CallbackPhase.TheVariants.{Never};
 ghost use Rattle.table_steps.specs.Views.{IsHandOf, IsSameHand, IsPlaceIn, aim_at};
-ghost use Rattle.table_steps.specs.Claims.{with_step};
-ghost use Rattle.table_steps.specs.Callbacks.{CanArm, IsArmed, arms};
+ghost use Rattle.table_steps.specs.Callbacks.{CanArm, IsArmed, FindsCallback, arms};
 
 use crate::plays::Subject;
 use crate::table::{Hand, OpTable, SeatOf};
@@ -18,7 +18,7 @@ pub struct Arms<K> {
 }
 
 impl<P, E, K: Subject> Play<Option<P>, View<P, E>> for Arms<K> {
-    ghost then = { λ step m found m'. m' ≡ (with_step step.word found step.first (arms K.aim.name m.0), m.1) };
+    ghost then = { λ step m found m'. FindsCallback K.aim.name Never (arms K.aim.name) step.word found step.first m m' };
 }
 
 impl<P: Cargo> OpTable<P> {

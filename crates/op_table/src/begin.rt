@@ -30,17 +30,18 @@ impl<P: Cargo> OpTable<P> {
         ensures hand { IsHandOf self.now hand.new }
         ensures begun { Begun self.now name hand.old hand.new P.Cargo }
     {
-        self.renew(&mut hand.seat, name);
+        self.renew::<Brand>(&mut hand.seat, name);
         self.begin_at::<Brand>(&mut hand.seat, name);
         hand.owed.remove(name);
     }
 
     // Writes the source of a node that has one as clear, at the name's generation: no word of the
     // source was written at it yet, and a request only adds its bit.
-    fn renew(&self, seat: &mut SeatOf<P>, name: Name)
+    fn renew<K: Subject>(&self, seat: &mut SeatOf<P>, name: Name)
         requires table { IsHandOf self.now seat.old }
         requires place { IsPlaceIn self.now name }
         requires needs { CanBegin P.Cargo self.now.frame seat.old.me name }
+        requires subject { K.aim ≡ aim_at self.now name }
         ensures table { IsSameHand seat.old seat.new }
         ensures hand { IsHandOf self.now seat.new }
         ensures renewed { Renewed self.now name seat.old seat.new }
@@ -55,7 +56,7 @@ impl<P: Cargo> OpTable<P> {
                 },
             );
             let index = self.frame.layout.source(name.block, name.node);
-            self.table.store::<Renewals>(seat, index, clear);
+            self.table.store::<Renewals<K>>(seat, index, clear);
         }
     }
 

@@ -1,9 +1,9 @@
 //! The running table: operations' words, homes and hands, sound between any two atomic steps.
 //!
 //! It stands on listed_steps, by which it makes its steps and which lists each of them with what it
-//! read and left, on table_rules, whose `Traced` is its rule,
-//! and on the laws of the pure machine. Many threads work on one table, each by a `Hand` of its
-//! own; no step takes memory or a lock, and none waits.
+//! read and left, on table_rules, whose `Traced` is its rule, and on the laws of the pure machine.
+//! Many threads work on one table, each by a `Hand` of its own; no step takes memory or a lock, and
+//! none waits.
 //!
 //! Beside its seat a hand has two sets (name_set), in room that `open` takes. One has the starts
 //! that it owes: `claim` and `await_children` add to it, `begin` takes out, and `owed` reads it. The

@@ -1,6 +1,7 @@
 //! What each step tells its hand. These types are for the proofs alone.
 ghost use Rattle.std.specs.Prelude.{◌≡◌, List, [], ℕ, Option, None};
 ghost use Rattle.node_tree.specs.declared.node.TreeNode.{TreeNode};
+ghost use Rattle.life_rules.specs.declared.words.ControlWord.TheVariants.{Idle, Busy};
 ghost use Rattle.life_rules.specs.declared.event.Name.{Name};
 ghost use Rattle.life_rules.specs.declared.event.SourceRef.{SourceRef};
 ghost use Rattle.life_rules.specs.declared.event.SourceRef.TheVariants.{Scope};
@@ -9,6 +10,7 @@ ghost use Rattle.table_steps.specs.Views.{fresh, split_once, fresh_after};
 ghost use Rattle.table_steps.specs.Closings.{gathered, spent};
 ghost use Rattle.table_steps.specs.Slots.{Aim};
 ghost use Rattle.table_steps.specs.Claims.{looks, claims};
+ghost use Rattle.table_steps.specs.Lefts.{FindsControl};
 ghost use Rattle.table_steps.specs.Begins.{Renews, BeginsAt};
 ghost use Rattle.table_steps.specs.Rests.{RestsAt};
 ghost use Rattle.table_steps.specs.Takes.{TakesAt};
@@ -88,10 +90,12 @@ impl<P, E, K: Subject> Play<Option<P>, View<P, E>> for Claims<K> {
 }
 
 /// The store by which a source is renewed.
-pub struct Renewals;
+pub struct Renewals<K> {
+    subject: PhantomData<K>,
+}
 
-impl<P, E> Play<Option<P>, View<P, E>> for Renewals {
-    ghost then = { λ step m found m'. Renews step.word found step.first m m' };
+impl<P, E, K: Subject> Play<Option<P>, View<P, E>> for Renewals<K> {
+    ghost then = { λ step m found m'. Renews K.aim.name step.word found step.first m m' };
 }
 
 /// The store by which a node is begun.
@@ -100,7 +104,7 @@ pub struct Beginnings<K> {
 }
 
 impl<P: Cargo, K: Subject> Play<Option<P>, View<P, P::Entry>> for Beginnings<K> {
-    ghost then = { λ step m found m'. BeginsAt P.Cargo K.aim step.word found step.first m m' };
+    ghost then = { λ step m found m'. FindsControl K.aim Idle (BeginsAt P.Cargo K.aim) step.word found step.first m m' };
 }
 
 /// The store by which a node is left at rest.
@@ -109,7 +113,7 @@ pub struct Rests<K> {
 }
 
 impl<P, E, K: Subject> Play<Option<P>, View<P, E>> for Rests<K> {
-    ghost then = { λ step m found m'. RestsAt K.aim step.word found step.first m m' };
+    ghost then = { λ step m found m'. FindsControl K.aim (Busy 0) (RestsAt K.aim) step.word found step.first m m' };
 }
 
 /// What the table was opened over. A call picks it.
@@ -137,7 +141,7 @@ pub struct Finishes<K> {
 }
 
 impl<P: Cargo, K: Subject> Play<Option<P>, View<P, P::Entry>> for Finishes<K> {
-    ghost then = { λ step m found m'. FinishesAt P.Cargo K.aim step.word found step.first m m' };
+    ghost then = { λ step m found m'. FindsControl K.aim (Busy 0) (FinishesAt P.Cargo K.aim) step.word found step.first m m' };
 }
 
 /// The children that an await names. A call picks them.
@@ -156,7 +160,7 @@ pub struct Awaits<K, J> {
 }
 
 impl<P: Cargo, K: Subject, J: Naming> Play<Option<P>, View<P, P::Entry>> for Awaits<K, J> {
-    ghost then = { λ step m found m'. AwaitsAt P.Cargo K.aim J.names step.word found step.first m m' };
+    ghost then = { λ step m found m'. FindsControl K.aim (Busy 0) (AwaitsAt P.Cargo K.aim J.names) step.word found step.first m m' };
 }
 
 /// The load of a child's control word, by the hand that holds its parent.

@@ -1,7 +1,8 @@
 //! How a callback's run ends, also by a removal from inside it ([stopcallback]).
 ghost use Rattle.std.specs.Prelude.{◌≡◌};
+ghost use Rattle.life_rules.specs.declared.words.CallbackPhase.TheVariants.{Running};
 ghost use Rattle.table_steps.specs.Views.{IsHandOf, IsSameHand, IsPlaceIn, aim_at};
-ghost use Rattle.table_steps.specs.Claims.{with_step};
+ghost use Rattle.table_steps.specs.Callbacks.{FindsCallback};
 ghost use Rattle.table_steps.specs.RunEnds.{ends_run, removes_own, CanEndRun, CanWithdrawOwn, IsRunEnded, IsOwnWithdrawn};
 
 use crate::plays::Subject;
@@ -18,7 +19,7 @@ pub struct EndsRun<K> {
 }
 
 impl<P, E, K: Subject> Play<Option<P>, View<P, E>> for EndsRun<K> {
-    ghost then = { λ step m found m'. m' ≡ (with_step step.word found step.first (ends_run K.aim.tree K.aim.name m.0), m.1) };
+    ghost then = { λ step m found m'. FindsCallback K.aim.name Running (ends_run K.aim.tree K.aim.name) step.word found step.first m m' };
 }
 
 /// The store by which a callback is removed from inside it.
@@ -27,7 +28,7 @@ pub struct RemovesOwn<K> {
 }
 
 impl<P, E, K: Subject> Play<Option<P>, View<P, E>> for RemovesOwn<K> {
-    ghost then = { λ step m found m'. m' ≡ (with_step step.word found step.first (removes_own K.aim.tree K.aim.name m.0), m.1) };
+    ghost then = { λ step m found m'. FindsCallback K.aim.name Running (removes_own K.aim.tree K.aim.name) step.word found step.first m m' };
 }
 
 impl<P: Cargo> OpTable<P> {

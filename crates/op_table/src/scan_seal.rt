@@ -1,9 +1,8 @@
 //! How a scan of a stop source ends.
 ghost use Rattle.std.specs.Prelude.{◌≡◌, bit_or};
 ghost use Rattle.table_steps.specs.Views.{IsHandOf, IsSameHand};
-ghost use Rattle.table_steps.specs.Claims.{with_step};
 ghost use Rattle.table_steps.specs.Sights.{IsSourceIn};
-ghost use Rattle.table_steps.specs.ScanSeals.{seals_scan, CanSealScan, IsScanSealed};
+ghost use Rattle.table_steps.specs.ScanSeals.{CanSealScan, SealsScanAt, IsScanSealed};
 
 use crate::plays::Regard;
 use crate::sight::source_index;
@@ -22,7 +21,7 @@ pub struct SealsScan<K> {
 }
 
 impl<P, E, K: Regard> Play<Option<P>, View<P, E>> for SealsScan<K> {
-    ghost then = { λ step m found m'. m' ≡ (with_step step.word found (bit_or found step.first) (seals_scan K.source m.0), m.1) };
+    ghost then = { λ step m found m'. SealsScanAt K.source step.word found (bit_or found step.first) m m' };
 }
 
 impl<P: Cargo> OpTable<P> {
@@ -30,7 +29,8 @@ impl<P: Cargo> OpTable<P> {
     ///
     /// Step: one fetch_or of the source's word, which sets the scanned bit.
     /// Needs: the hand scans the source, and its scan has passed all places.
-    /// Afterwards: the hand no longer makes the scan.
+    /// Afterwards: the hand no longer makes the scan. The word that it found was the source's, and said
+    /// that a stop was requested, and that no scan was sealed yet.
     pub fn seal_scan_step(&self, hand: &mut Hand<P>, source: SourceRef)
         requires table { IsHandOf self.now hand.old }
         requires source { IsSourceIn self.now source }

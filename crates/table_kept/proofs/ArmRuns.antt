@@ -38,8 +38,9 @@ use Rattle.table_rules.specs.Scenes.{Scene, shown, scene}
 use Rattle.table_rules.specs.Notes.{is_still, IsHeldSo, IsKnown}
 use Rattle.table_rules.specs.Running.{Stands, Running}
 use Rattle.table_steps.specs.Claims.{with_step, Seated}
+use Rattle.table_steps.specs.Lefts.{FoundCallback}
 use Rattle.table_steps.specs.Slots.{IsSeated}
-use Rattle.table_steps.specs.Callbacks.{CanArm, arms}
+use Rattle.table_steps.specs.Callbacks.{CanArm, arms, FindsCallback}
 use Rattle.table_kept.proofs.Listing.{AllowsListed, allows-listed, lists-one}
 use Rattle.table_kept.proofs.Among.{among}
 use Rattle.table_kept.proofs.Loads.{known-listed}
@@ -48,6 +49,7 @@ use Rattle.table_kept.proofs.Noting.{count-at, seated-noted}
 use Rattle.table_kept.proofs.HeldNotes.{each-changed}
 use Rattle.table_kept.proofs.ViewMoves.{views-moved}
 use Rattle.table_kept.proofs.ControlRuns.{place_of, place-live, name-live, open-kept}
+use Rattle.table_kept.proofs.FoundNow.{found-callback}
 use Rattle.table_kept.proofs.HeldNow.{shows, below, holds-now, held, phase-so, others-none}
 use Rattle.table_kept.proofs.Asides.{owning, homes-aside, starts-aside, items-aside, lots-aside, held-aside, known-aside}
 use Rattle.table_kept.proofs.CallbackRuns.{callback-runs}
@@ -84,6 +86,10 @@ module _ {P E O : Type 0} (cargo : Ghosts P E O) (f : Frame O) (s : table.State 
 
   never : phase_at now x ≡ Never
   never = never-of can.held.phase (phase_at now x) can.never (phase-so cargo f s id x v r at can.held can.holds)
+
+  -- so says the word that the step finds
+  pub found-never : FoundCallback x Never (word_of f.layout s.words (OfCallback x.block x.node))
+  found-never = found-callback cargo f s r x held-now.live Never never
 
   sound-now : Sound written
   sound-now =
@@ -205,25 +211,25 @@ module _ {P E O : Type 0} (cargo : Ghosts P E O) (f : Frame O) (s : table.State 
 arms_allowed : {P E O : Type 0} (cargo : Ghosts P E O) (f : Frame O) (slots id value : ℕ) (x : Name) (m : Seated P E) →
     CanArm f.tree m.0 x → stamp_of value ≡ x.generation → callback_read value ≡ Armed →
     Allows (Running cargo f) slots id m (index f.layout (OfCallback x.block x.node)) (λ _. value)
-    (λ n m'. m' ≡ (with_step (index f.layout (OfCallback x.block x.node)) n value (arms x m.0), m.1))
+    (λ n. FindsCallback x Never (arms x) (index f.layout (OfCallback x.block x.node)) n value m)
 arms_allowed cargo f slots id value x m can stamped reads s r deep at small =
     let i = index f.layout (OfCallback x.block x.node) in (
       with_step i (slice_index s.words i) value (arms x m.0),
       keeps,
       tt,
       arm-runs cargo f s id value x m.0 r at can stamped reads i (slice_index s.words i) refl refl,
-      refl,
+      record { found = found-never cargo f s id value x m.0 r at can stamped reads; me_is = refl },
     )
 
 -- the same by the frame that the table shows
 pub arms-at : {P E O : Type 0} (cargo : Ghosts P E O) (board f : Frame O) (slots id i value : ℕ) (x y : Name) (m : Seated P E) → board ≡ f →
     i ≡ index board.layout (OfCallback x.block x.node) → y ≡ x → CanArm board.tree m.0 x → stamp_of value ≡ x.generation → callback_read value ≡ Armed →
-    AllowsListed cargo f slots id m i (λ _. value) (λ n m'. m' ≡ (with_step i n value (arms y m.0), m.1))
+    AllowsListed cargo f slots id m i (λ _. value) (λ n. FindsCallback y Never (arms y) i n value m)
 arms-at cargo board f slots id i value x y m same i_is y_is can stamped reads =
-    allows-listed cargo f slots id m i (λ _. value) (λ n m'. m' ≡ (with_step i n value (arms y m.0), m.1))
-    (λ n m' told. lists-one i n value m m' (arms y m.0) (ap (λ z. z.0) told) refl refl refl refl)
-    (subst (λ z. Allows (Running cargo z) slots id m i (λ _. value) (λ n m'. m' ≡ (with_step i n value (arms y m.0), m.1))) same
-    (subst (λ (z : ℕ × Name). Allows (Running cargo board) slots id m z.0 (λ _. value) (λ n m'. m' ≡ (with_step z.0 n value (arms z.1 m.0), m.1)))
+    allows-listed cargo f slots id m i (λ _. value) (λ n. FindsCallback y Never (arms y) i n value m)
+    (λ n m' told. lists-one i n value m m' (arms y m.0) (ap (λ z. z.0) told.me_is) refl refl refl refl)
+    (subst (λ z. Allows (Running cargo z) slots id m i (λ _. value) (λ n. FindsCallback y Never (arms y) i n value m)) same
+    (subst (λ (z : ℕ × Name). Allows (Running cargo board) slots id m z.0 (λ _. value) (λ n. FindsCallback z.1 Never (arms z.1) z.0 n value m))
     (λ k. (sym i_is k, sym y_is k))
     (arms_allowed cargo board slots id value x m can stamped reads)))
 

@@ -74,7 +74,7 @@ stays-as-opened cargo board n all fresh s traced views =
       control = said-first l s.words zero_at Idle control_read OfControl refl;
       callback = said-first l s.words zero_at Never callback_read OfCallback refl;
       source = said-first l s.words zero_at clear source_read OfSource refl;
-      scope_source = ap source_read (zero_at 1);
+      scope_source = ap source_read (zero_at 16);
       scope = ap scope_read (zero_at 0);
       home = home-empty cargo board n all fresh s traced views;
     }

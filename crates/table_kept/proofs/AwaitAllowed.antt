@@ -29,8 +29,9 @@ use Rattle.table_rules.specs.ShownViews.{shown_view}
 use Rattle.table_rules.specs.Scenes.{Home, Full, is_full, Past, Scene, shown, scene}
 use Rattle.table_rules.specs.Notes.{IsOwedSo}
 use Rattle.table_rules.specs.Running.{Stands, Running}
+use Rattle.table_steps.specs.Views.{aimed}
 use Rattle.table_steps.specs.Claims.{with_step, Seated}
-use Rattle.table_steps.specs.Lefts.{LeavesControl}
+use Rattle.table_steps.specs.Lefts.{FoundControl, FindsControl, LeavesControl}
 use Rattle.table_steps.specs.Slots.{Aim, IsSeated}
 use Rattle.table_steps.specs.Awaits.{awaits, CanAwait, AwaitsAt}
 use Rattle.table_kept.proofs.Listing.{AllowsListed, allows-listed, lists-one}
@@ -40,7 +41,7 @@ use Rattle.table_kept.proofs.Loads.{known-listed}
 use Rattle.table_kept.proofs.Counts.{counts-moved}
 use Rattle.table_kept.proofs.ViewMoves.{views-moved}
 use Rattle.table_kept.proofs.ControlRuns.{begun-renewed, control-runs}
-use Rattle.table_kept.proofs.BeginTold.{aimed}
+use Rattle.table_kept.proofs.FoundNow.{found-control}
 use Rattle.table_kept.proofs.HeldNow.{start-so, fit-now, others-none}
 use Rattle.table_kept.proofs.Shedding.{sheds, carries-shed, deep-shed}
 use Rattle.table_kept.proofs.ShedHomes.{valid-shed, shed_homes}
@@ -199,12 +200,13 @@ module _ {P E O : Type 0} (cargo : Ghosts P E O) (f : Frame O) (s : table.State 
 pub awaits_allowed : {P E O : Type 0} (cargo : Ghosts P E O) (f : Frame O) (slots id value : ℕ) (x : Name) (nodes : List ℕ) (m : Seated P E) →
     IsSeated f.tree f.layout m → CanAwait cargo f m x nodes → stamp_of value ≡ x.generation → control_read value ≡ Busy (length nodes) →
     Allows (Running cargo f) slots id m (index f.layout (OfControl x.block x.node)) (λ _. value)
-    (λ n. AwaitsAt cargo (aimed f x) nodes (index f.layout (OfControl x.block x.node)) n value m)
+    (λ n. FindsControl (aimed f x) (Busy 0) (AwaitsAt cargo (aimed f x) nodes) (index f.layout (OfControl x.block x.node)) n value m)
 awaits_allowed {P} {E} cargo f slots id value x nodes m seated can stamped reads s r deep at small =
     let i = index f.layout (OfControl x.block x.node) in
     let n = slice_index s.words i in
     let c = m.1 in
     let away = gone cargo f s id x nodes m.0 c r at seated can in
+    let own = is-held cargo f s id x m.0 c r at seated can.leave in
     let mine : View P E = with_step i n value (awaits x (cargo.start can.item) (cargo.lot can.item) nodes m.0) in
     let is = carries-shed away c in (
       mine,
@@ -212,15 +214,18 @@ awaits_allowed {P} {E} cargo f slots id value x nodes m seated can stamped reads
       valid-shed cargo f s id m.0 c r at seated away,
       await-runs cargo f s id value x nodes m.0 c r at seated can stamped reads n refl,
       record {
-        item = can.item;
-        home = can.home;
-        me_is = λ k. (mine, is k);
-        seated = subst (λ d. IsSeated f.tree f.layout (mine, d)) (sym is)
-            (seated-awaited f.tree f.layout x nodes (cargo.start can.item) (cargo.lot can.item) i n value m.0 c seated);
-        unowed = λ k named.
-            let child = named-child f.tree x nodes can.leave.held.idle can.idle k named in
-            owes-not cargo f s id m.0 r at (beside x k) (quiet cargo f s id x m.0 c r at seated can.leave k child).starts;
-        beside_it = owes-beside cargo f s id m.0 r at x (is-held cargo f s id x m.0 c r at seated can.leave).live;
+        found = found-control cargo f s r x own.live (Busy 0) own.word;
+        did = record {
+          item = can.item;
+          home = can.home;
+          me_is = λ k. (mine, is k);
+          seated = subst (λ d. IsSeated f.tree f.layout (mine, d)) (sym is)
+              (seated-awaited f.tree f.layout x nodes (cargo.start can.item) (cargo.lot can.item) i n value m.0 c seated);
+          unowed = λ k named.
+              let child = named-child f.tree x nodes can.leave.held.idle can.idle k named in
+              owes-not cargo f s id m.0 r at (beside x k) (quiet cargo f s id x m.0 c r at seated can.leave k child).starts;
+          beside_it = owes-beside cargo f s id m.0 r at x own.live;
+        };
       },
     )
 
@@ -229,23 +234,25 @@ module _ {P E O : Type 0} (cargo : Ghosts P E O) where
   pub awaits-at : (board f : Frame O) (slots id i value : ℕ) (x : Name) (nodes names : List ℕ) (aim : Aim) (m : Seated P E) → board ≡ f →
       i ≡ index board.layout (OfControl x.block x.node) → aim ≡ aimed board x → names ≡ nodes → IsSeated board.tree board.layout m →
       CanAwait cargo board m x nodes → stamp_of value ≡ x.generation → control_read value ≡ Busy (length nodes) →
-      AllowsListed cargo f slots id m i (λ _. value) (λ n. AwaitsAt cargo aim names i n value m)
+      AllowsListed cargo f slots id m i (λ _. value) (λ n. FindsControl aim (Busy 0) (AwaitsAt cargo aim names) i n value m)
   awaits-at board f slots id i value x nodes names aim m same i_is aim_is names_are seated can stamped reads =
-      allows-listed cargo f slots id m i (λ _. value) (λ n. AwaitsAt cargo aim names i n value m)
-      (λ n m' told. lists-one i n value m m' _ (ap (λ z. z.0) told.me_is) refl refl refl refl)
-      (subst (λ z. Allows (Running cargo z) slots id m i (λ _. value) (λ n. AwaitsAt cargo aim names i n value m)) same
-      (subst (λ (z : List ℕ × (ℕ × Aim)). Allows (Running cargo board) slots id m z.1.0 (λ _. value) (λ n. AwaitsAt cargo z.1.1 z.0 z.1.0 n value m))
+      allows-listed cargo f slots id m i (λ _. value) (λ n. FindsControl aim (Busy 0) (AwaitsAt cargo aim names) i n value m)
+      (λ n m' told. lists-one i n value m m' _ (ap (λ z. z.0) told.did.me_is) refl refl refl refl)
+      (subst (λ z. Allows (Running cargo z) slots id m i (λ _. value) (λ n. FindsControl aim (Busy 0) (AwaitsAt cargo aim names) i n value m)) same
+      (subst (λ (z : List ℕ × (ℕ × Aim)). Allows (Running cargo board) slots id m z.1.0 (λ _. value)
+      (λ n. FindsControl z.1.1 (Busy 0) (AwaitsAt cargo z.1.1 z.0) z.1.0 n value m))
       (λ k. (sym names_are k, (sym i_is k, sym aim_is k)))
       (awaits_allowed cargo board slots id value x nodes m seated can stamped reads)))
 
   pub awaits-told : (board : Frame O) (i read value : ℕ) (x : Name) (nodes names : List ℕ) (aim : Aim) (m m' : Seated P E) →
       i ≡ index board.layout (OfControl x.block x.node) → aim ≡ aimed board x → names ≡ nodes → stamp_of value ≡ x.generation →
-      control_read value ≡ Busy (length nodes) → AwaitsAt cargo aim names i read value m m' →
-      LeavesControl (aimed board x) (Busy (length nodes)) (AwaitsAt cargo (aimed board x) nodes) m m'
+      control_read value ≡ Busy (length nodes) → FindsControl aim (Busy 0) (AwaitsAt cargo aim names) i read value m m' →
+      LeavesControl (aimed board x) (Busy 0) (Busy (length nodes)) (AwaitsAt cargo (aimed board x) nodes) m m'
   awaits-told board i read value x nodes names aim m m' i_is aim_is names_are stamped reads told =
       record {
         read = read;
         left = value;
+        found = subst (λ (a : Aim). FoundControl a.name (Busy 0) read) aim_is told.found;
         says = record { stamp_is = stamped; reads = reads };
-        did = subst (λ (z : List ℕ × (ℕ × Aim)). AwaitsAt cargo z.1.1 z.0 z.1.0 read value m m') (λ k. (names_are k, (i_is k, aim_is k))) told;
+        did = subst (λ (z : List ℕ × (ℕ × Aim)). AwaitsAt cargo z.1.1 z.0 z.1.0 read value m m') (λ k. (names_are k, (i_is k, aim_is k))) told.did;
       }

@@ -3,7 +3,7 @@ use Rattle.std.proofs.Common.{◌≡◌, ◌≢◌, ℕ, false, ◌==◌, List, 
 use Rattle.std.specs.Prelude.{slice_get, Option, None}
 use Rattle.std.specs.Option.{option_map_or}
 use Rattle.std.proofs.lemmas.Bool.{cond-false, ne_eqb}
-use Rattle.life_rules.specs.declared.words.ControlWord.TheVariants.{Busy}
+use Rattle.life_rules.specs.declared.words.ControlWord.TheVariants.{Idle, Busy}
 use Rattle.node_tree.specs.declared.node.TreeNode.{TreeNode}
 use Rattle.life_rules.specs.declared.event.Name.{Name}
 use Rattle.node_tree.specs.Tree.{has_source}
@@ -17,8 +17,9 @@ use Rattle.atomic_table.specs.Table.{Allows}
 use Rattle.table_rules.specs.declared.cargo.Cargo.{Ghosts}
 use Rattle.table_rules.specs.declared.frame.Frame.{Frame}
 use Rattle.table_rules.specs.Running.{Running}
+use Rattle.table_steps.specs.Views.{aimed}
 use Rattle.table_steps.specs.Claims.{with_step, Seated}
-use Rattle.table_steps.specs.Lefts.{LeavesControl}
+use Rattle.table_steps.specs.Lefts.{FoundControl, FindsControl, LeavesControl}
 use Rattle.table_steps.specs.Kids.{empty_slots}
 use Rattle.table_steps.specs.Slots.{Aim, slot_of, kids_of, kept, AreApart, IsSeated}
 use Rattle.table_steps.specs.Begins.{CanBegin, BeginsAt, Renews, IsRenewed, HasRenewed}
@@ -26,10 +27,6 @@ use Rattle.table_kept.proofs.Listing.{AllowsListed, allows-listed, lists-one}
 use Rattle.table_kept.proofs.Begins.{begins_allowed}
 use Rattle.table_kept.proofs.ShedHomes.{kept-each}
 use Rattle.table_kept.proofs.Renewing.{renews_allowed}
-
--- the node that is aimed at, in a table with this frame
-abbrev pub aimed : {O : Type 0} → Frame O → Name → Aim
-aimed f x = record { tree = f.tree; layout = f.layout; name = x }
 
 -- a slot that a hand carries keeps what is in it beside the empty slots of children, since it carries each
 -- slot once
@@ -83,39 +80,41 @@ module _ {P E O : Type 0} (cargo : Ghosts P E O) where
       }
 
   -- the renewal, by the frame that the table shows
-  pub renews-at : (board f : Frame O) (slots id i value : ℕ) (x : Name) (m : Seated P E) → board ≡ f →
-      i ≡ index board.layout (OfSource x.block x.node) → CanBegin cargo board m x → stamp_of value ≡ x.generation →
-      source_read value ≡ clear → AllowsListed cargo f slots id m i (λ _. value) (λ n. Renews i n value m)
-  renews-at board f slots id i value x m same i_is can stamped reads =
-      allows-listed cargo f slots id m i (λ _. value) (λ n. Renews i n value m)
-      (λ n m' told. lists-one i n value m m' m.0 (ap (λ z. z.0) told) refl refl refl refl)
-      (subst (λ z. Allows (Running cargo z) slots id m i (λ _. value) (λ n. Renews i n value m)) same
-      (subst (λ j. Allows (Running cargo board) slots id m j (λ _. value) (λ n. Renews j n value m)) (sym i_is)
+  pub renews-at : (board f : Frame O) (slots id i value : ℕ) (x y : Name) (m : Seated P E) → board ≡ f →
+      i ≡ index board.layout (OfSource x.block x.node) → y ≡ x → CanBegin cargo board m x → stamp_of value ≡ x.generation →
+      source_read value ≡ clear → AllowsListed cargo f slots id m i (λ _. value) (λ n. Renews y i n value m)
+  renews-at board f slots id i value x y m same i_is y_is can stamped reads =
+      allows-listed cargo f slots id m i (λ _. value) (λ n. Renews y i n value m)
+      (λ n m' told. lists-one i n value m m' m.0 (ap (λ z. z.0) told.me_is) refl refl refl refl)
+      (subst (λ z. Allows (Running cargo z) slots id m i (λ _. value) (λ n. Renews y i n value m)) same
+      (subst (λ (z : ℕ × Name). Allows (Running cargo board) slots id m z.0 (λ _. value) (λ n. Renews z.1 z.0 n value m))
+      (λ k. (sym i_is k, sym y_is k))
       (renews_allowed cargo board slots id value x can.owed m can.owes stamped reads)))
 
   -- the store, by the frame that the table shows
   pub begins-at : (board f : Frame O) (slots id i value : ℕ) (x : Name) (aim : Aim) (m : Seated P E) → board ≡ f →
       i ≡ index board.layout (OfControl x.block x.node) → aim ≡ aimed board x → CanBegin cargo board m x →
       HasRenewed (aimed board x) m → stamp_of value ≡ x.generation → control_read value ≡ Busy 0 →
-      AllowsListed cargo f slots id m i (λ _. value) (λ n. BeginsAt cargo aim i n value m)
+      AllowsListed cargo f slots id m i (λ _. value) (λ n. FindsControl aim Idle (BeginsAt cargo aim) i n value m)
   begins-at board f slots id i value x aim m same i_is aim_is can renewed stamped reads =
-      allows-listed cargo f slots id m i (λ _. value) (λ n. BeginsAt cargo aim i n value m)
-      (λ n m' told. lists-one i n value m m' _ (ap (λ z. z.0) told.me_is) refl refl refl refl)
-      (subst (λ z. Allows (Running cargo z) slots id m i (λ _. value) (λ n. BeginsAt cargo aim i n value m)) same
-      (subst (λ (z : ℕ × Aim). Allows (Running cargo board) slots id m z.0 (λ _. value) (λ n. BeginsAt cargo z.1 z.0 n value m))
+      allows-listed cargo f slots id m i (λ _. value) (λ n. FindsControl aim Idle (BeginsAt cargo aim) i n value m)
+      (λ n m' told. lists-one i n value m m' _ (ap (λ z. z.0) told.did.me_is) refl refl refl refl)
+      (subst (λ z. Allows (Running cargo z) slots id m i (λ _. value) (λ n. FindsControl aim Idle (BeginsAt cargo aim) i n value m)) same
+      (subst (λ (z : ℕ × Aim). Allows (Running cargo board) slots id m z.0 (λ _. value) (λ n. FindsControl z.1 Idle (BeginsAt cargo z.1) z.0 n value m))
       (λ k. (sym i_is k, sym aim_is k))
       (begins_allowed cargo board slots id value x m can renewed stamped reads)))
 
   pub begins-told : (board : Frame O) (i read value : ℕ) (x : Name) (aim : Aim) (m m' : Seated P E) →
       i ≡ index board.layout (OfControl x.block x.node) → aim ≡ aimed board x → stamp_of value ≡ x.generation →
-      control_read value ≡ Busy 0 → BeginsAt cargo aim i read value m m' →
-      LeavesControl (aimed board x) (Busy 0) (BeginsAt cargo (aimed board x)) m m'
+      control_read value ≡ Busy 0 → FindsControl aim Idle (BeginsAt cargo aim) i read value m m' →
+      LeavesControl (aimed board x) Idle (Busy 0) (BeginsAt cargo (aimed board x)) m m'
   begins-told board i read value x aim m m' i_is aim_is stamped reads told =
       record {
         read = read;
         left = value;
+        found = subst (λ (a : Aim). FoundControl a.name Idle read) aim_is told.found;
         says = record { stamp_is = stamped; reads = reads };
-        did = subst (λ (z : ℕ × Aim). BeginsAt cargo z.1 z.0 read value m m') (λ k. (i_is k, aim_is k)) told;
+        did = subst (λ (z : ℕ × Aim). BeginsAt cargo z.1 z.0 read value m m') (λ k. (i_is k, aim_is k)) told.did;
       }
 
   -- what lies in the home of the node that was begun is what lay there, and no completion

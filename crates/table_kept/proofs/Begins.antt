@@ -6,7 +6,7 @@ use Rattle.std.proofs.lemmas.Bool.{and_from, cond-true, lt-ltb, le-leb}
 use mathlib.Core.Option.{some}
 use lib.ListN.{get_elem?}
 use Rattle.life_rules.specs.Words.{is_done}
-use Rattle.life_rules.specs.declared.words.ControlWord.TheVariants.{Busy}
+use Rattle.life_rules.specs.declared.words.ControlWord.TheVariants.{Idle, Busy}
 use Rattle.node_tree.specs.declared.node.TreeNode.{TreeNode}
 use Rattle.life_rules.specs.declared.event.Name.{Name}
 use Rattle.node_tree.specs.Tree.{is_child, parent_of, has_source}
@@ -36,7 +36,9 @@ use Rattle.table_rules.specs.ShownViews.{shown_view}
 use Rattle.table_rules.specs.Scenes.{Out, Empty, home_in, Scene, shown, scene}
 use Rattle.table_rules.specs.Notes.{IsOwedSo, children_are_requested}
 use Rattle.table_rules.specs.Running.{Stands, Running}
+use Rattle.table_steps.specs.Views.{aimed}
 use Rattle.table_steps.specs.Claims.{with_step, Seated}
+use Rattle.table_steps.specs.Lefts.{FindsControl}
 use Rattle.table_steps.specs.Slots.{slot_of, kids_of, kept, IsSeated}
 use Rattle.table_steps.specs.Begins.{begins, CanBegin, HasRenewed, BeginsAt, start_shown}
 use Rattle.table_kept.proofs.Entries.{each-map, each-both, found, each-found}
@@ -47,6 +49,7 @@ use Rattle.table_kept.proofs.Stamping.{newest-risen}
 use Rattle.table_kept.proofs.Counts.{counts-moved}
 use Rattle.table_kept.proofs.ViewMoves.{view-here, views-moved}
 use Rattle.table_kept.proofs.ControlRuns.{place_of, place-live, name-live, control-runs}
+use Rattle.table_kept.proofs.FoundNow.{found-control}
 use Rattle.table_kept.proofs.HomeMoves.{home_of_place, empty-home}
 use Rattle.table_kept.proofs.KidSlots.{take_each, each-out, each-valid, deep-after, carries, has-kid, kids-below, kids-descend}
 use Rattle.table_kept.proofs.SeenStands.{seen-stands}
@@ -79,7 +82,7 @@ kids-tested tree p m =
     (λ t. ap (λ b. b && is_child tree p m) (lt-ltb m (length tree) (child-within tree p m t)))
     (λ n. ap (λ b. nat_lt m (length tree) && b) n ∙ none-and (nat_lt m (length tree)) ∙ sym n)
 
-module _ {P E O : Type 0} (cargo : Ghosts P E O) (f : Frame O) (s : table.State (Option P) (View P E)) (id value : ℕ) (x : Name) (v : View P E) (c : List (ℕ × Option P)) (r : Running cargo f s) (at : get_elem? s.views id ≡ some v) (can : CanBegin cargo f (v, c) x) (renewed : HasRenewed (record { tree = f.tree; layout = f.layout; name = x }) (v, c)) (stamped : stamp_of value ≡ x.generation) (reads : control_read value ≡ Busy 0) where
+module _ {P E O : Type 0} (cargo : Ghosts P E O) (f : Frame O) (s : table.State (Option P) (View P E)) (id value : ℕ) (x : Name) (v : View P E) (c : List (ℕ × Option P)) (r : Running cargo f s) (at : get_elem? s.views id ≡ some v) (can : CanBegin cargo f (v, c) x) (renewed : HasRenewed (aimed f x) (v, c)) (stamped : stamp_of value ≡ x.generation) (reads : control_read value ≡ Busy 0) where
   abbrev now : State
   now = shown f s
 
@@ -215,7 +218,7 @@ module _ {P E O : Type 0} (cargo : Ghosts P E O) (f : Frame O) (s : table.State 
   -- the store may be made, and tells what it does
   pub begins-now : (w : View P E) × (a : table.Act (Option P)) × table.Valid s.homes c a
       × Running cargo f (table.stepped s (index f.layout (OfControl x.block x.node)) value id c w a)
-      × BeginsAt cargo (record { tree = f.tree; layout = f.layout; name = x }) (index f.layout (OfControl x.block x.node))
+      × FindsControl (aimed f x) Idle (BeginsAt cargo (aimed f x)) (index f.layout (OfControl x.block x.node))
       (slice_index s.words (index f.layout (OfControl x.block x.node))) value (v, c) (w, table.carried_after c a)
   begins-now =
       let told = nearest_is_requested now x in
@@ -230,21 +233,24 @@ module _ {P E O : Type 0} (cargo : Ghosts P E O) (f : Frame O) (s : table.State 
             (kids-descend f.tree x.node (length f.tree)) kids-empty,
         begin-runs told told_kids (λ t. t) (λ t. t) n refl,
         record {
-          told = told;
-          told_children = told_kids;
-          seen = seen-stands cargo f s id v r at x (x-live now id x may);
-          hears = hears-as cargo f s id v r at x;
-          me_is = λ k. (w, is k);
-          seated = λ old. subst (λ d. IsSeated f.tree f.layout (w, d)) (sym is)
-              (seated-begun cargo f s id x v c r at start told told_kids i n value (kids-descend f.tree x.node (length f.tree)) kids-within kids-home old);
+          found = found-control cargo f s r x (x-live now id x may) Idle (x-idle now id x may);
+          did = record {
+            told = told;
+            told_children = told_kids;
+            seen = seen-stands cargo f s id v r at x (x-live now id x may);
+            hears = hears-as cargo f s id v r at x;
+            me_is = λ k. (w, is k);
+            seated = λ old. subst (λ d. IsSeated f.tree f.layout (w, d)) (sym is)
+                (seated-begun cargo f s id x v c r at start told told_kids i n value (kids-descend f.tree x.node (length f.tree)) kids-within kids-home old);
+          };
         },
       )
 
 -- what the store owes
 pub begins_allowed : {P E O : Type 0} (cargo : Ghosts P E O) (f : Frame O) (slots id value : ℕ) (x : Name) (m : Seated P E) →
-    CanBegin cargo f m x → HasRenewed (record { tree = f.tree; layout = f.layout; name = x }) m → stamp_of value ≡ x.generation →
+    CanBegin cargo f m x → HasRenewed (aimed f x) m → stamp_of value ≡ x.generation →
     control_read value ≡ Busy 0 →
     Allows (Running cargo f) slots id m (index f.layout (OfControl x.block x.node)) (λ _. value)
-    (λ n. BeginsAt cargo (record { tree = f.tree; layout = f.layout; name = x }) (index f.layout (OfControl x.block x.node)) n value m)
+    (λ n. FindsControl (aimed f x) Idle (BeginsAt cargo (aimed f x)) (index f.layout (OfControl x.block x.node)) n value m)
 begins_allowed cargo f slots id value x m can renewed stamped reads s r deep at small =
     begins-now cargo f s id value x m.0 m.1 r at can renewed stamped reads

@@ -4,7 +4,7 @@ use Rattle.std.proofs.Common.{◌≡◌, inl, inr, ℕ, true, false, ◌||◌, �
 use Rattle.std.specs.List.{list_any}
 use Rattle.std.proofs.lemmas.Bool.{both_ways}
 use Rattle.node_tree.specs.declared.node.TreeNode.{TreeNode}
-use Rattle.life_rules.specs.declared.words.ControlWord.TheVariants.{Done}
+use Rattle.life_rules.specs.declared.words.ControlWord.TheVariants.{Busy, Done}
 use Rattle.life_rules.specs.declared.event.Name.{Name}
 use Rattle.node_tree.specs.Tree.{is_root}
 use Rattle.common_lemmas.proofs.Bool.{either}
@@ -18,15 +18,17 @@ use Rattle.table_rules.specs.declared.frame.Frame.{Frame}
 use Rattle.table_rules.specs.declared.view.View.{View}
 use Rattle.table_rules.specs.Named.{without}
 use Rattle.table_rules.specs.Running.{Running}
+use Rattle.table_steps.specs.Views.{aimed}
 use Rattle.table_steps.specs.Claims.{with_step, Seated}
-use Rattle.table_steps.specs.Lefts.{LeavesControl}
+use Rattle.table_steps.specs.Lefts.{FoundControl, FindsControl, LeavesControl}
 use Rattle.table_steps.specs.Slots.{Aim, slot_of, is_of_family, has_slot, IsSeated}
 use Rattle.table_steps.specs.Sheds.{shed}
 use Rattle.table_steps.specs.Finishes.{is_of_kids, CanFinish, owes_report, has_root, FinishesAt}
 use Rattle.table_kept.proofs.Entries.{any-without}
 use Rattle.table_kept.proofs.Listing.{AllowsListed, allows-listed, lists-one}
-use Rattle.table_kept.proofs.BeginTold.{aimed}
 use Rattle.table_kept.proofs.BeginSeats.{or-left, or-right, or-cases}
+use Rattle.table_kept.proofs.FoundNow.{found-control}
+use Rattle.table_kept.proofs.HeldNow.{held}
 use Rattle.table_kept.proofs.Shedding.{sheds, carries-shed}
 use Rattle.table_kept.proofs.ShedHomes.{valid-shed}
 use Rattle.table_kept.proofs.ShedSeats.{each-shed, apart-shed, seated-shed}
@@ -76,11 +78,14 @@ seated-done tree l x start item i n left v c old =
 pub finishes_allowed : {P E O : Type 0} (cargo : Ghosts P E O) (f : Frame O) (slots id value : ℕ) (x : Name) (m : Seated P E) →
     IsSeated f.tree f.layout m → CanFinish cargo f m x → stamp_of value ≡ x.generation → control_read value ≡ Done →
     Allows (Running cargo f) slots id m (index f.layout (OfControl x.block x.node)) (λ _. value)
-    (λ n. FinishesAt cargo (aimed f x) (index f.layout (OfControl x.block x.node)) n value m)
+    (λ n. FindsControl (aimed f x) (Busy 0) (FinishesAt cargo (aimed f x)) (index f.layout (OfControl x.block x.node)) n value m)
 finishes_allowed {P} {E} cargo f slots id value x m seated can stamped reads s r deep at small =
     let i = index f.layout (OfControl x.block x.node) in
     let n = slice_index s.words i in
     let c = m.1 in
+    let leave = can.end.leave in
+    let own = held cargo f s id x m.0 r at leave.held leave.holds in
+    let found = found-control cargo f s r x own.live (Busy 0) own.word in
     either (is_root f.tree x.node)
     (λ root.
     let gone = is_of_kids f.tree f.layout x in
@@ -90,13 +95,16 @@ finishes_allowed {P} {E} cargo f slots id value x m seated can stamped reads s r
       sheds gone c,
       valid-shed cargo f s id m.0 c r at seated gone,
       root-runs cargo f s id value x m.0 c r at seated can.end root stamped reads n refl,
-      (
-        (λ other. absurd (both_ways (is_root f.tree x.node) other root)),
-        (λ _. record {
-          me_is = λ k. (mine, is k);
-          seated = subst (λ d. IsSeated f.tree f.layout (mine, d)) (sym is) (seated-rooted f.tree f.layout x i n value m.0 c seated);
-        }),
-      ),
+      record {
+        found = found;
+        did = (
+          (λ other. absurd (both_ways (is_root f.tree x.node) other root)),
+          (λ _. record {
+            me_is = λ k. (mine, is k);
+            seated = subst (λ d. IsSeated f.tree f.layout (mine, d)) (sym is) (seated-rooted f.tree f.layout x i n value m.0 c seated);
+          }),
+        );
+      },
     ))
     (λ below.
     let done = can.completes below in
@@ -107,16 +115,19 @@ finishes_allowed {P} {E} cargo f slots id value x m seated can stamped reads s r
       sheds gone c,
       valid-shed cargo f s id m.0 c r at seated gone,
       finish-runs cargo f s id value x m.0 c r at seated can.end below done stamped reads n refl,
-      (
-        (λ _. record {
-          item = done.item;
-          home = done.home;
-          me_is = λ k. (mine, is k);
-          seated = subst (λ d. IsSeated f.tree f.layout (mine, d)) (sym is)
-              (seated-done f.tree f.layout x (cargo.start done.item) done.item i n value m.0 c seated);
-        }),
-        (λ root. absurd (both_ways (is_root f.tree x.node) below root)),
-      ),
+      record {
+        found = found;
+        did = (
+          (λ _. record {
+            item = done.item;
+            home = done.home;
+            me_is = λ k. (mine, is k);
+            seated = subst (λ d. IsSeated f.tree f.layout (mine, d)) (sym is)
+                (seated-done f.tree f.layout x (cargo.start done.item) done.item i n value m.0 c seated);
+          }),
+          (λ root. absurd (both_ways (is_root f.tree x.node) below root)),
+        );
+      },
     ))
 
 module _ {P E O : Type 0} (cargo : Ghosts P E O) where
@@ -124,28 +135,29 @@ module _ {P E O : Type 0} (cargo : Ghosts P E O) where
   pub finishes-at : (board f : Frame O) (slots id i value : ℕ) (x : Name) (aim : Aim) (m : Seated P E) → board ≡ f →
       i ≡ index board.layout (OfControl x.block x.node) → aim ≡ aimed board x → IsSeated board.tree board.layout m →
       CanFinish cargo board m x → stamp_of value ≡ x.generation → control_read value ≡ Done →
-      AllowsListed cargo f slots id m i (λ _. value) (λ n. FinishesAt cargo aim i n value m)
+      AllowsListed cargo f slots id m i (λ _. value) (λ n. FindsControl aim (Busy 0) (FinishesAt cargo aim) i n value m)
   finishes-at board f slots id i value x aim m same i_is aim_is seated can stamped reads =
-      allows-listed cargo f slots id m i (λ _. value) (λ n. FinishesAt cargo aim i n value m)
+      allows-listed cargo f slots id m i (λ _. value) (λ n. FindsControl aim (Busy 0) (FinishesAt cargo aim) i n value m)
       (λ n m' told.
       either (is_root aim.tree aim.name.node)
-      (λ root. lists-one i n value m m' _ (ap (λ z. z.0) (told.1 root).me_is) refl refl refl refl)
-      (λ below. lists-one i n value m m' _ (ap (λ z. z.0) (told.0 below).me_is) refl refl refl refl))
-      (subst (λ z. Allows (Running cargo z) slots id m i (λ _. value) (λ n. FinishesAt cargo aim i n value m)) same
-      (subst (λ (z : ℕ × Aim). Allows (Running cargo board) slots id m z.0 (λ _. value) (λ n. FinishesAt cargo z.1 z.0 n value m))
+      (λ root. lists-one i n value m m' _ (ap (λ z. z.0) (told.did.1 root).me_is) refl refl refl refl)
+      (λ below. lists-one i n value m m' _ (ap (λ z. z.0) (told.did.0 below).me_is) refl refl refl refl))
+      (subst (λ z. Allows (Running cargo z) slots id m i (λ _. value) (λ n. FindsControl aim (Busy 0) (FinishesAt cargo aim) i n value m)) same
+      (subst (λ (z : ℕ × Aim). Allows (Running cargo board) slots id m z.0 (λ _. value) (λ n. FindsControl z.1 (Busy 0) (FinishesAt cargo z.1) z.0 n value m))
       (λ k. (sym i_is k, sym aim_is k))
       (finishes_allowed cargo board slots id value x m seated can stamped reads)))
 
   pub finishes-told : (board : Frame O) (i read value : ℕ) (x : Name) (aim : Aim) (m m' : Seated P E) →
       i ≡ index board.layout (OfControl x.block x.node) → aim ≡ aimed board x → stamp_of value ≡ x.generation →
-      control_read value ≡ Done → FinishesAt cargo aim i read value m m' →
-      LeavesControl (aimed board x) Done (FinishesAt cargo (aimed board x)) m m'
+      control_read value ≡ Done → FindsControl aim (Busy 0) (FinishesAt cargo aim) i read value m m' →
+      LeavesControl (aimed board x) (Busy 0) Done (FinishesAt cargo (aimed board x)) m m'
   finishes-told board i read value x aim m m' i_is aim_is stamped reads told =
       record {
         read = read;
         left = value;
+        found = subst (λ (a : Aim). FoundControl a.name (Busy 0) read) aim_is told.found;
         says = record { stamp_is = stamped; reads = reads };
-        did = subst (λ (z : ℕ × Aim). FinishesAt cargo z.1 z.0 read value m m') (λ k. (i_is k, aim_is k)) told;
+        did = subst (λ (z : ℕ × Aim). FinishesAt cargo z.1 z.0 read value m m') (λ k. (i_is k, aim_is k)) told.did;
       }
 
   pub finished-seated : (aim : Aim) (i read left : ℕ) (m m' : Seated P E) → FinishesAt cargo aim i read left m m' →

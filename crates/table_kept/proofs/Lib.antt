@@ -72,6 +72,7 @@ pub mod AwaitSize
 pub mod Turning
 pub mod Swapping
 pub mod Noting
+pub mod FoundNow
 pub mod ReadAllowed
 pub mod Joining
 pub mod TracedHands

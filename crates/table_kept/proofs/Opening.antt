@@ -200,7 +200,7 @@ opens {P} {E} cargo f w n frame tree some_hand as_wide as_deep =
         control = λ b m. said-first f.layout words dull Idle control_read OfControl refl b m k;
         callback = λ b m. said-first f.layout words dull Never callback_read OfCallback refl b m k;
         source = λ b m. said-first f.layout words dull clear source_read OfSource refl b m k;
-        scope_source = source_read (dull 1 k);
+        scope_source = source_read (dull 16 k);
         scope = scope_read (dull 0 k);
         view = λ h. view-blank P E (block_of f.layout words) h k;
       };

@@ -1,10 +1,8 @@
 -- What the loads of a held node's callback, and of its children's control words, owe and tell.
-use Rattle.std.proofs.Common.{◌≡◌, ℕ, Bool, true, false, not, ◌&&◌, ◌==◌, cond, List, ◌∷◌, set, Option, Some, refl, sym, ap, ◌∙◌, subst, arith}
+use Rattle.std.proofs.Common.{◌≡◌, ℕ, Bool, true, false, not, ◌&&◌, ◌==◌, cond, List, ◌∷◌, set, Option, Some, refl, sym, ap, ◌∙◌, subst}
 use Rattle.std.specs.Prelude.{slice_index}
 use Rattle.std.specs.Option.{option_map_or}
-use Rattle.std.proofs.lemmas.Bool.{and_from, both_ways, cond-true, cond-false, lt-ltb}
-use mathlib.Core.Option.{some}
-use lib.ListN.{get_elem?}
+use Rattle.std.proofs.lemmas.Bool.{both_ways, cond-true, cond-false}
 use Rattle.life_rules.specs.declared.words.ControlWord.TheVariants.{Idle}
 use Rattle.life_rules.specs.declared.words.CallbackPhase.{CallbackPhase}
 use Rattle.life_rules.specs.declared.words.CallbackPhase.TheVariants.{Never, Armed, Running as Runs, Ran, Removed}
@@ -19,7 +17,7 @@ use Rattle.life_rules.proofs.Readings.{lives, is_live-from}
 use Rattle.life_kept.proofs.Trees.{parent-child, child-within}
 use Rattle.table_words.specs.declared.layout.Layout.{Layout}
 use Rattle.table_words.specs.Stamps.{stamp_of}
-use Rattle.table_words.specs.Controls.{control_read, callback_read}
+use Rattle.table_words.specs.Controls.{control_read}
 use Rattle.table_words.specs.Layouts.{OfControl, OfCallback, index}
 use Rattle.atomic_table.specs.Table.{Allows, keeps}
 use Rattle.atomic_table.specs.Table as table
@@ -27,7 +25,7 @@ use Rattle.table_rules.specs.declared.cargo.Cargo.{Ghosts}
 use Rattle.table_rules.specs.declared.frame.Frame.{Frame}
 use Rattle.table_rules.specs.declared.view.View.{View}
 use Rattle.table_rules.specs.declared.view.Held.{Held}
-use Rattle.table_rules.specs.ShownWords.{is_there, is_said, said_at, word_of}
+use Rattle.table_rules.specs.ShownWords.{word_of}
 use Rattle.table_rules.specs.Scenes.{shown}
 use Rattle.table_rules.specs.Notes.{is_still}
 use Rattle.table_rules.specs.Running.{Running}
@@ -35,7 +33,7 @@ use Rattle.table_steps.specs.Claims.{logged, Seated, ListsOne}
 use Rattle.table_steps.specs.Slots.{IsSeated}
 use Rattle.table_steps.specs.Readings.{notes_phase, above_it, says_begun, says_phase, notes_idle, reads_child, reads_phase, HoldsAbove, Holds}
 use Rattle.table_kept.proofs.Listing.{AllowsListed, allows-listed, lists-one}
-use Rattle.table_kept.proofs.ControlRuns.{open-kept}
+use Rattle.table_kept.proofs.FoundNow.{phase-said, control-said}
 use Rattle.table_kept.proofs.Loads.{looks_keep}
 use Rattle.table_kept.proofs.BeginSeats.{seated-logged}
 use Rattle.table_kept.proofs.HeldNow.{held}
@@ -58,32 +56,9 @@ pub above-is : {P E : Type 0} (f : List TreeNode) (v : View P E) (child : Name) 
     above_it f child ≡ beside child h.parent
 above-is f v child h = ap (λ o. option_map_or (λ p. beside child p) o child) h.parent_is
 
-module _ {P E O : Type 0} (cargo : Ghosts P E O) (f : Frame O) (s : table.State (Option P) (View P E)) (id : ℕ) (x : Name) (v : View P E) (r : Running cargo f s) (at : get_elem? s.views id ≡ some v) where
+module _ {P E O : Type 0} (cargo : Ghosts P E O) (f : Frame O) (s : table.State (Option P) (View P E)) (r : Running cargo f s) (x : Name) where
   abbrev now : State
   now = shown f s
-
-  -- at the block's generation a live place's word is said, at another it isn't
-  said-is : (y : Name) → is_live now y ≡ true → (w : ℕ) → is_said (now.block y.block) w ≡ (stamp_of w == y.generation)
-  said-is y live w =
-      let l = lives now y live in
-      (λ k. not (open-kept (now.block y.block).state l.is_opened k) && stamp_of w == (now.block y.block).generation)
-      ∙ ap (λ g. stamp_of w == g) (sym l.generation)
-
-  there : (y : Name) → is_live now y ≡ true → is_there f.layout y.block y.node ≡ true
-  there y live =
-      let l = lives now y live in
-      let node = l.node in
-      let e = r.frame.nodes in
-      and_from _ _ (lt-ltb y.block f.layout.blocks l.block) (lt-ltb y.node f.layout.nodes (omega (arith, node, e)))
-
-  -- the phase that the word says is the node's
-  pub phase-said : is_live now x ≡ true →
-      phase_at now x ≡ says_phase x.generation (word_of f.layout s.words (OfCallback x.block x.node))
-  phase-said live =
-      let w = word_of f.layout s.words (OfCallback x.block x.node) in
-      cond-true (is_live now x) (now.callback x.block x.node) Never live
-      ∙ cond-true (is_there f.layout x.block x.node) (said_at (now.block x.block) Never callback_read w) Never (there x live)
-      ∙ ap (λ b. cond b (callback_read w) Never) (said-is x live w)
 
   -- a child that isn't said to have begun is idle
   pub idle-said : (n : ℕ) → is_live now x ≡ true → is_child f.tree x.node n ≡ true →
@@ -98,9 +73,7 @@ module _ {P E O : Type 0} (cargo : Ghosts P E O) (f : Frame O) (s : table.State 
         generation = l.generation;
       }) in
       let w = word_of f.layout s.words (OfControl x.block n) in
-      ap is_idle (cond-true (is_live now y) (now.control x.block n) Idle y_live
-      ∙ cond-true (is_there f.layout x.block n) (said_at (now.block x.block) Idle control_read w) Idle (there y y_live)
-      ∙ ap (λ b. cond b (control_read w) Idle) (said-is y y_live w))
+      ap is_idle (control-said cargo f s r y y_live)
       ∙ either (stamp_of w == x.generation)
       (λ t. ap (λ b. is_idle (cond b (control_read w) Idle)) t ∙ idle-either (stamp_of w == x.generation) (is_idle (control_read w)) unsaid t)
       (λ no. ap (λ b. is_idle (cond b (control_read w) Idle)) no)
@@ -125,7 +98,7 @@ phase_allowed cargo f slots id x m h s r deep at small =
             told_children = so.told_children;
             lot = so.lot;
             phase = subst (λ z. is_still phase (phase_at (shown f s) z)) (sym name)
-                (subst (is_still phase) (sym (phase-said cargo f s id x m.0 r at live)) (still-refl phase));
+                (subst (is_still phase) (sym (phase-said cargo f s r x live)) (still-refl phase));
             idle = so.idle;
           }),
       refl,
@@ -161,7 +134,7 @@ child_allowed {P} {E} cargo f slots id x n m h child s r deep at small =
             phase = so.phase;
             idle = (
               subst (λ z. (is_child f.tree z.node n ≡ true) × (is_idle (control_at (shown f s) (beside z n)) ≡ true)) (sym name)
-                  (child, idle-said cargo f s id x m.0 r at n live child idle),
+                  (child, idle-said cargo f s r x n live child idle),
               so.idle,
             );
           }))),

@@ -7,7 +7,6 @@ use mathlib.Core.Option.{some}
 use mathlib.Core.Option as maybe
 use lib.ListN.{get_elem?}
 use Rattle.life_rules.specs.declared.words.BlockWord.{BlockWord}
-use Rattle.life_rules.specs.declared.words.BlockState.TheVariants.{Open}
 use Rattle.node_tree.specs.declared.node.TreeNode.{TreeNode}
 use Rattle.life_rules.specs.declared.event.Name.{Name}
 use Rattle.life_rules.specs.Words.{is_open}
@@ -25,13 +24,13 @@ use Rattle.table_rules.specs.Named.{without}
 use Rattle.table_rules.specs.Running.{Running}
 use Rattle.table_rules.specs.Scenes.{Empty, home_in}
 use Rattle.table_rules.specs.ShownWords.{block_of, is_there}
+use Rattle.table_steps.specs.Views.{aimed}
 use Rattle.table_steps.specs.Claims.{with_step, Seated}
 use Rattle.table_steps.specs.Slots.{Aim, slot_of, is_of_family, has_slot, IsSeated}
 use Rattle.table_steps.specs.Sheds.{shed}
-use Rattle.table_steps.specs.Releases.{releases, is_own_slot, CanRelease, ReleasesAt, word_after, LeftEmpty, StayEmpty, TellsRelease, LeavesBlock}
+use Rattle.table_steps.specs.Releases.{releases, is_own_slot, CanRelease, ReleasesAt, open_at, word_after, LeftEmpty, StayEmpty, TellsRelease, LeavesBlock}
 use Rattle.table_kept.proofs.Listing.{AllowsListed, allows-listed, lists-one}
 use Rattle.table_kept.proofs.Entries.{any-without}
-use Rattle.table_kept.proofs.BeginTold.{aimed}
 use Rattle.table_kept.proofs.BeginSeats.{or-left, or-right, or-cases}
 use Rattle.table_kept.proofs.Shedding.{sheds, carries-shed}
 use Rattle.table_kept.proofs.ShedHomes.{valid-shed}
@@ -40,7 +39,7 @@ use Rattle.table_kept.proofs.HomeMoves.{empty-home}
 use Rattle.table_kept.proofs.Seats.{at_within}
 use Rattle.table_kept.proofs.OpenBlocks.{next-closed}
 use Rattle.table_kept.proofs.ReleaseMoves.{block-released}
-use Rattle.table_kept.proofs.ReleaseRuns.{hb, word-next, release-runs}
+use Rattle.table_kept.proofs.ReleaseRuns.{hb, word-next, release-runs, found-open}
 
 -- another slot is still given to the hand
 given-released : {P E : Type 0} (tree : List TreeNode) (l : Layout) (x : Name) (i n left : ℕ) (v : View P E) (slot : ℕ) →
@@ -105,7 +104,7 @@ module _ {P E O : Type 0} (cargo : Ghosts P E O) (f : Frame O) (s : table.State 
         runs = runs;
         view = set_here s.views id mine (at_within s.views id m.0 at);
         reads = now-reads;
-        empty = stay-empty cargo f b below _ runs (ap (λ w. is_open w.state) now-reads ∙ next-closed (record { generation = g; state = Open }));
+        empty = stay-empty cargo f b below _ runs (ap (λ w. is_open w.state) now-reads ∙ next-closed (open_at g));
       }
 
 -- what the store owes
@@ -125,13 +124,14 @@ releases_allowed {P} {E} cargo f slots id value b g m seated can reads s r deep 
       sheds gone m.1,
       valid-shed cargo f s id m.0 m.1 r at seated gone,
       runs,
-      (
-        record {
+      record {
+        found = found-open cargo f s id value b g m.0 m.1 r at seated can reads;
+        did = record {
           me_is = λ k. (mine, is k);
           seated = subst (λ d. IsSeated f.tree f.layout (mine, d)) (sym is) (seated-released f.tree f.layout x i n value m.0 m.1 seated);
-        },
-        (left-empty cargo f s id value b g m r at seated can reads mine _ _ runs, tt),
-      ),
+        };
+        empty = (left-empty cargo f s id value b g m r at seated can reads mine _ _ runs, tt);
+      },
     )
 
 module _ {P E O : Type 0} (cargo : Ghosts P E O) where
@@ -142,7 +142,7 @@ module _ {P E O : Type 0} (cargo : Ghosts P E O) where
       AllowsListed cargo f slots id m i (λ _. value) (λ n. TellsRelease cargo frames hand aim i n value m)
   releases-at board f slots id i value b g hand aim frames m same i_is aim_is frames_is hand_is seated can reads =
       allows-listed cargo f slots id m i (λ _. value) (λ n. TellsRelease cargo frames hand aim i n value m)
-      (λ n m' told. lists-one i n value m m' _ (ap (λ z. z.0) told.0.me_is) refl refl refl refl)
+      (λ n m' told. lists-one i n value m m' _ (ap (λ z. z.0) told.did.me_is) refl refl refl refl)
       (subst (λ z. Allows (Running cargo z) slots id m i (λ _. value) (λ n. TellsRelease cargo frames hand aim i n value m)) same
       (subst (λ (z : ℕ × Aim × List (Frame O) × ℕ). Allows (Running cargo board) slots id m z.0 (λ _. value)
       (λ n. TellsRelease cargo z.2 z.3 z.1 z.0 n value m))
@@ -156,8 +156,9 @@ module _ {P E O : Type 0} (cargo : Ghosts P E O) where
       record {
         read = read;
         left = value;
+        found = subst (λ (a : Aim). block_read read ≡ open_at a.name.generation) aim_is told.found;
         says = says;
-        did = subst (λ (z : ℕ × Aim). ReleasesAt z.1 z.0 read value m m') (λ k. (i_is k, aim_is k)) told.0;
+        did = subst (λ (z : ℕ × Aim). ReleasesAt z.1 z.0 read value m m') (λ k. (i_is k, aim_is k)) told.did;
       }
 
   pub empties-told : (board : Frame O) (i hand id read value : ℕ) (x : Name) (aim : Aim) (frames : List (Frame O)) (m m' : Seated P E) →
@@ -165,4 +166,4 @@ module _ {P E O : Type 0} (cargo : Ghosts P E O) where
       LeftEmpty cargo board id x.block (word_after x.generation) m'
   empties-told board i hand id read value x aim frames m m' aim_is frames_is hand_is told =
       (subst (λ (z : Aim × List (Frame O) × ℕ). TellsRelease cargo z.1 z.2 z.0 i read value m m')
-      (λ k. (aim_is k, frames_is k, hand_is k)) told).1.0
+      (λ k. (aim_is k, frames_is k, hand_is k)) told).empty.0

@@ -1,6 +1,6 @@
 -- The store by which a block is given back keeps the rule.
 use Rattle.std.specs.Prelude.{slice_index}
-use Rattle.std.proofs.Common.{◌≡◌, ℕ, ◌-◌, ◌<◌, ◌≤◌, Bool, true, ◌&&◌, ◌==◌, cond, List, length, set, Option, None, refl, sym, ap, ◌∙◌, subst, arith, length-set, ◌^◌, ◌∷◌}
+use Rattle.std.proofs.Common.{◌≡◌, ℕ, ◌-◌, ◌<◌, ◌≤◌, nat_lt, Bool, true, ◌&&◌, ◌==◌, cond, List, length, set, Option, None, refl, sym, ap, ◌∙◌, subst, arith, length-set, ◌^◌, ◌∷◌}
 use Rattle.std.proofs.lemmas.Bool.{and_parts, and_from, both_ways, cond-true, cond-false, eqb-true, eq-eqb, false_from_ne_true, le-leb, lt-ltb}
 use Rattle.std.proofs.lemmas.Nat.{same_from_place}
 use mathlib.Core.Option.{some}
@@ -10,7 +10,8 @@ use Rattle.life_rules.specs.declared.words.BlockWord.{BlockWord}
 use Rattle.life_rules.specs.declared.words.ControlWord.TheVariants.{Idle}
 use Rattle.life_rules.specs.declared.words.CallbackPhase.TheVariants.{Never}
 use Rattle.life_rules.specs.declared.event.Name.{Name}
-use Rattle.life_rules.specs.declared.words.BlockState.TheVariants.{Open}
+use Rattle.life_rules.specs.declared.words.BlockState.{BlockState}
+use Rattle.life_rules.specs.declared.words.BlockState.TheVariants.{Free, Open, Retired}
 use Rattle.node_tree.specs.Tree.{is_root}
 use Rattle.life_rules.specs.Words.{is_idle, is_done, clear, is_open}
 use Rattle.life_rules.specs.Views.{View as PureView, lose, forget}
@@ -58,6 +59,11 @@ use Rattle.table_kept.proofs.ReleasingViews.{known-released}
 use Rattle.table_kept.proofs.ReleaseMoves.{released_words, place-kept, block-released, stamp-later, said-released}
 use Rattle.table_kept.proofs.Forgetting.{views-forget}
 use Rattle.table_kept.proofs.ReleaseStamps.{settled-after, quiet-after, renewed-after, number-more}
+
+open-is : (w : BlockState) → is_open w ≡ true → w ≡ Open
+open-is Free o = cc
+open-is Open o = refl
+open-is Retired o = cc
 
 module _ {P E O : Type 0} (cargo : Ghosts P E O) (f : Frame O) (s : table.State (Option P) (View P E)) (id value b g : ℕ) (v : View P E) (c : List (ℕ × Option P)) (r : Running cargo f s) (at : get_elem? s.views id ≡ some v) (seated : IsSeated f.tree f.layout (v, c)) (can : CanRelease f.layout (v, c) (record { block = b; generation = g; node = length f.tree - 1 })) (reads : block_read value ≡ next_word (record { generation = g; state = Open })) where
   abbrev now : State
@@ -158,6 +164,13 @@ module _ {P E O : Type 0} (cargo : Ghosts P E O) (f : Frame O) (s : table.State 
 
   opened : is_open (old_blocks b).state ≡ true
   opened = (lives now x live).is_opened
+
+  -- so says the word that the step finds
+  pub found-open : block_read (word_of f.layout s.words (OfBlock b)) ≡ record { generation = g; state = Open }
+  found-open =
+      let read = block_read (word_of f.layout s.words (OfBlock b)) in
+      sym (cond-true (nat_lt b f.layout.blocks) read (record { generation = 0; state = Free }) (lt-ltb b f.layout.blocks hb))
+      ∙ (λ k. record { generation = sym (lives now x live).generation k; state = open-is (old_blocks b).state opened k })
 
   module _ (n : ℕ) where
     abbrev i : ℕ

@@ -33,6 +33,7 @@ use Rattle.table_rules.specs.Scenes.{shown, scene}
 use Rattle.table_rules.specs.Grown.{HasBitsOfSource, IsLaterSource}
 use Rattle.table_rules.specs.Running.{Stands, Running}
 use Rattle.table_steps.specs.Claims.{with_step, Seated}
+use Rattle.table_steps.specs.Lefts.{FoundSource}
 use Rattle.table_steps.specs.Begins.{Renews}
 use Rattle.table_kept.proofs.Entries.{found}
 use Rattle.table_kept.proofs.Seats.{at_within}
@@ -43,6 +44,7 @@ use Rattle.table_kept.proofs.ViewMoves.{view-here, view-kept, views-same, views-
 use Rattle.table_kept.proofs.WordMoves.{word-here}
 use Rattle.table_kept.proofs.PlaceMoves as places
 use Rattle.table_kept.proofs.ControlRuns.{open-kept}
+use Rattle.table_kept.proofs.FoundNow.{found-as}
 
 module _ {P E O : Type 0} (cargo : Ghosts P E O) (f : Frame O) (s : table.State (Option P) (View P E)) (id value : ℕ) (x : Name) (owed : Owed E) (v : View P E) (r : Running cargo f s) (at : get_elem? s.views id ≡ some v) (owes : find_by (λ e. e.name) v.owed x ≡ Some owed) (stamped : stamp_of value ≡ x.generation) (reads : source_read value ≡ clear) where
   abbrev now : State
@@ -92,6 +94,9 @@ module _ {P E O : Type 0} (cargo : Ghosts P E O) (f : Frame O) (s : table.State 
   source-before =
       sym (cond-true (is_live now x) (now.source x.block x.node) clear start.live)
       ∙ (r.stands.sound.begins x (ap is_idle start.word)).source
+
+  pub found-clear : FoundSource x clear (word_of f.layout s.words at_spot)
+  found-clear = found-as cargo f s r x start.live clear source_read OfSource clear (r.stamped.source x.block x.node place-b place-n) source-before
 
   source-now : source_of f.layout words x.block x.node ≡ clear
   source-now =
@@ -260,12 +265,12 @@ module _ {P E O : Type 0} (cargo : Ghosts P E O) (f : Frame O) (s : table.State 
 pub renews_allowed : {P E O : Type 0} (cargo : Ghosts P E O) (f : Frame O) (slots id value : ℕ) (x : Name) (owed : Owed E) (m : Seated P E) →
     find_by (λ e. e.name) m.0.owed x ≡ Some owed → stamp_of value ≡ x.generation → source_read value ≡ clear →
     Allows (Running cargo f) slots id m (index f.layout (OfSource x.block x.node)) (λ _. value)
-    (λ n. Renews (index f.layout (OfSource x.block x.node)) n value m)
+    (λ n. Renews x (index f.layout (OfSource x.block x.node)) n value m)
 renews_allowed cargo f slots id value x owed m owes stamped reads s r deep at small =
     let i = index f.layout (OfSource x.block x.node) in (
       with_step i (slice_index s.words i) value m.0,
       keeps,
       tt,
       renewal-runs cargo f s id value x owed m.0 r at owes stamped reads,
-      refl,
+      record { found = found-clear cargo f s id value x owed m.0 r at owes stamped reads; me_is = refl },
     )

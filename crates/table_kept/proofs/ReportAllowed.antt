@@ -30,12 +30,12 @@ use Rattle.table_rules.specs.ShownWords.{is_there, is_said, said_at}
 use Rattle.table_rules.specs.Scenes.{Empty, Full, home_in, shown, scene}
 use Rattle.table_rules.specs.Notes.{children_are_requested}
 use Rattle.table_rules.specs.Running.{Running}
+use Rattle.table_steps.specs.Views.{aimed}
 use Rattle.table_steps.specs.Lefts.{less_one}
 use Rattle.table_steps.specs.Claims.{with_step, Seated}
 use Rattle.table_steps.specs.Slots.{Aim, slot_of, kids_of, is_of_family, has_slot, IsSeated}
 use Rattle.table_steps.specs.Reports.{CanReport, reports_off, holds_last, laid, LastAt, ReportsAt, CountsDown}
 use Rattle.table_kept.proofs.Listing.{AllowsListed, allows-listed, lists-one}
-use Rattle.table_kept.proofs.BeginTold.{aimed}
 use Rattle.table_kept.proofs.Entries.{each-map, each-both}
 use Rattle.table_kept.proofs.KidSlots.{kids-descend}
 use Rattle.table_kept.proofs.SlotsOut.{apart-home}

@@ -14,6 +14,7 @@ use Rattle.atomic_table.specs.Table.{step}
 use Rattle.table_rules.specs.declared.cargo.Cargo.{Ghosts}
 use Rattle.table_rules.specs.declared.frame.Frame.{Frame}
 use Rattle.table_rules.specs.declared.view.View.{View}
+use Rattle.table_steps.specs.Views.{aimed}
 use Rattle.table_steps.specs.Lefts.{less_one}
 use Rattle.table_steps.specs.declared.report.Report.{Report}
 use Rattle.table_steps.specs.declared.report.Report.TheVariants.{Last, Others}
@@ -22,7 +23,6 @@ use Rattle.table_steps.specs.Slots.{Aim, IsSeated}
 use Rattle.table_steps.specs.Readings.{above_it}
 use Rattle.table_steps.specs.Reports.{CanReport, reports_off, LastAt, ReportsAt, IsReportedAs, CountsDown}
 use Rattle.table_kept.proofs.Listing.{AllowsListed}
-use Rattle.table_kept.proofs.BeginTold.{aimed}
 use Rattle.table_kept.proofs.BeginSeats.{seated-listed}
 use Rattle.table_kept.proofs.ReportWords.{IsExact}
 use Rattle.table_kept.proofs.ReportAllowed.{reports-at}

@@ -5,6 +5,7 @@ use Rattle.std.proofs.lemmas.Bool.{and_from, both_ways, eq-eqb}
 use mathlib.Core.Option.{some}
 use lib.ListN.{get_elem?}
 use Rattle.life_rules.specs.declared.words.ControlWord.{ControlWord}
+use Rattle.life_rules.specs.declared.words.ControlWord.TheVariants.{Busy}
 use Rattle.life_rules.specs.declared.event.Name.{Name}
 use Rattle.life_rules.specs.declared.event.Resting.{Resting}
 use Rattle.life_rules.specs.declared.event.Resting.TheVariants.{Loop, Pool, Parked}
@@ -33,8 +34,10 @@ use Rattle.table_rules.specs.ShownViews.{shown_view}
 use Rattle.table_rules.specs.Scenes.{Home, Empty, Full, is_out, is_full, Scene, shown, scene}
 use Rattle.table_rules.specs.Homes.{is_waiting}
 use Rattle.table_rules.specs.Running.{Stands, Running}
+use Rattle.table_steps.specs.Views.{aimed}
 use Rattle.table_steps.specs.Claims.{with_step, Seated}
-use Rattle.table_steps.specs.Slots.{slot_of, is_of_family, IsSeated}
+use Rattle.table_steps.specs.Lefts.{FindsControl}
+use Rattle.table_steps.specs.Slots.{Aim, slot_of, is_of_family, IsSeated}
 use Rattle.table_steps.specs.Rests.{lets_go, CanRest, RestsAt}
 use Rattle.table_kept.proofs.Entries.{count-without}
 use Rattle.table_kept.proofs.Among.{among}
@@ -42,6 +45,7 @@ use Rattle.table_kept.proofs.Loads.{known-listed}
 use Rattle.table_kept.proofs.Counts.{counts-moved}
 use Rattle.table_kept.proofs.ViewMoves.{views-moved}
 use Rattle.table_kept.proofs.ControlRuns.{place_of, place-live, name-live, control-runs, begun-renewed}
+use Rattle.table_kept.proofs.FoundNow.{found-control}
 use Rattle.table_kept.proofs.HeldNow.{start-so, named-so, fit-now, others-none}
 use Rattle.table_kept.proofs.BeginSeats.{or-left, kid-of-family}
 use Rattle.table_kept.proofs.Shedding.{sheds, carries-shed, deep-shed}
@@ -77,6 +81,9 @@ module _ {P E O : Type 0} (cargo : Ghosts P E O) (f : Frame O) (s : table.State 
 
   abbrev w : ControlWord
   w = resting_at to
+
+  abbrev aim : Aim
+  aim = aimed f x
 
   rest : IsAtRest w
   rest = at-rest to
@@ -217,7 +224,7 @@ module _ {P E O : Type 0} (cargo : Ghosts P E O) (f : Frame O) (s : table.State 
 
   pub rests-now : (mine : View P E) × (a : table.Act (Option P)) × table.Valid s.homes c a
       × Running cargo f (table.stepped s (index f.layout (OfControl x.block x.node)) value id c mine a)
-      × RestsAt (record { tree = f.tree; layout = f.layout; name = x }) (index f.layout (OfControl x.block x.node))
+      × FindsControl aim (Busy 0) (RestsAt aim) (index f.layout (OfControl x.block x.node))
       (slice_index s.words (index f.layout (OfControl x.block x.node))) value (v, c) (mine, table.carried_after c a)
   rests-now =
       let i = index f.layout (OfControl x.block x.node) in
@@ -229,9 +236,12 @@ module _ {P E O : Type 0} (cargo : Ghosts P E O) (f : Frame O) (s : table.State 
         valid-shed cargo f s id v c r at seated gone,
         rest-runs n refl,
         record {
-          me_is = λ k. (mine, is k);
-          seated = subst (λ d. IsSeated f.tree f.layout (mine, d)) (sym is)
-              (seated-shed f.tree f.layout x i n value v c seated);
+          found = found-control cargo f s r x held-now.live (Busy 0) held-now.word;
+          did = record {
+            me_is = λ k. (mine, is k);
+            seated = subst (λ d. IsSeated f.tree f.layout (mine, d)) (sym is)
+                (seated-shed f.tree f.layout x i n value v c seated);
+          };
         },
       )
 
@@ -239,6 +249,6 @@ module _ {P E O : Type 0} (cargo : Ghosts P E O) (f : Frame O) (s : table.State 
 pub rests_allowed : {P E O : Type 0} (cargo : Ghosts P E O) (f : Frame O) (slots id value : ℕ) (x : Name) (to : Resting) (m : Seated P E) →
     IsSeated f.tree f.layout m → CanRest cargo f m x → stamp_of value ≡ x.generation → control_read value ≡ resting_at to →
     Allows (Running cargo f) slots id m (index f.layout (OfControl x.block x.node)) (λ _. value)
-    (λ n. RestsAt (record { tree = f.tree; layout = f.layout; name = x }) (index f.layout (OfControl x.block x.node)) n value m)
+    (λ n. FindsControl (aimed f x) (Busy 0) (RestsAt (aimed f x)) (index f.layout (OfControl x.block x.node)) n value m)
 rests_allowed cargo f slots id value x to m seated can stamped reads s r deep at small =
     rests-now cargo f s id value x to m.0 m.1 r at seated can stamped reads

@@ -16,13 +16,13 @@ use Rattle.atomic_table.specs.Table.{Allows, step}
 use Rattle.table_rules.specs.declared.cargo.Cargo.{Ghosts}
 use Rattle.table_rules.specs.declared.frame.Frame.{Frame}
 use Rattle.table_rules.specs.Running.{Running}
-use Rattle.table_steps.specs.Lefts.{LeavesControl, SaysControl}
+use Rattle.table_steps.specs.Views.{aimed}
+use Rattle.table_steps.specs.Lefts.{SaysControl, FoundControl, FindsControl, LeavesControl}
 use Rattle.table_steps.specs.Claims.{logged, Seated, ListsOne}
 use Rattle.table_steps.specs.Slots.{Aim, IsSeated}
 use Rattle.table_steps.specs.Rests.{CanRest, RestsAt}
 use Rattle.table_steps.specs.Takes.{MayServe, TakenAt, TakesAt, IsTaken, rest_word}
 use Rattle.table_kept.proofs.Listing.{AllowsListed, allows-listed, lists-one}
-use Rattle.table_kept.proofs.BeginTold.{aimed}
 use Rattle.table_kept.proofs.BeginSeats.{seated-logged}
 use Rattle.table_kept.proofs.RestRuns.{rests_allowed}
 use Rattle.table_kept.proofs.TakeAllowed.{takes_allowed}
@@ -37,25 +37,26 @@ module _ {P E O : Type 0} (cargo : Ghosts P E O) where
   pub rests-at : (board f : Frame O) (slots id i value : ℕ) (x : Name) (to : Resting) (aim : Aim) (m : Seated P E) → board ≡ f →
       i ≡ index board.layout (OfControl x.block x.node) → aim ≡ aimed board x → IsSeated board.tree board.layout m →
       CanRest cargo board m x → stamp_of value ≡ x.generation → control_read value ≡ resting_at to →
-      AllowsListed cargo f slots id m i (λ _. value) (λ n. RestsAt aim i n value m)
+      AllowsListed cargo f slots id m i (λ _. value) (λ n. FindsControl aim (Busy 0) (RestsAt aim) i n value m)
   rests-at board f slots id i value x to aim m same i_is aim_is seated can stamped reads =
-      allows-listed cargo f slots id m i (λ _. value) (λ n. RestsAt aim i n value m)
-      (λ n m' told. lists-one i n value m m' _ (ap (λ z. z.0) told.me_is) refl refl refl refl)
-      (subst (λ z. Allows (Running cargo z) slots id m i (λ _. value) (λ n. RestsAt aim i n value m)) same
-      (subst (λ (z : ℕ × Aim). Allows (Running cargo board) slots id m z.0 (λ _. value) (λ n. RestsAt z.1 z.0 n value m))
+      allows-listed cargo f slots id m i (λ _. value) (λ n. FindsControl aim (Busy 0) (RestsAt aim) i n value m)
+      (λ n m' told. lists-one i n value m m' _ (ap (λ z. z.0) told.did.me_is) refl refl refl refl)
+      (subst (λ z. Allows (Running cargo z) slots id m i (λ _. value) (λ n. FindsControl aim (Busy 0) (RestsAt aim) i n value m)) same
+      (subst (λ (z : ℕ × Aim). Allows (Running cargo board) slots id m z.0 (λ _. value) (λ n. FindsControl z.1 (Busy 0) (RestsAt z.1) z.0 n value m))
       (λ k. (sym i_is k, sym aim_is k))
       (rests_allowed cargo board slots id value x to m seated can stamped reads)))
 
   pub rests-told : (board : Frame O) (i read value : ℕ) (x : Name) (to : Resting) (aim : Aim) (m m' : Seated P E) →
       i ≡ index board.layout (OfControl x.block x.node) → aim ≡ aimed board x → stamp_of value ≡ x.generation →
-      control_read value ≡ resting_at to → RestsAt aim i read value m m' →
-      LeavesControl (aimed board x) (resting_at to) (RestsAt (aimed board x)) m m'
+      control_read value ≡ resting_at to → FindsControl aim (Busy 0) (RestsAt aim) i read value m m' →
+      LeavesControl (aimed board x) (Busy 0) (resting_at to) (RestsAt (aimed board x)) m m'
   rests-told board i read value x to aim m m' i_is aim_is stamped reads told =
       record {
         read = read;
         left = value;
+        found = subst (λ (a : Aim). FoundControl a.name (Busy 0) read) aim_is told.found;
         says = record { stamp_is = stamped; reads = reads };
-        did = subst (λ (z : ℕ × Aim). RestsAt z.1 z.0 read value m m') (λ k. (i_is k, aim_is k)) told;
+        did = subst (λ (z : ℕ × Aim). RestsAt z.1 z.0 read value m m') (λ k. (i_is k, aim_is k)) told.did;
       }
 
   -- the exchange, by the frame that the table shows

@@ -29,12 +29,12 @@ use Rattle.table_rules.specs.declared.frame.Frame.{Frame}
 use Rattle.table_rules.specs.declared.view.View.{View}
 use Rattle.table_rules.specs.Scenes.{shown}
 use Rattle.table_rules.specs.Running.{Running}
+use Rattle.table_steps.specs.Views.{aimed}
 use Rattle.table_steps.specs.Claims.{with_step, logged, ListsOne, Seated}
 use Rattle.table_steps.specs.Slots.{Aim, IsSeated}
 use Rattle.table_steps.specs.ScanOrders.{hears}
 use Rattle.table_steps.specs.Runs.{says_armed, place_named, node_named, runs_place, passes_place, meets_at, RunsAt, CanRun, IsOfScan, IsNewest}
 use Rattle.table_kept.proofs.Listing.{AllowsListed, allows-listed, lists-one}
-use Rattle.table_kept.proofs.BeginTold.{aimed}
 use Rattle.table_kept.proofs.BeginSeats.{seated-logged}
 use Rattle.table_kept.proofs.Stamping.{newest-risen}
 use Rattle.table_kept.proofs.Loads.{looks_keep}

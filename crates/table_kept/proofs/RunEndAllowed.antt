@@ -2,7 +2,7 @@
 use Rattle.std.proofs.Common.{◌≡◌, ℕ, List, refl, sym, subst, ap}
 use Rattle.std.specs.Prelude.{Some, slice_index}
 use Rattle.node_tree.specs.declared.node.TreeNode.{TreeNode}
-use Rattle.life_rules.specs.declared.words.CallbackPhase.TheVariants.{Ran, Removed}
+use Rattle.life_rules.specs.declared.words.CallbackPhase.TheVariants.{Running, Ran, Removed}
 use Rattle.life_rules.specs.declared.event.Name.{Name}
 use Rattle.table_words.specs.declared.layout.Layout.{Layout}
 use Rattle.table_words.specs.Stamps.{stamp_of}
@@ -12,51 +12,52 @@ use Rattle.atomic_table.specs.Table.{Allows, keeps}
 use Rattle.table_rules.specs.declared.cargo.Cargo.{Ghosts}
 use Rattle.table_rules.specs.declared.frame.Frame.{Frame}
 use Rattle.table_rules.specs.declared.view.Held.{Held}
-use Rattle.table_rules.specs.Running.{Running}
+use Rattle.table_rules.specs.Running as holds
+use Rattle.table_steps.specs.Views.{aimed}
 use Rattle.table_steps.specs.Claims.{with_step, Seated}
 use Rattle.table_steps.specs.Slots.{Aim, IsSeated}
+use Rattle.table_steps.specs.Callbacks.{FindsCallback}
 use Rattle.table_steps.specs.RunEnds.{CanEndRun, CanWithdrawOwn, ends_run, removes_own}
 use Rattle.table_kept.proofs.Listing.{AllowsListed, allows-listed, lists-one}
-use Rattle.table_kept.proofs.BeginTold.{aimed}
 use Rattle.table_kept.proofs.Noting.{seated-noted}
-use Rattle.table_kept.proofs.RunEndRuns.{end-runs, remove-runs}
+use Rattle.table_kept.proofs.RunEndRuns.{found-running, end-runs, remove-runs}
 
 module _ {P E O : Type 0} (cargo : Ghosts P E O) where
   -- what the stores owe, by the frame that the table shows
   pub ends-at : (board f : Frame O) (slots id i value : ℕ) (x : Name) (aim : Aim) (m : Seated P E) → board ≡ f →
       i ≡ index board.layout (OfCallback x.block x.node) → aim ≡ aimed board x → CanEndRun m.0 x → stamp_of value ≡ x.generation → callback_read value ≡ Ran →
-      AllowsListed cargo f slots id m i (λ _. value) (λ n m'. m' ≡ (with_step i n value (ends_run aim.tree aim.name m.0), m.1))
+      AllowsListed cargo f slots id m i (λ _. value) (λ n. FindsCallback aim.name Running (ends_run aim.tree aim.name) i n value m)
   ends-at board f slots id i value x aim m same i_is aim_is can stamped reads =
-      allows-listed cargo f slots id m i (λ _. value) (λ n m'. m' ≡ (with_step i n value (ends_run aim.tree aim.name m.0), m.1))
-      (λ n m' told. lists-one i n value m m' (ends_run aim.tree aim.name m.0) (ap (λ z. z.0) told) refl refl refl refl)
-      (subst (λ z. Allows (Running cargo z) slots id m i (λ _. value) (λ n m'. m' ≡ (with_step i n value (ends_run aim.tree aim.name m.0), m.1))) same
-      (subst (λ (z : ℕ × Aim). Allows (Running cargo board) slots id m z.0 (λ _. value)
-      (λ n m'. m' ≡ (with_step z.0 n value (ends_run z.1.tree z.1.name m.0), m.1)))
+      allows-listed cargo f slots id m i (λ _. value) (λ n. FindsCallback aim.name Running (ends_run aim.tree aim.name) i n value m)
+      (λ n m' told. lists-one i n value m m' (ends_run aim.tree aim.name m.0) (ap (λ z. z.0) told.me_is) refl refl refl refl)
+      (subst (λ z. Allows (holds.Running cargo z) slots id m i (λ _. value) (λ n. FindsCallback aim.name Running (ends_run aim.tree aim.name) i n value m)) same
+      (subst (λ (z : ℕ × Aim). Allows (holds.Running cargo board) slots id m z.0 (λ _. value)
+      (λ n. FindsCallback z.1.name Running (ends_run z.1.tree z.1.name) z.0 n value m))
       (λ k. (sym i_is k, sym aim_is k))
       (λ s r deep at small. (
         with_step (index board.layout (OfCallback x.block x.node)) (slice_index s.words (index board.layout (OfCallback x.block x.node))) value (ends_run board.tree x m.0),
         keeps,
         tt,
         end-runs cargo board s id x m.0 r at can (index board.layout (OfCallback x.block x.node)) (slice_index s.words (index board.layout (OfCallback x.block x.node))) value stamped reads refl refl,
-        refl,
+        record { found = found-running cargo board s id x m.0 r at can; me_is = refl },
       ))))
 
   pub removes-at : (board f : Frame O) (slots id i value : ℕ) (x : Name) (aim : Aim) (m : Seated P E) → board ≡ f →
       i ≡ index board.layout (OfCallback x.block x.node) → aim ≡ aimed board x → CanWithdrawOwn m.0 x → stamp_of value ≡ x.generation → callback_read value ≡ Removed →
-      AllowsListed cargo f slots id m i (λ _. value) (λ n m'. m' ≡ (with_step i n value (removes_own aim.tree aim.name m.0), m.1))
+      AllowsListed cargo f slots id m i (λ _. value) (λ n. FindsCallback aim.name Running (removes_own aim.tree aim.name) i n value m)
   removes-at board f slots id i value x aim m same i_is aim_is can stamped reads =
-      allows-listed cargo f slots id m i (λ _. value) (λ n m'. m' ≡ (with_step i n value (removes_own aim.tree aim.name m.0), m.1))
-      (λ n m' told. lists-one i n value m m' (removes_own aim.tree aim.name m.0) (ap (λ z. z.0) told) refl refl refl refl)
-      (subst (λ z. Allows (Running cargo z) slots id m i (λ _. value) (λ n m'. m' ≡ (with_step i n value (removes_own aim.tree aim.name m.0), m.1))) same
-      (subst (λ (z : ℕ × Aim). Allows (Running cargo board) slots id m z.0 (λ _. value)
-      (λ n m'. m' ≡ (with_step z.0 n value (removes_own z.1.tree z.1.name m.0), m.1)))
+      allows-listed cargo f slots id m i (λ _. value) (λ n. FindsCallback aim.name Running (removes_own aim.tree aim.name) i n value m)
+      (λ n m' told. lists-one i n value m m' (removes_own aim.tree aim.name m.0) (ap (λ z. z.0) told.me_is) refl refl refl refl)
+      (subst (λ z. Allows (holds.Running cargo z) slots id m i (λ _. value) (λ n. FindsCallback aim.name Running (removes_own aim.tree aim.name) i n value m)) same
+      (subst (λ (z : ℕ × Aim). Allows (holds.Running cargo board) slots id m z.0 (λ _. value)
+      (λ n. FindsCallback z.1.name Running (removes_own z.1.tree z.1.name) z.0 n value m))
       (λ k. (sym i_is k, sym aim_is k))
       (λ s r deep at small. (
         with_step (index board.layout (OfCallback x.block x.node)) (slice_index s.words (index board.layout (OfCallback x.block x.node))) value (removes_own board.tree x m.0),
         keeps,
         tt,
         remove-runs cargo board s id x m.0 r at can (index board.layout (OfCallback x.block x.node)) (slice_index s.words (index board.layout (OfCallback x.block x.node))) value stamped reads refl refl,
-        refl,
+        record { found = found-running cargo board s id x m.0 r at can.run; me_is = refl },
       ))))
 
 -- the hand still carries each slot once

@@ -39,6 +39,7 @@ use Rattle.table_rules.specs.Scenes.{Scene, shown, scene}
 use Rattle.table_rules.specs.Notes.{is_still, IsHeldSo, IsKnown}
 use Rattle.table_rules.specs.Running.{Running}
 use Rattle.table_steps.specs.Claims.{with_step}
+use Rattle.table_steps.specs.Lefts.{FoundCallback}
 use Rattle.table_steps.specs.Readings.{at_entry}
 use Rattle.table_steps.specs.RunEnds.{CanEndRun, CanWithdrawOwn, passes_to, number_of, ends_run, removes_own}
 use Rattle.table_kept.proofs.Seats.{at_within}
@@ -49,6 +50,7 @@ use Rattle.table_kept.proofs.Noting.{count-at}
 use Rattle.table_kept.proofs.HeldNotes.{each-changed}
 use Rattle.table_kept.proofs.ViewMoves.{view-here}
 use Rattle.table_kept.proofs.ControlRuns.{place_of, place-live, name-live}
+use Rattle.table_kept.proofs.FoundNow.{found-callback}
 use Rattle.table_kept.proofs.HeldNow.{holds-now, others-none}
 use Rattle.table_kept.proofs.Scans.{scan-passed}
 use Rattle.table_kept.proofs.Asides.{held-aside, known-aside}
@@ -87,8 +89,15 @@ module _ {P E O : Type 0} (cargo : Ghosts P E O) (f : Frame O) (s : table.State 
   running : is_running (phase_at now x) ≡ true
   running = runs-running now id x r.stands.sound.runs hand runs-now
 
-  live : is_live now x ≡ true
+  pub live : is_live now x ≡ true
   live = running-live now x running
+
+  pub runs-still : phase_at now x ≡ Runs
+  runs-still = running-is (phase_at now x) running
+
+  -- so says the word that the step finds
+  pub found-running : FoundCallback x Runs (word_of f.layout s.words (OfCallback x.block x.node))
+  found-running = found-callback cargo f s r x live Runs runs-still
 
   under_way : is_under_way (control_at now x) ≡ true
   under_way = r.stands.sound.armed x (or_right (is_armed (phase_at now x)) (is_running (phase_at now x)) running)
@@ -157,7 +166,7 @@ module _ {P E O : Type 0} (cargo : Ghosts P E O) (f : Frame O) (s : table.State 
       ended-runs rises is was sound others own =
           let old = r.stands.views.each id v at in
           callback-keeps cargo f s id v r at mine u shows-mine refl refl refl refl left x phase live stamped reads
-          (subst (λ p. callback_code p < callback_code phase) (sym (running-is (phase_at now x) running)) rises)
+          (subst (λ p. callback_code p < callback_code phase) (sym runs-still) rises)
           (λ k. entry (is k) (was k) left ∷ v.steps)
           (subst (λ (z : PureView). Sound (with_view (with_callback now x.block x.node phase) id z)) over-is sound) others
           (known-listed (record here { state = written }) i n left (ends_run f.tree x (record v { held = held })) (record {
@@ -183,7 +192,7 @@ module _ {P E O : Type 0} (cargo : Ghosts P E O) (f : Frame O) (s : table.State 
         by_name y x
         (λ is.
         subst (is_still known) (sym (ap (phase_at ended) is ∙ wrote-ran.here))
-        (still-ran known (subst (is_still known) (ap (phase_at now) is ∙ running-is (phase_at now x) running) so)))
+        (still-ran known (subst (is_still known) (ap (phase_at now) is ∙ runs-still) so)))
         (λ ne. subst (is_still known) (sym (wrote-ran.there y ne)) so)
 
     known-still : (z : View P E) → IsKnown here z → IsKnown (record here { state = ended }) z

@@ -40,7 +40,7 @@ use Rattle.table_rules.specs.Running.{Running}
 use Rattle.table_steps.specs.Claims.{with_step, Seated}
 use Rattle.table_steps.specs.Slots.{IsSeated}
 use Rattle.table_steps.specs.Sights.{spot_of, says_requested, has_one}
-use Rattle.table_steps.specs.ScanSeals.{CanSealScan, seals_scan}
+use Rattle.table_steps.specs.ScanSeals.{CanSealScan, seals_scan, SaysUnscanned, SealsScanAt}
 use Rattle.table_kept.proofs.Listing.{AllowsListed, allows-listed, lists-one}
 use Rattle.table_kept.proofs.Seats.{at_within}
 use Rattle.table_kept.proofs.Masks.{or-four}
@@ -76,6 +76,13 @@ pub requested-live : (s : State) (y : Name) → (bits_at s (Node y)).requested �
 requested-live s y asks =
     either (is_live s y) (λ t. t)
     (λ dead. absurd (both_ways true (sym asks ∙ ap (λ b. b.requested) (cond-false (is_live s y) (s.source y.block y.node) clear dead)) refl))
+
+-- a word that says of the source what the state has says that it is requested, and not scanned yet
+says-unscanned : (w : ℕ) (t : SourceRef) (bits : Bits) → SaysOf w bits t → bits.requested ≡ true → bits.scanned ≡ false → SaysUnscanned t w
+says-unscanned w Scope bits so asks calm =
+    record { is_of = tt; requested = ap (λ b. b.requested) so ∙ asks; unscanned = ap (λ b. b.scanned) so ∙ calm }
+says-unscanned w (Node y) bits so asks calm =
+    record { is_of = so.1; requested = ap (λ b. b.requested) so.0 ∙ asks; unscanned = ap (λ b. b.scanned) so.0 ∙ calm }
 
 module _ {P E O : Type 0} (cargo : Ghosts P E O) (f : Frame O) (s : table.State (Option P) (View P E)) (id : ℕ) (source : SourceRef) (v : View P E) (r : Running cargo f s) (at : get_elem? s.views id ≡ some v) (spot : IsSpot f.layout (spot_of source)) (one : has_one f.tree source) (can : CanSealScan f v source) where
   abbrev now : State
@@ -210,6 +217,10 @@ module _ {P E O : Type 0} (cargo : Ghosts P E O) (f : Frame O) (s : table.State 
         seen = k.seen;
       })))
 
+  -- the word that the step finds
+  pub found-unscanned : SaysUnscanned source n
+  found-unscanned = says-unscanned n source (bits_at now source) (says-now source refl) scannable.requested scannable.unscanned
+
 -- what the step leaves
 pub left-scanned : (n : ℕ) → (stamp_of (bit_or n 4) ≡ stamp_of n) × (source_read (bit_or n 4) ≡ record (source_read n) { scanned = true })
 left-scanned n = (stamp-kept n, scanned-read n)
@@ -217,12 +228,12 @@ left-scanned n = (stamp-kept n, scanned-read n)
 -- what the step owes, by the frame that the table shows
 pub seals-at : {P E O : Type 0} (cargo : Ghosts P E O) (board f : Frame O) (slots id i : ℕ) (source t : SourceRef) (m : Seated P E) → board ≡ f →
     i ≡ index board.layout (spot_of source) → t ≡ source → IsSpot board.layout (spot_of source) → has_one board.tree source → CanSealScan board m.0 source →
-    AllowsListed cargo f slots id m i (λ n. bit_or n 4) (λ n m'. m' ≡ (with_step i n (bit_or n 4) (seals_scan t m.0), m.1))
+    AllowsListed cargo f slots id m i (λ n. bit_or n 4) (λ n. SealsScanAt t i n (bit_or n 4) m)
 seals-at cargo board f slots id i source t m same i_is t_is spot one can =
-    allows-listed cargo f slots id m i (λ n. bit_or n 4) (λ n m'. m' ≡ (with_step i n (bit_or n 4) (seals_scan t m.0), m.1))
-    (λ n m' told. lists-one i n (bit_or n 4) m m' (seals_scan t m.0) (ap (λ z. z.0) told) refl refl refl refl)
-    (subst (λ z. Allows (Running cargo z) slots id m i (λ n. bit_or n 4) (λ n m'. m' ≡ (with_step i n (bit_or n 4) (seals_scan t m.0), m.1))) same
-    (subst (λ (z : ℕ × SourceRef). Allows (Running cargo board) slots id m z.0 (λ n. bit_or n 4) (λ n m'. m' ≡ (with_step z.0 n (bit_or n 4) (seals_scan z.1 m.0), m.1)))
+    allows-listed cargo f slots id m i (λ n. bit_or n 4) (λ n. SealsScanAt t i n (bit_or n 4) m)
+    (λ n m' told. lists-one i n (bit_or n 4) m m' (seals_scan t m.0) (ap (λ z. z.0) told.me_is) refl refl refl refl)
+    (subst (λ z. Allows (Running cargo z) slots id m i (λ n. bit_or n 4) (λ n. SealsScanAt t i n (bit_or n 4) m)) same
+    (subst (λ (z : ℕ × SourceRef). Allows (Running cargo board) slots id m z.0 (λ n. bit_or n 4) (λ n. SealsScanAt z.1 z.0 n (bit_or n 4) m))
     (λ k. (sym i_is k, sym t_is k))
     (λ s r deep at small. (
       with_step (index board.layout (spot_of source)) (slice_index s.words (index board.layout (spot_of source)))
@@ -230,7 +241,7 @@ seals-at cargo board f slots id i source t m same i_is t_is spot one can =
       keeps,
       tt,
       seal-runs cargo board s id source m.0 r at spot one can,
-      refl,
+      record { found = found-unscanned cargo board s id source m.0 r at spot one can; me_is = refl },
     ))))
 
 -- the hand still carries each slot once

@@ -5,10 +5,10 @@ use Rattle.life_rules.specs.declared.event.Name.{Name}
 use Rattle.table_words.specs.Layouts.{OfControl, index}
 use Rattle.atomic_table.specs.Table.{rest}
 use Rattle.table_rules.specs.declared.frame.Frame.{Frame}
+use Rattle.table_steps.specs.Views.{aimed}
 use Rattle.table_steps.specs.Claims.{Seated}
 use Rattle.table_steps.specs.Slots.{Aim, slot_of, IsSeated}
 use Rattle.table_steps.specs.Swaps.{TurnsTo, IsSwapped}
-use Rattle.table_kept.proofs.BeginTold.{aimed}
 
 -- the slot that the hand turned to is its first
 pub turned-first : {P E : Type 0} (slot : ℕ) (aim : Aim) (i word : ℕ) (m m' : Seated P E) (t : TurnsTo aim i word m m') →

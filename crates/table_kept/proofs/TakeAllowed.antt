@@ -1,6 +1,6 @@
 -- What the exchange by which a node is taken owes, and what it tells.
-use Rattle.std.proofs.Common.{◌≡◌, ℕ, ◌<◌, true, ◌==◌, List, [], ◌∷◌, Option, Some, refl, sym, ap, ◌∙◌, subst, eq-eqb, ne_eqb}
-use Rattle.std.specs.Prelude.{slice_index}
+use Rattle.std.proofs.Common.{◌≡◌, ℕ, ◌<◌, true, ◌==◌, List, [], ◌∷◌, length, Option, Some, refl, sym, ap, ◌∙◌, subst, eq-eqb, ne_eqb, arith}
+use Rattle.std.specs.Prelude.{nat_le, slice_index}
 use mathlib.Core.Option.{some}
 use mathlib.Core.Option as maybe
 use mathlib.Core.Logic.{dite}
@@ -12,7 +12,8 @@ use Rattle.life_rules.specs.declared.words.ControlWord.TheVariants.{Busy}
 use Rattle.life_rules.specs.declared.event.Name.{Name}
 use Rattle.life_rules.specs.declared.event.Resting.{Resting}
 use Rattle.life_rules.specs.declared.event.Resting.TheVariants.{Loop, Pool, Parked}
-use Rattle.life_rules.specs.Words.{is_under_way, may_be_taken, resting_at}
+use Rattle.life_rules.specs.Words.{is_done, is_under_way, may_be_taken, resting_at}
+use Rattle.life_rules.specs.Views.{beside}
 use Rattle.life_rules.specs.States.{State, control_at}
 use Rattle.life_rules.specs.Callbacks.{nearest_is_requested}
 use Rattle.table_words.specs.Stamps.{stamp_of}
@@ -29,6 +30,7 @@ use Rattle.table_rules.specs.Running.{Running}
 use Rattle.table_steps.specs.Claims.{with_step, logged, Seated}
 use Rattle.table_steps.specs.Slots.{kids_of, IsSeated}
 use Rattle.table_steps.specs.Takes.{takes_node, TakenAt, TakesAt}
+use Rattle.table_kept.proofs.DoneBelow.{below-most}
 use Rattle.table_kept.proofs.Loads.{looks_keep}
 use Rattle.table_kept.proofs.SeenStands.{noted-start}
 use Rattle.table_kept.proofs.Hearing.{hears-as}
@@ -78,6 +80,9 @@ module _ {P E O : Type 0} (cargo : Ghosts P E O) (f : Frame O) (s : table.State 
           fit = r.stands.items.fit x lying.0 says.live lying.1;
           goes_on = r.stands.items.goes_on x lying.0 says.live lying.1 rests.done;
           bound = r.stands.items.bound x lying.0 says.live lying.1;
+          most = (let met = r.stands.homes.met x rests.begun (ap (nat_le 1) rests.none) in
+              let all = below-most f.tree x.node (λ n. is_done (control_at now (beside x n))) (length f.tree) in
+              omega (arith, met, all));
           key = (r.stands.starts.key x rests.begun, tt);
           noted = noted-start cargo f s id v r at x says.live;
           hears = hears-as cargo f s id v r at x;

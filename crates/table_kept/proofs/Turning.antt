@@ -18,13 +18,13 @@ use Rattle.table_rules.specs.Named.{Each}
 use Rattle.table_rules.specs.ShownWords.{is_there}
 use Rattle.table_rules.specs.Scenes.{Empty, home_in, scene}
 use Rattle.table_rules.specs.Running.{Stands, Running}
+use Rattle.table_steps.specs.Views.{aimed}
 use Rattle.table_steps.specs.Claims.{logged, Seated}
 use Rattle.table_steps.specs.Slots.{Aim, slot_of, has_slot, kept, IsSeated}
 use Rattle.table_steps.specs.Sheds.{shed}
 use Rattle.table_steps.specs.Releases.{is_own_slot}
 use Rattle.table_steps.specs.Swaps.{HasHome, TurnsTo}
 use Rattle.table_kept.proofs.Listing.{AllowsListed, allows-listed, lists-one}
-use Rattle.table_kept.proofs.BeginTold.{aimed}
 use Rattle.table_kept.proofs.Loads.{looks_keep}
 use Rattle.table_kept.proofs.SlotsOut.{slot-out, slot-within}
 use Rattle.table_kept.proofs.Shedding.{sheds, shed_home, carries-shed, deep-shed, shed-at}

@@ -24,15 +24,15 @@ use Rattle.table_rules.specs.declared.view.View.{View}
 use Rattle.table_rules.specs.declared.view.Held.{Held}
 use Rattle.table_rules.specs.Scenes.{shown}
 use Rattle.table_rules.specs.Running.{Running}
+use Rattle.table_steps.specs.Views.{aimed}
 use Rattle.table_steps.specs.Claims.{with_step, ListsOne, Seated}
 use Rattle.table_steps.specs.Slots.{Aim, IsSeated}
 use Rattle.table_steps.specs.Hearings.{UnderScope}
 use Rattle.table_steps.specs.Readings.{says_phase, notes_phase}
 use Rattle.table_steps.specs.Callbacks.{is_registered, learns, withdraws, left_by, WithdrawsAt, CanWithdraw}
 use Rattle.table_kept.proofs.Listing.{AllowsListed, allows-listed, lists-one}
-use Rattle.table_kept.proofs.BeginTold.{aimed}
 use Rattle.table_kept.proofs.Noting.{seated-noted}
-use Rattle.table_kept.proofs.ReadAllowed.{phase-said}
+use Rattle.table_kept.proofs.FoundNow.{phase-said}
 use Rattle.table_kept.proofs.HeldNow.{held}
 use Rattle.table_kept.proofs.Codes.{armed-code}
 use Rattle.table_kept.proofs.ScopeCallbacks.{none-runs}
@@ -86,7 +86,7 @@ withdraws_allowed {P} {E} cargo f slots id old new x m can old_is stamp_old read
     let i = index f.layout (OfCallback x.block x.node) in
     let n = slice_index s.words i in
     let live = (held cargo f s id x m.0 r at can.held can.holds).live in
-    let said : phase_at (shown f s) x ≡ says_phase x.generation n = phase-said cargo f s id x m.0 r at live in
+    let said : phase_at (shown f s) x ≡ says_phase x.generation n = phase-said cargo f s r x live in
     let known : is_registered (says_phase x.generation n) ≡ true = ap is_registered (sym said) ∙ registered cargo f s id x m.0 r at can i n in
     let unrun : UnderScope f.tree m.0 x (says_phase x.generation n ≢ Runs) =
     λ number near runs. none-runs cargo f s id x m.0 r at can.unrun number near (said ∙ runs) in

@@ -2,7 +2,7 @@
 use Rattle.std.specs.Prelude.{◌≡◌, ℕ, Bool, true, false, List, [], ◌∷◌, Option, Some, None}
 use Rattle.life_rules.specs.declared.event.Name.{Name}
 use Rattle.node_tree.specs.declared.node.TreeNode.{TreeNode}
-use Rattle.life_rules.specs.declared.words.ControlWord.TheVariants.{Busy}
+use Rattle.life_rules.specs.declared.words.ControlWord.TheVariants.{Idle, Busy}
 use Rattle.life_rules.specs.declared.words.CallbackPhase.TheVariants.{Never}
 use Rattle.life_rules.specs.Words.{clear}
 use Rattle.node_tree.specs.Tree.{is_root, has_source}
@@ -17,7 +17,7 @@ use Rattle.table_rules.specs.declared.view.Owed.{Owed}
 use Rattle.table_rules.specs.declared.view.Rooted.{Rooted}
 use Rattle.table_rules.specs.Named.{find_by, without}
 use Rattle.table_steps.specs.Claims.{with_step, Seated}
-use Rattle.table_steps.specs.Lefts.{SaysSource, LeavesControl}
+use Rattle.table_steps.specs.Lefts.{SaysSource, FoundSource, LeavesControl}
 use Rattle.table_steps.specs.Kids.{empty_slots}
 use Rattle.table_steps.specs.Slots.{Aim, slot_of, kids_of, kept, IsSeated, has_seen}
 use Rattle.table_steps.specs.Hearings.{HearsAs}
@@ -90,19 +90,21 @@ module _ {P E O : Type 0} (cargo : Ghosts P E O) where
     pub seated : IsSeated aim.tree aim.layout m → IsSeated aim.tree aim.layout m'
 
 -- the renewal: a store that writes the node's source as clear, as it read before
-abbrev pub Renews : {P E : Type 0} → ℕ → ℕ → ℕ → Seated P E → Seated P E → Type 0
-Renews i read left m m' = m' ≡ (with_step i read left m.0, m.1)
+pub record Renews {P E : Type 0} (x : Name) (i read left : ℕ) (m m' : Seated P E) : Type 0 where
+  pub found : FoundSource x clear read
+  pub me_is : m' ≡ (with_step i read left m.0, m.1)
 
 -- the index of the source's word
 abbrev pub source_index : Aim → ℕ
 source_index aim = index aim.layout (OfSource aim.name.block aim.name.node)
 
--- the renewal left the source clear, at the node's generation
+-- the renewal found the source clear, or of an earlier generation, and left it clear, at the node's generation
 pub record RenewsSource {P E : Type 0} (aim : Aim) (m m' : Seated P E) : Type 0 where
   pub read : ℕ
   pub left : ℕ
+  pub found : FoundSource aim.name clear read
   pub says : SaysSource aim.name clear left
-  pub did : Renews (source_index aim) read left m m'
+  pub did : m' ≡ (with_step (source_index aim) read left m.0, m.1)
 
 -- the source of a node that has one is renewed, at the node's generation, before the node begins
 abbrev pub IsRenewed : {P E : Type 0} → Aim → Seated P E → Seated P E → Type 0
@@ -126,6 +128,6 @@ HasRenewed aim m = has_source aim.tree aim.name.node ≡ true → RenewedLast ai
 pub record Begins {P E O : Type 0} (cargo : Ghosts P E O) (aim : Aim) (m m' : Seated P E) : Type 0 where
   pub middle : Seated P E
   pub renewed : IsRenewed aim m middle
-  pub began : LeavesControl aim (Busy 0) (BeginsAt cargo aim) middle m'
+  pub began : LeavesControl aim Idle (Busy 0) (BeginsAt cargo aim) middle m'
   -- what lies in the node's home then is no completion
   pub goes_on : (item : P) → kept (slot_of aim.layout aim.name) m'.1 ≡ Some (Some item) → ¬ cargo.ends item

@@ -17,7 +17,7 @@ use Rattle.table_rules.specs.declared.view.Held.{Held}
 use Rattle.table_rules.specs.Named.{count_by, find_by}
 use Rattle.table_steps.specs.Views.{Board}
 use Rattle.table_steps.specs.Claims.{with_step, Seated}
-use Rattle.table_steps.specs.Lefts.{SaysCallback}
+use Rattle.table_steps.specs.Lefts.{SaysCallback, FoundCallback}
 use Rattle.table_steps.specs.Slots.{Aim}
 use Rattle.table_steps.specs.Hearings.{UnderScope}
 use Rattle.table_steps.specs.Readings.{says_phase, notes_phase}
@@ -37,16 +37,23 @@ pub record CanArm {P E : Type 0} (tree : List TreeNode) (v : View P E) (x : Name
 abbrev pub arms : {P E : Type 0} → Name → View P E → View P E
 arms x v = let w = notes_phase x Armed v in record w { unlooked = x ∷ v.unlooked }
 
--- the hand's newest step left the node's callback word at the name's generation, and saying so; and changed
--- so what the hand knows
-pub record LeftCallback {P E O : Type 0} (board : Board O) (x : Name) (phase : CallbackPhase) (change : View P E → View P E) (old new : Seat (Option P) (View P E)) : Type 0 where
+-- what a step on the node's callback word tells: the word that it found said this, and it changed so what the
+-- hand knows
+pub record FindsCallback {P E : Type 0} (x : Name) (before : CallbackPhase) (change : View P E → View P E) (i read left : ℕ) (m m' : Seated P E) : Type 0 where
+  pub found : FoundCallback x before read
+  pub me_is : m' ≡ (with_step i read left (change m.0), m.1)
+
+-- the hand's newest step found the node's callback word saying the one, and left it saying the other, at the
+-- name's generation; and changed so what the hand knows
+pub record LeftCallback {P E O : Type 0} (board : Board O) (x : Name) (before phase : CallbackPhase) (change : View P E → View P E) (old new : Seat (Option P) (View P E)) : Type 0 where
   pub read : ℕ
   pub left : ℕ
+  pub found : FoundCallback x before read
   pub says : SaysCallback x phase left
   pub me_is : new.me ≡ (with_step (callback_index board x) read left (change old.me.0), old.me.1)
 
 abbrev pub IsArmed : {P E O : Type 0} → Board O → Name → Seat (Option P) (View P E) → Seat (Option P) (View P E) → Type 0
-IsArmed board x old new = LeftCallback board x Armed (arms x) old new
+IsArmed board x old new = LeftCallback board x Never Armed (arms x) old new
 
 -- the callback was registered, and wasn't removed
 abbrev pub is_registered : CallbackPhase → Bool

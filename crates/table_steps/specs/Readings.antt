@@ -41,9 +41,13 @@ above_it tree x = option_map_or (λ p. beside x p) (parent_of tree x.node) x
 abbrev pub says_begun : ℕ → ℕ → Bool
 says_begun generation word = stamp_of word == generation && not (is_idle (control_read word))
 
+-- what the word says at this generation: one that was written at another says nothing, which reads as the first
+abbrev pub says_at : {A : Type 0} → A → (ℕ → A) → ℕ → ℕ → A
+says_at first read generation word = if stamp_of word == generation then read word else first
+
 -- the phase that the callback word says at this generation
 abbrev pub says_phase : ℕ → ℕ → CallbackPhase
-says_phase generation word = if stamp_of word == generation then callback_read word else Never
+says_phase generation word = says_at Never callback_read generation word
 
 -- what a load of the child's word tells the hand that holds its parent x
 abbrev pub reads_child : {P E : Type 0} → Name → Name → ℕ → ℕ → Seated P E → Seated P E

@@ -45,14 +45,19 @@ pub record ReleasesAt {P E : Type 0} (aim : Aim) (i read left : ℕ) (m m' : Sea
   pub me_is : m' ≡ (with_step i read left (releases aim.name m.0), shed (is_own_slot aim.layout aim.name) m.1)
   pub seated : IsSeated aim.tree aim.layout m'
 
--- the word of an open block of this generation after it was given back
-abbrev pub word_after : ℕ → BlockWord
-word_after generation = next_word (record { generation = generation; state = Open })
+-- the word of an open block of this generation
+abbrev pub open_at : ℕ → BlockWord
+open_at generation = record { generation = generation; state = Open }
 
--- the store left the block's word saying this
+-- that word after the block was given back
+abbrev pub word_after : ℕ → BlockWord
+word_after generation = next_word (open_at generation)
+
+-- the store found the block's word saying that it is open, and left it saying this
 pub record LeavesBlock {P E : Type 0} (aim : Aim) (now : BlockWord) (m m' : Seated P E) : Type 0 where
   pub read : ℕ
   pub left : ℕ
+  pub found : block_read read ≡ open_at aim.name.generation
   pub says : block_read left ≡ now
   pub did : ReleasesAt aim (index aim.layout (OfBlock aim.name.block)) read left m m'
 
@@ -76,10 +81,10 @@ module _ {P E O : Type 0} (cargo : Ghosts P E O) where
     pub empty : AreHomesEmpty f.layout block left
 
   -- what the store tells its hand, in each of these tables
-  abbrev pub TellsRelease : List (Frame O) → ℕ → Aim → ℕ → ℕ → ℕ → Seated P E → Seated P E → Type 0
-  TellsRelease frames hand aim i read left m m' =
-      ReleasesAt aim i read left m m'
-      × Each (λ f. LeftEmpty f hand aim.name.block (word_after aim.name.generation) m') frames
+  pub record TellsRelease (frames : List (Frame O)) (hand : ℕ) (aim : Aim) (i read left : ℕ) (m m' : Seated P E) : Type 0 where
+    pub found : block_read read ≡ open_at aim.name.generation
+    pub did : ReleasesAt aim i read left m m'
+    pub empty : Each (λ f. LeftEmpty f hand aim.name.block (word_after aim.name.generation) m') frames
 
   -- they stay so: whenever the rule holds and the block isn't open, all its homes are empty
   abbrev pub StayEmpty : Frame O → ℕ → Type 0

@@ -2,7 +2,7 @@
 use Rattle.std.specs.Prelude.{◌≡◌, ℕ, ◌+◌, ◌*◌, ◌≤◌, if◌then◌else◌, List, [], ◌∷◌, length, Option, Some, None}
 use Rattle.std.specs.Option.{option_map_or}
 use Rattle.node_tree.specs.declared.node.TreeNode.{TreeNode}
-use Rattle.life_rules.specs.declared.words.CallbackPhase.TheVariants.{Ran, Removed}
+use Rattle.life_rules.specs.declared.words.CallbackPhase.TheVariants.{Running, Ran, Removed}
 use Rattle.life_rules.specs.declared.event.Name.{Name}
 use Rattle.life_rules.specs.declared.event.SourceRef.{SourceRef}
 use Rattle.life_rules.specs.declared.event.SourceRef.TheVariants.{Node}
@@ -55,7 +55,7 @@ abbrev pub removes_own : {P E : Type 0} → List TreeNode → Name → View P E 
 removes_own tree x v = ends_run tree x (notes_phase x Removed v)
 
 abbrev pub IsRunEnded : {P E O : Type 0} → Board O → Name → Seat (Option P) (View P E) → Seat (Option P) (View P E) → Type 0
-IsRunEnded board x old new = LeftCallback board x Ran (ends_run board.frame.tree x) old new
+IsRunEnded board x old new = LeftCallback board x Running Ran (ends_run board.frame.tree x) old new
 
 abbrev pub IsOwnWithdrawn : {P E O : Type 0} → Board O → Name → Seat (Option P) (View P E) → Seat (Option P) (View P E) → Type 0
-IsOwnWithdrawn board x old new = LeftCallback board x Removed (removes_own board.frame.tree x) old new
+IsOwnWithdrawn board x old new = LeftCallback board x Running Removed (removes_own board.frame.tree x) old new

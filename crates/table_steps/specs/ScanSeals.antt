@@ -1,5 +1,5 @@
 -- What a hand needs to seal its scan of a source, and what that does to it.
-use Rattle.std.specs.Prelude.{◌≡◌, ℕ, ◌-◌, ◌*◌, true, if◌then◌else◌, List, [], ◌∷◌, length, Option, Some}
+use Rattle.std.specs.Prelude.{◌≡◌, ℕ, ◌-◌, ◌*◌, true, false, if◌then◌else◌, List, [], ◌∷◌, length, Option, Some}
 use Rattle.life_rules.specs.declared.event.SourceRef.{SourceRef}
 use Rattle.life_rules.specs.Views.{same_source}
 use Rattle.table_words.specs.Stamps.{stamp_of}
@@ -11,7 +11,8 @@ use Rattle.table_rules.specs.declared.view.View.{View}
 use Rattle.table_rules.specs.declared.view.Scanning.{Scanning}
 use Rattle.table_rules.specs.ShownViews.{scan_in}
 use Rattle.table_steps.specs.Views.{Board}
-use Rattle.table_steps.specs.Claims.{with_step}
+use Rattle.table_steps.specs.Claims.{with_step, Seated}
+use Rattle.table_steps.specs.Requests.{IsWordOf}
 use Rattle.table_steps.specs.Sights.{spot_of}
 use Rattle.table_steps.specs.ScanOrders.{none_hears}
 
@@ -31,10 +32,22 @@ drops source (scan ∷ scans) =
 abbrev pub seals_scan : {P E : Type 0} → SourceRef → View P E → View P E
 seals_scan source v = record v { scans = drops source v.scans }
 
--- some word of the source was read and left as scanned, and the scan is sealed
+-- the word is the source's, and says that a stop is requested of it, and that it wasn't scanned yet
+pub record SaysUnscanned (source : SourceRef) (word : ℕ) : Type 0 where
+  pub is_of : IsWordOf source word
+  pub requested : (source_read word).requested ≡ true
+  pub unscanned : (source_read word).scanned ≡ false
+
+-- what the step tells, beside the word that it found
+pub record SealsScanAt {P E : Type 0} (source : SourceRef) (i read left : ℕ) (m m' : Seated P E) : Type 0 where
+  pub found : SaysUnscanned source read
+  pub me_is : m' ≡ (with_step i read left (seals_scan source m.0), m.1)
+
+-- the source's word was read as requested and not yet scanned, and left as scanned, and the scan is sealed
 pub record IsScanSealed {P E O : Type 0} (board : Board O) (source : SourceRef) (old new : Seat (Option P) (View P E)) : Type 0 where
   pub read : ℕ
   pub left : ℕ
+  pub found : SaysUnscanned source read
   pub stamp_is : stamp_of left ≡ stamp_of read
   pub left_is : source_read left ≡ record (source_read read) { scanned = true }
   pub me_is : new.me ≡ (with_step (index board.frame.layout (spot_of source)) read left (seals_scan source old.me.0), old.me.1)

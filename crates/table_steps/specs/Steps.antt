@@ -1,6 +1,6 @@
 -- What each step does to its hand, by the table and the node.
 use Rattle.std.specs.Prelude.{ℕ, List, length, Option}
-use Rattle.life_rules.specs.declared.words.ControlWord.TheVariants.{Busy, Done}
+use Rattle.life_rules.specs.declared.words.ControlWord.TheVariants.{Idle, Busy, Done}
 use Rattle.life_rules.specs.declared.event.Name.{Name}
 use Rattle.life_rules.specs.declared.event.Resting.{Resting}
 use Rattle.life_rules.specs.Words.{resting_at}
@@ -25,25 +25,25 @@ module _ {P E O : Type 0} (board : Board O) (x : Name) (old new : Seat (Option P
   abbrev pub Renewed : Type 0
   Renewed = IsRenewed (aim_at board x) old.me new.me
 
-  -- the node is held, by the word that was written
+  -- the node was idle, and is held, by the word that was written
   abbrev pub Held : Ghosts P E O → Type 0
-  Held cargo = LeavesControl (aim_at board x) (Busy 0) (BeginsAt cargo (aim_at board x)) old.me new.me
+  Held cargo = LeavesControl (aim_at board x) Idle (Busy 0) (BeginsAt cargo (aim_at board x)) old.me new.me
 
   abbrev pub Begun : Ghosts P E O → Type 0
   Begun cargo = Begins cargo (aim_at board x) old.me new.me
 
-  -- the node rests there
+  -- the node was held, and rests there
   abbrev pub Rested : Resting → Type 0
-  Rested to = LeavesControl (aim_at board x) (resting_at to) (RestsAt (aim_at board x)) old.me new.me
+  Rested to = LeavesControl (aim_at board x) (Busy 0) (resting_at to) (RestsAt (aim_at board x)) old.me new.me
 
-  -- the node is done
+  -- the node was held, and is done
   abbrev pub Finished : Ghosts P E O → Type 0
-  Finished cargo = LeavesControl (aim_at board x) Done (FinishesAt cargo (aim_at board x)) old.me new.me
+  Finished cargo = LeavesControl (aim_at board x) (Busy 0) Done (FinishesAt cargo (aim_at board x)) old.me new.me
 
-  -- the node waits for as many children as are named
+  -- the node was held, and waits for as many children as are named
   abbrev pub Awaited : Ghosts P E O → List ℕ → Type 0
   Awaited cargo nodes =
-      LeavesControl (aim_at board x) (Busy (length nodes)) (AwaitsAt cargo (aim_at board x) nodes) old.me new.me
+      LeavesControl (aim_at board x) (Busy 0) (Busy (length nodes)) (AwaitsAt cargo (aim_at board x) nodes) old.me new.me
 
 -- the block's root was given back: the block is free at the next generation, or retired after the last
 abbrev pub Released : {P E O : Type 0} → Board O → ℕ → ℕ → Seat (Option P) (View P E) → Seat (Option P) (View P E) → Type 0

@@ -1,5 +1,5 @@
 -- What a hand needs to take a node that rests, and what that does to the hand.
-use Rattle.std.specs.Prelude.{◌≡◌, ◌≢◌, ℕ, ◌≤◌, Bool, true, false, List, [], ◌∷◌, Option, Some, None}
+use Rattle.std.specs.Prelude.{◌≡◌, ◌≢◌, ℕ, ◌≤◌, Bool, true, false, List, [], ◌∷◌, length, Option, Some, None}
 use Rattle.life_rules.specs.declared.words.ControlWord.TheVariants.{Busy}
 use Rattle.life_rules.specs.declared.event.Name.{Name}
 use Rattle.node_tree.specs.declared.context.Context.{Context}
@@ -50,11 +50,13 @@ pub record TakenAt {P E : Type 0} {O : Type 0} (cargo : Ghosts P E O) (aim : Aim
     with_step i read left (takes_node aim.name start named told told_children m.0),
     (slot_of aim.layout aim.name, Some item) ∷ empty_slots aim.layout aim.name.block (kids_of aim.tree aim.name.node) m.1,
   )
-  -- the item shows the node's start, fits, is no completion, and asks for no more children than were named
+  -- the item shows the node's start, fits, is no completion, and asks for no more children than were named,
+  -- which were no more than the node has
   pub shows : cargo.start item ≡ start
   pub fit : cargo.fits item aim.name.node told
   pub goes_on : ¬ cargo.ends item
   pub bound : cargo.least item ≤ named
+  pub most : named ≤ length (kids_of aim.tree aim.name.node)
   -- the start has the key of what the table was opened over, and is the one that the hand noted of a root
   pub key : Each (λ over. cargo.key start ≡ over) overs
   pub noted : (e : Rooted E) → find_by (λ e. e.name) m.0.noted aim.name ≡ Some e → start ≡ e.start

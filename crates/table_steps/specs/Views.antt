@@ -30,9 +30,13 @@ pub record IsPlaceIn {O : Type 0} (board : Board O) (x : Name) : Type 0 where
   pub block : x.block < board.frame.layout.blocks
   pub node : x.node < board.frame.layout.nodes
 
+-- a node of a table with this frame
+abbrev pub aimed : {O : Type 0} → Frame O → Name → Aim
+aimed f x = record { tree = f.tree; layout = f.layout; name = x }
+
 -- a node of this table
 abbrev pub aim_at : {O : Type 0} → Board O → Name → Aim
-aim_at board x = record { tree = board.frame.tree; layout = board.frame.layout; name = x }
+aim_at board x = aimed board.frame x
 
 -- it is the same hand, after a call
 abbrev pub IsSameHand : {P E : Type 0} → Seat (Option P) (View P E) → Seat (Option P) (View P E) → Type 0

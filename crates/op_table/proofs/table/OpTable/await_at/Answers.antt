@@ -31,7 +31,7 @@ returns-clause-awaits g c =
 pub returns-clause-hand : goal.returns-clause-hand
 returns-clause-hand g c =
     hand-aimed c.args.self.now c.args.seat.now c.store.new.hand c.requires.table c.store.ensures.0 c.args.name
-    g.K.Subject.aim c.requires.subject (λ _. c.store.ensures.2.1.rest.seated)
+    g.K.Subject.aim c.requires.subject (λ _. c.store.ensures.2.1.rest.did.seated)
 
 pub overflow_cast-pending : goal.overflow_cast-pending
 overflow_cast-pending g c =

@@ -1,6 +1,7 @@
 use Rattle.std.proofs.Common.{◌≡◌, false, arith, sym, ap, ◌∙◌, inl, ⊎_elim}
 use Rattle.life_rules.specs.declared.words.BlockState.TheVariants.{Open, Retired}
 use Rattle.life_rules.specs.Words.{is_free}
+use Rattle.table_words.specs.Layouts.{OfBlock, index}
 use Rattle.table_kept.proofs.Loads.{looks_allowed}
 use Rattle.table_kept.proofs.Hands.{hand-logged}
 use Rattle.table_kept.proofs.ClaimTold.{told, seen_at}
@@ -21,7 +22,7 @@ returns-in-Free-clause-claimed g c =
     told g.row.P.Denot g.row.P-Entry.Denot c.args.self.now c.args.block c.load-found.result c.args.seat.now
     c.load-found.new.hand c.claim_from.new.seat
     (seen_at c.args.self.now c.args.block c.block-index.result c.load-found.result c.args.seat.now
-    c.load-found.new.hand c.block-index.ensures.value c.load-found.ensures.2.rest)
+    c.load-found.new.hand (c.block-index.ensures.value ∙ ap (λ b. index b.frame.layout (OfBlock c.args.block)) c.self.view_is) c.load-found.ensures.2.rest)
     (ap (λ w. is_free w.state) (sym c.read_block.ensures) ∙ ap is_free c.in-Free.is) c.claim_from.result
     c.claim_from.ensures.claimed
 
@@ -38,7 +39,7 @@ returns-in-Open g c =
         word = c.load-found.result;
         taken = ap (λ w. is_free w.state) (sym c.read_block.ensures) ∙ free;
         me_is = seen_at c.args.self.now c.args.block c.block-index.result c.load-found.result c.args.seat.now
-            c.load-found.new.hand c.block-index.ensures.value c.load-found.ensures.2.rest;
+            c.load-found.new.hand (c.block-index.ensures.value ∙ ap (λ b. index b.frame.layout (OfBlock c.args.block)) c.self.view_is) c.load-found.ensures.2.rest;
       });
       owed = tt;
     }

@@ -3,6 +3,7 @@ use Rattle.life_rules.specs.declared.words.BlockState.TheVariants.{Open}
 use Rattle.table_words.specs.Blocks.{block_read}
 use Rattle.table_steps.specs.Owing.{OwesNoneThere}
 use Rattle.table_steps.specs.Claims.{logged, root_name}
+use Rattle.table_words.specs.Layouts.{OfBlock, index}
 use Rattle.table_kept.proofs.Hands.{hand-aimed, hand-logged}
 use Rattle.table_kept.proofs.ClaimAllowed.{claims_at}
 use Rattle.table_kept.proofs.ClaimTold.{won}
@@ -18,7 +19,7 @@ compare_exchange-was-requires g c =
       claims_at g.P.Cargo c.args.self.now.frame c.self.inside.table.key _ c.args.seat.now.id c.args.block
           c.block-index.result c.args.found c.block_number-open.result c.args.seat.now.me
           (root_name c.args.self.now c.args.block (block_read c.args.found).generation) g.K.Subject.aim frame
-          c.requires.table.seated.itself c.requires.block c.block-index.ensures.value c.requires.free
+          c.requires.table.seated.itself c.requires.block (c.block-index.ensures.value ∙ ap (λ b. index b.frame.layout (OfBlock c.args.block)) c.self.view_is) c.requires.free
           (c.block_number-open.ensures.reads
           ∙ ap (λ (n : ℕ). record { generation = n; state = Open }) c.stamp-generation.ensures)
           refl c.requires.subject c.requires.table.seated.itself,
@@ -28,7 +29,7 @@ pub returns-then-was-found-clause-claimed : goal.returns-then-was-found-clause-c
 returns-then-was-found-clause-claimed g c =
     won g.row.P.Denot g.row.P-Entry.Denot c.args.self.now c.args.block c.args.found c.stamp-generation.result
     c.block-index.result c.compare_exchange-was.result c.block_number-open.result g.K.Subject.aim c.args.seat.now
-    c.compare_exchange-was.new.hand c.stamp-generation.ensures c.block-index.ensures.value c.if-was-found.true
+    c.compare_exchange-was.new.hand c.stamp-generation.ensures (c.block-index.ensures.value ∙ ap (λ b. index b.frame.layout (OfBlock c.args.block)) c.self.view_is) c.if-was-found.true
     c.requires.subject c.block_number-open.ensures.reads (c.compare_exchange-was.ensures.2.rest.0 c.if-was-found.true).3 (c.compare_exchange-was.ensures.2.rest.0 c.if-was-found.true).0
 
 pub returns-then-was-found-clause-hand : goal.returns-then-was-found-clause-hand
@@ -50,7 +51,7 @@ returns-else-was-found-clause-claimed g c =
       differs = c.if-was-found.false;
       me_is = c.compare_exchange-was.ensures.2.rest.1 c.if-was-found.false
           ∙ ap (λ i. (logged i c.compare_exchange-was.result c.args.seat.now.me.0, c.args.seat.now.me.1))
-          c.block-index.ensures.value;
+          (c.block-index.ensures.value ∙ ap (λ b. index b.frame.layout (OfBlock c.args.block)) c.self.view_is);
     }
 
 pub returns-then-was-found-clause-owed : goal.returns-then-was-found-clause-owed

@@ -29,4 +29,4 @@ pub returns-clause-hand : goal.returns-clause-hand
 returns-clause-hand g c =
     hand-aimed c.args.self.now c.args.seat.now c.store.new.hand c.requires.table c.store.ensures.0 c.args.name
     g.K.Subject.aim c.requires.subject
-    (λ _. finished-seated g.P.Cargo g.K.Subject.aim c.control-index.result c.store.ensures.2.0 c.control_number-done.result c.args.seat.now.me c.store.new.hand.me c.store.ensures.2.1.rest)
+    (λ _. finished-seated g.P.Cargo g.K.Subject.aim c.control-index.result c.store.ensures.2.0 c.control_number-done.result c.args.seat.now.me c.store.new.hand.me c.store.ensures.2.1.rest.did)

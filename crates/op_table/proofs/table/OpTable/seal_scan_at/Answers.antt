@@ -4,7 +4,7 @@ use Rattle.table_words.specs.Layouts.{index}
 use Rattle.table_steps.specs.Slots.{IsSeated}
 use Rattle.table_steps.specs.Claims.{with_step}
 use Rattle.table_steps.specs.Sights.{spot_of}
-use Rattle.table_steps.specs.ScanSeals.{seals_scan}
+use Rattle.table_steps.specs.ScanSeals.{seals_scan, SaysUnscanned}
 use Rattle.table_kept.proofs.Hands.{hand-seated}
 use Rattle.table_kept.proofs.ScanSealRuns.{seals-at, seal-seated, left-scanned}
 use Rattle.op_table.proofs.table.OpTable.seal_scan_at.Goals as goal
@@ -26,7 +26,7 @@ pub returns-clause-hand : goal.returns-clause-hand
 returns-clause-hand g c =
     let b = c.args.self.now in
     hand-seated b c.args.seat.now c.fetch_or-word.new.hand c.requires.table c.fetch_or-word.ensures.0
-    (subst (IsSeated b.frame.tree b.frame.layout) (sym c.fetch_or-word.ensures.2.rest)
+    (subst (IsSeated b.frame.tree b.frame.layout) (sym c.fetch_or-word.ensures.2.rest.me_is)
     (seal-seated b.frame.tree b.frame.layout c.source_index-index.result c.fetch_or-word.result (bit_or c.fetch_or-word.result 4) g.K.Regard.source
     c.args.seat.now.me c.requires.table.seated))
 
@@ -37,9 +37,10 @@ returns-clause-sealed g c =
     record {
       read = word;
       left = bit_or word 4;
+      found = subst (λ t. SaysUnscanned t word) c.requires.source_is c.fetch_or-word.ensures.2.rest.found;
       stamp_is = (left-scanned word).0;
       left_is = (left-scanned word).1;
-      me_is = c.fetch_or-word.ensures.2.rest
+      me_is = c.fetch_or-word.ensures.2.rest.me_is
           ∙ ap (λ t. (with_step c.source_index-index.result word (bit_or word 4) (seals_scan t m.0), m.1)) c.requires.source_is
           ∙ ap (λ i. (with_step i word (bit_or word 4) (seals_scan c.args.source m.0), m.1))
           (c.source_index-index.ensures.value ∙ ap (λ b. index b.frame.layout (spot_of c.args.source)) c.self.view_is);

@@ -1,7 +1,9 @@
 use Rattle.std.proofs.Common.{arith, sym, ap, ◌∙◌, subst}
+use Rattle.life_rules.specs.declared.words.CallbackPhase.TheVariants.{Running}
 use Rattle.table_words.specs.Layouts.{OfCallback, index}
 use Rattle.table_steps.specs.Slots.{Aim, IsSeated}
 use Rattle.table_steps.specs.Claims.{with_step}
+use Rattle.table_steps.specs.Lefts.{FoundCallback}
 use Rattle.table_steps.specs.RunEnds.{removes_own}
 use Rattle.table_kept.proofs.Hands.{hand-seated}
 use Rattle.table_kept.proofs.RunEndAllowed.{removes-at, removed-seated}
@@ -25,7 +27,7 @@ pub returns-clause-hand : goal.returns-clause-hand
 returns-clause-hand g c =
     let b = c.args.self.now in
     hand-seated b c.args.seat.now c.store.new.hand c.requires.table c.store.ensures.0
-    (subst (IsSeated b.frame.tree b.frame.layout) (sym c.store.ensures.2.1.rest)
+    (subst (IsSeated b.frame.tree b.frame.layout) (sym c.store.ensures.2.1.rest.me_is)
     (removed-seated b.frame.tree b.frame.layout c.callback-index.result c.store.ensures.2.0 c.callback_number-removed.result g.K.Subject.aim.tree g.K.Subject.aim.name
     c.args.seat.now.me c.requires.table.seated))
 
@@ -35,8 +37,9 @@ returns-clause-withdrawn g c =
     record {
       read = c.store.ensures.2.0;
       left = c.callback_number-removed.result;
+      found = subst (λ (a : Aim). FoundCallback a.name Running c.store.ensures.2.0) c.requires.subject c.store.ensures.2.1.rest.found;
       says = record { stamp_is = c.callback_number-removed.ensures.stamp; reads = c.callback_number-removed.ensures.phase };
-      me_is = c.store.ensures.2.1.rest
+      me_is = c.store.ensures.2.1.rest.me_is
           ∙ ap (λ (a : Aim). (with_step c.callback-index.result c.store.ensures.2.0 c.callback_number-removed.result (removes_own a.tree a.name m.0), m.1)) c.requires.subject
           ∙ ap (λ i. (with_step i c.store.ensures.2.0 c.callback_number-removed.result (removes_own c.args.self.now.frame.tree c.args.name m.0), m.1))
           (c.callback-index.ensures.value ∙ ap (λ b. index b.frame.layout (OfCallback c.args.name.block c.args.name.node)) c.self.view_is);
