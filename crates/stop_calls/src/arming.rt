@@ -41,9 +41,13 @@ pub fn stop_requested<P: Cargo>(table: &OpTable<P>, hand: &mut Hand<P>, source: 
     table.look_step(hand, source, None)
 }
 
-// The source on which a callback of the node is registered.
-fn source_above(tree: &Tree, node: Name) -> Option<SourceRef>
-    requires { node.node < length tree.now }
+/// The source of the node's stop token ([exec.get.stop.token]), on which its callback is registered:
+/// that of the nearest node above that has one, in the same block and generation, and else the
+/// scope's. None where an unstoppable node comes first: then no stop reaches the node.
+///
+/// Needs: a node of the tree.
+pub fn source_above(tree: &Tree, node: Name) -> Option<SourceRef>
+    requires node { node.node < length tree.now }
     ensures nearest { result ≡ source_for node (nearest tree.now node.node) }
     ensures source { MatchOption result (Unit {0}) (IsSourceAt tree.now node.block) }
 {
@@ -61,7 +65,7 @@ fn source_above(tree: &Tree, node: Name) -> Option<SourceRef>
 /// a request that was made before the callback was registered doesn't come to it. Asked exactly
 /// where that look read the request. The callback is still registered then.
 ///
-/// Step: one store of the node's callback word, never to armed; then one load of the source's word.
+/// Step: one swap of the node's callback word, never to armed; then one load of the source's word.
 /// Needs: the hand holds the node, has read that its callback was never registered, and the node
 /// hears a source.
 /// Afterwards: the place is armed, and looked after. A request on that source that the hand had seen,

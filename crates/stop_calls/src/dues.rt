@@ -24,7 +24,7 @@ impl Due {
     /// Ends the run. Where the callback was removed from inside it the run is over already: then
     /// this makes no step, and the callback's place isn't touched any more.
     ///
-    /// Step: one store of the callback word, running to ran; none after a removal from inside.
+    /// Step: one swap of the callback word, running to ran; none after a removal from inside.
     /// Needs: the hand makes no scan of the node's own source: a request that was passed on is
     /// sealed.
     /// Afterwards: the hand no longer runs the callback, and its scan has passed the place.

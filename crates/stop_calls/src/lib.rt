@@ -27,7 +27,7 @@ mod requesting;
 mod scanning;
 mod searching;
 
-pub use arming::{Armed, arm, stop_requested};
+pub use arming::{Armed, arm, source_above, stop_requested};
 pub use dues::Due;
 pub use op_table::{Cargo, Hand, OpTable};
 pub use removing::{Settled, Withdrawn, try_withdraw, withdraw};

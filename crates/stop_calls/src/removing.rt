@@ -39,7 +39,7 @@ pub enum Settled {
 /// exactly where another hand runs it: then nothing changed, and the caller tries again later.
 ///
 /// Step: one exchange of the node's callback word, armed to removed; or, from inside the callback,
-/// one store, running to removed.
+/// one swap, running to removed.
 /// Needs: the hand holds the node, and has read that its callback was registered. From inside: it
 /// makes no scan of the node's own source.
 /// Afterwards: but for Running, the callback doesn't run, and never will. Hand 0 doesn't answer
