@@ -3,3 +3,4 @@ mod Trying
 mod Leaving
 mod Associating
 mod Starting
+mod Lasting

@@ -4,6 +4,7 @@ pub mod Leaves
 pub mod Associations
 pub mod Joins
 pub mod Looks
+pub mod Lasting
 -- the definitions that the public contracts cite
 pub use Rattle.life_rules.specs.Scopes
 pub use Rattle.table_words.specs.ScopeNumbers

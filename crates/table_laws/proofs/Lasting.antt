@@ -42,7 +42,7 @@ use Rattle.table_steps.specs.Steps.{Finished}
 use Rattle.table_steps.specs.Takes.{rest_word}
 use Rattle.table_steps.specs.Sights.{spot_of}
 use Rattle.table_steps.specs.Requests.{IsWordOf}
-use Rattle.table_laws.specs.Lasting.{StillLists, IsOverForGood, DoneForGood, SealMissesNone, BitsStay, SealedIsEmpty, MadeIsUsed}
+use Rattle.table_laws.specs.Lasting.{StillLists, IsEmptied, IsOverForGood, DoneForGood, SealMissesNone, BitsStay, SealedIsEmpty, MadeIsUsed}
 use Rattle.table_laws.proofs.Ends.{now-over, rest-reads, rest-goes_on}
 use Rattle.table_laws.proofs.Misses.{misses-none, joined-is_empty}
 
@@ -204,9 +204,20 @@ module _ {P E O : Type 0} (cargo : Ghosts P E O) (f : Frame O) (s : table.State 
       (heard-live x y live spot.1 (nearest f.tree x.node) hears)
 
   -- the scope's word has the bits of the one that was left
-  scope-later : (new : Seat (Option P) (View P E)) (read left : ℕ) (earlier : List Seen) → new.me.0.steps ≡ entry 0 read left ∷ earlier →
+  pub scope-later : (new : Seat (Option P) (View P E)) (read left : ℕ) (earlier : List Seen) → new.me.0.steps ≡ entry 0 read left ∷ earlier →
       StillLists new s → HasBitsOf (scope_read left) (scope_of f.layout s.words)
   scope-later new read left earlier steps lists = left-later new TheScope read left earlier tt steps lists
+
+  -- so where that was joined, no hand has an association but such as is being refused
+  pub emptied-since : (new : Seat (Option P) (View P E)) (read left : ℕ) (earlier : List Seen) → new.me.0.steps ≡ entry 0 read left ∷ earlier →
+      StillLists new s → (scope_read left).joined ≡ true → IsEmptied f s
+  emptied-since new read left earlier steps lists sealed =
+      let joined = (scope-later new read left earlier steps lists).joined sealed in
+      record {
+        joined = joined;
+        made = λ h v at. (joined-is_empty cargo f s r joined h v at).0;
+        making = λ h v at. (joined-is_empty cargo f s r joined h v at).1;
+      }
 
 pub done-for_good : {P E O : Type 0} (cargo : Ghosts P E O) → DoneForGood cargo
 done-for_good cargo board x old new place did s r lists =
@@ -219,11 +230,11 @@ done-for_good cargo board x old new place did s r lists =
     (record { stamp = omega (arith, rises, stamp_is); done = λ stamp. later.done (did.says.stamp_is ∙ sym stamp) did.says.reads })
 
 pub seal-misses_none : {P E O : Type 0} (cargo : Ghosts P E O) → SealMissesNone cargo
-seal-misses_none cargo board source old new within did of s r lists x hears armed =
+seal-misses_none cargo board source old new within did s r lists x hears armed =
     let f = board.frame in
     let live = phase-live (shown f s) x (armed-once (phase_at (shown f s) x) armed) in
     let scanned = scanned-now cargo f s r new source did.read did.left old.me.0.steps x within.spot (ap (λ m. m.0.steps) did.me_is) lists
-    (left-of source did.read did.left did.stamp_is of) (ap (λ (b : Bits). b.scanned) did.left_is) hears live in
+    (left-of source did.read did.left did.stamp_is did.found.is_of) (ap (λ (b : Bits). b.scanned) did.left_is) hears live in
     let minded = misses-none cargo f s r source x scanned hears armed in
     record { hand = minded.0; view = minded.1; at = minded.2; minds = minded.3 }
 
@@ -236,13 +247,8 @@ bits-stay cargo f s r h v at = kept v.steps (r.stamped.rises h v at)
 
 pub sealed-is_empty : {P E O : Type 0} (cargo : Ghosts P E O) → SealedIsEmpty cargo
 sealed-is_empty cargo expected old new did f s r lists =
-    let later = scope-later cargo f s r new did.word did.left old.me.0.steps (ap (λ m. m.0.steps) did.me_is) lists in
-    let joined = later.joined (ap (λ (w : ScopeWord). w.joined) did.cause.1) in
-    record {
-      joined = joined;
-      made = λ h v at. (joined-is_empty cargo f s r joined h v at).0;
-      making = λ h v at. (joined-is_empty cargo f s r joined h v at).1;
-    }
+    emptied-since cargo f s r new did.word did.left old.me.0.steps (ap (λ m. m.0.steps) did.me_is) lists
+    (ap (λ (w : ScopeWord). w.joined) did.cause.1)
 
 pub made-is_used : {P E O : Type 0} (cargo : Ghosts P E O) → MadeIsUsed cargo
 made-is_used cargo old new made f s r lists =

@@ -4,4 +4,5 @@ mod Listing
 mod Runs
 mod Misses
 mod Bounds
-mod Lasting
+pub mod Lasting
+pub mod CallLists

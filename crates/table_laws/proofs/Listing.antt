@@ -100,9 +100,9 @@ module _ {P E O : Type 0} (board : Board O) (x : Name) (old new : Seat (Option P
       ap (λ w. is_over (says_phase x.generation w)) (cond-false (is_armed phase) (callback_written x.generation Removed) told.word unarmed)
       ∙ registered-over phase (ap is_registered (sym told.answer_is) ∙ told.registered) unarmed (ap is_running (sym told.answer_is) ∙ found.no_run)))
 
-  left-over : (phase : CallbackPhase) (change : View P E → View P E) → LeftCallback board x phase change old new → is_over phase ≡ true →
+  left-over : (before phase : CallbackPhase) (change : View P E → View P E) → LeftCallback board x before phase change old new → is_over phase ≡ true →
       lists_over board.frame.layout new.me.0 x ≡ true
-  left-over phase change left over =
+  left-over before phase change left over =
       let w = left.left in
       newest-over left.read w _ (ap (λ m. m.0.steps) left.me_is)
       (ap is_over (cond-true (stamp_of w == x.generation) (callback_read w) Never (eq-eqb _ _ left.says.stamp_is) ∙ left.says.reads) ∙ over)
@@ -112,8 +112,8 @@ module _ {P E O : Type 0} (board : Board O) (x : Name) (old new : Seat (Option P
       elim ends [
         | inl found ↦ no-run-over found
         | inr left ↦ elim left [
-          | inl ran ↦ left-over Ran _ ran refl
-          | inr removed ↦ left-over Removed _ removed refl
+          | inl ran ↦ left-over Runs Ran _ ran refl
+          | inr removed ↦ left-over Runs Removed _ removed refl
         ]
       ]
 

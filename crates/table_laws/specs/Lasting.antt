@@ -19,7 +19,6 @@ use Rattle.table_rules.specs.Running.{Running}
 use Rattle.table_steps.specs.Views.{Board, IsPlaceIn}
 use Rattle.table_steps.specs.Steps.{Finished}
 use Rattle.table_steps.specs.Sights.{IsSourceIn}
-use Rattle.table_steps.specs.Requests.{IsWordOf}
 use Rattle.table_steps.specs.ScanSeals.{IsScanSealed}
 use Rattle.table_steps.specs.ScopeMoves.{IsMade, IsSealedAs}
 use Rattle.table_laws.specs.Listed.{GrewFrom}
@@ -63,7 +62,7 @@ module _ {P E O : Type 0} (cargo : Ghosts P E O) where
   abbrev pub SealMissesNone : Type 0
   SealMissesNone =
       (board : Board O) (source : SourceRef) (old new : Seat (Option P) (View P E)) →
-      IsSourceIn board source → (did : IsScanSealed board source old new) → IsWordOf source did.read →
+      IsSourceIn board source → IsScanSealed board source old new →
       (s : table.State (Option P) (View P E)) → Running cargo board.frame s → StillLists new s →
       (x : Name) → nearest_of (shown board.frame s) x ≡ Some source →
       is_armed (phase_at (shown board.frame s) x) ≡ true → IsMinded s x

@@ -2,3 +2,4 @@ pub mod Listed
 pub mod Laws
 pub mod Bounds
 pub mod Lasting
+pub mod CallLists
