@@ -1,3 +1,1 @@
-mod Lone
-mod Stops
-mod Members
+mod Ready

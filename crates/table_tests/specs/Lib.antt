@@ -1,2 +1,1 @@
-pub mod Lone
-pub mod Members
+pub mod Ready

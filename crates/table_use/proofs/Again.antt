@@ -1,5 +1,5 @@
 -- A root that was taken again ends.
-use Rattle.std.proofs.Common.{◌≡◌, ℕ, ◌+◌, true, [], ◌∷◌, refl, sym, ap, ◌∙◌, subst}
+use Rattle.std.proofs.Common.{◌≡◌, ℕ, ◌+◌, true, List, [], ◌∷◌, refl, sym, ap, ◌∙◌, subst}
 use Rattle.std.specs.Prelude.{Option, Some, None, is_some}
 use Rattle.life_rules.specs.declared.words.CallbackPhase.{CallbackPhase}
 use Rattle.life_rules.specs.declared.words.CallbackPhase.TheVariants.{Never}
@@ -20,13 +20,17 @@ use Rattle.table_use.specs.declared.cargo.Entry.{Entry}
 use Rattle.table_use.specs.declared.cargo.Env.{Env}
 use Rattle.table_use.specs.declared.cargo.Item.{Item}
 use Rattle.table_use.specs.declared.cargo.Item.TheVariants.{Kept}
-use Rattle.table_use.specs.Starts.{value_at, start_of, Fits, key_of}
-use Rattle.table_use.specs.Uses.{IsNode}
+use Rattle.table_use.specs.Starts.{start_of, FitsAt, key_of}
+use Rattle.table_use.specs.Uses.{IsNode, IsNotedNumber}
 use Rattle.table_use.specs.contracts.cargo.ItemCargo.TheImpl.{ghosts}
 use Rattle.table_use.proofs.Nodes.{node-places, node-root}
 
 some-same : (a b : Item) → Some a ≡ Some b → a ≡ b
 some-same a b e = cc
+
+abbrev number_in : List Entry → ℕ
+number_in [] = 0
+number_in (e ∷ es) = e.number
 
 -- a root that was taken again is emptied, finished and given back
 module _ (board : Board ℕ) (x : Name) (is : IsNode board x) (three : x.node ≡ 3) (m m1 m2 m3 m4 m5 : Seated Item Entry) (calm : IsCalm m) (i word taken : ℕ) (took : TakenAt ghosts (aimed board.frame x) (board.frame.over.value ∷ []) i word taken m m1) where
@@ -64,14 +68,19 @@ module _ (board : Board ℕ) (x : Name) (is : IsNode board x) (three : x.node �
     again-held = record { held = taken_held; holds = empty-tends.holds }
 
     -- what it kept is right
-    pub again-value : (env : Env) (v : ℕ) → o ≡ Some (Kept env v) → v ≡ env.number + (env.number + board.frame.over.value)
+    pub again-value : (env : Env) (v : ℕ) → o ≡ Some (Kept env v) → v ≡ env.number + board.frame.over.value
     again-value env v said =
         let item : took.item ≡ Kept env v =
         some-same took.item (Kept env v) (sym again-item ∙ said) in
-        let fit = subst (λ j. Fits j x.node took.told) item took.fit in
-        let value : v ≡ env.number + (env.number + env.step) = fit.1 ∙ ap (value_at env) (fit.0 ∙ three) in
+        let fit = subst (λ j. FitsAt j x.node) item took.fit in
         let step : env.step ≡ board.frame.over.value = sym (ap (λ j. key_of (start_of j)) item) ∙ (ap key_of took.shows ∙ took.key.0) in
-        value ∙ ap (λ s. env.number + (env.number + s)) step
+        fit.1 ∙ ap (λ s. env.number + s) step
+
+    -- and it is of the number for which the root began
+    pub again-number : (env : Env) (v : ℕ) → o ≡ Some (Kept env v) → IsNotedNumber x m env.number
+    again-number env v said noted has =
+        let item : took.item ≡ Kept env v = some-same took.item (Kept env v) (sym again-item ∙ said) in
+        ap number_in (sym (ap start_of item) ∙ took.shows ∙ took.noted _ has)
 
     module _ (phase : CallbackPhase) (read : IsPhaseAs board.frame x phase m2 m3) where
       again-read : Tends board.frame x (record taken_held { phase = Some phase }) None (λ _. None) m3

@@ -1,240 +1,154 @@
--- A node that has its children's completions goes on, and a root ends.
-use Rattle.std.proofs.Common.{◌≡◌, ℕ, zero, suc, ◌+◌, ◌<◌, ◌≤◌, true, List, [], ◌∷◌, arith, refl, sym, ap, ◌∙◌, subst}
+-- A root that has its child's completion keeps it.
+use Rattle.std.proofs.Common.{◌≡◌, inl, inr, ℕ, ◌<◌, ◌≤◌, true, false, ◌==◌, arith, refl, sym, ap, ◌∙◌, subst}
 use Rattle.std.specs.Prelude.{Option, Some, None, is_some}
+use Rattle.std.proofs.lemmas.Bool.{cond-true}
 use Rattle.life_rules.specs.declared.event.Name.{Name}
 use Rattle.node_tree.specs.Tree.{is_child}
 use Rattle.life_rules.specs.Views.{beside}
+use Rattle.life_kept.proofs.Trees.{child-parent}
+use Rattle.table_rules.specs.declared.view.Rooted.{Rooted}
+use Rattle.table_steps.specs.declared.report.Report.{Report}
+use Rattle.table_steps.specs.declared.report.Report.TheVariants.{Last}
 use Rattle.table_steps.specs.Views.{Board}
 use Rattle.table_steps.specs.Claims.{Seated}
+use Rattle.table_steps.specs.Reports.{CanReport, IsReportedAs}
 use Rattle.table_steps.specs.Rests.{CanRest}
 use Rattle.table_steps.specs.Swaps.{HasHome}
 use Rattle.op_slot.specs.Puts.{CanPut, IsPut, IsTakenOut}
-use Rattle.op_slot.specs.Tends.{put_at, IsCalm, Tends}
-use Rattle.op_slot.proofs.Tending.{swapped-calm, swapped-old, swapped-own, swapped-kid}
-use Rattle.op_slot.proofs.Leaving.{tends-home, tends-kid, tends-puts, tends-rests}
+use Rattle.op_slot.specs.Tends.{put_at, IsCalm, HasPlaces, Tends}
+use Rattle.op_slot.proofs.Tending.{swapped-calm, swapped-old, swapped-own, swapped-kid, last-calm, last-tends}
+use Rattle.op_slot.proofs.Leaving.{tends-home, tends-kid, tends-puts, tends-rests, owes-reports}
 use Rattle.table_use.specs.declared.cargo.Entry.{Entry}
 use Rattle.table_use.specs.declared.cargo.Env.{Env}
 use Rattle.table_use.specs.declared.cargo.Item.{Item}
-use Rattle.table_use.specs.declared.cargo.Item.TheVariants.{Kept, Done}
-use Rattle.table_use.specs.Starts.{above_of, path, value_at, env_of, Ends, kids_asked, key_of}
-use Rattle.table_use.specs.Uses.{IsNode, IsEnv, HoldsNode, HoldsLast}
+use Rattle.table_use.specs.declared.cargo.Item.TheVariants.{Going, Kept, Done, Failed}
+use Rattle.table_use.specs.Starts.{path, answer_of, done_at, value_of, is_done, least_at, least_of, Ends, FitsAt}
+use Rattle.table_use.specs.Uses.{use_tree, IsRoot, IsEnv, HasEnded, HasNoted, HoldsLast}
 use Rattle.table_use.specs.contracts.cargo.ItemCargo.TheImpl.{ghosts}
-use Rattle.table_use.proofs.Nodes.{node-places, pair-kid, pair-below, root-kid, root-below}
-use Rattle.table_use.proofs.Counting.{asked, pair-full, root-full}
+use Rattle.table_use.proofs.Nodes.{node-places, kid-above, kid-of, use-root-kid}
 
--- the number and the step that a start shows
-number_of : List Entry → ℕ
-number_of [] = 0
-number_of (e ∷ es) = e.number
-
-some-same : {A : Type 0} (a b : A) → Some a ≡ Some b → a ≡ b
+some-same : (a b : Item) → Some a ≡ Some b → a ≡ b
 some-same a b e = cc
 
--- a child's env has the number and the step of its parent's
-record SharesWith (child env : Env) : Type 0 where
-  number : child.number ≡ env.number
-  step : child.step ≡ env.step
+-- an item that is no completion asks for what its node asks for
+own-least : (item : Item) (node : ℕ) → ¬ Ends item → FitsAt item node → least_of item ≡ least_at node
+own-least (Going env) node on fit = ap least_at fit
+own-least (Kept env value) node on fit = ap least_at fit.0
+own-least (Done env value) node on fit = absurd (on tt)
+own-least (Failed env) node on fit = absurd (on tt)
 
-shares : (child env : Env) (n : ℕ) → n < 3 → child.node ≡ n → above_of child child.node ≡ path env → SharesWith child env
-unfolding number_of
-shares child env zero below node above =
-    let goes = sym (ap (above_of child) node) ∙ above in record { number = ap number_of goes; step = ap key_of goes }
-shares child env (suc zero) below node above =
-    let goes = sym (ap (above_of child) node) ∙ above in record { number = ap number_of goes; step = ap key_of goes }
-shares child env (suc (suc zero)) below node above =
-    let goes = sym (ap (above_of child) node) ∙ above in record { number = ap number_of goes; step = ap key_of goes }
-shares child env (suc (suc (suc n))) below node above = absurd (omega (arith, below))
+-- the last report gives the root, with what the child ended with
+module _ (board : Board ℕ) (x : Name) (is : IsRoot board x) (n : ℕ) (child : is_child board.frame.tree x.node n ≡ true) (y : Name) (name : y ≡ beside x n) (item : Item) (m m1 : Seated Item Entry) (done : HasEnded (beside x n) item m) (calm : IsCalm m) where
+  pub last-reports : CanReport board.frame.tree m.0 y
+  last-reports =
+      subst (λ (z : Name). CanReport board.frame.tree m.0 z) (sym name)
+      (owes-reports board.frame.tree (beside x n) x.node done.entry m (child-parent board.frame.tree x.node n child) done.owes calm)
 
-tail-same : (a b : Entry) (xs ys : List Entry) → a ∷ xs ≡ b ∷ ys → xs ≡ ys
-tail-same a b xs ys e = cc
+  module _ (did : IsReportedAs ghosts board.frame y Last m m1) where
+    at-child : IsReportedAs ghosts board.frame (beside x n) Last m m1
+    at-child = subst (λ z. IsReportedAs ghosts board.frame z Last m m1) name did
 
-module _ (board : Board ℕ) (x : Name) (is : IsNode board x) (m : Seated Item Entry) (last : HoldsLast board.frame x m) where
-  pub kid-home : (y : Name) (n : ℕ) → y ≡ beside x n → is_child board.frame.tree x.node n ≡ true → HasHome board.frame.layout m y
-  kid-home y n name child =
-      subst (λ (z : Name). HasHome board.frame.layout m z) (sym name)
-      (tends-kid board.frame x m last.held (Some last.item) last.content last.tends n child)
+    pub last-holds : (env : Env) → IsEnv board.frame x env → HasNoted x env m → HoldsLast board.frame x env n item m1
+    last-holds env at noted =
+        let f = board.frame in
+        let told = at-child.4 in
+        let above = kid-above board x is.is_node n child in
+        let asks : least_at x.node ≡ 1 = ap least_at is.three in
+        subst (λ z. HoldsLast f z env n item m1) above
+        (record {
+          is = subst (λ z. IsEnv f z env) (sym above) at;
+          held = _;
+          start = told.noted _ (subst (λ z. HasNoted z env m) (sym above) noted);
+          named =
+              let own = own-least told.item _ told.goes_on told.fit in
+              let node = ap (λ (z : Name). least_at z.node) above in
+              let bound = told.bound in omega (arith, asks, own, node, bound);
+          own = told.item;
+          content = told.content;
+          tends = last-tends ghosts f _ m m1 (beside x n) _ _ _ _ told
+              (subst (λ z. HasPlaces f z) (sym above) (node-places board x is.is_node));
+          child = told.keeps done.entry done.owes ∙ ap (λ (i : Item). Some i) done.item_is;
+        })
 
-  -- what a child delivered is right, by the start of the node
-  kid-value : (n : ℕ) (child env : Env) (value : ℕ) → n < 3 → is_child board.frame.tree x.node n ≡ true →
-      last.content n ≡ Some (Done child value) → last.held.start ≡ path env →
-      (child.node ≡ n) × (value ≡ value_at child child.node) × SharesWith child env
-  kid-value n child env value below at holds start =
-      let fit = last.fits_child n (Done child value) at holds in
-      let goes = last.below n (Done child value) at holds in (
-        fit.0,
-        fit.1,
-        shares child env n below fit.0 (tail-same _ _ _ _ goes.1 ∙ start),
-      )
+    pub last-quiet : IsCalm m1
+    last-quiet = last-calm ghosts board.frame _ m m1 (beside x n) _ _ _ _ at-child.4 calm
 
-  -- the env of the node's own item
-  module _ (env : Env) (own : env ≡ env_of last.item) where
-    own-start : last.held.start ≡ path env
-    own-start = sym last.shows ∙ sym (ap path own)
+-- the homes of both children and the root's own are emptied, and the value is kept
+module _ (board : Board ℕ) (x : Name) (is : IsRoot board x) (env : Env) (m m1 : Seated Item Entry) (last : HoldsLast board.frame x env 0 (done_at env 0) m) (leaf : Name) (leaf_is : leaf ≡ beside x 0) where
+  first-child : is_child board.frame.tree x.node 0 ≡ true
+  first-child = kid-of board x is.is_node 3 0 is.three refl
 
-    own-env : IsEnv board.frame x env
-    own-env =
-        record {
-          node = ap (λ (e : Env). e.node) own ∙ (last.fit true).0;
-          step = sym (ap key_of own-start) ∙ last.key;
-        }
+  other-child : is_child board.frame.tree x.node 2 ≡ true
+  other-child = kid-of board x is.is_node 3 2 is.three refl
 
-  -- the env of the item that was taken out is that of the node's own
-  item-env : (o : Option Item) (item : Item) (env : Env) → o ≡ Some last.item → o ≡ Some item → env ≡ env_of item → env ≡ env_of last.item
-  item-env o item env own some is_it = is_it ∙ ap env_of (some-same item last.item (sym some ∙ own))
+  pub leaf-home : HasHome board.frame.layout m leaf
+  leaf-home =
+      subst (λ (z : Name). HasHome board.frame.layout m z) (sym leaf_is)
+      (tends-kid board.frame x m last.held (Some last.own) last.content last.tends 0 first-child)
 
--- a pair's two homes, and its own, are emptied
-module _ (board : Board ℕ) (x : Name) (is : IsNode board x) (two : x.node ≡ 2) (m m1 m2 m3 : Seated Item Entry) (last : HoldsLast board.frame x m) (right left : Name) (right_is : right ≡ beside x 1) (left_is : left ≡ beside x 0) (r l o : Option Item) (took_r : IsTakenOut board.frame right r m m1) where
-  right-out : IsTakenOut board.frame (beside x 1) r m m1
-  right-out = subst (λ y. IsTakenOut board.frame y r m m1) right_is took_r
+  module _ (p : Option Item) (took : IsTakenOut board.frame leaf p m m1) where
+    leaf-out : IsTakenOut board.frame (beside x 0) p m m1
+    leaf-out = subst (λ z. IsTakenOut board.frame z p m m1) leaf_is took
 
-  right-tends : Tends board.frame x last.held (Some last.item) (put_at 1 None last.content) m1
-  right-tends =
-      swapped-kid board.frame x 1 None r m m1 last.held (Some last.item) last.content (node-places board x is)
-      (pair-kid board x is two 1 refl) right-out last.tends
+    pub leaf-item : p ≡ Some (done_at env 0)
+    leaf-item = swapped-old board.frame (beside x 0) None p m m1 leaf-out (last.content 0) (last.tends.kids 0 first-child) ∙ last.child
 
-  -- the right leaf's completion
-  right-kid : r ≡ last.content 1
-  right-kid =
-      swapped-old board.frame (beside x 1) None r m m1 right-out (last.content 1) (last.tends.kids 1 (pair-kid board x is two 1 refl))
+    leaf-done : (item : Item) → p ≡ Some item → item ≡ done_at env 0
+    leaf-done item some = some-same item (done_at env 0) (sym some ∙ leaf-item)
 
-  pub right-full : is_some r ≡ true
-  right-full = ap is_some right-kid ∙ (pair-full board x is m last two).1
+    pub leaf-is-done : (item : Item) → p ≡ Some item → is_done item ≡ true
+    leaf-is-done item some = ap is_done (leaf-done item some)
 
-  pub right-ends : (item : Item) → r ≡ Some item → Ends item
-  right-ends item some = last.ends 1 item (pair-kid board x is two 1 refl) (sym right-kid ∙ some)
+    pub leaf-value : (item : Item) → p ≡ Some item → value_of item ≡ answer_of env
+    leaf-value item some = ap value_of (leaf-done item some)
 
-  pub left-home : HasHome board.frame.layout m1 left
-  left-home =
-      subst (λ (z : Name). HasHome board.frame.layout m1 z) (sym left_is)
-      (tends-kid board.frame x m1 last.held (Some last.item) (put_at 1 None last.content) right-tends 0 (pair-kid board x is two 0 refl))
+    leaf-tends : Tends board.frame x last.held (Some last.own) (put_at 0 None last.content) m1
+    leaf-tends =
+        swapped-kid board.frame x 0 None p m m1 last.held (Some last.own) last.content (node-places board x is.is_node) first-child leaf-out last.tends
 
-  module _ (took_l : IsTakenOut board.frame left l m1 m2) where
-    left-out : IsTakenOut board.frame (beside x 0) l m1 m2
-    left-out = subst (λ y. IsTakenOut board.frame y l m1 m2) left_is took_l
+    module _ (branch : Name) (branch_is : branch ≡ beside x 2) where
+      pub branch-home : HasHome board.frame.layout m1 branch
+      branch-home =
+          subst (λ (z : Name). HasHome board.frame.layout m1 z) (sym branch_is)
+          (tends-kid board.frame x m1 last.held (Some last.own) (put_at 0 None last.content) leaf-tends 2 other-child)
 
-    left-tends : Tends board.frame x last.held (Some last.item) (put_at 0 None (put_at 1 None last.content)) m2
-    left-tends =
-        swapped-kid board.frame x 0 None l m1 m2 last.held (Some last.item) (put_at 1 None last.content) (node-places board x is)
-        (pair-kid board x is two 0 refl) left-out right-tends
+      module _ (m2 : Seated Item Entry) (q : Option Item) (took_q : IsTakenOut board.frame branch q m1 m2) where
+        abbrev emptied : ℕ → Option Item
+        emptied = put_at 2 None (put_at 0 None last.content)
 
-    left-kid : l ≡ last.content 0
-    left-kid =
-        swapped-old board.frame (beside x 0) None l m1 m2 left-out (last.content 0) (right-tends.kids 0 (pair-kid board x is two 0 refl))
+        branch-tends : Tends board.frame x last.held (Some last.own) emptied m2
+        branch-tends =
+            swapped-kid board.frame x 2 None q m1 m2 last.held (Some last.own) (put_at 0 None last.content) (node-places board x is.is_node)
+            other-child (subst (λ z. IsTakenOut board.frame z q m1 m2) branch_is took_q) leaf-tends
 
-    pub left-full : is_some l ≡ true
-    left-full = ap is_some left-kid ∙ (pair-full board x is m last two).0
+        pub own-home : HasHome board.frame.layout m2 x
+        own-home = tends-home board.frame x m2 last.held (Some last.own) emptied branch-tends
 
-    pub left-ends : (item : Item) → l ≡ Some item → Ends item
-    left-ends item some = last.ends 0 item (pair-kid board x is two 0 refl) (sym left-kid ∙ some)
+        module _ (m3 : Seated Item Entry) (o : Option Item) (took_o : IsTakenOut board.frame x o m2 m3) where
+          own-tends : Tends board.frame x last.held None emptied m3
+          own-tends =
+              swapped-own board.frame x None o m2 m3 took_o last.held (Some last.own) emptied (node-places board x is.is_node) branch-tends
 
-    pub pair-home : HasHome board.frame.layout m2 x
-    pair-home = tends-home board.frame x m2 last.held (Some last.item) (put_at 0 None (put_at 1 None last.content)) left-tends
+          pub keeps-puts : (value : ℕ) → value ≡ answer_of env → CanPut ghosts board.frame m3 x (Kept env value)
+          keeps-puts value right =
+              tends-puts board.frame x m3 last.held None emptied own-tends ghosts (Kept env value) refl (sym last.start) (last.is.node, right)
 
-    pub pair-item : IsTakenOut board.frame x o m2 m3 → o ≡ Some last.item
-    pair-item took_o = swapped-old board.frame x None o m2 m3 took_o (Some last.item) left-tends.own
+          module _ (m4 : Seated Item Entry) (value : ℕ) (put : IsPut board.frame x (Kept env value) m3 m4) (calm : IsCalm m) where
+            pub keeps-calm : IsCalm m4
+            keeps-calm =
+                swapped-calm board.frame x (Some (Kept env value)) None m3 m4 put
+                (swapped-calm board.frame x None o m2 m3 took_o
+                (swapped-calm board.frame branch None q m1 m2 took_q (swapped-calm board.frame leaf None p m m1 took calm)))
 
-    module _ (took_o : IsTakenOut board.frame x o m2 m3) (item : Item) (env : Env) (some : o ≡ Some item) (is_it : env ≡ env_of item) where
-      own-is : env ≡ env_of last.item
-      own-is = item-env board x is m last o item env (pair-item took_o) some is_it
+            none-left : (n : ℕ) → is_child board.frame.tree x.node n ≡ true → emptied n ≡ None
+            none-left n child =
+                let in_use : is_child use_tree 3 n ≡ true = ap (λ k. is_child use_tree k n) (sym is.three) ∙ sym (ap (λ t. is_child t x.node n) is.is_node.tree) ∙ child in
+                elim (use-root-kid n in_use) [ inl zero_is ↦ ap emptied zero_is | inr two_is ↦ ap emptied two_is ]
 
-      pub pair-holds : HoldsNode board.frame x env m3
-      pair-holds =
-          record {
-            is = own-env board x is m last env own-is;
-            calm = swapped-calm board.frame x None o m2 m3 took_o
-                (swapped-calm board.frame left None l m1 m2 took_l (swapped-calm board.frame right None r m m1 took_r last.calm));
-            held = last.held;
-            start = own-start board x is m last env own-is;
-            kid = put_at 0 None (put_at 1 None last.content);
-            empty = λ n child. emptied n (pair-below board x is two n child);
-            tends = swapped-own board.frame x None o m2 m3 took_o last.held (Some last.item) (put_at 0 None (put_at 1 None last.content))
-                (node-places board x is) left-tends;
-          }
-        where
-          emptied : (n : ℕ) → n < 2 → put_at 0 None (put_at 1 None last.content) n ≡ None
-          emptied zero below = refl
-          emptied (suc zero) below = refl
-          emptied (suc (suc n)) below = absurd (omega (arith, below))
-
-      -- the sum of what was delivered is right
-      pub pair-total : (a b : Env) (v w : ℕ) → r ≡ Some (Done a v) → l ≡ Some (Done b w) → w + v ≡ env.number + (env.number + env.step)
-      pair-total a b v w right_done left_done =
-          let start = own-start board x is m last env own-is in
-          let one = kid-value board x is m last 1 a env v (omega arith) (pair-kid board x is two 1 refl) (sym right-kid ∙ right_done) start in
-          let other = kid-value board x is m last 0 b env w (omega arith) (pair-kid board x is two 0 refl) (sym left-kid ∙ left_done) start in
-          let v_is : v ≡ a.number + a.step = one.1 ∙ ap (value_at a) one.0 in
-          let w_is : w ≡ b.number = other.1 ∙ ap (value_at b) other.0 in
-          let a_number = one.2.number in
-          let a_step = one.2.step in
-          let b_number = other.2.number in
-          omega (arith, v_is, w_is, a_number, a_step, b_number)
-
-      pub pair-sum : (a b : Env) (v w : ℕ) → r ≡ Some (Done a v) → l ≡ Some (Done b w) → w + v ≡ value_at env env.node
-      pair-sum a b v w right_done left_done =
-          let sum : value_at env env.node ≡ env.number + (env.number + env.step) =
-          ap (value_at env) ((own-env board x is m last env own-is).node ∙ two) in
-          pair-total a b v w right_done left_done ∙ sym sum
-
--- a root keeps what its child delivered
-module _ (board : Board ℕ) (x : Name) (is : IsNode board x) (three : x.node ≡ 3) (m m1 m2 m3 : Seated Item Entry) (last : HoldsLast board.frame x m) (pair : Name) (pair_is : pair ≡ beside x 2) (p o : Option Item) (took_p : IsTakenOut board.frame pair p m m1) where
-  pair-out : IsTakenOut board.frame (beside x 2) p m m1
-  pair-out = subst (λ y. IsTakenOut board.frame y p m m1) pair_is took_p
-
-  kid-out : Tends board.frame x last.held (Some last.item) (put_at 2 None last.content) m1
-  kid-out =
-      swapped-kid board.frame x 2 None p m m1 last.held (Some last.item) last.content (node-places board x is)
-      (root-kid board x is three) pair-out last.tends
-
-  pub root-home : HasHome board.frame.layout m1 x
-  root-home = tends-home board.frame x m1 last.held (Some last.item) (put_at 2 None last.content) kid-out
-
-  below-kid : p ≡ last.content 2
-  below-kid =
-      swapped-old board.frame (beside x 2) None p m m1 pair-out (last.content 2) (last.tends.kids 2 (root-kid board x is three))
-
-  pub below-full : is_some p ≡ true
-  below-full = ap is_some below-kid ∙ root-full board x is m last three
-
-  pub below-ends : (item : Item) → p ≡ Some item → Ends item
-  below-ends item some = last.ends 2 item (root-kid board x is three) (sym below-kid ∙ some)
-
-  pub root-item : IsTakenOut board.frame x o m1 m2 → o ≡ Some last.item
-  root-item took_o = swapped-old board.frame x None o m1 m2 took_o (Some last.item) kid-out.own
-
-  module _ (took_o : IsTakenOut board.frame x o m1 m2) (a env : Env) (v : ℕ) (done : p ≡ Some (Done a v)) (item : Item) (some : o ≡ Some item) (is_it : env ≡ env_of item) where
-    root-own : env ≡ env_of last.item
-    root-own = item-env board x is m last o item env (root-item took_o) some is_it
-
-    own-out : Tends board.frame x last.held None (put_at 2 None last.content) m2
-    own-out =
-        swapped-own board.frame x None o m1 m2 took_o last.held (Some last.item) (put_at 2 None last.content) (node-places board x is) kid-out
-
-    root-value : v ≡ value_at env env.node
-    root-value =
-        let kid = kid-value board x is m last 2 a env v (omega arith) (root-kid board x is three) (sym below-kid ∙ done)
-        (own-start board x is m last env root-own) in
-        let v_is : v ≡ a.number + (a.number + a.step) = kid.1 ∙ ap (value_at a) kid.0 in
-        let number = kid.2.number in
-        let step = kid.2.step in
-        let value : value_at env env.node ≡ env.number + (env.number + env.step) =
-        ap (value_at env) ((own-env board x is m last env root-own).node ∙ three) in omega (arith, v_is, number, step, value)
-
-    pub keeps-puts : CanPut ghosts board.frame m2 x (Kept env v)
-    keeps-puts =
-        tends-puts board.frame x m2 last.held None (put_at 2 None last.content) own-out ghosts (Kept env v) refl
-        (sym (own-start board x is m last env root-own)) ((own-env board x is m last env root-own).node, root-value)
-
-    module _ (put : IsPut board.frame x (Kept env v) m2 m3) where
-      pub keeps-calm : IsCalm m3
-      keeps-calm =
-          swapped-calm board.frame x (Some (Kept env v)) None m2 m3 put
-          (swapped-calm board.frame x None o m1 m2 took_o (swapped-calm board.frame pair None p m m1 took_p last.calm))
-
-      pub keeps-rests : CanRest ghosts board.frame m3 x
-      keeps-rests =
-          let at = own-env board x is m last env root-own in
-          tends-rests ghosts board.frame x m3 last.held (put_at 2 None last.content) keeps-calm
-          (λ n child. ap (λ k. put_at 2 None last.content k) (root-below board x is three n child)) (Kept env v)
-          (swapped-own board.frame x (Some (Kept env v)) None m2 m3 put last.held None (put_at 2 None last.content) (node-places board x is) own-out)
-          (record { start = sym (own-start board x is m last env root-own); fit = (at.node, root-value); goes_on = λ e. e })
-          (subst (λ n. kids_asked n ≤ last.held.named) (sym at.node) (asked board x is m last)) tt
+            pub keeps-rests : value ≡ answer_of env → CanRest ghosts board.frame m4 x
+            keeps-rests right =
+                let asks : least_at env.node ≡ 1 = ap least_at (last.is.node ∙ is.three) in
+                let named = last.named in
+                tends-rests ghosts board.frame x m4 last.held emptied keeps-calm none-left (Kept env value)
+                (swapped-own board.frame x (Some (Kept env value)) None m3 m4 put last.held None emptied (node-places board x is.is_node) own-tends)
+                (record { start = sym last.start; fit = (last.is.node, right); goes_on = λ e. e }) (omega (arith, asks, named)) tt

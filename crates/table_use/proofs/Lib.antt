@@ -1,8 +1,15 @@
 mod Nodes
 mod Noted
 mod Opening
+mod Completing
 mod Waiting
-mod Counting
 mod Ending
 mod Again
+mod Steps
+mod Readings
+mod Reasons
 mod Stopping
+pub mod Nesting
+mod Forwarding
+pub mod Roots
+mod Associating

@@ -27,8 +27,8 @@ use Rattle.op_slot.specs.Tends.{aimed}
 use Rattle.table_use.specs.declared.cargo.Entry.{Entry}
 use Rattle.table_use.specs.declared.cargo.Env.{Env}
 use Rattle.table_use.specs.declared.cargo.Item.{Item}
-use Rattle.table_use.specs.Uses.{IsNode, OwesStart}
-use Rattle.table_use.specs.Notes.{HasNoted, KeepsNotes}
+use Rattle.table_use.specs.declared.cargo.Item.TheVariants.{Going}
+use Rattle.table_use.specs.Uses.{IsNode, HasNoted, KeepsNotes}
 use Rattle.table_use.specs.contracts.cargo.ItemCargo.TheImpl.{ghosts}
 use Rattle.table_use.proofs.Nodes.{node-inner, node-root}
 
@@ -83,8 +83,8 @@ module _ (board : Board ℕ) (x : Name) (m m1 : Seated Item Entry) where
           ∙ renewed.0
 
       -- the root begins
-      pub begun-noted : x.node ≡ 3 → (owes : OwesStart board.frame x m) → HasNoted x owes.0 m1
-      begun-noted three owes =
+      pub begun-noted : x.node ≡ 3 → (env : Env) → kept (slot_of board.frame.layout x) m.1 ≡ Some (Some (Going env)) → HasNoted x env m1
+      begun-noted three env home =
           let slot = slot_of board.frame.layout x in
           let old = did.middle.0.noted in
           let shown = start_shown ghosts (kept slot did.middle.1) in
@@ -92,7 +92,7 @@ module _ (board : Board ℕ) (x : Name) (m m1 : Seated Item Entry) where
           ap (λ (z : Seated Item Entry). find_by (λ (e : Rooted Entry). e.name) z.0.noted x) did.began.did.me_is
           ∙ ap (λ b. find_by (λ (e : Rooted Entry). e.name) (notes_start b x shown old) x) (node-root board x is three)
           ∙ cond-true (same x x) (Some entry) (find_by (λ (e : Rooted Entry). e.name) old x) (same-refl x)
-          ∙ ap (λ h. Some (record { name = x; start = start_shown ghosts h })) (ap (kept slot) renewed.1 ∙ owes.1.owes.home)
+          ∙ ap (λ h. Some (record { name = x; start = start_shown ghosts h })) (ap (kept slot) renewed.1 ∙ home)
 
 -- what it has noted it still has, where a step leaves the notes
 pub noted-still : (x : Name) (m m1 : Seated Item Entry) (env : Env) → KeepsNotes m m1 → HasNoted x env m → HasNoted x env m1

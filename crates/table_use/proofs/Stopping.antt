@@ -1,83 +1,45 @@
 -- What a step that makes the hand stop tells it.
-use Rattle.std.proofs.Common.{◌≡◌, ◌≢◌, ℕ, ◌<◌, Bool, true, false, List, [], ◌∷◌, Result, Ok, Err, sym, ap, ◌∙◌, subst}
-use Rattle.std.specs.Prelude.{Option, Some, None, IfErr, IsErrAnd}
-use Rattle.std.proofs.lemmas.Bool.{cond-true}
-use Rattle.life_rules.specs.declared.words.CallbackPhase.{CallbackPhase}
-use Rattle.life_rules.specs.declared.words.CallbackPhase.TheVariants.{Never}
+use Rattle.std.proofs.Common.{◌≡◌, ◌≢◌, inr, ℕ, ◌<◌, Bool, true, false, List, [], ◌∷◌, sym, ap, ◌∙◌, subst, arith}
+use Rattle.std.specs.Prelude.{Option, Some, None}
 use Rattle.life_rules.specs.declared.words.ControlWord.TheVariants.{Busy, ReadyPool}
 use Rattle.life_rules.specs.declared.event.Name.{Name}
 use Rattle.life_rules.specs.declared.event.Resting.TheVariants.{Pool}
 use Rattle.life_rules.specs.Views.{beside}
 use Rattle.listed_steps.specs.declared.seen.Seen.{Seen}
-use Rattle.table_rules.specs.declared.view.Held.{Held}
+use Rattle.atomic_table.specs.declared.shared.Seat.{Seat}
 use Rattle.table_rules.specs.declared.view.View.{View}
-use Rattle.table_rules.specs.Named.{find_by}
-use Rattle.table_steps.specs.declared.block.Block.{Block}
 use Rattle.table_steps.specs.declared.report.Report.{Report}
 use Rattle.table_steps.specs.declared.report.Report.TheVariants.{Others}
 use Rattle.table_steps.specs.Views.{Board}
-use Rattle.table_steps.specs.Claims.{logged, root_name, Seated}
-use Rattle.table_steps.specs.Readings.{above_it, says_begun, notes_idle, Holds, HoldsAbove, IsBegunAs, IsPhaseAs}
+use Rattle.table_steps.specs.Claims.{Seated}
+use Rattle.table_steps.specs.Readings.{above_it, Holds}
 use Rattle.table_steps.specs.Reports.{IsReportedAs}
 use Rattle.table_steps.specs.Lefts.{SaysControl, LeavesControl}
 use Rattle.table_steps.specs.Rests.{RestsAt}
 use Rattle.table_steps.specs.Takes.{rest_word, IsTaken, TakenAt}
 use Rattle.op_slot.specs.Puts.{IsPut, IsTakenOut}
-use Rattle.op_slot.specs.Tends.{aimed}
+use Rattle.op_slot.specs.Tends.{aimed, IsCalm}
 use Rattle.op_slot.proofs.Tending.{swapped-home}
 use Rattle.table_use.specs.declared.cargo.Entry.{Entry}
 use Rattle.table_use.specs.declared.cargo.Env.{Env}
 use Rattle.table_use.specs.declared.cargo.Item.{Item}
 use Rattle.table_use.specs.declared.cargo.Item.TheVariants.{Kept}
 use Rattle.table_use.specs.declared.node.Fault.{Fault}
-use Rattle.table_use.specs.Uses.{control_at, OwesDone}
-use Rattle.table_use.specs.Notes.{HasNotedRoot, KeepsNotes}
-use Rattle.table_use.specs.Causes.{on_control, IsLeft, HasBegun, HasCallback, IsNotLast, IsLost, HasNoValue, StopsAt, StopsAmong, StopsFor}
+use Rattle.table_use.specs.declared.node.Fault.TheVariants.{Begun, Registered, Order, Lost, OtherItem}
+use Rattle.table_use.specs.Uses.{control_at, IsRoot, JustEnded, HasNoted, KeepsNotes}
+use Rattle.table_use.specs.Causes.{GoesOn, WasFree, IsNodeCause}
+use Rattle.table_use.specs.Ends.{on_control, IsLeft, IsNotLast, IsLost, HasNoValue, StopsAt, StopsIn, IsEndCause}
 use Rattle.table_use.specs.contracts.cargo.ItemCargo.TheImpl.{ghosts}
 use Rattle.table_use.proofs.Noted.{noted-still}
-
--- the fault that a `?` hands on is the one that it got
-pub hands-on : {T : Type 0} (r : Result T Fault) (P : Fault → Type 0) (fault : Fault) → IsErrAnd r (λ told. told ≡ fault) → P fault → IfErr r P
-hands-on (Ok value) P fault told holds = tt
-hands-on (Err other) P fault told holds = subst P (sym told) holds
+use Rattle.table_use.proofs.Readings.{just-within, read-on}
+use Rattle.table_use.proofs.Reasons.{free-on}
+use Rattle.table_use.proofs.Steps.{one-longer}
 
 module _ (board : Board ℕ) (x : Name) (m m1 : Seated Item Entry) where
-  -- a child that was read as begun
-  pub begun-stops : (answer : Bool) → answer ≡ true → IsBegunAs board.frame x answer m m1 → HoldsAbove board.frame.tree m.0 x →
-      HasBegun board.frame x m1
-  begun-stops answer is read above =
-      let says = says_begun x.generation read.0 in
-      let said : says ≡ true = sym read.1 ∙ is in
-      let same : m1 ≡ (logged (control_at board.frame x) read.0 m.0, m.1) =
-      read.2 ∙ ap (λ (v : View Item Entry). (logged (control_at board.frame x) read.0 v, m.1))
-      (cond-true says m.0 (notes_idle (above_it board.frame.tree x) x.node m.0) said) in
-      record {
-        above = record {
-          parent = above.parent;
-          parent_is = above.parent_is;
-          held = above.held;
-          holds = ap (λ (z : Seated Item Entry). find_by (λ (e : Held Entry). e.name) z.0.held (beside x above.parent)) same ∙ above.holds;
-        };
-        word = read.0;
-        newest = record { earlier = m.0.steps; steps_are = ap (λ (z : Seated Item Entry). z.0.steps) same };
-        begun = said;
-      }
-
-  -- a callback that was read as registered
-  pub phase-stops : (phase : CallbackPhase) → phase ≢ Never → IsPhaseAs board.frame x phase m m1 → Holds m1.0 x →
-      HasCallback board.frame x m1
-  phase-stops phase other read holds =
-      record {
-        held = holds;
-        word = read.0;
-        newest = record { earlier = m.0.steps; steps_are = ap (λ (z : Seated Item Entry). z.0.steps) read.2 };
-        phase = λ never. other (read.1 ∙ never);
-      }
-
   -- a report that wasn't the last
-  pub others-stops : (answer : Report) → answer ≡ Others → IsReportedAs ghosts board.frame x answer m m1 → OwesDone board.frame x m →
+  pub others-stops : (item : Item) (answer : Report) → answer ≡ Others → IsReportedAs ghosts board.frame x answer m m1 → JustEnded board.frame x item m →
       IsNotLast board.frame x m1
-  others-stops answer others read done =
+  others-stops item answer others read done =
       let said = subst (λ a. IsReportedAs ghosts board.frame x a m m1) others read in
       let last = on_control board.frame (above_it board.frame.tree x) said.0 said.1 in
       record {
@@ -94,8 +56,11 @@ module _ (board : Board ℕ) (x : Name) (m m1 : Seated Item Entry) where
         others = said.3;
       }
 
+  pub others-calm : IsReportedAs ghosts board.frame x Others m m1 → IsCalm m → IsCalm m1
+  others-calm said calm = ap (λ (z : Seated Item Entry). z.0.scans) said.4 ∙ calm
+
   -- a rest leaves the node's word so
-  pub left-rests : LeavesControl (aimed board.frame x) ReadyPool (RestsAt (aimed board.frame x)) m m1 → IsLeft board.frame x m1
+  pub left-rests : LeavesControl (aimed board.frame x) (Busy 0) ReadyPool (RestsAt (aimed board.frame x)) m m1 → IsLeft board.frame x m1
   left-rests left =
       record {
         read = left.read;
@@ -121,6 +86,9 @@ module _ (board : Board ℕ) (x : Name) (m m1 : Seated Item Entry) where
         rested = left.rests;
         other = said.1;
       }
+
+  pub lost-on : (took : Bool) → took ≡ false → IsTaken ghosts board.frame x Pool took m m1 → GoesOn m m1
+  lost-on took other told = one-longer _ m.0.steps m1.0.steps (ap (λ (z : Seated Item Entry). z.0.steps) (told.1 other).2)
 
   pub lost-notes : (took : Bool) → took ≡ false → IsTaken ghosts board.frame x Pool took m m1 → KeepsNotes m m1
   lost-notes took other told = ap (λ (z : Seated Item Entry). z.0.noted) (told.1 other).2
@@ -153,37 +121,44 @@ module _ (board : Board ℕ) (x : Name) (m m1 : Seated Item Entry) where
           other = other;
         }
 
-module _ (board : Board ℕ) (x y : Name) (m : Seated Item Entry) (fault : Fault) where
-  -- the same of a node, by its number in the block
-  pub stops-beside : (n : ℕ) → y ≡ beside x n → StopsAt board.frame y m fault → StopsAt board.frame (beside x n) m fault
-  stops-beside n name stops = subst (λ (z : Name). StopsAt board.frame z m fault) name stops
+low-is : (n : ℕ) → n < 3 → n < 4
+low-is n low = omega (arith, low)
 
-  -- and of a node that is named beside another of the block
-  pub stops-near : (k n : ℕ) → y ≡ beside x k → StopsAt board.frame (beside y n) m fault → StopsAt board.frame (beside x n) m fault
-  stops-near k n name stops = subst (λ (z : Name). StopsAt board.frame (beside z n) m fault) name stops
+-- and how the calls around it tell that on
+module _ (board : Board ℕ) where
+  stops-at-within : (m m1 m2 : Seated Item Entry) → GoesOn m m1 → (x : Name) (fault : Fault) → StopsAt board m1 m2 x fault → StopsAt board m m2 x fault
+  stops-at-within m m1 m2 first x Begun cause = (just-within board _ _ m m1 m2 first cause.0, cause.1)
+  stops-at-within m m1 m2 first x Registered cause = (just-within board _ _ m m1 m2 first cause.0, cause.1)
+  stops-at-within m m1 m2 first x Order cause = cause
+  stops-at-within m m1 m2 first x Lost cause = cause
+  stops-at-within m m1 m2 first x OtherItem cause = cause
+  stops-at-within m m1 m2 first x fault cause = absurd cause
 
--- a node is beside itself
-pub own-name : (x : Name) (n : ℕ) → x.node ≡ n → x ≡ beside x n
-own-name x n at = ap (beside x) at
+  pub stops-within : (m m1 m2 : Seated Item Entry) → GoesOn m m1 → (x : Name) (fault : Fault) → StopsIn board m1 m2 x fault → StopsIn board m m2 x fault
+  stops-within m m1 m2 first x fault cause = (cause.0, cause.1, stops-at-within m m1 m2 first (beside x cause.0) fault cause.2)
 
--- where a call may stop at a node alone, it stops among those of the block
-pub stops-own : {T : Type 0} (r : Result T Fault) (board : Board ℕ) (x : Name) (n count : ℕ) (m : Seated Item Entry) → x.node ≡ n → n < count →
-    IfErr r (StopsAt board.frame x m) → IfErr r (StopsAmong board.frame x count m)
-stops-own (Ok value) board x n count m at below stops = tt
-stops-own (Err fault) board x n count m at below stops =
-    (n, below, subst (λ (z : Name). StopsAt board.frame z m fault) (own-name x n at) stops)
+  -- where the hand stopped at a node of this number
+  pub stops-here : (m m1 : Seated Item Entry) (x y : Name) (n : ℕ) → n < 4 → y ≡ beside x n → (fault : Fault) → StopsAt board m m1 y fault → StopsIn board m m1 x fault
+  stops-here m m1 x y n low name fault cause = (n, low, subst (λ (z : Name). StopsAt board m m1 z fault) name cause)
 
--- a hand that began the block's root for the number stopped at one of its nodes
-pub stops-for : (board : Board ℕ) (number : ℕ) (b : Block) (env : Env) (m m1 : Seated Item Entry) (fault : Fault) →
-    b.index < board.frame.layout.blocks → env.number ≡ number → HasNotedRoot board b env m → KeepsNotes m m1 →
-    (root : Name) → root ≡ root_name board b.index b.generation → (n : ℕ) → n < 4 → StopsAt board.frame (beside root n) m1 fault →
-    StopsFor board number m1 fault
-stops-for board number b env m m1 fault within number_is noted keeps root name n below stops =
-    record {
-      block = b;
-      within = within;
-      env = env;
-      number_is = number_is;
-      noted = noted-still (root_name board b.index b.generation) m m1 env keeps noted;
-      stops = (n, below, subst (λ (z : Name). StopsAt board.frame (beside z n) m1 fault) name stops);
-    }
+  -- a node that doesn't wait or end
+  pub node-stops : (m m1 : Seated Item Entry) (x : Name) (fault : Fault) → IsNodeCause board m m1 x fault → StopsIn board m m1 x fault
+  node-stops m m1 x Begun cause = (cause.0, low-is cause.0 cause.1, cause.2)
+  node-stops m m1 x Registered cause = (cause.0, low-is cause.0 cause.1, cause.2)
+  node-stops m m1 x fault cause = absurd cause
+
+  -- in the operation whose root the hand began for the number
+  pub stops-for : (number : ℕ) (old new : Seat (Option Item) (View Item Entry)) (m : Seated Item Entry) (root : Name) (env : Env) → IsRoot board root →
+      WasFree board old.me m root → GoesOn m new.me → env.number ≡ number → HasNoted root env m → KeepsNotes m new.me →
+      (fault : Fault) → StopsIn board m new.me root fault → IsEndCause board number old new fault
+  stops-for number old new m root env is free more number_is noted keeps fault stops =
+      inr
+      (record {
+        root = root;
+        is_root = is;
+        free = free-on board root old.me m new.me free more;
+        env = env;
+        number_is = number_is;
+        noted = noted-still root m new.me env keeps noted;
+        stops = stops-within old.me m new.me (read-on board _ _ old.me m free) root fault stops;
+      })

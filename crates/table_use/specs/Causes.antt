@@ -1,135 +1,153 @@
--- Why a hand stopped: the words that it read and left.
-use Rattle.std.specs.Prelude.{◌≡◌, ◌≢◌, ◌⊎◌, ℕ, ◌<◌, true, List, [], ◌∷◌, ◌++◌, Option, Some}
+-- Why an operation isn't taken to its end: each fault rests on what words said that the hand read in the call.
+-- The list of its steps has them. An operation is named by any node of it.
+use Rattle.std.specs.Prelude.{◌≡◌, ◌≢◌, ◌⊎◌, ℕ, ◌<◌, Bool, true, List, ◌∷◌, ◌++◌, Option}
+use Rattle.life_rules.specs.declared.words.BlockState.TheVariants.{Free}
 use Rattle.life_rules.specs.declared.words.CallbackPhase.TheVariants.{Never}
-use Rattle.life_rules.specs.declared.words.ControlWord.TheVariants.{Busy, Done, ReadyPool}
 use Rattle.life_rules.specs.declared.event.Name.{Name}
-use Rattle.life_rules.specs.declared.event.Resting.TheVariants.{Pool}
+use Rattle.life_rules.specs.declared.event.SourceRef.{SourceRef}
+use Rattle.life_rules.specs.declared.event.SourceRef.TheVariants.{Node}
+use Rattle.node_tree.specs.Tree.{has_source}
 use Rattle.life_rules.specs.Views.{beside}
 use Rattle.life_rules.specs.Words.{pending}
+use Rattle.table_words.specs.Stamps.{stamp_of}
+use Rattle.table_words.specs.Blocks.{block_read}
 use Rattle.table_words.specs.Controls.{control_read}
-use Rattle.table_words.specs.Layouts.{OfCallback, index}
+use Rattle.table_words.specs.Layouts.{Spot, OfBlock, OfControl, OfCallback, OfSource, index}
 use Rattle.atomic_table.specs.declared.shared.Seat.{Seat}
+use Rattle.table_rules.specs.declared.view.View.{View}
 use Rattle.listed_steps.specs.declared.seen.Seen.{Seen}
 use Rattle.listed_steps.specs.Lists.{entry}
-use Rattle.table_rules.specs.declared.frame.Frame.{Frame}
-use Rattle.table_rules.specs.declared.view.View.{View}
-use Rattle.table_steps.specs.declared.block.Block.{Block}
 use Rattle.table_steps.specs.Views.{Board}
-use Rattle.table_steps.specs.Claims.{Seated, root_name}
-use Rattle.table_steps.specs.Readings.{above_it, says_begun, says_phase, Holds, HoldsAbove}
-use Rattle.table_steps.specs.Runs.{IsNewest}
-use Rattle.table_steps.specs.Slots.{slot_of, kept}
-use Rattle.table_steps.specs.Lefts.{SaysControl}
-use Rattle.table_steps.specs.Reports.{CountsDown}
-use Rattle.table_steps.specs.Takes.{rest_word}
+use Rattle.table_steps.specs.Claims.{Seated}
+use Rattle.table_steps.specs.Readings.{says_begun, says_phase, Holds, HoldsAbove}
+use Rattle.table_steps.specs.Runs.{says_armed}
+use Rattle.table_steps.specs.Sights.{says_requested}
 use Rattle.op_slot.specs.Searches.{IsMissedBelow}
-use Rattle.table_use.specs.declared.cargo.Entry.{Entry}
-use Rattle.table_use.specs.declared.cargo.Env.{Env}
+use Rattle.stop_calls.specs.declared.requesting.Request.TheVariants.{Made}
+use Rattle.stop_calls.specs.declared.scanning.Scan.{Scan}
+use Rattle.stop_calls.specs.Requests.{IsAskedFor}
+use Rattle.stop_calls.specs.Walks.{IsThrough}
 use Rattle.table_use.specs.declared.cargo.Item.{Item}
-use Rattle.table_use.specs.declared.cargo.Item.TheVariants.{Kept}
+use Rattle.table_use.specs.declared.cargo.Entry.{Entry}
 use Rattle.table_use.specs.declared.node.Fault.{Fault}
-use Rattle.table_use.specs.declared.node.Fault.TheVariants.{NoBlock, Begun, Registered, Order, Lost, OtherItem}
-use Rattle.table_use.specs.Uses.{control_at}
-use Rattle.table_use.specs.Notes.{HasNotedRoot}
+use Rattle.table_use.specs.declared.node.Fault.TheVariants.{NoBlock, Begun, Registered, Asked, Moved, OtherPlace, Order, Lost, OtherItem}
+use Rattle.table_use.specs.Uses.{use_tree, IsRoot}
 
--- a step on the node's control word, which read the one number and left the other
-abbrev pub on_control : Frame ℕ → Name → ℕ → ℕ → Seen
-on_control f x read left = entry (control_at f x) read left
+-- the second list is the first with further steps, or none, in front
+pub record IsLonger (before after : List Seen) : Type 0 where
+  pub made : List Seen
+  pub is : after ≡ made ++ before
 
--- these are the view's newest steps, the newest first
-abbrev pub AreNewest : List Seen → View Item Entry → Type 0
-AreNewest newest v = (earlier : List Seen) × (v.steps ≡ newest ++ earlier)
+-- the hand made further steps, or none
+abbrev pub GoesOn : Seated Item Entry → Seated Item Entry → Type 0
+GoesOn m m' = IsLonger m.0.steps m'.0.steps
 
-module _ (f : Frame ℕ) (x : Name) (m : Seated Item Entry) where
-  -- the hand's newest step left the node at rest in the pool
-  pub record IsLeft : Type 0 where
-    pub read : ℕ
-    pub left : ℕ
-    pub newest : AreNewest (on_control f x read left ∷ []) m.0
-    pub rests : SaysControl x ReadyPool left
+-- it made at least one, and the newest is of the spot's word, which it read saying so
+pub record HasJustRead (board : Board ℕ) (spot : Spot) (says : ℕ → Type 0) (m m' : Seated Item Entry) : Type 0 where
+  pub word : ℕ
+  pub left : ℕ
+  pub said : says word
+  pub earlier : List Seen
+  pub began : IsLonger m.0.steps earlier
+  pub newest : m'.0.steps ≡ entry (index board.frame.layout spot) word left ∷ earlier
 
-  -- the hand holds the node's parent, and the word that it read last says that the node has begun
-  pub record HasBegun : Type 0 where
-    pub above : HoldsAbove f.tree m.0 x
-    pub word : ℕ
-    pub newest : IsNewest (control_at f x) word m.0
-    pub begun : says_begun x.generation word ≡ true
+-- one of them is
+pub record HasRead (board : Board ℕ) (spot : Spot) (says : ℕ → Type 0) (m m' : Seated Item Entry) : Type 0 where
+  pub middle : Seated Item Entry
+  pub read : HasJustRead board spot says m middle
+  pub went_on : GoesOn middle m'
 
-  -- the hand holds the node, and the word that it read last says that a callback was registered
-  pub record HasCallback : Type 0 where
-    pub held : Holds m.0 x
-    pub word : ℕ
-    pub newest : IsNewest (index f.layout (OfCallback x.block x.node)) word m.0
-    pub phase : says_phase x.generation word ≢ Never
+-- the scan came to its end, and to no place
+pub record CameToNone (board : Board ℕ) (scan : Scan) (old : Seat (Option Item) (View Item Entry)) (m' : Seated Item Entry) : Type 0 where
+  pub last : Seat (Option Item) (View Item Entry)
+  pub after : Scan
+  pub through : IsThrough board scan old last after
+  pub went_on : GoesOn last.me m'
 
-  -- right after a step that left the node done, the hand found that its parent hadn't one child pending, and
-  -- left one less
-  pub record IsNotLast : Type 0 where
-    pub read : ℕ
-    pub left : ℕ
-    pub done : SaysControl x Done left
-    pub found : ℕ
-    pub fewer : ℕ
-    pub newest : AreNewest (on_control f (above_it f.tree x) found fewer ∷ on_control f x read left ∷ []) m.0
-    pub counts : CountsDown (above_it f.tree x) found fewer
-    pub others : pending (control_read found) ≢ 1
+-- so did a scan that a request of this hand began
+pub record IsUnheard (board : Board ℕ) (source : SourceRef) (m m' : Seated Item Entry) : Type 0 where
+  pub before : Seat (Option Item) (View Item Entry)
+  pub began : GoesOn m before.me
+  pub first : Seat (Option Item) (View Item Entry)
+  pub scan : Scan
+  pub failure : Bool
+  pub requested : IsAskedFor board source failure (Made scan) before first
+  pub came : CameToNone board scan first m'
 
-  -- right after it left the node at rest in the pool, the hand found another word there
-  pub record IsLost : Type 0 where
-    pub read : ℕ
-    pub left : ℕ
-    pub found : ℕ
-    pub newest : AreNewest (on_control f x found found ∷ on_control f x read left ∷ []) m.0
-    pub rested : SaysControl x ReadyPool left
-    pub other : found ≢ rest_word x Pool
+module _ (board : Board ℕ) (m m' : Seated Item Entry) where
+  -- the block's word said that it is free, at the name's generation
+  abbrev pub WasFree : Name → Type 0
+  WasFree x =
+      HasRead board (OfBlock x.block) (λ word. block_read word ≡ record { generation = x.generation; state = Free }) m m'
 
-  -- the hand took the node where it rested in the pool, and turned twice to its home, in which lies an item
-  -- with no value
-  pub record HasNoValue : Type 0 where
-    pub out : ℕ
-    pub back : ℕ
-    pub taken : ℕ
-    pub says : SaysControl x (Busy 0) taken
-    pub newest : AreNewest (on_control f x back back ∷ on_control f x out out ∷ on_control f x (rest_word x Pool) taken ∷ []) m.0
-    pub held : Holds m.0 x
-    pub item : Item
-    pub home : kept (slot_of f.layout x) m.1 ≡ Some (Some item)
-    pub other : (env : Env) (value : ℕ) → item ≢ Kept env value
+  -- the control word said that the node has begun, and the hand holds the node's parent
+  abbrev pub HasBegun : Name → Type 0
+  HasBegun x =
+      HasJustRead board (OfControl x.block x.node) (λ word. says_begun x.generation word ≡ true) m m'
+      × HoldsAbove board.frame.tree m'.0 x
 
-  -- what told the hand to stop at the node
-  abbrev pub StopsAt : Fault → Type 0
-  StopsAt NoBlock = ⊥
-  StopsAt Begun = HasBegun
-  StopsAt Registered = HasCallback
-  StopsAt Order = IsNotLast
-  StopsAt Lost = IsLost
-  StopsAt OtherItem = HasNoValue
+  -- it counted one report that is pending
+  abbrev pub AwaitsOne : Name → Type 0
+  AwaitsOne x = HasJustRead board (OfControl x.block x.node) (λ word. pending (control_read word) ≡ 1) m m'
 
--- the hand stopped at one of the first so many nodes of the block
-abbrev pub StopsAmong : Frame ℕ → Name → ℕ → Seated Item Entry → Fault → Type 0
-StopsAmong f x count m fault = (n : ℕ) × (n < count) × StopsAt f (beside x n) m fault
+  -- the callback word said that the callback was registered once, and the hand holds the node
+  abbrev pub WasRegistered : Name → Type 0
+  WasRegistered x =
+      HasJustRead board (OfCallback x.block x.node) (λ word. says_phase x.generation word ≢ Never) m m' × Holds m'.0 x
 
--- the hand's newest step left the block's root at rest
-abbrev pub IsRootLeft : Board ℕ → Block → Seated Item Entry → Type 0
-IsRootLeft board b m = IsLeft board.frame (root_name board b.index b.generation) m
+  -- or that it is armed
+  abbrev pub WasArmed : Name → Type 0
+  WasArmed x =
+      HasRead board (OfCallback x.block x.node) (λ word. (stamp_of word ≡ x.generation) × (says_armed word ≡ true)) m m'
 
--- it stopped at the block's root
-abbrev pub StopsAtRoot : Board ℕ → Block → Seated Item Entry → Fault → Type 0
-StopsAtRoot board b m fault = StopsAt board.frame (root_name board b.index b.generation) m fault
+  -- the source's word said that a stop is requested, by whatever hand
+  abbrev pub WasAsked : Name → Type 0
+  WasAsked x = HasRead board (OfSource x.block x.node) (λ word. says_requested (Node x) word ≡ true) m m'
 
--- the hand stopped at a node of a block whose root it began for this number
-pub record StopsFor (board : Board ℕ) (number : ℕ) (m : Seated Item Entry) (fault : Fault) : Type 0 where
-  pub block : Block
-  pub within : block.index < board.frame.layout.blocks
-  pub env : Env
-  pub number_is : env.number ≡ number
-  pub noted : HasNotedRoot board block env m
-  pub stops : StopsAmong board.frame (root_name board block.index block.generation) 4 m fault
+  -- why a node of the operation of x doesn't wait or end
+  abbrev pub IsNodeCause : Name → Fault → Type 0
+  IsNodeCause x Begun = (n : ℕ) × (n < 3) × HasBegun (beside x n)
+  IsNodeCause x Registered = (n : ℕ) × (n < 3) × WasRegistered (beside x n)
+  IsNodeCause x fault = ⊥
+
+  -- why the operation isn't started
+  abbrev pub IsStartCause : Name → Fault → Type 0
+  IsStartCause x Asked = (n : ℕ) × (has_source use_tree n ≡ true) × WasAsked (beside x n)
+  IsStartCause x fault = IsNodeCause x fault
+
+  -- why the failure that is told doesn't come to the twig
+  abbrev pub IsStopCause : Name → Fault → Type 0
+  IsStopCause x Asked = (n : ℕ) × (has_source use_tree n ≡ true) × WasAsked (beside x n)
+  IsStopCause x Moved = (n : ℕ) × (has_source use_tree n ≡ true) × IsUnheard board (Node (beside x n)) m m'
+  IsStopCause x OtherPlace = WasArmed (beside x 0)
+  IsStopCause x fault = ⊥
+
+  -- why the callback that runs at this place doesn't pass the request on
+  abbrev pub IsCauseAt : Name → Fault → Type 0
+  IsCauseAt place OtherPlace = place.node ≢ 2
+  IsCauseAt place fault = IsStopCause place fault
+
+  -- why the operation isn't taken to its end
+  abbrev pub IsCauseIn : Name → Fault → Type 0
+  IsCauseIn x Order = AwaitsOne (beside x 3)
+  IsCauseIn x fault = IsStartCause x fault ⊎ IsStopCause x fault
+
+-- and while the root's source is scanned: that scan itself may come to no place
+abbrev pub IsScanCause : Board ℕ → Name → Scan → Seat (Option Item) (View Item Entry) → Seat (Option Item) (View Item Entry) → Fault → Type 0
+IsScanCause board root scan old new Moved = CameToNone board scan old new.me ⊎ IsStopCause board old.me new.me root Moved
+IsScanCause board root scan old new fault = IsStopCause board old.me new.me root fault
+
+-- the fault comes in the operation of a root whose block was read as free
+pub record StartedWith (board : Board ℕ) (m m' : Seated Item Entry) (fault : Fault) : Type 0 where
+  pub root : Name
+  pub is_root : IsRoot board root
+  pub free : WasFree board m m' root
+  pub cause : IsCauseIn board m m' root fault
 
 -- no block was free: each was missed, at a step of its own
 abbrev pub HasNoBlock : Board ℕ → Seat (Option Item) (View Item Entry) → Seat (Option Item) (View Item Entry) → Fault → Type 0
 HasNoBlock board old new fault = (fault ≡ NoBlock) × IsMissedBelow board board.frame.layout.blocks old new
 
--- why an operation for this number wasn't taken to its end
-abbrev pub IsCause : Board ℕ → ℕ → Seat (Option Item) (View Item Entry) → Seat (Option Item) (View Item Entry) → Fault → Type 0
-IsCause board number old new fault = HasNoBlock board old new fault ⊎ StopsFor board number new.me fault
+-- why the failure isn't told to its end: each block was missed, or an operation was started and has the cause
+abbrev pub IsCause : Board ℕ → Seat (Option Item) (View Item Entry) → Seat (Option Item) (View Item Entry) → Fault → Type 0
+IsCause board old new fault = HasNoBlock board old new fault ⊎ StartedWith board old.me new.me fault

@@ -1,4 +1,7 @@
 pub mod Starts
 pub mod Uses
-pub mod Notes
+pub mod Scans
 pub mod Causes
+pub mod Ends
+pub mod Hearing
+pub mod Members

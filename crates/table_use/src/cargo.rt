@@ -1,6 +1,6 @@
-//! The items of this use, with their starts.
-ghost use Rattle.std.specs.Prelude.{[]};
-ghost use Rattle.table_use.specs.Starts.{start_of, Ends, Fits, least_of, key_of};
+//! The items of these operations, with their starts.
+ghost use Rattle.std.specs.Prelude.{◌≡◌, true, []};
+ghost use Rattle.table_use.specs.Starts.{value_of, is_done, start_of, Ends, Fits, least_of, key_of};
 
 use op_slot::Cargo;
 
@@ -24,14 +24,14 @@ pub struct Env {
 /// What lies in a home.
 #[derive(Drop)]
 pub enum Item {
-    /// The node hasn't gone on yet.
-    Start(Env),
-    /// It waits for its children.
-    Rest(Env),
-    /// It keeps the value of its child.
+    /// The node goes on: it starts, or waits for its children.
+    Going(Env),
+    /// It keeps what its child delivered.
     Kept(Env, u64),
     /// It completed with this value.
     Done(Env, u64),
+    /// It failed, and had seen no request.
+    Failed(Env),
 }
 
 impl Cargo for Item {
@@ -58,4 +58,15 @@ impl Cargo for Item {
     ghost widens = { λ _ _ fits. fits };
 
     ghost blames = { λ _ _ _ _ _ fits. fits };
+}
+
+/// What a child delivered that didn't fail.
+pub(crate) fn delivered(item: Item) -> u64
+    requires { is_done item ≡ true }
+    ensures { result ≡ value_of item }
+{
+    match item {
+        Item::Done(_, value) => value,
+        Item::Going(_) | Item::Kept(_, _) | Item::Failed(_) => unreachable!(),
+    }
 }

@@ -1,19 +1,18 @@
 //! Hands of one table, each in a thread of its own, associate and leave. One closes and joins.
-ghost use Rattle.std.specs.Prelude.{◌≡◌, length, All};
-ghost use Rattle.table_tests.specs.Members.{MayAssociate};
+ghost use Rattle.std.specs.Prelude.{All};
+ghost use Rattle.table_use.specs.Members.{MayAssociate};
 
-use super::lone::Token;
-use super::scopes::{join_now, look, next_of, opened, pass, shut};
+use super::opening::{members, next_of};
 use count_scope::ScopeState;
-use op_table::{Hand, OpTable};
 use std::test::Fail;
 use std::thread::{Threads, for_each_mut};
+use table_use::{Table, Worker, join_now, look, pass, shut};
 
 // So often each hand associates and leaves.
 const PASSES: u32 = 1_000;
 
 // Each hand associates and leaves. The first one does so half as often, and then closes and joins.
-fn turns(table: &OpTable<Token>, number: usize, hand: &mut Hand<Token>)
+fn turns(table: &Table, number: usize, hand: &mut Worker)
     requires { MayAssociate table.now hand.old }
     ensures { MayAssociate table.now hand.new }
 {
@@ -27,7 +26,7 @@ fn turns(table: &OpTable<Token>, number: usize, hand: &mut Hand<Token>)
     }
 }
 
-fn turns_beside<R: Threads + Sync>(rt: &R, table: &OpTable<Token>, hands: &mut [Hand<Token>])
+fn turns_beside<R: Threads + Sync>(rt: &R, table: &Table, hands: &mut [Worker])
     requires { All (MayAssociate table.now) hands.old }
     ensures { All (MayAssociate table.now) hands.new }
 {
@@ -36,7 +35,7 @@ fn turns_beside<R: Threads + Sync>(rt: &R, table: &OpTable<Token>, hands: &mut [
 
 #[test]
 fn four_threads_associate_while_one_closes_and_joins(rt: HostRuntime) -> Result<(), Fail> {
-    let (table, mut hands) = opened(rt.alloc(), 5, 3)?;
+    let (table, mut hands) = members(rt.alloc(), 5, 3)?;
     turns_beside(&rt, &table, hands.as_mut_slice());
     let mut hand = next_of(&table, &mut hands)?;
     assert!(rt; look(&table, &mut hand) == ScopeState::Joined);

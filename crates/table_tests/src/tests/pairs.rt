@@ -1,22 +1,24 @@
 //! Two hands of one table, each in a thread of its own: one registers and removes a callback, the
 //! other requests a stop and runs what it comes to.
-ghost use Rattle.std.specs.Prelude.{◌≤◌, [], IfOk};
+ghost use Rattle.std.specs.Prelude.{IfOk};
 ghost use Rattle.std.specs.Thread.{IsSync};
-ghost use Rattle.life_rules.specs.declared.words.CallbackPhase.TheVariants.{Armed, Running as Runs};
+ghost use Rattle.life_rules.specs.declared.words.CallbackPhase.TheVariants.{Armed as IsArmed, Running as Runs};
 ghost use Rattle.table_steps.specs.Views.{IsHandOf};
-ghost use Rattle.table_tests.specs.Lone.{IsLone, IsReady, IsAt, HoldsRoot};
+ghost use Rattle.table_use.specs.Uses.{IsRoot, IsIdle};
+ghost use Rattle.table_use.specs.Hearing.{HoldsRoot};
+ghost use Rattle.table_tests.specs.Ready.{IsUse, IsReady};
 
 use super::Wrong;
-use super::lone::{Token, armed, ended, opened};
-use super::scans::{ask, ask_all, run_all};
-use life_rules::Name;
-use op_table::{Hand, OpTable};
+use super::opening::shared;
+use super::stops::armed;
+use life_rules::{CallbackPhase, Name};
 use std::alloc::Global;
 use std::sync::Wait;
 use std::sync::atomic::{AtomicU64, Ordering};
 use std::test::Fail;
 use std::thread::{Threads, join, yield_now};
-use stop_calls::{Settled, Withdrawn, try_withdraw, withdraw};
+use stop_calls::{Settled, Withdrawn};
+use table_use::{Table, Worker, asks, asks_all, lets_go, removes, runs_out, tries};
 
 // So often a thread looks how far the other came before it gives up.
 const ATTEMPTS: u32 = 10_000_000;
@@ -30,38 +32,22 @@ const TRIED: u64 = 3;
 
 const ENDING: u64 = 4;
 
-// A table of so many blocks, and its two hands.
-pub(super) fn shared(
-    alloc: Global,
-    blocks: u32,
-) -> Result<(OpTable<Token>, Hand<Token>, Hand<Token>), Fail>
-    requires blocks { (1 ≤ blocks) × (blocks ≤ 64) }
-    ensures lone { IfOk result (λ t. IsLone t.0 blocks) }
-    ensures first { IfOk result (λ t. IsReady t.0 0 t.1) }
-    ensures second { IfOk result (λ t. IsReady t.0 1 t.2) }
-{
-    let (table, mut hands) = opened(alloc, blocks, 2)?;
-    let second = hands.swap_remove(1);
-    let first = hands.swap_remove(0);
-    Ok((table, first, second))
-}
-
 // Requests a stop, and runs what it comes to.
-fn asks(table: &OpTable<Token>, mut hand: Hand<Token>) -> u32
-    requires lone { IsLone table.now 1 }
+fn requests(table: &Table, mut hand: Worker) -> u32
+    requires over { IsUse table.now 1 }
     requires ready { IsReady table.now 0 hand }
 {
-    ask_all(table, &mut hand).unwrap_or(0)
+    asks_all(table, &mut hand).unwrap_or(0)
 }
 
 // Registers a callback and removes it, and ends the operation.
-fn holds<R: Wait>(rt: &R, table: &OpTable<Token>, mut hand: Hand<Token>) -> Result<Settled, Wrong>
-    requires lone { IsLone table.now 1 }
+fn holds<R: Wait>(rt: &R, table: &Table, mut hand: Worker) -> Result<Settled, Wrong>
+    requires over { IsUse table.now 1 }
     requires ready { IsReady table.now 1 hand }
 {
-    let (root, _told) = armed(table, &mut hand, 0)?;
-    let settled = withdraw(rt, table, &mut hand, root);
-    ended(table, &mut hand, root, settled);
+    let (root, _told) = armed(table, &mut hand)?;
+    let settled = removes(rt, table, &mut hand, root, CallbackPhase::Armed);
+    lets_go(table, &mut hand, root, settled);
     Ok(settled)
 }
 
@@ -77,21 +63,21 @@ pub(super) fn round<R: Threads + Wait + Sync>(
 
 fn beside<R: Threads + Wait + Sync>(
     rt: &R,
-    table: &OpTable<Token>,
-    first: Hand<Token>,
-    second: Hand<Token>,
+    table: &Table,
+    first: Worker,
+    second: Worker,
 ) -> (u32, Result<Settled, Wrong>)
-    requires lone { IsLone table.now 1 }
+    requires over { IsUse table.now 1 }
     requires first { IsReady table.now 0 first }
     requires second { IsReady table.now 1 second }
 {
     join(
         rt,
         move || -> u32
-            requires { IsLone table.now 1 × IsReady table.now 0 first }
-        { asks(table, first) },
+            requires { IsUse table.now 1 × IsReady table.now 0 first }
+        { requests(table, first) },
         move || -> Result<Settled, Wrong>
-            requires { IsSync R.row × IsLone table.now 1 × IsReady table.now 1 second }
+            requires { IsSync R.row × IsUse table.now 1 × IsReady table.now 1 second }
         { holds(rt, table, second) },
     )
 }
@@ -109,18 +95,18 @@ fn comes(stage: &AtomicU64, far: u64) -> bool {
 
 // Requests a stop once the callback is registered, and ends its run after the other hand tried to
 // remove it.
-fn runs_slowly(table: &OpTable<Token>, mut hand: Hand<Token>, stage: &AtomicU64)
-    requires lone { IsLone table.now 1 }
+fn runs_slowly(table: &Table, mut hand: Worker, stage: &AtomicU64)
+    requires over { IsUse table.now 1 }
     requires ready { IsReady table.now 0 hand }
 {
     comes(stage, ARMED);
-    if let Some(mut scan) = ask(table, &mut hand) {
+    if let Some(mut scan) = asks(table, &mut hand) {
         if let Some(due) = scan.next(table, &mut hand) {
             stage.store(RUNNING, Ordering::SeqCst);
             comes(stage, TRIED);
             stage.store(ENDING, Ordering::SeqCst);
             due.finish(table, &mut hand);
-            run_all(table, &mut hand, scan);
+            runs_out(table, &mut hand, scan);
         } else {
             scan.seal(table, &mut hand);
         }
@@ -128,19 +114,16 @@ fn runs_slowly(table: &OpTable<Token>, mut hand: Hand<Token>, stage: &AtomicU64)
 }
 
 // Tries to remove the callback while another hand runs it.
-pub(super) fn finds_run(
-    table: &OpTable<Token>,
-    hand: &mut Hand<Token>,
-    root: Name,
-) -> Result<Withdrawn, Wrong>
+fn finds_run(table: &Table, hand: &mut Worker, root: Name) -> Result<Withdrawn, Wrong>
     requires table { IsHandOf table.now hand.old }
-    requires at { IsAt [] [] hand.old.me }
-    requires root { HoldsRoot table.now root Armed hand.old.me }
+    requires root { IsRoot table.now root }
+    requires idle { IsIdle hand.old.me }
+    requires holds { HoldsRoot table.now.frame root IsArmed hand.old.me }
     ensures table { IsHandOf table.now hand.new }
-    ensures at { IfOk result (λ _. IsAt [] [] hand.new.me) }
-    ensures root { IfOk result (λ _. HoldsRoot table.now root Runs hand.new.me) }
+    ensures idle { IsIdle hand.new.me }
+    ensures holds { IfOk result (λ _. HoldsRoot table.now.frame root Runs hand.new.me) }
 {
-    match try_withdraw(table, hand, root) {
+    match tries(table, hand, root) {
         Withdrawn::Running => Ok(Withdrawn::Running),
         _ => Err(Wrong("the callback didn't run")),
     }
@@ -150,42 +133,42 @@ pub(super) fn finds_run(
 // whether the run was about to end.
 fn waits<R: Wait>(
     rt: &R,
-    table: &OpTable<Token>,
-    mut hand: Hand<Token>,
+    table: &Table,
+    mut hand: Worker,
     stage: &AtomicU64,
 ) -> Result<(Withdrawn, Settled, bool), Wrong>
-    requires lone { IsLone table.now 1 }
+    requires over { IsUse table.now 1 }
     requires ready { IsReady table.now 1 hand }
 {
-    let (root, _told) = armed(table, &mut hand, 0)?;
+    let (root, _told) = armed(table, &mut hand)?;
     stage.store(ARMED, Ordering::SeqCst);
     comes(stage, RUNNING);
     let found = finds_run(table, &mut hand, root)?;
     stage.store(TRIED, Ordering::SeqCst);
-    let settled = withdraw(rt, table, &mut hand, root);
+    let settled = removes(rt, table, &mut hand, root, CallbackPhase::Running);
     let over = stage.load(Ordering::SeqCst) == ENDING;
-    ended(table, &mut hand, root, settled);
+    lets_go(table, &mut hand, root, settled);
     Ok((found, settled, over))
 }
 
 fn waits_beside<R: Threads + Wait + Sync>(
     rt: &R,
-    table: &OpTable<Token>,
-    first: Hand<Token>,
-    second: Hand<Token>,
+    table: &Table,
+    first: Worker,
+    second: Worker,
     stage: &AtomicU64,
 ) -> Result<(Withdrawn, Settled, bool), Wrong>
-    requires lone { IsLone table.now 1 }
+    requires over { IsUse table.now 1 }
     requires first { IsReady table.now 0 first }
     requires second { IsReady table.now 1 second }
 {
     let (_unit, found) = join(
         rt,
         move ||
-            requires { IsLone table.now 1 × IsReady table.now 0 first }
+            requires { IsUse table.now 1 × IsReady table.now 0 first }
         { runs_slowly(table, first, stage) },
         move || -> Result<(Withdrawn, Settled, bool), Wrong>
-            requires { IsSync R.row × IsLone table.now 1 × IsReady table.now 1 second }
+            requires { IsSync R.row × IsUse table.now 1 × IsReady table.now 1 second }
         { waits(rt, table, second, stage) },
     );
     found

@@ -1,30 +1,22 @@
 //! What a new table tells and leaves, and two hands of one table, each in a thread of its own.
+ghost use Rattle.std.specs.Prelude.{◌<◌};
 ghost use Rattle.table_steps.specs.Views.{IsHandOf};
 
-use super::lone::{Token, lone};
-use super::pairs::shared;
-use life_rules::ScopeState;
+use super::opening::{STEP, shared, use_nodes};
+use life_rules::{Name, ScopeState};
 use node_tree::ScopeKind;
-use op_table::{Hand, OpTable};
 use std::test::Fail;
 use std::thread::{Threads, join};
+use table_use::{Table, Worker};
 
 #[test]
 fn a_table_tells_with_what_it_was_opened_and_leaves_all_blocks_free(
     rt: HostRuntime,
 ) -> Result<(), Fail> {
-    let tree = lone(rt.alloc())?;
-    let (table, hands) = OpTable::<Token>::open(
-        rt.alloc(),
-        &tree,
-        &(),
-        3,
-        2,
-        ScopeKind::Simple,
-        5,
-    )?;
+    let tree = use_nodes(rt.alloc())?;
+    let (table, hands) = Table::open(rt.alloc(), &tree, &STEP, 3, 2, ScopeKind::Simple, 5)?;
     assert!(rt; table.blocks() == 3 && table.most() == 5);
-    assert!(rt; table.kind() == ScopeKind::Simple && table.tree().size() == 1);
+    assert!(rt; table.kind() == ScopeKind::Simple && table.tree().size() == 4);
     assert!(rt; hands.len() == 2);
     let closing = table.close_table(hands);
     assert!(rt; closing.free == 3 && closing.retired == 0);
@@ -32,22 +24,34 @@ fn a_table_tells_with_what_it_was_opened_and_leaves_all_blocks_free(
     Ok(())
 }
 
+// The hand owes the root of the block that it claimed, whose callback it doesn't run.
+fn owes_root(table: &Table, hand: &mut Worker, block: u32) -> bool
+    requires table { IsHandOf table.now hand.old }
+    requires block { block < table.now.frame.layout.blocks }
+{
+    let _claimed = table.claim(hand, block);
+    let root = Name {
+        block,
+        generation: 0,
+        node: 3,
+    };
+    match table.owed(hand) {
+        Some(name) => name == root && !table.runs(hand, name),
+        None => false,
+    }
+}
+
 #[test]
 fn a_hand_that_claims_a_block_owes_its_root_and_runs_nothing(rt: HostRuntime) -> Result<(), Fail> {
     let (table, mut first, second) = shared(rt.alloc(), 3)?;
     assert!(rt; table.owed(&first).is_none());
-    let _claimed = table.claim(&mut first, 1);
+    assert!(rt; owes_root(&table, &mut first, 1));
     assert!(rt; table.owed(&second).is_none());
-    let Some(name) = table.owed(&first) else {
-        return Ok(());
-    };
-    assert!(rt; name.block == 1 && name.generation == 0 && name.node == 0);
-    assert!(rt; !table.runs(&first, name));
     Ok(())
 }
 
 // Claims each block that is free when the hand comes to it, and counts them.
-fn claim_each(table: &OpTable<Token>, mut hand: Hand<Token>) -> u32
+fn claim_each(table: &Table, mut hand: Worker) -> u32
     requires { IsHandOf table.now hand }
 {
     let mut claimed = 0u32;
@@ -60,12 +64,7 @@ fn claim_each(table: &OpTable<Token>, mut hand: Hand<Token>) -> u32
 }
 
 // The same by two hands, each in a thread of its own.
-fn claim_beside<R: Threads>(
-    rt: &R,
-    table: &OpTable<Token>,
-    first: Hand<Token>,
-    second: Hand<Token>,
-) -> (u32, u32)
+fn claim_beside<R: Threads>(rt: &R, table: &Table, first: Worker, second: Worker) -> (u32, u32)
     requires { IsHandOf table.now first × IsHandOf table.now second }
 {
     join(

@@ -1,4 +1,4 @@
-use Rattle.table_tests.specs.Members.{MayAssociate}
+use Rattle.table_use.specs.Members.{MayAssociate}
 use Rattle.table_tests.proofs.tests.crowd.turns.Given as goal
 
 abbrev pub invariant-loop-turn : goal.invariant-loop-turn

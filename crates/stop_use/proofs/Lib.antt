@@ -1,9 +1,0 @@
-mod Nodes
-mod Opening
-mod Waiting
-mod Leaf
-mod Nesting
-mod Forwarding
-mod Steps
-mod Readings
-mod Reasons

@@ -1,4 +1,0 @@
-pub mod Starts
-pub mod Uses
-pub mod Scans
-pub mod Causes

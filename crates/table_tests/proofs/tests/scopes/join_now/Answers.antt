@@ -1,5 +1,0 @@
-use Rattle.table_tests.proofs.Members.{ready-joins}
-use Rattle.table_tests.proofs.tests.scopes.join_now.Goals as goal
-
-pub returns : goal.returns
-returns c = ready-joins c.args.table.now c.args.hand.now c.start_join.new.hand c.start_join.ensures.hand c.start_join.result c.requires c.start_join.ensures.starts

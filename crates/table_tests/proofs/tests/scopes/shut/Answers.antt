@@ -1,5 +1,0 @@
-use Rattle.table_tests.proofs.Members.{ready-closed}
-use Rattle.table_tests.proofs.tests.scopes.shut.Goals as goal
-
-pub returns : goal.returns
-returns c = ready-closed c.args.table.now c.args.hand.now c.close.new.hand c.close.ensures.hand c.requires c.close.ensures.closed

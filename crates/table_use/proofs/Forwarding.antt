@@ -1,0 +1,233 @@
+-- A request begins a scan inside those that the hand makes, and the branch's callback makes one.
+use Rattle.std.proofs.Common.{◌≡◌, inr, ℕ, ◌<◌, Bool, true, false, not, ◌&&◌, ◌==◌, List, ◌∷◌, refl, sym, ap, ◌∙◌, subst, arith}
+use Rattle.std.specs.Prelude.{Option}
+use Rattle.std.proofs.lemmas.Bool.{cond-true}
+use Rattle.life_rules.specs.declared.event.Name.{Name}
+use Rattle.life_rules.specs.declared.event.SourceRef.{SourceRef}
+use Rattle.life_rules.specs.declared.event.SourceRef.TheVariants.{Scope, Node}
+use Rattle.node_tree.specs.Tree.{nearest, has_source, parent_of}
+use Rattle.life_rules.specs.Views.{beside}
+use Rattle.table_words.specs.Controls.{source_read}
+use Rattle.atomic_table.specs.declared.shared.Seat.{Seat}
+use Rattle.table_rules.specs.declared.view.View.{View}
+use Rattle.table_rules.specs.declared.view.Scanning.{Scanning}
+use Rattle.table_rules.specs.ShownViews.{scan_in}
+use Rattle.table_steps.specs.Views.{Board}
+use Rattle.table_steps.specs.Claims.{Seated}
+use Rattle.table_steps.specs.Sights.{IsSourceIn}
+use Rattle.table_steps.specs.Requests.{asks_at, OwesFailed}
+use Rattle.table_steps.specs.RunEnds.{passes_to}
+use Rattle.table_steps.specs.Reports.{CanReport}
+use Rattle.op_slot.proofs.Leaving.{owes-reports}
+use Rattle.table_steps.specs.ScanOrders.{hears, is_the_node}
+use Rattle.stop_calls.specs.declared.scanning.Scan.{Scan}
+use Rattle.stop_calls.specs.declared.requesting.Request.TheVariants.{Made}
+use Rattle.stop_calls.specs.Cursors.{first_scan, NoneHears}
+use Rattle.stop_calls.specs.Requests.{IsRequested}
+use Rattle.stop_calls.specs.Walks.{IsFound, IsThrough}
+use Rattle.stop_calls.specs.Removals.{IsOver}
+use Rattle.table_use.specs.declared.cargo.Item.{Item}
+use Rattle.table_use.specs.declared.cargo.Entry.{Entry}
+use Rattle.table_use.specs.declared.node.Fault.{Fault}
+use Rattle.table_use.specs.declared.node.Fault.TheVariants.{Moved, OtherPlace}
+use Rattle.table_use.specs.Starts.{IsParent, FitsAt}
+use Rattle.table_use.specs.contracts.cargo.ItemCargo.TheImpl.{ghosts}
+use Rattle.table_use.specs.Uses.{use_tree, IsNode, IsRoot, IsIdle, LeafFailed, KeepsReports}
+use Rattle.table_use.specs.Causes.{GoesOn, WasArmed, IsCauseAt, IsScanCause}
+use Rattle.table_use.specs.Scans.{AreAbove, AreOuter, Hears, Scans, IsInside, IsOuter}
+use Rattle.table_use.proofs.Nodes.{use-nearest, source-in, named-kid, kid-of, heard-is, heard-before, heard-twig, heard-leaf}
+use Rattle.table_use.proofs.Waiting.{still-owes}
+use Rattle.table_use.proofs.Steps.{on, found-on, walks-on}
+use Rattle.table_use.proofs.Readings.{read-within, run-armed}
+use Rattle.table_use.proofs.Reasons.{stop-within, stop-at}
+use Rattle.table_use.proofs.Nesting.{scan_at, first-found, through-scans, ended-scans, found-heard, found-runs, found-scans, over-runs, over-scans}
+
+-- a request that is made gives a scan
+module _ (board : Board ℕ) (tree : board.frame.tree ≡ use_tree) (source : SourceRef) (is_one : IsSourceIn board source) (m m1 : Seated Item Entry) (above : AreOuter source m.0.scans) (unrun : NoneHears board.frame.tree source m.0.runs) (i word left : ℕ) (clear : (source_read word).requested ≡ false) (me_is : m1 ≡ asks_at source i word left m) where
+  made-scans : m1.0.scans ≡ scan_at source 0 ∷ m.0.scans
+  made-scans =
+      ap (λ (z : Seated Item Entry). z.0.scans) me_is
+      ∙ cond-true (not (source_read word).requested) (scan_at source 0 ∷ m.0.scans) m.0.scans (ap not clear)
+
+  pub made-runs : m1.0.runs ≡ m.0.runs
+  made-runs = ap (λ (z : Seated Item Entry). z.0.runs) me_is
+
+  pub begun : Scans board (first_scan source) m1
+  begun =
+      record {
+        tree = tree;
+        is_one = is_one;
+        from = 0;
+        outer = m.0.scans;
+        scans = made-scans;
+        above = above;
+        stands = record {
+          within = omega arith;
+          from = 0;
+          scans = ap (λ (l : List Scanning). scan_in l source) made-scans ∙ first-found source 0 m.0.scans;
+          reached = omega arith;
+          between = λ b n inside low high. absurd (omega (arith, high));
+        };
+        unrun = subst (NoneHears board.frame.tree source) (sym made-runs) unrun;
+      }
+
+  pub made : (scan : Scan) → scan ≡ first_scan source → Scans board scan m1
+  made scan first = subst (λ (s : Scan). Scans board s m1) (sym first) begun
+
+-- one on the scope's source, by an idle hand
+pub asked-scans : (board : Board ℕ) → board.frame.tree ≡ use_tree → (old new : Seat (Option Item) (View Item Entry)) → IsIdle old.me → (scan : Scan) →
+    IsRequested board Scope (Made scan) old new → Scans board scan new.me
+asked-scans board tree old new idle scan r =
+    made board tree Scope (record { spot = tt; is_one = tt }) old.me new.me idle.scans (subst (NoneHears board.frame.tree Scope) (sym idle.runs) tt) _ r.word r.left r.answer_is.0
+    r.me_is scan r.answer_is.1
+
+and-none : (b : Bool) → (b && false) ≡ false
+and-none true = refl
+and-none false = refl
+
+-- from inside the branch's callback
+module _ (board : Board ℕ) (x : Name) (is : IsNode board x) (two : x.node ≡ 2) where
+  pub branch-source : has_source board.frame.tree x.node ≡ true
+  branch-source = ap (λ t. has_source t x.node) is.tree ∙ ap (has_source use_tree) two
+
+  -- the branch doesn't hear its own source
+  branch-deaf : hears board.frame.tree (Node x) x.block x.node ≡ false
+  branch-deaf =
+      ap (λ t. x.block == x.block && is_the_node x.node (nearest t x.node)) is.tree
+      ∙ ap (λ n. x.block == x.block && is_the_node n (nearest use_tree n)) two
+      ∙ ap (λ k. x.block == x.block && is_the_node 2 k) (use-nearest 2 (omega arith))
+      ∙ and-none (x.block == x.block)
+
+  pub branch-scans : (old new : Seat (Option Item) (View Item Entry)) → IsInside x old.me → (scan : Scan) → IsRequested board (Node x) (Made scan) old new →
+      Scans board scan new.me
+  branch-scans old new inside scan r =
+      let low : x.node < 3 = omega (arith, two) in
+      made board is.tree (Node x) (source-in board x is branch-source) old.me new.me (subst (AreAbove x.node) (sym inside.scans) (low, tt))
+      (subst (NoneHears board.frame.tree (Node x)) (sym inside.runs) (branch-deaf, tt)) _ r.word r.left r.answer_is.0 r.me_is scan r.answer_is.1
+
+  -- what runs then is the twig's
+  pub twig-is : (y : Name) (source : SourceRef) → source ≡ Node x → Hears board.frame.tree source y → y ≡ beside x 1
+  twig-is y source is_source heard =
+      heard-twig board is.tree y x (subst (λ (s : SourceRef). Hears board.frame.tree s y) is_source heard) two
+
+-- the scan of the root's source comes to a callback
+module _ (board : Board ℕ) (root : Name) (is : IsRoot board root) (before after : Scan) (old new : Seat (Option Item) (View Item Entry)) (s : IsOuter board root before old.me) (x : Name) (kept : after.source ≡ before.source) (f : IsFound board before old new after x) where
+  heard-root : Hears board.frame.tree (Node root) x
+  heard-root =
+      subst (λ (u : SourceRef). Hears board.frame.tree u x) s.source (found-heard board before after old new s.makes x kept f)
+
+  pub place-is : x ≡ beside root x.node
+  place-is = heard-is board is.is_node.tree x root heard-root
+
+  pub place-node : IsNode board x
+  place-node =
+      let low = heard-before board is.is_node.tree x root heard-root in
+      let three = is.three in
+      named-kid board root is.is_node x x.node (omega (arith, low, three)) place-is
+
+  root-is : root ≡ beside x 3
+  root-is = sym (ap (λ (z : Name). beside z 3) place-is ∙ ap (beside root) (sym is.three))
+
+  pub place-inside : IsInside x new.me
+  place-inside =
+      record {
+        runs = found-runs board before after old new s.makes x kept f ∙ ap (λ (l : List Name). x ∷ l) s.runs;
+        from = f.at;
+        scans = found-scans board before after old new s.makes x kept f
+            ∙ ap (λ (u : SourceRef). scan_at u f.at ∷ s.makes.outer) (s.source ∙ ap Node root-is)
+            ∙ ap (λ (l : List Scanning). scan_at (Node (beside x 3)) f.at ∷ l) s.alone;
+      }
+
+  -- why it ends with a fault, where the callback did
+  pub outer-cause : (mid end : Seat (Option Item) (View Item Entry)) → GoesOn new.me mid.me → GoesOn mid.me end.me → (fault : Fault) →
+      IsCauseAt board new.me mid.me x fault → IsScanCause board root before old end fault
+  outer-cause mid end went over OtherPlace cause =
+      let leaf : x ≡ beside root 0 = heard-leaf board is.is_node.tree x root heard-root is.three cause in
+      subst (λ (z : Name). WasArmed board old.me end.me z) leaf
+      (read-within board _ _ old.me f.middle.me new.me end.me
+      (walks-on board before.source f.count f.read old f.middle f.passed)
+      (run-armed board before.source f.middle new x f.begun)
+      (on new.me mid.me end.me went over))
+  outer-cause mid end went over Moved cause =
+      inr
+      (stop-at board old.me end.me root x x.node place-is Moved
+      (stop-within board old.me new.me mid.me end.me (found-on board before after old new x f) over x Moved cause))
+  outer-cause mid end went over fault cause =
+      stop-at board old.me end.me root x x.node place-is fault
+      (stop-within board old.me new.me mid.me end.me (found-on board before after old new x f) over x fault cause)
+
+  -- its run ends, and the scan goes on
+  pub outer-on : (mid end : Seat (Option Item) (View Item Entry)) → mid.me.0.runs ≡ new.me.0.runs → mid.me.0.scans ≡ new.me.0.scans →
+      IsOver board x mid end → IsOuter board root after end.me
+  unfolding over-scans ended-scans
+  outer-on mid end runs scans over =
+      record {
+        makes = over-scans board before after old new s.makes x kept f mid end runs scans over;
+        source = kept ∙ s.source;
+        runs = over-runs board before after old new s.makes x kept f mid end runs scans over ∙ s.runs;
+        alone = s.alone;
+      }
+
+-- the scan of the root's source came to its end
+pub outer-through : (board : Board ℕ) (root : Name) (before after : Scan) (old new : Seat (Option Item) (View Item Entry)) → IsOuter board root before old.me →
+    after.source ≡ before.source → IsThrough board before old new after → IsOuter board root after new.me
+unfolding through-scans
+outer-through board root before after old new s kept t =
+    let runs : new.me.0.runs ≡ old.me.0.runs = ap (λ (z : Seated Item Entry). z.0.runs) t.me_is in
+    record {
+      makes = through-scans board before after old new s.makes kept t;
+      source = kept ∙ s.source;
+      runs = runs ∙ s.runs;
+      alone = s.alone;
+    }
+
+root-source : (board : Board ℕ) (root : Name) → IsRoot board root → has_source board.frame.tree root.node ≡ true
+root-source board root is = ap (λ t. has_source t root.node) is.is_node.tree ∙ ap (has_source use_tree) is.three
+
+-- the failure that the hand tells first gives a scan of the root's source
+pub failed-outer : (board : Board ℕ) (root : Name) → IsRoot board root → (m m1 : Seated Item Entry) → IsIdle m → (i word left : ℕ) →
+    (source_read word).requested ≡ false → m1 ≡ asks_at (Node root) i word left m → (scan : Scan) → scan ≡ first_scan (Node root) →
+    IsOuter board root scan m1
+unfolding begun
+failed-outer board root is m m1 idle i word left clear me_is scan first =
+    let above = subst (AreAbove root.node) (sym idle.scans) tt in
+    let unrun = subst (NoneHears board.frame.tree (Node root)) (sym idle.runs) tt in
+    subst (λ (s : Scan). IsOuter board root s m1) (sym first)
+    (record {
+      makes = begun board is.is_node.tree (Node root) (source-in board root is.is_node (root-source board root is)) m m1 above unrun i word left clear me_is;
+      source = refl;
+      runs = made-runs board is.is_node.tree (Node root) (source-in board root is.is_node (root-source board root is)) m m1 above unrun i word left clear me_is ∙ idle.runs;
+      alone = idle.scans;
+    })
+
+-- the leaf's report can be made after the scan
+pub leaf-reports : (board : Board ℕ) (root : Name) → IsRoot board root → (leaf : Name) → leaf ≡ beside root 0 → (m : Seated Item Entry) →
+    LeafFailed root m → IsIdle m → CanReport board.frame.tree m.0 leaf
+leaf-reports board root is leaf name m failed idle =
+    subst (λ (z : Name). CanReport board.frame.tree m.0 z) (sym name)
+    (owes-reports board.frame.tree (beside root 0) 3 failed.has.entry m (ap (λ t. parent_of t 0) is.is_node.tree) failed.has.owes idle.scans)
+
+-- and its failure can be told
+pub leaf-tells : (board : Board ℕ) (root : Name) → IsRoot board root → (m : Seated Item Entry) → LeafFailed root m →
+    OwesFailed ghosts board.frame.tree m.0 root
+leaf-tells board root is m failed =
+    record {
+      child = 0;
+      is_below = kid-of board root is.is_node 3 0 is.three refl;
+      entry = failed.has.entry;
+      owes = failed.has.owes;
+      failed = subst (λ (i : Item). FitsAt i root.node) (sym failed.has.item_is) (inr (subst (λ k. IsParent k root.node) (sym failed.zero) is.three));
+    }
+
+-- as long as the hand keeps what it owes
+pub still-failed : (m m1 : Seated Item Entry) (root : Name) → KeepsReports m m1 → LeafFailed root m → LeafFailed root m1
+still-failed m m1 root keeps failed =
+    record {
+      env = failed.env;
+      zero = failed.zero;
+      has = record {
+        entry = failed.has.entry;
+        owes = still-owes m m1 (beside root 0) failed.has.entry keeps failed.has.owes;
+        item_is = failed.has.item_is;
+      };
+    }

@@ -1,0 +1,19 @@
+use Rattle.std.proofs.Common.{◌∙◌}
+use Rattle.table_use.proofs.Nesting.{keeps-on}
+use Rattle.table_use.proofs.Roots.{asks-others}
+use Rattle.table_use.proofs.hearing.asks_all.Goals as goal
+
+pub runs_out-requires-clause-scans : goal.runs_out-requires-clause-scans
+runs_out-requires-clause-scans c = c.in_ok-scan.ensures.made.makes
+
+pub returns-clause-idle : goal.returns-clause-idle
+returns-clause-idle c =
+    let made = c.in_ok-scan.ensures.made in
+    record {
+      runs = c.runs_out.ensures.runs ∙ made.runs;
+      scans = c.runs_out.ensures.scans ∙ asks-others c.args.table.now c.in_ok-scan.scan c.asks.new.hand.me made;
+    }
+
+pub returns-clause-holds : goal.returns-clause-holds
+returns-clause-holds c =
+    keeps-on c.args.hand.now.me c.asks.new.hand.me c.runs_out.new.hand.me c.asks.ensures.holds c.runs_out.ensures.holds

@@ -1,0 +1,37 @@
+use Rattle.std.proofs.Common.{refl}
+use Rattle.table_use.proofs.Nesting.{found-keeps}
+use Rattle.table_use.proofs.Roots.{still-root, can-withdraw, scan-unmade, may-finish, inside-asks, scan-through}
+use Rattle.table_use.proofs.hearing.removes_next.Goals as goal
+
+pub try_withdraw-inside-requires-clause-needs : goal.try_withdraw-inside-requires-clause-needs
+try_withdraw-inside-requires-clause-needs c κs =
+    let board = c.args.table.now in
+    let f = c.in_ok-due.ensures.scanned in
+    can-withdraw board c.args.root _ c.next.new.hand.me
+    (still-root board c.args.root c.args.hand.now.me c.next.new.hand.me _
+    (found-keeps board c.args.scan.now c.next.new.self c.args.hand.now c.next.new.hand c.in_ok-due.due.place f) c.requires.holds)
+    refl
+    (scan-unmade board c.args.scan.now c.next.new.self c.args.hand.now c.next.new.hand c.requires.scan c.in_ok-due.due.place c.next.ensures.source f c.args.root)
+
+pub finish-requires-clause-needs : goal.finish-requires-clause-needs
+finish-requires-clause-needs c κs =
+    may-finish c.args.table.now c.args.scan.now c.next.new.self c.args.hand.now c.next.new.hand c.requires.scan c.in_ok-due.due.place
+    c.next.ensures.source c.in_ok-due.ensures.scanned c.args.root c.try_withdraw-inside.new.hand c.try_withdraw-inside.result
+    c.try_withdraw-inside.ensures.tried
+
+pub returns-in_err-due-clause-scan : goal.returns-in_err-due-clause-scan
+returns-in_err-due-clause-scan c =
+    scan-through c.args.table.now c.args.scan.now c.next.new.self c.args.hand.now c.next.new.hand c.requires.scan c.next.ensures.source
+    c.in_err-due.ensures.scanned
+
+pub returns-clause-scan : goal.returns-clause-scan
+returns-clause-scan c =
+    inside-asks c.args.table.now c.args.scan.now c.next.new.self c.args.hand.now c.next.new.hand c.requires.scan c.in_ok-due.due.place
+    c.next.ensures.source c.in_ok-due.ensures.scanned c.args.root c.try_withdraw-inside.new.hand c.finish.new.hand c.finish.ensures.over
+    c.try_withdraw-inside.result c.try_withdraw-inside.ensures.tried
+
+pub next-requires-clause-stands : goal.next-requires-clause-stands
+next-requires-clause-stands c κs = c.requires.scan.makes.stands
+
+pub next-requires-clause-idle : goal.next-requires-clause-idle
+next-requires-clause-idle c κs = c.requires.scan.makes.unrun

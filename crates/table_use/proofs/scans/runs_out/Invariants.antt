@@ -1,0 +1,21 @@
+use Rattle.std.specs.Prelude.{◌≡◌}
+use Rattle.table_steps.specs.Views.{IsHandOf}
+use Rattle.table_use.specs.Uses.{KeepsReports, KeepsHoldings}
+use Rattle.table_use.specs.Scans.{Scans, other_scans, places_left}
+use Rattle.table_use.specs.Causes.{GoesOn}
+use Rattle.table_use.proofs.scans.runs_out.Given as goal
+
+abbrev pub invariant-loop-place : goal.invariant-loop-place
+invariant-loop-place l = record {
+  table : IsHandOf l.table l.hand;
+  scans : Scans l.table l.scan l.hand.me;
+  source : l.scan.source ≡ l.fn.scan.source;
+  runs : l.hand.me.0.runs ≡ l.fn.hand.me.0.runs;
+  others : other_scans l.fn.scan.source l.hand.me ≡ other_scans l.fn.scan.source l.fn.hand.me;
+  reports : KeepsReports l.fn.hand.me l.hand.me;
+  holds : KeepsHoldings l.fn.hand.me l.hand.me;
+  steps : GoesOn l.fn.hand.me l.hand.me;
+}
+
+abbrev pub decreases-loop-place : goal.decreases-loop-place
+decreases-loop-place l = places_left l.table l.scan

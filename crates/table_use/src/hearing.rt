@@ -1,0 +1,149 @@
+//! A root that hears the scope's source: its callback is registered, and removed after a scan, from
+//! inside it, or beside it.
+ghost use Rattle.std.specs.Prelude.{◌≡◌, true, IfOk, IfErr, IfSome, IfNone};
+ghost use Rattle.life_rules.specs.declared.words.CallbackPhase.TheVariants.{Armed as IsArmed};
+ghost use Rattle.life_rules.specs.StopSteps.{is_counting};
+ghost use Rattle.table_steps.specs.Views.{IsHandOf};
+ghost use Rattle.table_steps.specs.Callbacks.{is_registered};
+ghost use Rattle.op_slot.specs.Tends.{IsCalm};
+ghost use Rattle.table_use.specs.Uses.{use_tree, IsRoot, HoldsGoing, KeepsPlays, KeepsHoldings, IsIdle};
+ghost use Rattle.table_use.specs.Causes.{WasRegistered};
+ghost use Rattle.table_use.specs.Hearing.{HoldsRoot, AsksScope, tried_as, settled_as};
+
+use crate::node::{Fault, Table, Worker, is_registered};
+use crate::scans::runs_out;
+use life_rules::{CallbackPhase, Name, SourceRef};
+use op_slot::take_home;
+use std::sync::Wait;
+use stop_calls::{
+    Armed, Request, Scan, Settled, Withdrawn, arm, request_stop, try_withdraw, withdraw,
+};
+
+/// Registers the root's callback. Asked where a stop was requested of the scope before.
+pub fn listens(table: &Table, hand: &mut Worker, root: Name) -> Result<Armed, Fault>
+    requires table { IsHandOf table.now hand.old }
+    requires root { IsRoot table.now root }
+    requires holds { HoldsGoing table.now.frame root hand.old.me }
+    ensures table { IsHandOf table.now hand.new }
+    ensures plays { KeepsPlays hand.old.me hand.new.me }
+    ensures number { hand.new.me.0.number ≡ hand.old.me.0.number }
+    ensures holds { IfOk result (λ _. HoldsRoot table.now.frame root IsArmed hand.new.me) }
+    ensures fault { IfErr result (λ _. WasRegistered table.now hand.old.me hand.new.me root) }
+{
+    if is_registered(table.phase_of(hand, root)) {
+        return Err(Fault::Registered);
+    }
+    Ok(arm(table, hand, root))
+}
+
+/// Requests a stop of the scope, by hand 0. None where one was requested before.
+pub fn asks(table: &Table, hand: &mut Worker) -> Option<Scan>
+    requires table { IsHandOf table.now hand.old }
+    requires tree { table.now.frame.tree ≡ use_tree }
+    requires kind { is_counting table.now.frame.kind ≡ true }
+    requires number { hand.old.me.0.number ≡ 0 }
+    requires idle { IsIdle hand.old.me }
+    ensures table { IsHandOf table.now hand.new }
+    ensures holds { KeepsHoldings hand.old.me hand.new.me }
+    ensures made { IfSome result (λ scan. AsksScope table.now scan hand.new.me) }
+    ensures none { IfNone result (IsIdle hand.new.me) }
+{
+    match request_stop(table, hand, SourceRef::Scope) {
+        Request::Made(scan) => Some(scan),
+        Request::Already => None,
+    }
+}
+
+/// The same, and runs all callbacks that the scan comes to. The answer is how many ran.
+pub fn asks_all(table: &Table, hand: &mut Worker) -> Option<u32>
+    requires table { IsHandOf table.now hand.old }
+    requires tree { table.now.frame.tree ≡ use_tree }
+    requires kind { is_counting table.now.frame.kind ≡ true }
+    requires number { hand.old.me.0.number ≡ 0 }
+    requires idle { IsIdle hand.old.me }
+    ensures table { IsHandOf table.now hand.new }
+    ensures holds { KeepsHoldings hand.old.me hand.new.me }
+    ensures idle { IsIdle hand.new.me }
+{
+    let scan = asks(table, hand)?;
+    Some(runs_out(table, hand, scan))
+}
+
+// Goes to the next callback of the scan, and removes that of the root from inside it.
+fn removes_next(table: &Table, hand: &mut Worker, root: Name, scan: &mut Scan) -> Option<Withdrawn>
+    requires table { IsHandOf table.now hand.old }
+    requires root { IsRoot table.now root }
+    requires scan { AsksScope table.now scan.old hand.old.me }
+    requires holds { HoldsRoot table.now.frame root IsArmed hand.old.me }
+    ensures table { IsHandOf table.now hand.new }
+    ensures scan { AsksScope table.now scan.new hand.new.me }
+{
+    let due = scan.next(table, hand)?;
+    let inside = try_withdraw(table, hand, root);
+    due.finish(table, hand);
+    Some(inside)
+}
+
+/// Requests a stop of the scope, removes the root's callback from inside the first that runs, and
+/// runs what is left. The answer is what the removal found, and how many ran after it.
+pub fn removes_inside(table: &Table, hand: &mut Worker, root: Name) -> Option<(Withdrawn, u32)>
+    requires table { IsHandOf table.now hand.old }
+    requires root { IsRoot table.now root }
+    requires kind { is_counting table.now.frame.kind ≡ true }
+    requires number { hand.old.me.0.number ≡ 0 }
+    requires idle { IsIdle hand.old.me }
+    requires holds { HoldsRoot table.now.frame root IsArmed hand.old.me }
+    ensures table { IsHandOf table.now hand.new }
+    ensures idle { IsIdle hand.new.me }
+{
+    let mut scan = asks(table, hand)?;
+    let found = removes_next(table, hand, root, &mut scan);
+    let left = runs_out(table, hand, scan);
+    Some((found?, left))
+}
+
+/// Tries to remove the root's callback beside a scan of another hand.
+pub fn tries(table: &Table, hand: &mut Worker, root: Name) -> Withdrawn
+    requires table { IsHandOf table.now hand.old }
+    requires root { IsRoot table.now root }
+    requires idle { IsIdle hand.old.me }
+    requires holds { HoldsRoot table.now.frame root IsArmed hand.old.me }
+    ensures table { IsHandOf table.now hand.new }
+    ensures idle { IsIdle hand.new.me }
+    ensures holds { HoldsRoot table.now.frame root (tried_as result) hand.new.me }
+{
+    try_withdraw(table, hand, root)
+}
+
+/// Removes the root's callback, which was read as armed or as running. While another hand runs it,
+/// this waits for the end of that run.
+pub fn removes<R: Wait>(
+    rt: &R,
+    table: &Table,
+    hand: &mut Worker,
+    root: Name,
+    read: CallbackPhase,
+) -> Settled
+    requires table { IsHandOf table.now hand.old }
+    requires root { IsRoot table.now root }
+    requires idle { IsIdle hand.old.me }
+    requires read { is_registered read ≡ true }
+    requires holds { HoldsRoot table.now.frame root read hand.old.me }
+    ensures table { IsHandOf table.now hand.new }
+    ensures idle { IsIdle hand.new.me }
+    ensures holds { HoldsRoot table.now.frame root (settled_as result) hand.new.me }
+{
+    withdraw(rt, table, hand, root)
+}
+
+/// Finishes the root, whose callback was removed.
+pub fn lets_go(table: &Table, hand: &mut Worker, root: Name, settled: Settled)
+    requires table { IsHandOf table.now hand.old }
+    requires root { IsRoot table.now root }
+    requires calm { IsCalm hand.old.me }
+    requires holds { HoldsRoot table.now.frame root (settled_as settled) hand.old.me }
+    ensures table { IsHandOf table.now hand.new }
+{
+    let _start = take_home(table, hand, root);
+    table.finish(hand, root);
+}
