@@ -12,3 +12,5 @@ pub mod Kept
 pub mod Placing
 pub mod Plans
 pub mod OneShape
+pub mod Runnable
+pub mod Trees

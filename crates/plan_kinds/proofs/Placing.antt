@@ -60,7 +60,7 @@ module _ (nodes : List Node) (forest : IsForest nodes) where
       All-contains (λ c. c < n) (children_of n node) k (forest.each n node at).below
       (Contains-append_left (named_by node) _ k among)
 
-  child-parent : (n k : ℕ) (node : Node) → slice_get nodes n ≡ Some node → Contains (children_of n node) k →
+  pub child-parent : (n k : ℕ) (node : Node) → slice_get nodes n ≡ Some node → Contains (children_of n node) k →
       parent_of nodes k ≡ Some n
   child-parent n k node at among =
       All-contains (λ c. parent_of nodes c ≡ Some n) (children_of n node) k (forest.each n node at).only_parent among

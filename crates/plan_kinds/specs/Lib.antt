@@ -7,5 +7,8 @@ pub mod Flags
 pub mod Signatures
 pub mod Reached
 pub mod Built
+pub mod Runnable
 pub mod Laws
 pub mod PlanLaws
+pub mod Small
+pub mod TreeLaws

@@ -14,5 +14,6 @@ mod sig;
 pub use kind_list::KindList;
 pub use law::{
     jobs_keep_kinds, kinds_kept, nodes_run_under_one_shape, plans_are_built, signed_by_case,
+    trees_show_plans,
 };
 pub use sig::Sig;

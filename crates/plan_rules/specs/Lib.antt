@@ -6,3 +6,4 @@ pub mod Allowed
 pub mod Settle
 pub mod Calm
 pub mod Exclusion
+pub mod Seen

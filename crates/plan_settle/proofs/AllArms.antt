@@ -14,11 +14,11 @@ use Rattle.plan_laws.proofs.Memory.{HasMemory}
 use Rattle.plan_laws.proofs.Evaluation.{settled-memory}
 use Rattle.plan_laws.proofs.Readings.{settled-by-case}
 use Rattle.plan_settle.specs.declared.evaluation.Evaluation.{Evaluation}
-use Rattle.plan_settle.specs.declared.join.NoRoom.{NoRoom}
-use Rattle.plan_settle.specs.declared.join.NoRoom.TheVariants.{Memory, Limit}
-use Rattle.plan_settle.specs.Joined.{HasMoreThan, Tells}
-use Rattle.plan_settle.specs.Makes.{CompletesInPlace}
-use Rattle.plan_settle.specs.Runs.{RunsWith, IsRunnable}
+use Rattle.node_images.specs.declared.join.NoRoom.{NoRoom}
+use Rattle.node_images.specs.declared.join.NoRoom.TheVariants.{Memory, Limit}
+use Rattle.node_images.specs.Joined.{HasMoreThan, Tells}
+use Rattle.node_images.specs.Makes.{CompletesInPlace}
+use Rattle.plan_kinds.specs.Runnable.{RunsWith, IsRunnable}
 use Rattle.plan_settle.specs.Settles.{Settles, settled_by, settled_case}
 use Rattle.plan_kinds.proofs.Plans.{plans-built}
 use Rattle.plan_settle.proofs.Arms.{case-place}

@@ -1,6 +1,6 @@
 -- What the arms of an evaluation rest on: which nodes run next, and that a node settles as its arm says.
 use Rattle.std.specs.Prelude.{Contains, Some, None, Option, Result, OnOk, OnErr, IfNone, slice_get}
-use Rattle.std.proofs.Common.{◌≡◌, ◌⊎◌, ℕ, ◌<◌, false, List, refl, sym, ap, ◌∙◌, subst}
+use Rattle.std.proofs.Common.{◌≡◌, ◌⊎◌, ℕ, ◌<◌, false, List, sym, ap, ◌∙◌, subst}
 use Rattle.std.specs.declared.alloc.AllocError.{AllocError}
 use Rattle.std.proofs.lemmas.List.Elements.{All-contains}
 use Rattle.exec_value.specs.declared.data.Datum.{Datum}
@@ -13,13 +13,14 @@ use Rattle.plan_laws.proofs.Readings.{settled-by-case}
 use Rattle.plan_kinds.specs.Runs.{run_by}
 use Rattle.plan_shape.specs.Blueprint.{Blueprint}
 use Rattle.plan_settle.specs.declared.evaluation.Evaluation.{Evaluation}
-use Rattle.plan_settle.specs.Makes.{CompletesInPlace, Makes}
+use Rattle.node_images.specs.Makes.{CompletesInPlace, Makes}
 use Rattle.plan_settle.specs.Lets.{settled_let}
-use Rattle.plan_settle.specs.Runs.{RunsWith, IsRunnable, SettlesLong}
+use Rattle.plan_kinds.specs.Runnable.{RunsWith, IsRunnable}
+use Rattle.plan_settle.specs.Runs.{SettlesLong}
 use Rattle.plan_settle.specs.Settles.{Settles, settled_by, settled_case}
-use Rattle.plan_settle.specs.Small.{IsSmall}
+use Rattle.plan_kinds.specs.Small.{IsSmall}
 use Rattle.plan_kinds.proofs.Plans.{plans-built}
-use Rattle.plan_settle.proofs.Runs.{before-run, runs-child}
+use Rattle.plan_kinds.proofs.Runnable.{before-run, runs-child}
 use Rattle.plan_settle.proofs.InPlace.{settled-place, wants-where}
 
 -- a child of a node that runs comes before it, and runs with its arguments

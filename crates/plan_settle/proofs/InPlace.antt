@@ -25,10 +25,11 @@ use Rattle.plan_kinds.specs.Laws.{AnswerFits}
 use Rattle.plan_kinds.specs.declared.sig.Sig.{Sig}
 use Rattle.plan_kinds.proofs.Jobs.{jobs-keep_kinds, one-int}
 use Rattle.plan_shape.specs.Blueprint.{Blueprint}
-use Rattle.plan_settle.specs.Makes.{CompletesInPlace}
-use Rattle.plan_settle.specs.Runs.{RunsWith, IsRunnable, SettlesLong}
-use Rattle.plan_settle.specs.Small.{IsSmallShape, IsSmall}
-use Rattle.plan_settle.proofs.Runs.{settles-in_kind}
+use Rattle.node_images.specs.Makes.{CompletesInPlace}
+use Rattle.plan_kinds.specs.Runnable.{RunsWith, IsRunnable}
+use Rattle.plan_settle.specs.Runs.{SettlesLong}
+use Rattle.plan_kinds.specs.Small.{IsSmallShape, IsSmall}
+use Rattle.plan_kinds.proofs.Runnable.{settles-in_kind}
 
 pub none-in_place : AreInPlace []
 none-in_place = record { few = omega arith; each = All-nil IsInPlace }

@@ -13,7 +13,8 @@ use Rattle.exec_job.specs.declared.job.Job.{Job}
 use Rattle.plan_rules.specs.Allowed.{body_at}
 use Rattle.plan_rules.specs.Settle.{picked_of}
 use Rattle.plan_settle.specs.declared.evaluation.Evaluation.{Evaluation}
-use Rattle.plan_settle.specs.Lets.{picked_body, settled_let}
+use Rattle.node_images.specs.Picks.{picked_body}
+use Rattle.plan_settle.specs.Lets.{settled_let}
 use Rattle.plan_settle.specs.Runs.{MayPick}
 use Rattle.plan_settle.specs.Settles.{Settles, settled_by}
 use Rattle.plan_settle.proofs.InPlace.{wants-where}

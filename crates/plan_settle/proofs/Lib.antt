@@ -1,5 +1,3 @@
-pub mod Elements
-pub mod Runs
 pub mod Short
 pub mod ShortErrors
 pub mod InPlace

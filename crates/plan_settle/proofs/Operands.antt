@@ -27,10 +27,11 @@ use Rattle.plan_kinds.specs.declared.sig.Sig.{Sig}
 use Rattle.plan_shape.specs.Blueprint.{Blueprint}
 use Rattle.plan_settle.specs.declared.evaluation.Evaluation.{Evaluation}
 use Rattle.plan_kinds.proofs.Plans.{plans-built}
-use Rattle.plan_settle.specs.Makes.{CompletesInPlace}
-use Rattle.plan_settle.specs.Runs.{RunsWith, IsRunnable, MayPick, SettlesLong}
+use Rattle.node_images.specs.Makes.{CompletesInPlace}
+use Rattle.plan_kinds.specs.Runnable.{RunsWith, IsRunnable}
+use Rattle.plan_settle.specs.Runs.{MayPick, SettlesLong}
 use Rattle.plan_settle.specs.Settles.{settled_by, settled_case}
-use Rattle.plan_settle.proofs.Runs.{first, built, matched, child-fits, runs-child, before-body, bodies-run}
+use Rattle.plan_kinds.proofs.Runnable.{first, built, matched, child-fits, runs-child, before-body, bodies-run}
 use Rattle.plan_settle.proofs.InPlace.{none-in_place, one-in_place, shape-in_place, settled-place, pick-place}
 
 shape-taken : (job : Job) (shape : Shape) (values : List Datum) → IsTrue (never_or (takes job) shape) →

@@ -10,7 +10,7 @@ use Rattle.plan_kinds.specs.Reached.{Reaches}
 use Rattle.plan_kinds.specs.Built.{IsNoPart}
 use Rattle.plan_shape.specs.Blueprint.{Blueprint, IsPlan}
 use Rattle.plan_shape.specs.Forest.{IsPartOf}
-use Rattle.plan_settle.specs.Runs.{RunsWith}
+use Rattle.plan_kinds.specs.Runnable.{RunsWith}
 
 -- the last node is no part, since a part stands before its bulk
 last-no_part : (plan : Blueprint) → IsPlan plan → (n : ℕ) → length plan.nodes ≡ n + 1 →

@@ -15,7 +15,7 @@ use Rattle.exec_job.specs.declared.fault.JobFault.{JobFault}
 use Rattle.exec_job.specs.declared.fault.JobFault.TheVariants.{Overflow, ZeroDivisor, OutOfRange}
 use Rattle.exec_job.specs.declared.job.Job.{Job}
 use Rattle.exec_job.specs.declared.job.Job.TheVariants.{Add, Sub, Mul, Div, Neg, Within, Index, Fail, Iota, Sum, Append, Join, Length, Parse, Show, Give, At, IntOr, TextOr, Pass}
-use Rattle.plan_settle.specs.Small.{name_of_job}
+use Rattle.plan_kinds.specs.Small.{name_of_job}
 
 -- the name of the error that a job gives of its own is short
 abbrev pub IsShortJob : Job → Type 0

@@ -22,7 +22,7 @@ use Rattle.plan_laws.proofs.Tables.{node-past}
 use Rattle.plan_laws.proofs.Children.{HasZero, below-zero, head-of, tail-of, body-of}
 use Rattle.plan_laws.proofs.Readings.{settled-by-case}
 use Rattle.plan_shape.specs.Blueprint.{Blueprint, IsPlan}
-use Rattle.plan_settle.specs.Small.{IsSmallNode, IsSmall, HasShortNames, own_name}
+use Rattle.plan_kinds.specs.Small.{IsSmallNode, IsSmall, HasShortNames, own_name}
 use Rattle.plan_settle.specs.Runs.{SettlesLong}
 use Rattle.plan_kinds.proofs.Plans.{plans-built}
 use Rattle.plan_settle.proofs.Short.{ShortAnswer, IsShortJob, job-short}

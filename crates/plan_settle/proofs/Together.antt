@@ -4,9 +4,7 @@ use Rattle.std.proofs.Common.{◌≡◌, ℕ, ◌+◌, ◌<◌, ◌≤◌, Bool,
 use Rattle.std.proofs.lemmas.Bool.{cond-true, leb-true}
 use Rattle.std.proofs.lemmas.Option.{same_Some}
 use Rattle.std.proofs.lemmas.List.{append_assoc, append-nil, map-append, take_more}
-use Rattle.exec_value.specs.Kinds.{HaveKinds}
 use Rattle.exec_value.specs.declared.limits.TheConstants.{DATA}
-use Rattle.exec_value.specs.declared.kinds.Kind.{Kind}
 use Rattle.exec_value.specs.declared.data.Datum.{Datum}
 use Rattle.exec_value.specs.declared.outcome.Completion.{Completion}
 use Rattle.exec_value.specs.declared.outcome.Completion.TheVariants.{Value, Error, Stopped, NoMemory}
@@ -23,9 +21,9 @@ use Rattle.plan_kinds.specs.Signatures.{own_sigs, sig_of, matches, Fits}
 use Rattle.plan_kinds.specs.declared.sig.Sig.{Sig}
 use Rattle.plan_kinds.proofs.Signed.{signed-by-case}
 use Rattle.plan_settle.specs.declared.evaluation.Evaluation.{Evaluation}
-use Rattle.plan_settle.specs.Runs.{RunsWith, IsRunnable}
+use Rattle.plan_kinds.specs.Runnable.{RunsWith, IsRunnable}
 use Rattle.plan_settle.specs.Settles.{settled_by}
-use Rattle.plan_settle.proofs.Runs.{first, second, built, matched, child-fits, settles-in_kind}
+use Rattle.plan_kinds.proofs.Runnable.{first, second, built, matched, child-fits, settles-in_kind}
 
 value-assoc : (f : List Datum) (y z : Completion) →
     and_then (and_then (Value f) y) z ≡ and_then (Value f) (and_then y z)

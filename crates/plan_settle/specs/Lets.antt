@@ -1,13 +1,10 @@
 -- What a let makes of what its child has on the let's channel.
-use Rattle.std.specs.Prelude.{⊤, ℕ, List, [], ◌∷◌, Option, Some, None}
+use Rattle.std.specs.Prelude.{⊤, ℕ, List, Option}
 use Rattle.exec_value.specs.declared.data.Datum.{Datum}
-use Rattle.exec_value.specs.declared.data.Datum.TheVariants.{Int}
 use Rattle.exec_value.specs.declared.outcome.Completion.{Completion}
-use Rattle.exec_value.specs.declared.outcome.Completion.TheVariants.{Value}
 use Rattle.exec_job.specs.declared.job.Job.{Job}
 use Rattle.plan_rules.specs.declared.node.Node.{Node}
 use Rattle.plan_rules.specs.declared.node.Node.TheVariants.{LetValue, LetError, LetStopped}
-use Rattle.plan_rules.specs.Allowed.{body_at}
 use Rattle.plan_rules.specs.Settle.{let_of}
 use Rattle.plan_settle.specs.declared.evaluation.Evaluation.{Evaluation}
 use Rattle.plan_settle.specs.Settles.{settled_by}
@@ -17,11 +14,6 @@ IsLet (LetValue child pick bodies) = ⊤
 IsLet (LetError child pick bodies) = ⊤
 IsLet (LetStopped child pick bodies) = ⊤
 IsLet node = ⊥
-
--- the body that an answer names, where that is one int
-abbrev pub picked_body : Completion → List ℕ → Option ℕ
-picked_body (Value (Int k ∷ [])) bodies = Some (body_at bodies k)
-picked_body c bodies = None
 
 -- data that were taken from the let's channel pick a body, which settles under them; where there were
 -- none, the child's completion passes

@@ -1,6 +1,3 @@
-pub mod Makes
-pub mod Joined
-pub mod Small
 pub mod Runs
 pub mod Settles
 pub mod Lets

@@ -1,5 +1,5 @@
--- With which arguments the nodes of a plan run.
-use Rattle.std.specs.Prelude.{◌≡◌, ◌⊎◌, ℕ, ◌<◌, Bool, List, length, slice_get, All}
+-- What a small plan's evaluation may want memory for.
+use Rattle.std.specs.Prelude.{◌≡◌, ◌⊎◌, ℕ, ◌<◌, Bool, List, length, All}
 use Rattle.exec_value.specs.Place.{AreInPlace}
 use Rattle.exec_value.specs.declared.data.Datum.{Datum}
 use Rattle.exec_value.specs.declared.limits.TheConstants.{INLINE_BYTES}
@@ -7,25 +7,10 @@ use Rattle.exec_value.specs.declared.outcome.Completion.TheVariants.{Error}
 use Rattle.exec_job.specs.Apply.{TakesData, apply_of, EndsInPlace}
 use Rattle.exec_job.specs.declared.job.Job.{Job}
 use Rattle.plan_rules.specs.Settle.{settle_of}
-use Rattle.plan_kinds.specs.Shapes.{Shape, HasShape}
-use Rattle.plan_kinds.specs.Reached.{Reaches, KindsMatch}
-use Rattle.plan_kinds.specs.Built.{IsNoPart}
-use Rattle.plan_shape.specs.Blueprint.{Blueprint, IsPlan}
+use Rattle.plan_kinds.specs.Runnable.{RunsWith}
+use Rattle.plan_shape.specs.Blueprint.{Blueprint}
 use Rattle.plan_settle.specs.declared.evaluation.Evaluation.{Evaluation}
-use Rattle.plan_settle.specs.Small.{IsSmall}
-
--- a plan can be evaluated: its kinds match, so that no operand is wrong
-pub record IsRunnable (plan : Blueprint) : Type 0 where
-  pub plan_is : IsPlan plan
-  pub matching : KindsMatch plan.nodes plan.settings.input
-
--- node n runs with these arguments: of a shape that it is reached under
-pub record RunsWith (plan : Blueprint) (n : ℕ) (args : List Datum) : Type 0 where
-  pub shape : Shape
-  pub reached : Reaches plan.nodes plan.settings.input n shape
-  pub arguments : HasShape args shape
-  pub within : n < length plan.nodes
-  pub no_part : IsNoPart (slice_get plan.nodes n)
+use Rattle.plan_kinds.specs.Small.{IsSmall}
 
 -- some node of the plan runs so that it settles, for the record of this number, to an error whose name
 -- doesn't stand in place: a node's own name, which is copied then

@@ -6,7 +6,7 @@ use Rattle.exec_value.specs.declared.outcome.Completion.{Completion}
 use Rattle.plan_rules.specs.declared.node.Node.{Node}
 use Rattle.plan_rules.specs.Settle.{settle_case, settle_of}
 use Rattle.plan_settle.specs.declared.evaluation.Evaluation.{Evaluation}
-use Rattle.plan_settle.specs.Small.{IsSmall}
+use Rattle.plan_kinds.specs.Small.{IsSmall}
 use Rattle.plan_settle.specs.Runs.{SettlesLong}
 
 -- an evaluation puts this completion in its place; a small plan answers want of memory only where a

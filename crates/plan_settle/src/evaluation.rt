@@ -3,16 +3,16 @@
 ghost use Rattle.std.specs.Prelude.{◌≡◌, Some, IfSome, false, slice_get};
 ghost use Rattle.plan_rules.specs.Settle.{let_of, unless_asked};
 ghost use Rattle.plan_rules.specs.declared.node.Node.{Node};
-ghost use Rattle.plan_settle.specs.Runs.{IsRunnable, MayPick, RunsWith};
+ghost use Rattle.plan_kinds.specs.Runnable.{IsRunnable, RunsWith};
+ghost use Rattle.plan_settle.specs.Runs.{MayPick};
 
-use crate::adaptor::{optional, stopped_error, then, upon_error, upon_stopped};
-use crate::bulk::bulk;
-use crate::channel::{take_error, take_stopped, take_value};
-use crate::join::{NoRoom, join_child, no_children, put_behind, put_together};
-use crate::leaf::{error, shown, stopped, turned, value};
-use crate::pick::pick_body;
 use exec_job::Job;
 use exec_value::{Completion, Data};
+use node_images::{
+    NoRoom, apply_to_row, join_child, no_children, pick_body, put_behind, put_error, put_scheduled,
+    put_shown, put_stopped, put_together, put_value, stopped_as_error, stopped_as_optional,
+    take_error, take_stopped, take_value, then, upon_error, upon_stopped,
+};
 use node_tree::NodeList;
 use plan_rules::{Node, NodeId};
 use plan_shape::Plan;
@@ -64,19 +64,19 @@ impl Evaluation<'_> {
     {
         let alloc = self.alloc;
         match node {
-            Node::Input => value(alloc, args, done),
-            Node::Just(values) => value(alloc, values, done),
-            Node::JustError(name) => error(name, done),
+            Node::Input => put_value(alloc, args, done),
+            Node::Just(values) => put_value(alloc, values, done),
+            Node::JustError(name) => put_error(name, done),
             Node::JustStopped => {
-                stopped(done);
+                put_stopped(done);
                 Ok(())
             }
             Node::Schedule(_) | Node::Delay(_) => {
-                turned(alloc, self.asked, done);
+                put_scheduled(alloc, self.asked, done);
                 Ok(())
             }
             Node::ReadEnv(query) => {
-                shown(alloc, *query, self.number, self.asked, done);
+                put_shown(alloc, *query, self.number, self.asked, done);
                 Ok(())
             }
             Node::Then { child, job } => {
@@ -98,15 +98,15 @@ impl Evaluation<'_> {
             Node::ContinuesOn { child, .. } => self.settle_hop(*child, args, done),
             Node::StoppedAsOptional { child, .. } => {
                 self.settle(*child, args, done)?;
-                optional(alloc, done)
+                stopped_as_optional(alloc, done)
             }
             Node::StoppedAsError { child, error } => {
                 self.settle(*child, args, done)?;
-                stopped_error(error, done)
+                stopped_as_error(error, done)
             }
             Node::Bulk { child, job } => {
                 self.settle(*child, args, done)?;
-                bulk(alloc, job, done)
+                apply_to_row(alloc, job, done)
             }
             Node::WhenAll { children } => self.settle_all(at, children, args, done),
             Node::Part { .. } => unreachable!(),
@@ -141,7 +141,7 @@ impl Evaluation<'_> {
             (unless_asked self.now.asked (settled_by self.now child args.now)) done.new result }
     {
         if self.asked {
-            stopped(done);
+            put_stopped(done);
             Ok(())
         } else {
             self.settle(child, args, done)
@@ -236,7 +236,7 @@ impl Evaluation<'_> {
             (settled_case self.now (Node.WhenAll children.now) args.now) done.new result }
     {
         if self.asked {
-            stopped(done);
+            put_stopped(done);
             return Ok(());
         }
         let mut together = no_children(self.alloc);

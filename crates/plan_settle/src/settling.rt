@@ -4,7 +4,7 @@ ghost use Rattle.exec_value.specs.Kinds.{HasKind};
 ghost use Rattle.exec_value.specs.Place.{IsInPlace};
 ghost use Rattle.plan_kinds.specs.Reached.{KindsMatch};
 ghost use Rattle.plan_settle.specs.Root.{settled_root};
-ghost use Rattle.plan_settle.specs.Small.{HasShortNames, IsSmall};
+ghost use Rattle.plan_kinds.specs.Small.{HasShortNames, IsSmall};
 ghost use Rattle.plan_settle.specs.Runs.{SettlesLong};
 
 use crate::evaluation::Evaluation;
@@ -75,8 +75,17 @@ fn evaluate(
         asked,
     };
     let mut done = Completion::Stopped;
-    run.settle(root, &args, &mut done)?;
-    Ok(done)
+    match run.settle(root, &args, &mut done) {
+        Ok(()) => {
+            drop(args);
+            Ok(done)
+        }
+        Err(fault) => {
+            drop(args);
+            drop(done);
+            Err(fault)
+        }
+    }
 }
 
 /// The arguments of the root: the record's datum alone.

@@ -3,3 +3,4 @@ pub mod LeastLemmas
 pub mod DepthLemmas
 pub mod ForestLaws
 pub mod AncestorLemmas
+pub mod TreeLemmas

@@ -3,11 +3,10 @@ use Rattle.std.proofs.Common.{◌<◌, ◌≤◌, [], ◌∷◌, length, get_or,
 use Rattle.std.proofs.lemmas.List.Elements.{All-contains_itself}
 use Rattle.plan_rules.specs.Images.{value_data, error_data, stopped_data, then_of, upon_error_of, upon_stopped_of, as_optional, as_error}
 use Rattle.plan_rules.specs.Bulks.{bulk_of}
-use Rattle.exec_job.specs.Apply.{apply_of, ending}
-use Rattle.plan_settle.specs.Lets.{picked_body}
-use Rattle.plan_settle.specs.Runs.{IsRunnable, RunsWith}
+use Rattle.node_images.specs.Picks.{picked_body}
+use Rattle.plan_kinds.specs.Runnable.{IsRunnable, RunsWith}
 use Rattle.plan_settle.specs.Settles.{settled_by, settled_case}
-use Rattle.plan_settle.proofs.Runs.{first, second}
+use Rattle.plan_kinds.proofs.Runnable.{first, second}
 use Rattle.plan_settle.proofs.Operands.{then-taken, upon_error-taken, let_value-may, let_error-may, let_stopped-may}
 use Rattle.plan_settle.proofs.Together.{ahead-fits}
 use Rattle.plan_settle.proofs.Arms.{child-runs, case-settles, made-settles, bulk-settles, let-settles}
@@ -146,17 +145,17 @@ settle_let-settle_body-requires-in-LetStopped t c = (
 pub settle_one-returns-in-Input : goal.settle_one-returns-in-Input
 settle_one-returns-in-Input t c =
     made-settles c.args.self.now c.requires.runnable c.requires.runs c.requires.node_is
-    c.in-Input.is refl c.value.ensures
+    c.in-Input.is refl c.put_value.ensures
 
 pub settle_one-returns-in-Just : goal.settle_one-returns-in-Just
 settle_one-returns-in-Just t c =
     made-settles c.args.self.now c.requires.runnable c.requires.runs c.requires.node_is
-    c.in-Just.is refl c.value-in-Just.ensures
+    c.in-Just.is refl c.put_value-in-Just.ensures
 
 pub settle_one-returns-in-JustError : goal.settle_one-returns-in-JustError
 settle_one-returns-in-JustError t c =
     made-settles c.args.self.now c.requires.runnable c.requires.runs c.requires.node_is
-    c.in-JustError.is refl c.error.ensures
+    c.in-JustError.is refl c.put_error.ensures
 
 pub settle_one-returns-in_ok-settle-in-Then : goal.settle_one-returns-in_ok-settle-in-Then
 settle_one-returns-in_ok-settle-in-Then t c =
@@ -181,19 +180,19 @@ pub settle_one-returns-in_ok-settle-in-StoppedAsOptional : goal.settle_one-retur
 settle_one-returns-in_ok-settle-in-StoppedAsOptional t c =
     made-settles c.args.self.now c.requires.runnable c.requires.runs c.requires.node_is
     c.in-StoppedAsOptional.is
-    (ap as_optional c.in_ok-settle-in-StoppedAsOptional.ensures.exact) c.optional.ensures
+    (ap as_optional c.in_ok-settle-in-StoppedAsOptional.ensures.exact) c.stopped_as_optional.ensures
 
 pub settle_one-returns-in_ok-settle-in-StoppedAsError : goal.settle_one-returns-in_ok-settle-in-StoppedAsError
 settle_one-returns-in_ok-settle-in-StoppedAsError t c =
     made-settles c.args.self.now c.requires.runnable c.requires.runs c.requires.node_is
     c.in-StoppedAsError.is
     (ap (as_error c.in-StoppedAsError.error) c.in_ok-settle-in-StoppedAsError.ensures.exact)
-    c.stopped_error.ensures
+    c.stopped_as_error.ensures
 
 pub settle_one-returns-in_ok-settle-in-Bulk : goal.settle_one-returns-in_ok-settle-in-Bulk
 settle_one-returns-in_ok-settle-in-Bulk t c =
     bulk-settles c.args.self.now c.args.at c.args.args.now c.requires.node_is c.in-Bulk.is
-    (ap (bulk_of c.in-Bulk.job) c.in_ok-settle-in-Bulk.ensures.exact) c.bulk.ensures
+    (ap (bulk_of c.in-Bulk.job) c.in_ok-settle-in-Bulk.ensures.exact) c.apply_to_row.ensures
 
 pub settle_let-returns-in_ok-settle-in-LetValue : goal.settle_let-returns-in_ok-settle-in-LetValue
 settle_let-returns-in_ok-settle-in-LetValue t c =

@@ -1,6 +1,6 @@
 use Rattle.std.proofs.Common.{◌+◌, ◌*◌, map, take, false}
 use Rattle.plan_rules.specs.Settle.{all_of, settle_of}
-use Rattle.plan_settle.specs.Joined.{Tells}
+use Rattle.node_images.specs.Joined.{Tells}
 use Rattle.plan_settle.proofs.evaluation.Evaluation.+settle.Given as goal
 
 abbrev pub decreases-settle : goal.decreases-settle

@@ -1,6 +1,6 @@
 use Rattle.std.proofs.Common.{◌≡◌, ◌≤◌, length, vec_capacity}
-use Rattle.plan_settle.proofs.Elements.{IsDoneTo}
-use Rattle.plan_settle.proofs.bulk.each.Given as goal
+use Rattle.node_images.proofs.Elements.{IsDoneTo}
+use Rattle.node_images.proofs.bulk.each.Given as goal
 
 abbrev pub invariant-loop-index : goal.invariant-loop-index
 invariant-loop-index l = record {

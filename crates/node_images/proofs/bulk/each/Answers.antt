@@ -2,8 +2,8 @@ use Rattle.std.proofs.Common.{◌+◌, ℤ, List, get_or, pos, ap, subst, sym, �
 use Rattle.std.proofs.lemmas.Int.{to_z-of_z}
 use Rattle.exec_value.specs.declared.outcome.Completion.TheVariants.{Error}
 use Rattle.plan_rules.specs.Bulks.{row_ending}
-use Rattle.plan_settle.proofs.Elements.{IsDoneTo, done-more, done-fault}
-use Rattle.plan_settle.proofs.bulk.each.Goals as goal
+use Rattle.node_images.proofs.Elements.{IsDoneTo, done-more, done-fault}
+use Rattle.node_images.proofs.bulk.each.Goals as goal
 
 pub returns-in-Err : goal.returns-in-Err
 returns-in-Err c =

@@ -3,15 +3,16 @@ ghost use Rattle.std.specs.Prelude.{◌≡◌, ◌+◌, ◌<◌, ◌≤◌, [], 
 ghost use Rattle.exec_value.specs.declared.limits.TheConstants.{DATA, INLINE_DATA};
 ghost use Rattle.plan_rules.specs.Images.{value_data};
 ghost use Rattle.plan_rules.specs.Settle.{ahead_of, all_of, and_then};
-ghost use Rattle.plan_settle.specs.Joined.{Tells};
+ghost use Rattle.node_images.specs.Joined.{Tells};
 
+use crate::channel::{instead, put};
 use exec_value::{Completion, DATA, Data, Datum};
 use std::alloc::{AllocError, Global};
 use std::mem;
 
 /// Why values aren't joined.
 #[derive(Drop)]
-pub(crate) enum NoRoom {
+pub enum NoRoom {
     /// There is no memory for them.
     Memory,
     /// One list doesn't take so many. A child that comes later never has a value then.
@@ -19,42 +20,53 @@ pub(crate) enum NoRoom {
 }
 
 /// What the children of a `when_all` so far complete with together, or why there is no room for it.
-type Together = Result<Completion, NoRoom>;
+pub type Together = Result<Completion, NoRoom>;
 
 /// No children complete with no data.
-pub(crate) fn no_children(alloc: Global) -> Together
+pub fn no_children(alloc: Global) -> Together
     ensures { Tells result (all_of []) }
 {
     Ok(Completion::Value(Data::empty(alloc)))
 }
 
 /// One child more, whose completion is taken from its place.
-pub(crate) fn join_child(together: &mut Together, done: &mut Completion)
+pub fn join_child(together: &mut Together, done: &mut Completion)
     ensures { (c : Completion) → Tells together.old c → Tells together.new (and_then c done.old) }
 {
     let next = mem::replace(done, Completion::Stopped);
     let front = mem::replace(together, Ok(Completion::Stopped));
-    *together = and_then(front, next);
+    drop(mem::replace(together, and_then(front, next)));
 }
 
 /// Puts what all children complete with in its place, where there was room for it.
-pub(crate) fn put_together(together: Together, done: &mut Completion) -> Result<(), NoRoom>
+pub fn put_together(together: Together, done: &mut Completion) -> Result<(), NoRoom>
     ensures ok { OnOk result (together ≡ Ok done.new) }
     ensures err { IfErr result (λ why. together ≡ Err why) }
 {
-    *done = together?;
+    put(done, together?);
     Ok(())
 }
 
 /// Puts a value behind the value of an `ahead`'s first child; where that has none, it stays.
-pub(crate) fn put_behind(values: Data, done: &mut Completion) -> Result<(), AllocError>
+pub fn put_behind(values: Data, done: &mut Completion) -> Result<(), AllocError>
     requires { IfSome (value_data done.old) (λ front. length front + length values ≤ DATA) }
     ensures { OnOk result (done.new ≡ ahead_of done.old (Completion.Value values)) }
 {
-    if let Completion::Value(front) = done {
-        append_all(front, &values)?;
+    match done {
+        Completion::Value(front) => put_after(front, values),
+        _ => Ok(instead(values, ())),
     }
-    Ok(())
+}
+
+/// The same where the first child has a value.
+fn put_after(front: &mut Data, values: Data) -> Result<(), AllocError>
+    requires { length front.old + length values ≤ DATA }
+    ensures { OnOk result (front.new ≡ front.old ++ values) }
+{
+    match append_all(front, &values) {
+        Ok(()) => Ok(instead(values, ())),
+        Err(fault) => Err(instead(values, fault)),
+    }
 }
 
 /// A child's completion behind those of the children before it: values are joined, else the first
@@ -62,14 +74,20 @@ pub(crate) fn put_behind(values: Data, done: &mut Completion) -> Result<(), Allo
 fn and_then(front: Together, next: Completion) -> Together
     ensures { (c : Completion) → Tells front c → Tells result (and_then c next) }
 {
-    match (front, next) {
-        (Ok(Completion::Value(front)), Completion::Value(values)) => join(front, values),
-        (Err(no_room), Completion::Value(_)) => Err(no_room),
-        (Ok(Completion::Value(_)) | Err(_), failed) => Ok(failed),
-        (Ok(Completion::Error(name)), _) | (_, Completion::Error(name)) => {
-            Ok(Completion::Error(name))
-        }
-        _ => Ok(Completion::Stopped),
+    match front {
+        Ok(Completion::Value(front)) => match next {
+            Completion::Value(values) => join(front, values),
+            failed => Ok(instead(front, failed)),
+        },
+        Ok(Completion::Error(name)) => Ok(instead(next, Completion::Error(name))),
+        Ok(stopped) => match next {
+            Completion::Error(name) => Ok(instead(stopped, Completion::Error(name))),
+            other => Ok(instead(stopped, instead(other, Completion::Stopped))),
+        },
+        Err(no_room) => match next {
+            Completion::Value(values) => instead(values, Err(no_room)),
+            failed => Ok(failed),
+        },
     }
 }
 
@@ -78,7 +96,7 @@ fn join(front: Data, values: Data) -> Together
     ensures { Tells result (Completion.Value (front ++ values)) }
 {
     if front.as_slice().len() + values.as_slice().len() > DATA {
-        return Err(NoRoom::Limit);
+        return Err(instead(front, instead(values, NoRoom::Limit)));
     }
     match append(front, values) {
         Ok(joined) => Ok(Completion::Value(joined)),
@@ -93,11 +111,13 @@ fn append(front: Data, values: Data) -> Result<Data, AllocError>
     ensures few { length front + length values ≤ INLINE_DATA → IsOk result }
 {
     if front.as_slice().is_empty() {
-        return Ok(values);
+        return Ok(instead(front, values));
     }
     let mut joined = front;
-    append_all(&mut joined, &values)?;
-    Ok(joined)
+    match append_all(&mut joined, &values) {
+        Ok(()) => Ok(instead(values, joined)),
+        Err(fault) => Err(instead(values, instead(joined, fault))),
+    }
 }
 
 /// Appends copies of data.

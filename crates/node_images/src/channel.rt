@@ -7,8 +7,24 @@ use exec_value::{Completion, Data, Datum, Txt};
 use std::alloc::Global;
 use std::mem;
 
+/// Puts a completion in its place. What stood there is dropped by a call: where a value is assigned
+/// over another, each kind of the other is dropped in that place.
+pub(crate) fn put(done: &mut Completion, made: Completion)
+    ensures { done.new ≡ made }
+{
+    drop(mem::replace(done, made));
+}
+
+/// The one in place of the other, which is dropped by a call.
+pub(crate) fn instead<A: Drop, B>(other: A, one: B) -> B
+    ensures { result ≡ one }
+{
+    drop(other);
+    one
+}
+
 /// The data of a value.
-pub(crate) fn take_value(alloc: Global, done: &mut Completion) -> Option<Data>
+pub fn take_value(alloc: Global, done: &mut Completion) -> Option<Data>
     ensures taken { result ≡ value_data done.old }
     ensures stays { IfNone result (done.new ≡ done.old) }
 {
@@ -19,7 +35,7 @@ pub(crate) fn take_value(alloc: Global, done: &mut Completion) -> Option<Data>
 }
 
 /// The name of an error, as data.
-pub(crate) fn take_error(alloc: Global, done: &mut Completion) -> Option<Data>
+pub fn take_error(alloc: Global, done: &mut Completion) -> Option<Data>
     ensures taken { result ≡ error_data done.old }
     ensures stays { IfNone result (done.new ≡ done.old) }
 {
@@ -33,7 +49,7 @@ pub(crate) fn take_error(alloc: Global, done: &mut Completion) -> Option<Data>
 }
 
 /// No data for stopped.
-pub(crate) fn take_stopped(alloc: Global, done: &mut Completion) -> Option<Data>
+pub fn take_stopped(alloc: Global, done: &mut Completion) -> Option<Data>
     ensures taken { result ≡ stopped_data done.old }
     ensures stays { IfNone result (done.new ≡ done.old) }
 {

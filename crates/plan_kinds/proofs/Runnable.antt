@@ -5,19 +5,18 @@ use Rattle.std.specs.Option.{option_map_or}
 use Rattle.std.proofs.lemmas.List.Elements.{All-contains, All-contains_itself}
 use Rattle.exec_value.specs.declared.data.Datum.{Datum}
 use Rattle.plan_rules.specs.declared.node.Node.{Node}
-use Rattle.plan_rules.specs.declared.node.Node.TheVariants.{Part}
 use Rattle.plan_rules.specs.Settle.{stop_state, settle_of}
 use Rattle.plan_laws.proofs.Evaluation.{settled-allowed}
-use Rattle.plan_kinds.specs.Shapes.{Shape, HasShape}
+use Rattle.plan_kinds.specs.Shapes.{HasShape}
 use Rattle.plan_kinds.specs.Runs.{run_by, bodies_of}
 use Rattle.plan_kinds.specs.Values.{body_arguments}
 use Rattle.plan_kinds.specs.Signatures.{own_sigs, sig_of, matches, Fits}
 use Rattle.plan_kinds.specs.Reached.{Reaches}
-use Rattle.plan_kinds.specs.Built.{IsNoPart, IsBuilt, AreArguments}
+use Rattle.plan_kinds.specs.Built.{IsNoPart, IsBuilt}
 use Rattle.plan_kinds.proofs.Running.{run-of, bodies-of}
 use Rattle.plan_kinds.proofs.Kept.{plain-arguments, kinds-kept}
 use Rattle.plan_shape.specs.Blueprint.{Blueprint}
-use Rattle.plan_settle.specs.Runs.{RunsWith, IsRunnable}
+use Rattle.plan_kinds.specs.Runnable.{RunsWith, IsRunnable}
 use Rattle.plan_kinds.proofs.Plans.{plans-built}
 
 -- the first of a list, and the second of two

@@ -3,8 +3,8 @@ use Rattle.std.specs.Prelude.{◌≡◌, ℕ, ◌<◌, length, Result, Ok, Err}
 use Rattle.exec_value.specs.declared.limits.TheConstants.{DATA, INLINE_DATA}
 use Rattle.exec_value.specs.declared.outcome.Completion.{Completion}
 use Rattle.exec_value.specs.declared.outcome.Completion.TheVariants.{Value}
-use Rattle.plan_settle.specs.declared.join.NoRoom.{NoRoom}
-use Rattle.plan_settle.specs.declared.join.NoRoom.TheVariants.{Memory, Limit}
+use Rattle.node_images.specs.declared.join.NoRoom.{NoRoom}
+use Rattle.node_images.specs.declared.join.NoRoom.TheVariants.{Memory, Limit}
 
 -- a value of more than so many data
 abbrev pub HasMoreThan : ℕ → Completion → Type 0

@@ -5,13 +5,14 @@ ghost use Rattle.exec_job.specs.Fault.{name_of};
 ghost use Rattle.exec_job.specs.Takes.{is_element};
 ghost use Rattle.plan_rules.specs.Bulks.{bulk_of, each_of, error_at, row_ending};
 
+use crate::channel::put;
 use exec_job::{Job, JobFault, apply_at};
 use exec_value::{Completion, Data, Datum, Nums, Txt};
 use itoa::Buffer;
 use std::alloc::{AllocError, Global};
 
 /// One row becomes what the job makes of its elements.
-pub(crate) fn bulk(alloc: Global, job: &Job, done: &mut Completion) -> Result<(), AllocError>
+pub fn apply_to_row(alloc: Global, job: &Job, done: &mut Completion) -> Result<(), AllocError>
     requires { IsTrue (is_element job.now) }
     ensures { OnOk result (done.new ≡ bulk_of job.now done.old) }
 {
@@ -22,7 +23,7 @@ pub(crate) fn bulk(alloc: Global, job: &Job, done: &mut Completion) -> Result<()
         },
         _ => return Ok(()),
     };
-    *done = made;
+    put(done, made);
     Ok(())
 }
 
@@ -44,7 +45,7 @@ fn each(alloc: Global, job: &Job, numbers: &[i64]) -> Result<Completion, AllocEr
 }
 
 /// The name of an element's error: the fault's, `@` and the element's index.
-fn error_at(alloc: Global, fault: JobFault, index: u32) -> Result<Txt, AllocError>
+pub fn error_at(alloc: Global, fault: JobFault, index: u32) -> Result<Txt, AllocError>
     ensures { IfOk result (λ name. name ≡ error_at (name_of fault) index) }
 {
     let mut name = Txt::short(alloc, fault.name());

@@ -1,5 +1,5 @@
 use Rattle.std.proofs.Common.{◌≡◌, ◌++◌, take}
-use Rattle.plan_settle.proofs.join.append_all.Given as goal
+use Rattle.node_images.proofs.join.append_all.Given as goal
 
 abbrev pub invariant-loop-datum : goal.invariant-loop-datum
 invariant-loop-datum l = l.joined ≡ l.initial.joined ++ take l.datum-index l.datum-items

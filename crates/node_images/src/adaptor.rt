@@ -5,15 +5,15 @@ ghost use Rattle.exec_job.specs.Apply.{TakesData};
 ghost use Rattle.plan_rules.specs.Images.{value_data, error_data, stopped_data, applied};
 ghost use Rattle.plan_rules.specs.Images.{then_of, upon_error_of, upon_stopped_of};
 ghost use Rattle.plan_rules.specs.Images.{some_of, as_optional, as_error};
-ghost use Rattle.plan_settle.specs.Makes.{Makes};
+ghost use Rattle.node_images.specs.Makes.{Makes};
 
-use crate::channel::{take_error, take_stopped, take_value};
+use crate::channel::{put, take_error, take_stopped, take_value};
 use exec_job::{Job, apply};
 use exec_value::{Completion, Data, Datum, Txt};
 use std::alloc::{AllocError, Global};
 
 /// A value becomes what the job makes of it ([exec.then]).
-pub(crate) fn then(alloc: Global, job: &Job, done: &mut Completion) -> Result<(), AllocError>
+pub fn then(alloc: Global, job: &Job, done: &mut Completion) -> Result<(), AllocError>
     requires { IfSome (value_data done.old) (TakesData job.now) }
     ensures { Makes (then_of job.now done.old) done.new result }
 {
@@ -22,7 +22,7 @@ pub(crate) fn then(alloc: Global, job: &Job, done: &mut Completion) -> Result<()
 }
 
 /// An error becomes what the job makes of its name.
-pub(crate) fn upon_error(alloc: Global, job: &Job, done: &mut Completion) -> Result<(), AllocError>
+pub fn upon_error(alloc: Global, job: &Job, done: &mut Completion) -> Result<(), AllocError>
     requires { IfSome (error_data done.old) (TakesData job.now) }
     ensures { Makes (upon_error_of job.now done.old) done.new result }
 {
@@ -31,11 +31,7 @@ pub(crate) fn upon_error(alloc: Global, job: &Job, done: &mut Completion) -> Res
 }
 
 /// Stopped becomes what the job makes of no data.
-pub(crate) fn upon_stopped(
-    alloc: Global,
-    job: &Job,
-    done: &mut Completion,
-) -> Result<(), AllocError>
+pub fn upon_stopped(alloc: Global, job: &Job, done: &mut Completion) -> Result<(), AllocError>
     requires { IfSome (stopped_data done.old) (TakesData job.now) }
     ensures { Makes (upon_stopped_of job.now done.old) done.new result }
 {
@@ -55,13 +51,13 @@ fn apply_on(
     ensures { Makes (applied job.now taken done.old) done.new result }
 {
     if let Some(data) = taken {
-        *done = apply(alloc, job, data)?;
+        put(done, apply(alloc, job, data)?);
     }
     Ok(())
 }
 
 /// A value becomes one that is there, and stopped one that isn't ([exec.stopped.opt]).
-pub(crate) fn optional(alloc: Global, done: &mut Completion) -> Result<(), AllocError>
+pub fn stopped_as_optional(alloc: Global, done: &mut Completion) -> Result<(), AllocError>
     ensures { Makes (as_optional done.old) done.new result }
 {
     let datum = match done {
@@ -72,7 +68,7 @@ pub(crate) fn optional(alloc: Global, done: &mut Completion) -> Result<(), Alloc
         Completion::Stopped => Datum::Nothing,
         _ => return Ok(()),
     };
-    *done = Completion::Value(Data::one(alloc, datum));
+    put(done, Completion::Value(Data::one(alloc, datum)));
     Ok(())
 }
 
@@ -89,11 +85,11 @@ fn some_of(datum: &Datum) -> Result<Datum, AllocError>
 }
 
 /// Stopped becomes the error of this name ([exec.stopped.err]).
-pub(crate) fn stopped_error(name: &Txt, done: &mut Completion) -> Result<(), AllocError>
+pub fn stopped_as_error(name: &Txt, done: &mut Completion) -> Result<(), AllocError>
     ensures { Makes (as_error name.now done.old) done.new result }
 {
     if let Completion::Stopped = done {
-        *done = Completion::Error(name.clone()?);
+        put(done, Completion::Error(name.clone()?));
     }
     Ok(())
 }

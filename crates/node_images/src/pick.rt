@@ -4,8 +4,9 @@ ghost use Rattle.exec_value.specs.Place.{AreInPlace};
 ghost use Rattle.exec_job.specs.Answer.{ending, EndsInPlace};
 ghost use Rattle.exec_job.specs.Apply.{TakesData, apply_of};
 ghost use Rattle.plan_rules.specs.Allowed.{body_at};
-ghost use Rattle.plan_settle.specs.Lets.{picked_body};
+ghost use Rattle.node_images.specs.Picks.{picked_body};
 
+use crate::channel::put;
 use exec_job::{Job, apply};
 use exec_value::{Completion, Data, Datum, copy_data};
 use plan_rules::NodeId;
@@ -13,7 +14,7 @@ use std::alloc::{AllocError, Global};
 
 /// The body that the pick names for these values. The pick's answer is put in the let's place, where
 /// it stays if it names none.
-pub(crate) fn pick_body(
+pub fn pick_body(
     alloc: Global,
     pick: &Job,
     values: &Data,
@@ -27,7 +28,7 @@ pub(crate) fn pick_body(
     ensures in_place { AreInPlace values.now → EndsInPlace (apply_of pick.now values.now)
         → IsOk result }
 {
-    *done = apply(alloc, pick, copy_data(alloc, values)?)?;
+    put(done, apply(alloc, pick, copy_data(alloc, values)?)?);
     Ok(picked(done, bodies))
 }
 
