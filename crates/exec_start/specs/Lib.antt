@@ -1,0 +1,11 @@
+pub mod Shares
+pub mod Entries
+pub mod HasKinds
+pub mod Below
+pub mod Starts
+pub mod Environments
+pub mod Parcels
+pub mod Items
+pub mod Bounds
+pub mod Fits
+pub mod Laws
