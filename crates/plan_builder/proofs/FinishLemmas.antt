@@ -27,6 +27,7 @@ use Rattle.common_lemmas.proofs.Lists.{slice_get-append_left, slice_get-append_r
 use Rattle.plan_shape.proofs.LeastLemmas.{none_passes}
 use Rattle.plan_builder.proofs.RefusalLemmas.{or_first, fault_if-None, map-None, free_within}
 use Rattle.plan_shape.proofs.ForestLaws.{parent_later}
+use Rattle.plan_shape.proofs.TreeLemmas.{length-tree_of, tree_of-node, tree_of-receiver}
 
 -- what it tells that nothing stands against a plan
 pub record IsFinishable (nodes : List Node) (root : ℕ) (settings : Settings) : Type 0 where
@@ -93,27 +94,6 @@ plan_is nodes root settings forest are h =
       old_enough = h.none_new;
       well_placed = h.none_misplaced;
     }
-
--- what the tree has at each place
-length-tree_of : (nodes : List Node) → length (tree_of nodes) ≡ length nodes + 1
-length-tree_of nodes =
-    length-append (map (tree_node nodes) (range_with_len 0 (length nodes))) (receiver_node ∷ [])
-    ∙ ap (λ n. n + 1) (length-map-range_with_len (tree_node nodes) 0 (length nodes))
-
-tree_of-node : (nodes : List Node) (n : ℕ) → n < length nodes → slice_get (tree_of nodes) n ≡ Some (tree_node nodes n)
-tree_of-node nodes n l =
-    let front : List TreeNode = map (tree_node nodes) (range_with_len 0 (length nodes)) in
-    let within : n < length front = omega (arith, l, length-map-range_with_len (tree_node nodes) 0 (length nodes)) in
-    slice_get-append_left front (receiver_node ∷ []) n within
-    ∙ slice_get-get_or front n receiver_node within
-    ∙ ap Some (get_or-map-range_with_len (tree_node nodes) 0 (length nodes) n n receiver_node l (omega arith))
-
-tree_of-receiver : (nodes : List Node) → slice_get (tree_of nodes) (length nodes) ≡ Some receiver_node
-tree_of-receiver nodes =
-    let front : List TreeNode = map (tree_node nodes) (range_with_len 0 (length nodes)) in
-    let at : length nodes ≡ length front + 0 = omega (arith, length-map-range_with_len (tree_node nodes) 0 (length nodes)) in
-    ap (slice_get (front ++ receiver_node ∷ [])) at
-    ∙ slice_get-append_right front (receiver_node ∷ []) 0
 
 -- a node's place in the tree is behind it
 parent_in_tree-later : (nodes : List Node) (n : ℕ) → IsForest nodes → n < length nodes →

@@ -8,6 +8,7 @@ ghost use Rattle.plan_builder.specs.Finishing.{Finishes};
 ghost use Rattle.plan_shape.specs.Least.{least};
 
 use crate::builder::PlanBuilder;
+use crate::named::node_at;
 use node_tree::{Tree, TreeFault};
 use plan_rules::{Node, NodeId, Settings};
 use plan_shape::{BuildFault, MOST_FIRST_VERSION_NODES, Plan};
@@ -16,27 +17,33 @@ use plan_shape::{BuildFault, MOST_FIRST_VERSION_NODES, Plan};
 fn is_ahead(nodes: &[Node], node: NodeId) -> bool
     ensures { result ≡ passes is_ahead nodes.now node }
 {
-    matches!(nodes.get(node as usize), Some(Node::Ahead { .. }))
+    match node_at(nodes, node) {
+        Some(found) => matches!(found, Node::Ahead { .. }),
+        None => false,
+    }
 }
 
 // Whether only plans of version 2 have a node.
 fn is_of_version_2(nodes: &[Node], node: NodeId) -> bool
     ensures { result ≡ passes is_of_version_2 nodes.now node }
 {
-    matches!(
-        nodes.get(node as usize),
-        Some(Node::Unstoppable { .. } | Node::Ahead { .. })
-    )
+    match node_at(nodes, node) {
+        Some(found) => matches!(found, Node::Unstoppable { .. } | Node::Ahead { .. }),
+        None => false,
+    }
 }
 
 // Whether no `ahead` may stand below a node.
 fn bars_aheads(nodes: &[Node], node: NodeId) -> bool
     ensures { result ≡ passes bars_aheads nodes.now node }
 {
-    matches!(
-        nodes.get(node as usize),
-        Some(Node::WhenAll { .. } | Node::Unstoppable { .. } | Node::Ahead { .. })
-    )
+    match node_at(nodes, node) {
+        Some(found) => matches!(
+            found,
+            Node::WhenAll { .. } | Node::Unstoppable { .. } | Node::Ahead { .. }
+        ),
+        None => false,
+    }
 }
 
 impl PlanBuilder {

@@ -1,5 +1,5 @@
-//! What a node names, and whether it names as many nodes as it may.
-ghost use Rattle.std.specs.Prelude.{◌≡◌, ◌++◌, length};
+//! Which node has a number, what a node names, and whether it names as many nodes as it may.
+ghost use Rattle.std.specs.Prelude.{◌≡◌, ◌++◌, length, option_copied, slice_get};
 ghost use Rattle.plan_rules.specs.Children.{named_by};
 ghost use Rattle.plan_shape.specs.Children.{part_count};
 ghost use Rattle.plan_shape.specs.Conditions.{has_lawful_count, is_within};
@@ -7,6 +7,13 @@ ghost use Rattle.plan_shape.specs.Conditions.{has_lawful_count, is_within};
 use plan_rules::{Node, NodeId};
 use plan_shape::{BULK_PARTS, FEWEST_CHILDREN, MOST_BODIES, MOST_CHILDREN};
 use std::slice;
+
+/// The node of this number, if there is one.
+pub(crate) fn node_at(nodes: &[Node], node: NodeId) -> Option<&Node>
+    ensures { option_copied result ≡ slice_get nodes.now node }
+{
+    nodes.get(node as usize)
+}
 
 /// The nodes that a node names, in two lists, one after the other.
 pub(crate) fn named(node: &Node) -> (&[NodeId], &[NodeId])

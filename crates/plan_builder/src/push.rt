@@ -1,5 +1,5 @@
 //! How a builder adds a node.
-ghost use Rattle.std.specs.Prelude.{◌≡◌, ◌+◌, ◌≤◌, ◌∷◌, [], ◌++◌, None, vec_len, vec_capacity, OnOk};
+ghost use Rattle.std.specs.Prelude.{◌≡◌, ◌+◌, ◌≤◌, ◌∷◌, [], ◌++◌, None, Err, vec_len, vec_capacity, OnOk};
 ghost use Rattle.plan_shape.specs.Added.{parts_of};
 ghost use Rattle.plan_rules.specs.Children.{named_by};
 ghost use Rattle.plan_shape.specs.Conditions.{MeetsConditions};
@@ -45,14 +45,25 @@ fn append_node(nodes: &mut Vec<Node>, node: Node, number: NodeId, parts: u32)
     append(nodes, node);
 }
 
+// The answer to a node that is refused, which is dropped by a call: at the end of a scope each of its
+// kinds is dropped in place.
+fn refused(node: Node, fault: BuildFault) -> Built
+    ensures { result ≡ Err fault }
+{
+    drop(node);
+    Err(fault)
+}
+
 impl PlanBuilder {
     /// Adds a node, unless it is refused. The calls that are named for the nodes add theirs so.
     pub fn add(&mut self, node: Node) -> Built
         requires { MeetsConditions node }
         ensures { Adds self.old self.new node result }
     {
-        let depth = self.check_node(&node)?;
-        self.push(node, depth)
+        match self.check_node(&node) {
+            Ok(depth) => self.push(node, depth),
+            Err(fault) => refused(node, fault),
+        }
     }
 
     // The depth of a new node, or why it is refused.
@@ -74,7 +85,9 @@ impl PlanBuilder {
         ensures { Adds self.old self.new node result }
     {
         let parts = part_count(&node);
-        reserve(&mut self.nodes, &mut self.positions, parts as usize + 1)?;
+        let Ok(()) = reserve(&mut self.nodes, &mut self.positions, parts as usize + 1) else {
+            return refused(node, BuildFault::NoMemory);
+        };
         let number = self.nodes.len() as u32 + parts;
         let (front, back) = named(&node);
         append_positions(&mut self.positions, front, back, number, parts, depth);

@@ -5,6 +5,7 @@ ghost use Rattle.plan_shape.specs.Parents.{parent_of};
 ghost use Rattle.plan_shape.specs.PlanTree.{is_unstoppable, is_when_all, parent_in_tree, spawns, tree_node, tree_of};
 
 use crate::builder::PlanBuilder;
+use crate::named::node_at;
 use node_tree::TreeNode;
 use plan_rules::{Node, NodeId};
 use std::alloc::AllocError;
@@ -13,9 +14,12 @@ use std::alloc::AllocError;
 fn spawns(nodes: &[Node], node: NodeId, child: NodeId) -> bool
     ensures { result ≡ passes (spawns child) nodes.now node }
 {
-    match nodes.get(node as usize) {
-        Some(Node::Ahead { first, .. }) => *first == child,
-        _ => false,
+    match node_at(nodes, node) {
+        Some(found) => match found {
+            Node::Ahead { first, .. } => *first == child,
+            _ => false,
+        },
+        None => false,
     }
 }
 
@@ -23,14 +27,20 @@ fn spawns(nodes: &[Node], node: NodeId, child: NodeId) -> bool
 fn is_when_all(nodes: &[Node], node: NodeId) -> bool
     ensures { result ≡ passes is_when_all nodes.now node }
 {
-    matches!(nodes.get(node as usize), Some(Node::WhenAll { .. }))
+    match node_at(nodes, node) {
+        Some(found) => matches!(found, Node::WhenAll { .. }),
+        None => false,
+    }
 }
 
 // Whether a node is `unstoppable`.
 fn is_unstoppable(nodes: &[Node], node: NodeId) -> bool
     ensures { result ≡ passes is_unstoppable nodes.now node }
 {
-    matches!(nodes.get(node as usize), Some(Node::Unstoppable { .. }))
+    match node_at(nodes, node) {
+        Some(found) => matches!(found, Node::Unstoppable { .. }),
+        None => false,
+    }
 }
 
 impl PlanBuilder {

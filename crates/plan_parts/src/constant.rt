@@ -1,4 +1,5 @@
-//! Constants: numbers, texts and rows of numbers.
+//! Constants: numbers, texts and rows of numbers. What isn't handed on is dropped by a call: at the end
+//! of a scope each kind of data would be dropped in that place.
 ghost use Rattle.std.specs.Prelude.{◌≡◌, ◌≤◌, All, IfOk, Some, vec_len};
 ghost use Rattle.serde_json.specs.View.{view, items_view};
 ghost use Rattle.exec_value.specs.Kinds.{IsConstant};
@@ -30,10 +31,27 @@ fn constants_of(alloc: Global, values: &[Value]) -> Result<Reading<Data>, AllocE
 {
     let mut found = Reading::Good(Data::empty(alloc));
     'values: for value in values {
-        let next = constant_of(alloc, value)?;
-        found = with_constant(found, next)?;
+        found = with_next(alloc, found, value)?;
     }
     Ok(found)
+}
+
+/// One value more.
+fn with_next(
+    alloc: Global,
+    found: Reading<Data>,
+    value: &Value,
+) -> Result<Reading<Data>, AllocError>
+    ensures { IfOk result
+        (λ reading. reading ≡ with_constant found (constant_of (view value.now))) }
+{
+    match constant_of(alloc, value) {
+        Ok(next) => with_constant(found, next),
+        Err(fault) => {
+            drop(found);
+            Err(fault)
+        }
+    }
 }
 
 /// One constant more.
@@ -52,7 +70,10 @@ fn with_datum(found: Reading<Data>, datum: Datum) -> Result<Reading<Data>, Alloc
 {
     match found {
         Reading::Good(values) => pushed(values, datum),
-        Reading::Bad(faults) => Ok(Reading::Bad(faults)),
+        Reading::Bad(faults) => {
+            drop(datum);
+            Ok(Reading::Bad(faults))
+        }
     }
 }
 
@@ -60,13 +81,18 @@ fn with_datum(found: Reading<Data>, datum: Datum) -> Result<Reading<Data>, Alloc
 fn pushed(mut values: Data, datum: Datum) -> Result<Reading<Data>, AllocError>
     ensures { IfOk result (λ reading. reading ≡ with_datum (Reading.Good values) datum) }
 {
-    if values.as_slice().len() < DATA {
-        match values.push(datum) {
-            Ok(()) => Ok(Reading::Good(values)),
-            Err(_) => Err(AllocError),
+    if values.as_slice().len() >= DATA {
+        drop(datum);
+        drop(values);
+        return Ok(Reading::Bad(LIMIT_FAULT));
+    }
+    match values.push(datum) {
+        Ok(()) => Ok(Reading::Good(values)),
+        Err(datum) => {
+            drop(datum);
+            drop(values);
+            Err(AllocError)
         }
-    } else {
-        Ok(Reading::Bad(LIMIT_FAULT))
     }
 }
 

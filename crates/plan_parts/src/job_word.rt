@@ -2,8 +2,10 @@
 ghost use Rattle.std.specs.Prelude.{◌≡◌, map};
 ghost use Rattle.plan_parts.specs.JobWords.{arithmetic_named, job_keys, job_named, other_job_named, plain_job_named};
 
+use crate::name_table::named;
+
 /// A job of which a file says the name alone.
-#[derive(Clone, Copy, Debug, PartialEq, Eq)]
+#[derive(Clone, Copy)]
 pub enum PlainJob {
     Neg,
     Index,
@@ -17,7 +19,7 @@ pub enum PlainJob {
 }
 
 /// A job with one number.
-#[derive(Clone, Copy, Debug, PartialEq, Eq)]
+#[derive(Clone, Copy)]
 pub enum Arithmetic {
     Add,
     Sub,
@@ -26,7 +28,7 @@ pub enum Arithmetic {
 }
 
 /// What a job of a file is called.
-#[derive(Clone, Copy, Debug, PartialEq, Eq)]
+#[derive(Clone, Copy)]
 pub enum JobWord {
     Plain(PlainJob),
     Arithmetic(Arithmetic),
@@ -55,65 +57,52 @@ pub(crate) fn job_named(name: &str) -> Option<JobWord>
 fn plain_job_named(name: &str) -> Option<PlainJob>
     ensures { result ≡ plain_job_named name.now }
 {
-    if name == "neg" {
-        Some(PlainJob::Neg)
-    } else if name == "index" {
-        Some(PlainJob::Index)
-    } else if name == "iota" {
-        Some(PlainJob::Iota)
-    } else if name == "sum" {
-        Some(PlainJob::Sum)
-    } else if name == "join" {
-        Some(PlainJob::Join)
-    } else if name == "length" {
-        Some(PlainJob::Length)
-    } else if name == "parse" {
-        Some(PlainJob::Parse)
-    } else if name == "show" {
-        Some(PlainJob::Show)
-    } else if name == "pass" {
-        Some(PlainJob::Pass)
-    } else {
-        None
-    }
+    named(
+        &[
+            ("neg", PlainJob::Neg),
+            ("index", PlainJob::Index),
+            ("iota", PlainJob::Iota),
+            ("sum", PlainJob::Sum),
+            ("join", PlainJob::Join),
+            ("length", PlainJob::Length),
+            ("parse", PlainJob::Parse),
+            ("show", PlainJob::Show),
+            ("pass", PlainJob::Pass),
+        ],
+        name,
+    )
 }
 
 /// Of those with one number.
 fn arithmetic_named(name: &str) -> Option<Arithmetic>
     ensures { result ≡ arithmetic_named name.now }
 {
-    if name == "add" {
-        Some(Arithmetic::Add)
-    } else if name == "sub" {
-        Some(Arithmetic::Sub)
-    } else if name == "mul" {
-        Some(Arithmetic::Mul)
-    } else if name == "div" {
-        Some(Arithmetic::Div)
-    } else {
-        None
-    }
+    named(
+        &[
+            ("add", Arithmetic::Add),
+            ("sub", Arithmetic::Sub),
+            ("mul", Arithmetic::Mul),
+            ("div", Arithmetic::Div),
+        ],
+        name,
+    )
 }
 
 /// Of the others.
 fn other_job_named(name: &str) -> Option<JobWord>
     ensures { result ≡ other_job_named name.now }
 {
-    if name == "within" {
-        Some(JobWord::Within)
-    } else if name == "fail" {
-        Some(JobWord::Fail)
-    } else if name == "append" {
-        Some(JobWord::Append)
-    } else if name == "give" {
-        Some(JobWord::Give)
-    } else if name == "at" {
-        Some(JobWord::At)
-    } else if name == "value_or" {
-        Some(JobWord::ValueOr)
-    } else {
-        None
-    }
+    named(
+        &[
+            ("within", JobWord::Within),
+            ("fail", JobWord::Fail),
+            ("append", JobWord::Append),
+            ("give", JobWord::Give),
+            ("at", JobWord::At),
+            ("value_or", JobWord::ValueOr),
+        ],
+        name,
+    )
 }
 
 /// The keys that a job has.

@@ -11,7 +11,7 @@ use crate::node_word::{Adaptor, Leaf, Let};
 use exec_value::Kind;
 use node_tree::NodeList;
 use plan_parts::{
-    FORM_FAULT, NAME_FAULT, Reading, constants_at, count_at, job_at, name_at, text_at,
+    FORM_FAULT, NAME_FAULT, Reading, constants_at, count_at, job_at, name_at, named, text_at,
 };
 use plan_rules::{Context, Node, NodeId, Query};
 use plan_shape::MOST_TURNS;
@@ -144,13 +144,7 @@ fn context_at(value: &Value) -> Reading<Context>
 fn context_named(name: &str) -> Option<Context>
     ensures { result ≡ context_named name.now }
 {
-    if name == "loop" {
-        Some(Context::Loop)
-    } else if name == "pool" {
-        Some(Context::Pool)
-    } else {
-        None
-    }
+    named(&[("loop", Context::Loop), ("pool", Context::Pool)], name)
 }
 
 /// The query at the key `query`.
@@ -167,13 +161,7 @@ fn query_at(value: &Value) -> Reading<Query>
 fn query_named(name: &str) -> Option<Query>
     ensures { result ≡ query_named name.now }
 {
-    if name == "stop" {
-        Some(Query::Stop)
-    } else if name == "record" {
-        Some(Query::Record)
-    } else {
-        None
-    }
+    named(&[("stop", Query::Stop), ("record", Query::Record)], name)
 }
 
 /// The kind at the key `of`.

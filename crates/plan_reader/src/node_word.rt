@@ -2,8 +2,10 @@
 ghost use Rattle.std.specs.Prelude.{◌≡◌, map};
 ghost use Rattle.plan_reader.specs.NodeWords.{adaptor_named, adaptor_keys, early_node_named, later_node_named, leaf_keys, leaf_named, let_named, node_keys, node_named, other_node_named};
 
+use plan_parts::named;
+
 /// A node without children.
-#[derive(Clone, Copy, PartialEq, Eq)]
+#[derive(Clone, Copy)]
 pub enum Leaf {
     Input,
     Just,
@@ -15,7 +17,7 @@ pub enum Leaf {
 }
 
 /// A node over one child. `Unstoppable` is of version 2.
-#[derive(Clone, Copy, PartialEq, Eq)]
+#[derive(Clone, Copy)]
 pub enum Adaptor {
     Then,
     UponError,
@@ -28,7 +30,7 @@ pub enum Adaptor {
 }
 
 /// A node over one child and bodies.
-#[derive(Clone, Copy, PartialEq, Eq)]
+#[derive(Clone, Copy)]
 pub enum Let {
     Value,
     Error,
@@ -36,7 +38,7 @@ pub enum Let {
 }
 
 /// What a node of a file is called. `Ahead` is of version 2.
-#[derive(Clone, Copy, PartialEq, Eq)]
+#[derive(Clone, Copy)]
 pub enum NodeWord {
     Leaf(Leaf),
     Adaptor(Adaptor),
@@ -78,12 +80,14 @@ fn later_node_named(is_first: bool, name: &str) -> Option<NodeWord>
 {
     if is_first {
         None
-    } else if name == "unstoppable" {
-        Some(NodeWord::Adaptor(Adaptor::Unstoppable))
-    } else if name == "ahead" {
-        Some(NodeWord::Ahead)
     } else {
-        None
+        named(
+            &[
+                ("unstoppable", NodeWord::Adaptor(Adaptor::Unstoppable)),
+                ("ahead", NodeWord::Ahead),
+            ],
+            name,
+        )
     }
 }
 
@@ -91,74 +95,60 @@ fn later_node_named(is_first: bool, name: &str) -> Option<NodeWord>
 fn leaf_named(name: &str) -> Option<Leaf>
     ensures { result ≡ leaf_named name.now }
 {
-    if name == "input" {
-        Some(Leaf::Input)
-    } else if name == "just" {
-        Some(Leaf::Just)
-    } else if name == "just_error" {
-        Some(Leaf::JustError)
-    } else if name == "just_stopped" {
-        Some(Leaf::JustStopped)
-    } else if name == "schedule" {
-        Some(Leaf::Schedule)
-    } else if name == "delay" {
-        Some(Leaf::Delay)
-    } else if name == "read_env" {
-        Some(Leaf::ReadEnv)
-    } else {
-        None
-    }
+    named(
+        &[
+            ("input", Leaf::Input),
+            ("just", Leaf::Just),
+            ("just_error", Leaf::JustError),
+            ("just_stopped", Leaf::JustStopped),
+            ("schedule", Leaf::Schedule),
+            ("delay", Leaf::Delay),
+            ("read_env", Leaf::ReadEnv),
+        ],
+        name,
+    )
 }
 
 /// Of those over one child.
 fn adaptor_named(name: &str) -> Option<Adaptor>
     ensures { result ≡ adaptor_named name.now }
 {
-    if name == "then" {
-        Some(Adaptor::Then)
-    } else if name == "upon_error" {
-        Some(Adaptor::UponError)
-    } else if name == "upon_stopped" {
-        Some(Adaptor::UponStopped)
-    } else if name == "starts_on" {
-        Some(Adaptor::StartsOn)
-    } else if name == "continues_on" {
-        Some(Adaptor::ContinuesOn)
-    } else if name == "stopped_as_optional" {
-        Some(Adaptor::StoppedAsOptional)
-    } else if name == "stopped_as_error" {
-        Some(Adaptor::StoppedAsError)
-    } else {
-        None
-    }
+    named(
+        &[
+            ("then", Adaptor::Then),
+            ("upon_error", Adaptor::UponError),
+            ("upon_stopped", Adaptor::UponStopped),
+            ("starts_on", Adaptor::StartsOn),
+            ("continues_on", Adaptor::ContinuesOn),
+            ("stopped_as_optional", Adaptor::StoppedAsOptional),
+            ("stopped_as_error", Adaptor::StoppedAsError),
+        ],
+        name,
+    )
 }
 
 /// Of those over one child and bodies.
 fn let_named(name: &str) -> Option<Let>
     ensures { result ≡ let_named name.now }
 {
-    if name == "let_value" {
-        Some(Let::Value)
-    } else if name == "let_error" {
-        Some(Let::Error)
-    } else if name == "let_stopped" {
-        Some(Let::Stopped)
-    } else {
-        None
-    }
+    named(
+        &[
+            ("let_value", Let::Value),
+            ("let_error", Let::Error),
+            ("let_stopped", Let::Stopped),
+        ],
+        name,
+    )
 }
 
 /// Of the others.
 fn other_node_named(name: &str) -> Option<NodeWord>
     ensures { result ≡ other_node_named name.now }
 {
-    if name == "bulk" {
-        Some(NodeWord::Bulk)
-    } else if name == "when_all" {
-        Some(NodeWord::WhenAll)
-    } else {
-        None
-    }
+    named(
+        &[("bulk", NodeWord::Bulk), ("when_all", NodeWord::WhenAll)],
+        name,
+    )
 }
 
 /// The keys that a node has.

@@ -6,7 +6,7 @@ ghost use Rattle.plan_reader.specs.Plans.{input_at, input_of, is_first_version, 
 
 use exec_value::Kind;
 use node_tree::ScopeKind;
-use plan_parts::{FORM_FAULT, NAME_FAULT, Reading, count_of, number_at, text_at};
+use plan_parts::{FORM_FAULT, NAME_FAULT, Reading, count_of, named, number_at, text_at};
 use plan_rules::Settings;
 use plan_shape::MOST_STOP_AFTER;
 use serde_json::Value;
@@ -85,15 +85,10 @@ fn input_at(value: &Value) -> Reading<Kind>
 fn input_of(name: &str) -> Reading<Kind>
     ensures { result ≡ input_of name.now }
 {
-    if name == "int" {
-        Reading::Good(Kind::Int)
-    } else if name == "text" {
-        Reading::Good(Kind::Text)
-    } else if name == "row" {
-        Reading::Good(Kind::Row)
-    } else {
-        Reading::Bad(NAME_FAULT)
-    }
+    Reading::known(named(
+        &[("int", Kind::Int), ("text", Kind::Text), ("row", Kind::Row)],
+        name,
+    ))
 }
 
 /// The kind of the scope, a counting one where nothing is said.
@@ -113,13 +108,13 @@ fn scope_at(value: &Value) -> Reading<ScopeKind>
 fn scope_of(name: &str) -> Reading<ScopeKind>
     ensures { result ≡ scope_of name.now }
 {
-    if name == "simple" {
-        Reading::Good(ScopeKind::Simple)
-    } else if name == "counting" {
-        Reading::Good(ScopeKind::Counting)
-    } else {
-        Reading::Bad(NAME_FAULT)
-    }
+    Reading::known(named(
+        &[
+            ("simple", ScopeKind::Simple),
+            ("counting", ScopeKind::Counting),
+        ],
+        name,
+    ))
 }
 
 /// After how many records a stop is requested, if such a rule is set.
@@ -162,11 +157,5 @@ fn on_error_at(value: &Value) -> Reading<bool>
 fn on_error_of(name: &str) -> Reading<bool>
     ensures { result ≡ on_error_of name.now }
 {
-    if name == "go" {
-        Reading::Good(false)
-    } else if name == "stop" {
-        Reading::Good(true)
-    } else {
-        Reading::Bad(NAME_FAULT)
-    }
+    Reading::known(named(&[("go", false), ("stop", true)], name))
 }

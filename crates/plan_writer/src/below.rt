@@ -5,7 +5,7 @@ ghost use Rattle.plan_writer.specs.Nodes.{below_of, listed};
 use plan_rules::{Node, NodeId};
 
 /// At which keys the children of a node stand.
-#[derive(Clone, Copy, PartialEq, Eq)]
+#[derive(Clone, Copy)]
 pub(crate) enum Below {
     Nothing,
     /// At `child`.

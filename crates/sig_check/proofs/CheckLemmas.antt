@@ -1,9 +1,10 @@
 -- What is found of all nodes of a plan, and what a check reports of it.
 use Rattle.std.specs.Prelude.{Contains, slice_get, nat_lt, Option, position, not}
 use Rattle.std.specs.List.{position_or_len}
-use Rattle.std.proofs.Common.{◌≡◌, ◌⊎◌, ℕ, zero, suc, ◌+◌, ◌<◌, Bool, false, List, [], ◌∷◌, length, get_or, Some, None, inl, inr, refl, sym, ap, ◌∙◌, subst, arith}
+use Rattle.std.proofs.Common.{◌≡◌, ◌⊎◌, ℕ, zero, suc, ◌+◌, ◌<◌, Bool, false, List, [], ◌∷◌, length, get_or, replicate, Some, None, inl, inr, refl, sym, ap, ◌∙◌, subst, arith}
 use Rattle.std.proofs.lemmas.Bool.{cases_eq, cases_lt, cond-true, lt-ltb, not-true, not-false}
 use Rattle.std.proofs.lemmas.Option.{same_Some, slice_get_within, get_or_from_slice_get}
+use Rattle.std.proofs.lemmas.List.{length-replicate, get_or-replicate}
 use Rattle.std.proofs.lemmas.List.Elements.{Contains-push}
 use Rattle.std.proofs.lemmas.List.Quantifiers.{position-Some}
 use Rattle.std.proofs.lemmas.List.Sums.{fails_before_first}
@@ -19,9 +20,28 @@ use Rattle.plan_shape.specs.Forest.{IsForest}
 use Rattle.plan_shape.specs.Blueprint.{Blueprint, IsPlan}
 use Rattle.sig_check.specs.declared.finding.Finding.{Finding}
 use Rattle.sig_check.specs.Checked.{AreSignatures}
-use Rattle.sig_check.specs.Findings.{finding_of, IsFound, IsUnder, Finds, FindsParts, FindsAll, is_mismatch, found_sigs}
+use Rattle.sig_check.specs.Findings.{finding_of, IsFound, AreRight, IsUnder, Finds, FindsParts, FindsAll, is_mismatch, found_sigs}
 use Rattle.plan_kinds.proofs.Placing.{run-named, body-named, no-member, before}
 use Rattle.plan_kinds.proofs.OneShape.{some-shape}
+
+-- where nothing is found of any node, nothing that is found is wrong
+abbrev pub blank : Option Finding
+blank = None
+
+pub blanks-right : (nodes : List Node) (input : Kind) (findings : List (Option Finding)) (n : ℕ) →
+    findings ≡ replicate n blank → n ≡ length nodes → AreRight nodes input findings
+blanks-right nodes input findings n is size =
+    let long : length findings ≡ n = ap length is ∙ length-replicate n blank in
+    record {
+      size = long ∙ size;
+      each = λ k finding there a runs.
+          let within : k < n = omega (arith, long, slice_get_within findings k (Some finding) there) in
+          let none : get_or findings k (Some finding) ≡ blank =
+          ap (λ xs. get_or xs k (Some finding)) is ∙ get_or-replicate n k blank (Some finding) within in
+          let some : get_or findings k (Some finding) ≡ Some finding =
+          get_or_from_slice_get findings k (Some finding) (Some finding) there in
+          absurd (cc);
+    }
 
 -- something was found of each part up to here
 abbrev pub PartsFound : List Node → List (Option Finding) → ℕ → Type 0

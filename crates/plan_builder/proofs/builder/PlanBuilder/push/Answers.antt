@@ -32,7 +32,7 @@ append_positions-requires-clause-front c =
     let now = c.args.self.now in
     longer c.named.result.0.now (length now) (vec_len c.reserve.new.positions)
     (as_many c.self.inside.nodes.items now c.self.inside.positions.items _ c.self.view_is c.self.invariant.as_long
-    (omega (arith, c.reserve.new.positions.ok.0, ap length c.in_ok-reserve.ensures.positions)))
+    (omega (arith, c.reserve.new.positions.ok.0, ap length c.in-Ok.ensures.positions)))
     (front_within now c.named.result.0.now c.named.result.1.now
     (unused_children now c.args.node c.named.result.0.now c.named.result.1.now c.requires.allowed c.named.ensures))
 
@@ -41,7 +41,7 @@ append_positions-requires-clause-back c =
     let now = c.args.self.now in
     longer c.named.result.1.now (length now) (vec_len c.reserve.new.positions)
     (as_many c.self.inside.nodes.items now c.self.inside.positions.items _ c.self.view_is c.self.invariant.as_long
-    (omega (arith, c.reserve.new.positions.ok.0, ap length c.in_ok-reserve.ensures.positions)))
+    (omega (arith, c.reserve.new.positions.ok.0, ap length c.in-Ok.ensures.positions)))
     (back_within now c.named.result.0.now c.named.result.1.now
     (unused_children now c.args.node c.named.result.0.now c.named.result.1.now c.requires.allowed c.named.ensures))
 
@@ -55,15 +55,15 @@ invariant_of-self-2 c =
     let depth = c.args.depth in
     let count : parts ≡ part_count node = c.part_count-parts.ensures in
     let number : c.len.result + parts ≡ number_of nodes node =
-    omega (arith, count, c.len.ensures, c.reserve.new.nodes.ok.0, ap length c.in_ok-reserve.ensures.nodes) in
+    omega (arith, count, c.len.ensures, c.reserve.new.nodes.ok.0, ap length c.in-Ok.ensures.nodes) in
     let made : c.append_node.new.nodes.items ≡ with_node nodes node =
     c.append_node.ensures
-    ∙ ap (λ ns. ns ++ (parts_of (c.len.result + parts) parts ++ node ∷ [])) c.in_ok-reserve.ensures.nodes
+    ∙ ap (λ ns. ns ++ (parts_of (c.len.result + parts) parts ++ node ∷ [])) c.in-Ok.ensures.nodes
     ∙ ap (λ b. nodes ++ (parts_of b parts ++ node ∷ [])) number
     ∙ ap (λ k. nodes ++ (parts_of (number_of nodes node) k ++ node ∷ [])) count in
     let from_old : Gains old new (c.named.result.0.now ++ c.named.result.1.now) (c.len.result + parts) parts depth =
     subst (λ ps. Gains ps new (c.named.result.0.now ++ c.named.result.1.now) (c.len.result + parts) parts depth)
-    c.in_ok-reserve.ensures.positions c.append_positions.ensures in
+    c.in-Ok.ensures.positions c.append_positions.ensures in
     let by_name : Gains old new (named_by node) (c.len.result + parts) parts depth =
     subst (λ cs. Gains old new cs (c.len.result + parts) parts depth) (sym c.named.ensures) from_old in
     let by_number : Gains old new (named_by node) (number_of nodes node) parts depth =
