@@ -15,7 +15,7 @@ use Rattle.life_kept.proofs.Fitting.{pending-word}
 use Rattle.node_tree.proofs.Walk.{parent_within}
 use Rattle.exec_life.specs.declared.view.Role.TheVariants.{Nothing, Holds, OwesReport}
 use Rattle.exec_life.specs.Parts.{Means}
-use Rattle.exec_life.specs.StateLists.{StateLists, machine, view_of, generations}
+use Rattle.exec_life.specs.StateLists.{StateLists, IsState, machine, view_of, generations}
 use Rattle.exec_life.specs.ViewLists.{ViewLists, role_in}
 use Rattle.exec_life.specs.ViewWrites.{SetsRole}
 use Rattle.exec_life.specs.WordLists.{WordLists}
@@ -98,12 +98,11 @@ module _ (d : StateLists) (w : WordLists) (h : ℕ) (v first : ViewLists) (p : P
       subst (λ t. Means (after_put d w h new) t) (sym e) means
 
 -- the parent's place exists
-pub parent-place : (d : StateLists) (h : ℕ) (v : ViewLists) (p : Place) (q : ℕ) → HasView d h v →
-    may_report (machine d) h p ≡ true → parent_of d.tree p.node ≡ Some q →
-    is_place (machine d) (record { block = p.block; node = q }) ≡ true
-parent-place d h v p q has needs above =
+pub parent-there : (d : StateLists) (h : ℕ) (p : Place) (q : ℕ) → IsState d → may_report (machine d) h p ≡ true →
+    parent_of d.tree p.node ≡ Some q → is_place (machine d) (record { block = p.block; node = q }) ≡ true
+parent-there d h p q state needs above =
     let s = machine d in
     let there = and_parts (is_place s p) _ needs in
     let parts = and_parts (nat_lt p.block s.blocks) (nat_lt p.node (size s)) there.0 in
-    let up = parent_within d.tree p.node q has.state.sound.tree above in
+    let up = parent_within d.tree p.node q state.sound.tree above in
     and_from (nat_lt p.block s.blocks) (nat_lt q (size s)) parts.0 (lt-ltb q (size s) up.1)

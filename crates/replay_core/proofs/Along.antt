@@ -1,17 +1,15 @@
 -- Lists of moves, one move longer.
-use Rattle.std.proofs.Common.{◌≡◌, ℕ, ◌+◌, ◌-◌, ◌<◌, ◌≤◌, Bool, true, false, List, [], ◌∷◌, ◌++◌, map, length, take, get_or, Option, Some, IsTrue, refl, sym, ap, subst, ◌∙◌, add-one, below_more, arith}
-use Rattle.std.specs.List.{slice_get}
+use Rattle.std.proofs.Common.{◌≡◌, ℕ, ◌+◌, ◌<◌, false, List, [], ◌∷◌, ◌++◌, map, length, take, get_or, Option, Some, refl, sym, ap, ◌∙◌}
 use Rattle.std.specs.Option.{option_map_or}
-use Rattle.std.proofs.lemmas.List.{take_more, append-nil, map-append}
+use Rattle.std.proofs.lemmas.List.{take_more, map-append}
 use Rattle.std.proofs.lemmas.Option.{slice_get-get_or}
 use Rattle.life_rules.specs.States.{State}
 use Rattle.life_rules.specs.Steps.{Move, is_step, moved, run}
-use Rattle.life_rules.specs.Sound.{Sound}
 use Rattle.life_laws.proofs.Laws.{sound-reached}
 use Rattle.trace_text.specs.declared.entry.Entry.{Entry}
 use Rattle.trace_text.specs.Setups.{Setup, IsSetup}
-use Rattle.trace_text.specs.Values.{TraceValue, IsTrace}
-use Rattle.replay_core.specs.Traces.{first_state, move_of, state_after, state_at, is_taken, AreTaken, AreSound}
+use Rattle.trace_text.specs.Values.{TraceValue}
+use Rattle.replay_core.specs.Traces.{first_state, move_of, state_after, state_at, is_taken, AreSound}
 
 -- one move after others
 pub run-more : (ms : List Move) (m : Move) (s : State) → run (ms ++ m ∷ []) s ≡ moved (run ms s) m

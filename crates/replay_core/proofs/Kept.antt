@@ -1,8 +1,8 @@
 -- How a list of candidates grows.
-use Rattle.std.proofs.Common.{◌≡◌, Bool, true, false, cond, ℕ, ◌+◌, ◌<◌, ◌≤◌, List, [], ◌∷◌, ◌++◌, length, take, get_or, sym, ap, subst, ◌∙◌, append_assoc, zero-add, arith}
+use Rattle.std.proofs.Common.{◌≡◌, Bool, true, false, cond, ℕ, ◌+◌, ◌<◌, ◌≤◌, List, [], ◌∷◌, ◌++◌, length, take, get_or, sym, ap, subst, ◌∙◌, append_assoc, arith}
 use Rattle.std.specs.Prelude.{Result, Ok, Err, IfOk}
 use Rattle.std.specs.List.{filter, flat_map, range_with_len}
-use Rattle.std.proofs.lemmas.List.{append-nil, flat_map_more, take_more, take_all, get_or_default}
+use Rattle.std.proofs.lemmas.List.{append-nil, flat_map_more, take_more, take_all}
 use Rattle.std.proofs.lemmas.List.Elements.{filter-append, filter_more}
 use Rattle.std.proofs.lemmas.List.FromFn.{length-range_with_len, get_or-range_with_len}
 use Rattle.std.proofs.lemmas.Bool.{cond-true, cond-false}
@@ -112,3 +112,7 @@ passed_no test n i old here fails so_far =
 pub if_ok : {T E : Type 0} (r : Result T E) (P Q : T → Type 0) → ((x : T) → P x → Q x) → IfOk r P → IfOk r Q
 if_ok (Ok x) P Q f h = f x h
 if_ok (Err e) P Q f h = h
+
+-- the same event under another name
+pub keeps_same : {s : State} {h : ℕ} {old new : List Event} {a b : Event} → a ≡ b → Keeps s h old new (a ∷ []) → Keeps s h old new (b ∷ [])
+keeps_same {s} {h} {old} {new} same p = subst (λ (event : Event). Keeps s h old new (event ∷ [])) same p

@@ -10,7 +10,6 @@ use Rattle.life_rules.specs.declared.event.SourceAt.TheVariants.{Scope, At}
 use Rattle.life_rules.specs.LifeSteps.{may_be_awaited}
 use Rattle.life_rules.specs.States.{State, size, name_at}
 use Rattle.life_rules.specs.Steps.{may_happen}
-use Rattle.trace_text.specs.declared.kinds.BareKind.{BareKind}
 use Rattle.trace_text.specs.declared.kinds.BareKind.TheVariants.{Enter, MarkUsed, Leave, Close, Join}
 use Rattle.trace_text.specs.declared.kinds.BlockKind.{BlockKind}
 use Rattle.trace_text.specs.declared.kinds.BlockKind.TheVariants.{Claim, Release, Skip}

@@ -1,5 +1,5 @@
 -- The trace of a schedule.
-use Rattle.std.specs.Prelude.{◌≡◌, ℕ, ◌%◌, List, [], ◌∷◌, ◌++◌, length, slice_get, Option, MatchOption}
+use Rattle.std.specs.Prelude.{◌≡◌, ◌%◌, List, [], ◌∷◌, ◌++◌, length, slice_get, Option, MatchOption}
 use Rattle.std.specs.Option.{option_map_or}
 use Rattle.life_rules.specs.declared.event.Event.{Event}
 use Rattle.life_rules.specs.States.{State}

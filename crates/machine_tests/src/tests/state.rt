@@ -1,12 +1,10 @@
-//! A few steps, and what is read of the state after them.
+//! A few steps, and what is read of the state after them. Runs with steps of all kinds are data for the
+//! program (tests/cases/machine.json).
 
 use exec_life::{State, opening};
-use life_rules::{
-    BlockState, BlockWord, CallbackPhase, ControlWord, Event, Place, Resting, ScopeState,
-    ScopeWord, SourceAt, scope_state,
-};
-use node_tree::{NodeList, ScopeKind, Tree, TreeNode};
-use std::alloc::{AllocError, Global};
+use life_rules::{BlockState, BlockWord, CallbackPhase, ControlWord, Event, Place};
+use node_tree::{ScopeKind, Tree, TreeNode};
+use std::alloc::Global;
 use std::test::Fail;
 
 fn at(block: u32, node: u32) -> Place {
@@ -30,89 +28,6 @@ fn pairs(alloc: Global) -> Result<State, Fail> {
     };
     let tree = Tree::open(alloc, vec![in alloc; child, root]?)?;
     Ok(opening(alloc, &tree, 2, 2, ScopeKind::Counting, 1)?)
-}
-
-// One operation whose callbacks both run, up to the seal of its scope's scan: the first half of a run
-// with steps of all kinds.
-fn life(alloc: Global) -> Result<Vec<Event>, AllocError> {
-    let (child, root, scope) = (at(0, 0), at(0, 1), SourceAt::Scope);
-    let children = NodeList::from_slice(alloc, &[0])?;
-    Ok(vec![in alloc;
-        Event::Claim { block: 0 },
-        Event::Begin { place: root },
-        Event::Arm { place: root },
-        Event::Look {
-            source: scope,
-            after: Some(root)
-        },
-        Event::Await {
-            place: root,
-            children
-        },
-        Event::Begin { place: child },
-        Event::Arm { place: child },
-        Event::Request {
-            source: scope,
-            failure: false
-        },
-        Event::Run {
-            source: scope,
-            place: child
-        },
-        Event::EndRun { place: child },
-        Event::Withdraw { place: child },
-        Event::Finish { place: child },
-        Event::Report { place: child },
-        Event::Run {
-            source: scope,
-            place: root
-        },
-        Event::Rest {
-            place: root,
-            to: Resting::Parked
-        },
-        Event::Rouse { place: root },
-        Event::Take { place: root },
-        Event::WithdrawOwn { place: root },
-        Event::Skip { block: 1 },
-        Event::SealScan { source: scope },
-    ]?)
-}
-
-// The other half: the operation ends, and the scope is joined.
-fn ends(alloc: Global) -> Result<Vec<Event>, AllocError> {
-    let expected = ScopeWord {
-        used: true,
-        closed: true,
-        joining: true,
-        joined: false,
-        count: 0,
-    };
-    Ok(vec![in alloc;
-        Event::Finish { place: at(0, 1) },
-        Event::Release { block: 0 },
-        Event::Enter,
-        Event::MarkUsed,
-        Event::Leave,
-        Event::Close,
-        Event::Join,
-        Event::Seal { expected },
-    ]?)
-}
-
-#[test]
-fn steps_of_all_kinds_are_taken_in_one_run(rt: HostRuntime) -> Result<(), Fail> {
-    let alloc = rt.alloc();
-    let mut state = pairs(alloc)?;
-    for event in life(alloc)? {
-        assert!(rt; step(&mut state, 0, event));
-    }
-    assert!(rt; state.words().source(SourceAt::Scope).scanned);
-    for event in ends(alloc)? {
-        assert!(rt; step(&mut state, 0, event));
-    }
-    assert_eq!(rt; scope_state(state.words().scope()), ScopeState::Joined);
-    Ok(())
 }
 
 fn control(state: &State, place: Place) -> Option<ControlWord> {

@@ -1,4 +1,5 @@
-//! Texts that are read and written, judged and replayed, once each.
+//! Texts that are read and written, and replayed, once each. What a check refuses is data for the program
+//! (tests/cases/machine.json).
 
 use replay_core::{Verdict, check_trace, replay};
 use std::test::Fail;
@@ -14,8 +15,6 @@ fn a_trace_is_written_as_it_was_read(rt: HostRuntime) -> Result<(), Fail> {
     let alloc = rt.alloc();
     let text = format!(in alloc; "{OPENING}0 claim 0\n0 await 0.1 0,0\n0 seal 1 0 1 0 2\n")?;
     let trace = read_trace(alloc, text.as_bytes())?;
-    assert_eq!(rt; trace.opening().tree().size(), 2);
-    assert_eq!(rt; trace.entries().len(), 3);
     assert_eq!(rt; write_trace(alloc, &trace)?.as_slice(), text.as_bytes());
     Ok(())
 }
@@ -41,14 +40,5 @@ fn a_schedule_gives_the_trace_that_a_check_takes(rt: HostRuntime) -> Result<(), 
     let whole = format!(in alloc; "{OPENING}{RUN}")?;
     assert_eq!(rt; written.as_slice(), whole.as_bytes());
     assert_eq!(rt; check_trace(alloc, &trace)?, Verdict::Taken(3));
-    Ok(())
-}
-
-#[test]
-fn a_trace_is_refused_at_its_first_entry_that_is_no_step(rt: HostRuntime) -> Result<(), Fail> {
-    let alloc = rt.alloc();
-    let text = format!(in alloc; "{OPENING}{RUN}0 finish 0.1\n0 begin 0.0\n")?;
-    let trace = read_trace(alloc, text.as_bytes())?;
-    assert_eq!(rt; check_trace(alloc, &trace)?, Verdict::Refused(4));
     Ok(())
 }

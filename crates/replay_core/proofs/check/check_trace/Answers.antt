@@ -1,9 +1,8 @@
 use Rattle.std.proofs.Common.{◌≡◌, ◌+◌, ◌-◌, ◌<◌, ℕ, List, true, false, length, get_or, subst, sym, ap, ◌∙◌, below_more, arith}
-use Rattle.exec_life.specs.StateLists.{machine}
 use Rattle.life_rules.specs.States.{State}
 use Rattle.life_rules.specs.Steps.{is_step, moved}
 use Rattle.trace_text.specs.declared.entry.Entry.{Entry}
-use Rattle.replay_core.specs.Traces.{state_at, is_taken, AreTaken, move_of}
+use Rattle.replay_core.specs.Traces.{is_taken, AreTaken, move_of}
 use Rattle.replay_core.proofs.Along.{state_at-more, is_taken-at, AreSound-trace}
 use Rattle.replay_core.proofs.check.check_trace.Goals as goal
 

@@ -1,4 +1,4 @@
-use Rattle.std.proofs.Common.{◌≡◌, take}
+use Rattle.std.proofs.Common.{◌≡◌}
 use Rattle.exec_life.specs.StateLists.{machine}
 use Rattle.replay_core.specs.Traces.{state_at, AreTaken}
 use Rattle.replay_core.proofs.check.check_trace.Given as goal

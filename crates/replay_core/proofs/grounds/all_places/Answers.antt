@@ -1,4 +1,4 @@
-use Rattle.std.proofs.Common.{◌≡◌, [], ◌++◌, List, sym, ap, ◌∙◌, arith}
+use Rattle.std.proofs.Common.{[], ◌∙◌, arith}
 use Rattle.exec_life.specs.StateLists.{machine}
 use Rattle.replay_core.specs.Candidates.{places_in}
 use Rattle.replay_core.proofs.Kept.{grown, numbers_next, numbers_all}

@@ -1,4 +1,4 @@
-use Rattle.std.proofs.Common.{◌≡◌, ℕ, Bool, List, length, sym, ap, ◌∙◌, arith}
+use Rattle.std.proofs.Common.{◌≡◌, length, sym, ap, ◌∙◌, arith}
 use Rattle.exec_life.specs.StateLists.{machine}
 use Rattle.life_rules.specs.LifeSteps.{may_be_awaited}
 use Rattle.life_rules.specs.States.{size, name_at}

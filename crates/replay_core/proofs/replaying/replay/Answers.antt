@@ -5,7 +5,7 @@ use Rattle.trace_text.specs.declared.entry.Choice.{Choice}
 use Rattle.trace_text.specs.declared.entry.Entry.{Entry}
 use Rattle.trace_text.specs.Setups.{Setup}
 use Rattle.trace_text.specs.Values.{TraceValue, has_choice, has_entry}
-use Rattle.replay_core.specs.Replays.{trace_of, entries_from}
+use Rattle.replay_core.specs.Replays.{entries_from}
 use Rattle.replay_core.specs.Traces.{first_state, AreTaken}
 use Rattle.replay_core.proofs.Followed.{Follow, follow-first, follow-more, follow-all, rest-next, hand-there}
 use Rattle.replay_core.proofs.replaying.replay.Goals as goal

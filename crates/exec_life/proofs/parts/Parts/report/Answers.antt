@@ -6,9 +6,14 @@ use Rattle.life_rules.specs.Words.{one_less, pending}
 use Rattle.exec_life.specs.declared.view.Role.TheVariants.{Nothing}
 use Rattle.exec_life.specs.Parts.{lists_of, shown}
 use Rattle.exec_life.proofs.Puts.{hand-view, knows-place, still-knows}
-use Rattle.exec_life.proofs.ReportMeans.{report-means, last_report-means, parent-place}
+use Rattle.exec_life.proofs.ReportMeans.{report-means, last_report-means, parent-there}
 use Rattle.exec_life.proofs.Roles.{role-cells}
 use Rattle.exec_life.proofs.parts.Parts.report.Goals as goal
+
+pub control-word-requires-clause-place : goal.control-word-requires-clause-place
+control-word-requires-clause-place c =
+    parent-there (lists_of c.args.self.now) c.args.hand c.args.place c.in-Some.node c.requires.ready.state c.requires.needs
+    (sym c.in-Some.ensures)
 
 pub set_role-requires : goal.set_role-requires
 set_role-requires c =
@@ -29,7 +34,7 @@ set_role-requires-then-pending-eq1 c =
     still-knows v c.set_role.new.self parent
     (role-cells v c.set_role.new.self p.block p.node Nothing c.set_role.ensures)
     (knows-place d c.args.hand v parent has
-    (parent-place d c.args.hand v p q has c.requires.needs (sym c.in-Some.ensures)))
+    (parent-there d c.args.hand p q c.requires.ready.state c.requires.needs (sym c.in-Some.ensures)))
 
 pub returns-then-pending-eq1 : goal.returns-then-pending-eq1
 returns-then-pending-eq1 c =

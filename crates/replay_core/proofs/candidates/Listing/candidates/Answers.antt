@@ -1,5 +1,4 @@
-use Rattle.std.proofs.Common.{[], ◌∷◌, ◌++◌, Some, length, get_or, List, ℕ, ◌∙◌, refl, sym, ap, subst, arith}
-use Rattle.life_rules.specs.declared.event.Place.{Place}
+use Rattle.std.proofs.Common.{◌++◌, List, ◌∙◌, ap}
 use Rattle.life_rules.specs.declared.event.Event.{Event}
 use Rattle.exec_life.specs.StateLists.{machine}
 use Rattle.replay_core.specs.Candidates.{candidates}

@@ -1,6 +1,6 @@
-use Rattle.std.proofs.Common.{[], ◌∷◌, ◌++◌, Some, length, ◌∙◌, sym, ap, arith}
+use Rattle.std.proofs.Common.{◌∙◌, sym}
 use Rattle.exec_life.specs.StateLists.{machine}
-use Rattle.replay_core.proofs.Kept.{keeps_step, keeps_no_step, keeps_more, keeps_each, keeps_number, keeps_numbers, keeps_join}
+use Rattle.replay_core.proofs.Kept.{keeps_step, keeps_no_step}
 use Rattle.replay_core.proofs.candidates.Listing.keep.Goals as goal
 
 pub returns-then-not-allows : goal.returns-then-not-allows

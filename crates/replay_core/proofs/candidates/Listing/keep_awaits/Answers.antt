@@ -1,11 +1,10 @@
-use Rattle.std.proofs.Common.{[], ◌∷◌, ◌++◌, Some, length, get_or, List, ℕ, refl, sym, ap, subst, arith}
-use Rattle.life_rules.specs.declared.event.Event.TheVariants.{Await, Rest, Look, Request, Run, SealScan}
+use Rattle.std.proofs.Common.{[], ◌∷◌, get_or, List, ℕ, refl, subst, arith}
+use Rattle.life_rules.specs.declared.event.Event.TheVariants.{Await}
 use Rattle.life_rules.specs.declared.event.Place.{Place}
-use Rattle.life_rules.specs.declared.event.Event.{Event}
 use Rattle.exec_life.specs.StateLists.{machine}
-use Rattle.replay_core.specs.Candidates.{places_of, sources_of, blocks_of, looks_at, runs_at, rests_at, requests_at, fresh_children}
+use Rattle.replay_core.specs.Candidates.{places_of, fresh_children}
 use Rattle.replay_core.specs.Listings.{Keeps}
-use Rattle.replay_core.proofs.Kept.{keeps_step, keeps_no_step, keeps_more, keeps_each, keeps_number, keeps_numbers, keeps_join}
+use Rattle.replay_core.proofs.Kept.{keeps_more, keeps_each}
 use Rattle.replay_core.proofs.There.{place-there}
 use Rattle.replay_core.proofs.candidates.Listing.keep_awaits.Goals as goal
 

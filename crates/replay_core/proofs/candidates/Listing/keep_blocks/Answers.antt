@@ -1,11 +1,9 @@
-use Rattle.std.proofs.Common.{[], ◌∷◌, ◌++◌, Some, length, get_or, List, ℕ, refl, sym, ap, subst, arith}
-use Rattle.trace_text.specs.Kinds.{block_event, place_event}
-use Rattle.life_rules.specs.declared.event.Place.{Place}
+use Rattle.std.proofs.Common.{[], ◌∷◌, subst, arith}
+use Rattle.trace_text.specs.Kinds.{block_event}
 use Rattle.life_rules.specs.declared.event.Event.{Event}
 use Rattle.exec_life.specs.StateLists.{machine}
-use Rattle.replay_core.specs.Candidates.{places_of, sources_of, blocks_of, looks_at, runs_at, rests_at, requests_at, fresh_children}
 use Rattle.replay_core.specs.Listings.{Keeps}
-use Rattle.replay_core.proofs.Kept.{keeps_step, keeps_no_step, keeps_more, keeps_each, keeps_number, keeps_numbers, keeps_join}
+use Rattle.replay_core.proofs.Kept.{keeps_number, keeps_numbers}
 use Rattle.replay_core.proofs.candidates.Listing.keep_blocks.Goals as goal
 
 pub loop-block-preserved : goal.loop-block-preserved

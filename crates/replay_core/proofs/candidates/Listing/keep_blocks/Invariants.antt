@@ -1,8 +1,8 @@
-use Rattle.std.proofs.Common.{[], ◌∷◌, take, Some, true, false}
-use Rattle.std.specs.List.{flat_map, range_with_len}
+use Rattle.std.proofs.Common.{[], ◌∷◌, take}
+use Rattle.std.specs.List.{flat_map}
 use Rattle.exec_life.specs.StateLists.{machine}
-use Rattle.trace_text.specs.Kinds.{block_event, place_event}
-use Rattle.replay_core.specs.Candidates.{blocks_of, places_of, sources_of, fresh_children, rests_at, looks_at, requests_at, runs_at}
+use Rattle.trace_text.specs.Kinds.{block_event}
+use Rattle.replay_core.specs.Candidates.{blocks_of}
 use Rattle.replay_core.specs.Listings.{Keeps}
 use Rattle.replay_core.proofs.candidates.Listing.keep_blocks.Given as goal
 

@@ -1,7 +1,7 @@
-use Rattle.std.proofs.Common.{[], ◌∷◌, ◌++◌, Some, length, ◌∙◌, refl, sym, ap, arith}
+use Rattle.std.proofs.Common.{◌∙◌, refl, arith}
 use Rattle.exec_life.specs.StateLists.{machine}
-use Rattle.replay_core.specs.Candidates.{places_of, sources_of, blocks_of, looks_at, runs_at, rests_at, requests_at, fresh_children}
-use Rattle.replay_core.proofs.Kept.{keeps_step, keeps_no_step, keeps_more, keeps_each, keeps_number, keeps_numbers, keeps_join}
+use Rattle.replay_core.specs.Candidates.{sources_of, looks_at}
+use Rattle.replay_core.proofs.Kept.{keeps_more, keeps_each}
 use Rattle.replay_core.proofs.candidates.Listing.keep_looks.Goals as goal
 
 pub keep_looks_at-requires : goal.keep_looks_at-requires

@@ -1,11 +1,10 @@
-use Rattle.std.proofs.Common.{[], ◌∷◌, ◌++◌, Some, length, ◌∙◌, refl, sym, ap, arith}
-use Rattle.life_rules.specs.declared.event.Event.TheVariants.{Await, Rest, Look, Request, Run, SealScan}
+use Rattle.std.proofs.Common.{[], ◌∷◌, ◌∙◌, refl, sym, arith}
+use Rattle.life_rules.specs.declared.event.Event.TheVariants.{Run}
 use Rattle.exec_life.specs.StateLists.{machine}
-use Rattle.replay_core.specs.Candidates.{places_of, sources_of, blocks_of, looks_at, runs_at, rests_at, requests_at, fresh_children}
-use Rattle.replay_core.proofs.Kept.{keeps_step, keeps_no_step, keeps_more, keeps_each, keeps_number, keeps_numbers, keeps_join}
-use Rattle.replay_core.proofs.Passed.{keeps_looks, keeps_no_run, waiting_yes, waiting_no, waiting_all}
-use Rattle.replay_core.proofs.There.{place-there, source-known, source-knows}
-use Rattle.replay_core.specs.Listings.{is_waiting}
+use Rattle.replay_core.specs.Candidates.{places_of}
+use Rattle.replay_core.proofs.Kept.{keeps_more, keeps_each}
+use Rattle.replay_core.proofs.Passed.{keeps_no_run}
+use Rattle.replay_core.proofs.There.{source-knows}
 use Rattle.replay_core.proofs.candidates.Listing.keep_runs_at.Goals as goal
 
 pub scans-requires : goal.scans-requires

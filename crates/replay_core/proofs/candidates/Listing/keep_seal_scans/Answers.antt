@@ -1,8 +1,8 @@
-use Rattle.std.proofs.Common.{[], ◌∷◌, ◌++◌, Some, length, refl, sym, ap, arith}
-use Rattle.life_rules.specs.declared.event.Event.TheVariants.{Await, Rest, Look, Request, Run, SealScan}
+use Rattle.std.proofs.Common.{[], ◌∷◌, refl, arith}
+use Rattle.life_rules.specs.declared.event.Event.TheVariants.{SealScan}
 use Rattle.exec_life.specs.StateLists.{machine}
-use Rattle.replay_core.specs.Candidates.{places_of, sources_of, blocks_of, looks_at, runs_at, rests_at, requests_at, fresh_children}
-use Rattle.replay_core.proofs.Kept.{keeps_step, keeps_no_step, keeps_more, keeps_each, keeps_number, keeps_numbers, keeps_join}
+use Rattle.replay_core.specs.Candidates.{sources_of}
+use Rattle.replay_core.proofs.Kept.{keeps_more, keeps_each}
 use Rattle.replay_core.proofs.candidates.Listing.keep_seal_scans.Goals as goal
 
 pub loop-source-preserved : goal.loop-source-preserved

@@ -1,8 +1,8 @@
-use Rattle.std.proofs.Common.{[], ◌∷◌, ◌++◌, Some, length, ◌∙◌, refl, sym, ap, arith}
+use Rattle.std.proofs.Common.{◌∙◌, refl, sym, arith}
 use Rattle.exec_life.specs.StateLists.{machine}
-use Rattle.replay_core.specs.Candidates.{places_of, sources_of, blocks_of, looks_at, runs_at, rests_at, requests_at, fresh_children}
-use Rattle.replay_core.proofs.Passed.{keeps_looks, keeps_no_run, waiting_yes, waiting_no, waiting_all}
-use Rattle.replay_core.proofs.There.{place-there, source-known, source-knows}
+use Rattle.replay_core.specs.Candidates.{places_of}
+use Rattle.replay_core.proofs.Passed.{waiting_yes, waiting_no, waiting_all}
+use Rattle.replay_core.proofs.There.{place-there}
 use Rattle.replay_core.specs.Listings.{is_waiting}
 use Rattle.replay_core.proofs.candidates.Listing.waiting.Goals as goal
 
