@@ -1,7 +1,6 @@
 //! The tests, by what they use, and the objects in memory that they share.
 mod engine;
 mod statuses;
-mod traces;
 mod words;
 
 use exec_io::{MemShelf, MemSink};

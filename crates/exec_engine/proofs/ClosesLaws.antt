@@ -1,11 +1,9 @@
 -- How a run of a task closes, by what the loop over its records did.
-use Rattle.std.proofs.Common.{◌≡◌, ◌≢◌, ℕ, ◌≤◌, false, List, [], refl, sym, ap, ◌∙◌, subst, arith}
-use Rattle.exec_io.specs.Causes.{Rose}
+use Rattle.std.proofs.Common.{◌≡◌, ◌≢◌, ℕ, ◌≤◌, [], refl, sym, ap, ◌∙◌, subst, arith}
 use Rattle.exec_value.specs.declared.kinds.Kind.{Kind}
 use Rattle.exec_io.specs.Views.{SourceView, SinkView}
 use Rattle.plain_runs.specs.PlainWork.{WantsMemory}
 use Rattle.plan_shape.specs.Blueprint.{Blueprint}
-use Rattle.record_lines.specs.declared.ending.End.{End}
 use Rattle.record_lines.specs.declared.ending.End.TheVariants.{Ended, Fault}
 use Rattle.record_lines.specs.Records.{records_of}
 use Rattle.record_loop.specs.declared.ending.Ending.{Ending}

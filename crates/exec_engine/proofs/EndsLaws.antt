@@ -1,5 +1,5 @@
 -- How a run ends, by its plan and what it printed, or by why there was no plan.
-use Rattle.std.proofs.Common.{◌≡◌, ◌≢◌, ◌⊎◌, ℕ, ◌≤◌, List, [], Ok, Err, refl, sym, ap, ◌∙◌, subst, inl, inr, arith}
+use Rattle.std.proofs.Common.{◌≡◌, ◌≢◌, ◌⊎◌, ◌≤◌, Ok, Err, refl, ap, inl, inr, arith}
 use Rattle.exec_io.specs.Causes.{Rose}
 use Rattle.exec_io.specs.Views.{SourceView, SinkView}
 use Rattle.exec_io.specs.Untouched.{IsUntouched}
@@ -8,9 +8,9 @@ use Rattle.plan_shape.specs.Blueprint.{Blueprint}
 use Rattle.exec_status.specs.declared.file.FileFault.{FileFault}
 use Rattle.exec_status.specs.declared.file.FileFault.TheVariants.{ReadFault as NotRead}
 use Rattle.exec_status.specs.declared.status.Status.{Status}
-use Rattle.exec_status.specs.declared.status.Status.TheVariants.{AllValues, NotAllValues, Usage, PlanRefused, NoMemory, ReadFault, WriteFault, Limit}
+use Rattle.exec_status.specs.declared.status.Status.TheVariants.{ReadFault, WriteFault}
 use Rattle.exec_status.specs.Files.{ReadsShelf, Misses, GivesUp}
-use Rattle.exec_status.specs.Noted.{Concludes, Noted}
+use Rattle.exec_status.specs.Noted.{Concludes}
 use Rattle.exec_status.proofs.Concluding.{concluded, read_fault-concluded, write_fault-concluded, Noted-concluded, Noted-handed}
 use Rattle.exec_status.proofs.Missing.{missed-status, missed-noted, missed-read, missed-write, missed-still, missed-refused}
 use Rattle.exec_engine.specs.declared.task.Task.{Task}

@@ -7,8 +7,7 @@ use Rattle.exec_value.specs.declared.outcome.Outcome.{Outcome}
 use Rattle.exec_io.specs.Views.{SourceView}
 use Rattle.plan_shape.specs.Blueprint.{Blueprint}
 use Rattle.plan_reader.specs.PlanFile.{IsPlanOf}
-use Rattle.record_lines.specs.declared.ending.End.{End}
-use Rattle.record_lines.specs.declared.ending.End.TheVariants.{Ended, Fault, Limit as LimitEnd}
+use Rattle.record_lines.specs.declared.ending.End.TheVariants.{Ended, Limit as LimitEnd}
 use Rattle.record_lines.specs.Records.{IsBeyond}
 use Rattle.record_lines.proofs.RecordLaws.{IsBeyond-append}
 use Rattle.exec_status.specs.declared.status.Status.{Status}
@@ -19,7 +18,7 @@ use Rattle.exec_engine.specs.declared.task.Task.{Task}
 use Rattle.exec_engine.specs.Complete.{IsFinished}
 use Rattle.exec_engine.specs.Opening.{Finds}
 use Rattle.exec_io.specs.Outside.{Outside}
-use Rattle.exec_engine.specs.Says.{Lines, Prints, Says}
+use Rattle.exec_engine.specs.Says.{Lines, Says}
 use Rattle.exec_engine.specs.Taken.{Takes, PassesLimit, KeepsLimit, IsWithin}
 use Rattle.exec_engine.proofs.RefusedLaws.{refused-stands}
 

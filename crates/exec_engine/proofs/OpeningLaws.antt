@@ -1,5 +1,5 @@
 -- What follows for a plan that was read.
-use Rattle.std.proofs.Common.{ℕ, ◌<◌, List, IsTrue, Option, None, Some, IfSome, sym, subst, arith}
+use Rattle.std.proofs.Common.{ℕ, ◌<◌, IsTrue, Option, None, Some, IfSome, sym, subst, arith}
 use Rattle.std.specs.Prelude.{nat_le}
 use Rattle.std.proofs.lemmas.Bool.{and_parts, leb-true}
 use Rattle.plan_shape.specs.declared.limits.TheConstants.{MOST_STOP_AFTER}
@@ -7,7 +7,6 @@ use Rattle.plan_shape.specs.Blueprint.{Blueprint, IsPlan}
 use Rattle.plan_shape.specs.Conditions.{is_within}
 use Rattle.plan_kinds.specs.Reached.{KindsMatch}
 use Rattle.plan_reader.specs.PlanFile.{IsPlanOf}
-use Rattle.run_rules.specs.PlanTerms.{MayRun}
 use Rattle.exec_engine.specs.Opening.{IsOpened}
 
 -- records are counted from 1

@@ -1,5 +1,5 @@
 -- A plan or its refusal: what stands under a name is one of them.
-use Rattle.std.proofs.Common.{◌≡◌, ◌≢◌, ◌⊎◌, ℕ, ◌+◌, ◌≤◌, Bool, true, false, IsTrue, IsFalse, List, length, take, Option, None, Some, refl, sym, ap, ◌∙◌, subst, inl, inr, arith}
+use Rattle.std.proofs.Common.{◌≡◌, ℕ, Bool, true, false, IsTrue, IsFalse, List, Option, refl, sym, ◌∙◌, subst}
 use Rattle.std.specs.Prelude.{Result, Ok, Err}
 use Rattle.exec_io.specs.Shelves.{Texts, Stands}
 use Rattle.exec_io.proofs.GivenLemmas.{given-stands}
@@ -8,8 +8,7 @@ use Rattle.plan_shape.specs.Blueprint.{Blueprint}
 use Rattle.plan_reader.specs.declared.fault.PlanFault.{PlanFault}
 use Rattle.plan_reader.specs.declared.fault.PlanFault.TheVariants.{TooLong, NotJson, Form, UnknownName, Limit, Kinds, Excluded, NoMemory}
 use Rattle.plan_reader.specs.declared.read.TheConstants.{MOST_PLAN_BYTES}
-use Rattle.plan_reader.specs.Plans.{found_in}
-use Rattle.plan_reader.specs.PlanFile.{IsPlanOf, IsFaultOf, IsAccepted, Matches, IsRefused as IsRefusedFor}
+use Rattle.plan_reader.specs.PlanFile.{IsPlanOf, IsAccepted, IsRefused as IsRefusedFor}
 use Rattle.exec_engine.specs.Opening.{IsRefused, HasPlan, HasRefusal}
 
 -- a result has one answer

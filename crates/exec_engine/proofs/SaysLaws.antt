@@ -1,5 +1,5 @@
 -- What a status says, by how the run over its records closed.
-use Rattle.std.proofs.Common.{◌≡◌, ◌≢◌, ◌⊎◌, ℕ, ◌<◌, ◌≤◌, Bool, true, false, List, [], length, Option, refl, sym, ap, ◌∙◌, subst, inl, inr, nat_lt, arith}
+use Rattle.std.proofs.Common.{◌≡◌, ◌≢◌, ℕ, ◌<◌, ◌≤◌, Bool, true, false, List, [], refl, sym, ap, ◌∙◌, subst, inl, inr, nat_lt, arith}
 use Rattle.std.specs.Prelude.{◌==◌, if◌then◌else◌}
 use Rattle.std.proofs.lemmas.Bool.{cases_Bool, ltb-true, ltb-false, eqb-true, eqb-false}
 use Rattle.exec_io.specs.Causes.{Rose}
@@ -23,7 +23,7 @@ use Rattle.exec_engine.specs.Closes.{Closes, Runs}
 use Rattle.exec_engine.specs.Opening.{HasPlan}
 use Rattle.exec_io.specs.Outside.{Outside}
 use Rattle.exec_engine.specs.Says.{AreValues, HasNoMemory, HasFailure, Lines, Prints, PrintsFront, Says}
-use Rattle.exec_engine.specs.Statuses.{status_by, status_of}
+use Rattle.exec_engine.specs.Statuses.{status_by}
 use Rattle.exec_engine.specs.Taken.{LeavesSource}
 
 module _ (task : Task) (old new : Outside) where

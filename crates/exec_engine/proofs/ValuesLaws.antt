@@ -1,6 +1,6 @@
 -- Which runs end with values alone, and which never with want of memory.
-use Rattle.std.proofs.Common.{◌≡◌, ◌⊎◌, ℕ, zero, suc, ◌+◌, ◌-◌, ◌<◌, ◌≤◌, true, false, cond, count_by, get_or, slice_get, List, [], ◌∷◌, length, ◌++◌, Option, None, Some, refl, sym, ap, ◌∙◌, subst, inl, inr, append-nil, arith}
-use Rattle.std.specs.Prelude.{IsSomeAnd, All}
+use Rattle.std.proofs.Common.{◌≡◌, ◌⊎◌, ℕ, suc, ◌+◌, ◌-◌, ◌<◌, ◌≤◌, true, cond, count_by, get_or, slice_get, List, [], ◌∷◌, length, ◌++◌, Option, None, Some, refl, sym, ap, ◌∙◌, subst, inl, inr, append-nil, arith}
+use Rattle.std.specs.Prelude.{IsSomeAnd}
 use Rattle.std.specs.Io.KnownBytes.{Consumes, IsAtEnd}
 use Rattle.std.proofs.lemmas.List.Sums.{sum_by-cons}
 use Rattle.std.proofs.lemmas.Bool.{cases_Bool}
@@ -13,30 +13,29 @@ use Rattle.exec_value.specs.declared.outcome.Outcome.{Outcome}
 use Rattle.exec_value.specs.declared.outcome.Outcome.TheVariants.{Done, BadRecord}
 use Rattle.outcome_lines.specs.Summary.{is_value, is_out_of_memory}
 use Rattle.exec_io.specs.Views.{SourceView}
-use Rattle.exec_io.specs.Untouched.{IsUntouched}
 use Rattle.plan_kinds.proofs.Plans.{plans-built}
 use Rattle.plan_laws.proofs.Memory.{allowed-memory}
 use Rattle.plan_laws.proofs.OneCompletion.{calm-settled}
 use Rattle.plan_reader.specs.PlanFile.{IsPlanOf}
 use Rattle.plan_rules.specs.declared.stop.StopState.{StopState}
 use Rattle.plan_rules.specs.declared.stop.StopState.TheVariants.{Never}
-use Rattle.plan_settle.specs.Small.{IsSmall}
+use Rattle.plan_kinds.specs.Small.{IsSmall}
 use Rattle.plan_shape.specs.Blueprint.{Blueprint, IsPlan}
 use Rattle.record_lines.specs.declared.ending.End.{End}
 use Rattle.record_lines.specs.declared.ending.End.TheVariants.{Ended}
 use Rattle.record_lines.specs.Records.{records_of}
-use Rattle.run_rules.specs.Lawful.{Terms, MayEnd, Lawful, datum_of}
+use Rattle.run_rules.specs.Lawful.{MayEnd, Lawful}
 use Rattle.run_rules.specs.PlanTerms.{AllowsRecord}
 use Rattle.run_rules.specs.StopStates.{stop_state}
 use Rattle.exec_status.specs.declared.status.Status.{Status}
-use Rattle.exec_status.specs.declared.status.Status.TheVariants.{AllValues, NotAllValues, NoMemory}
+use Rattle.exec_status.specs.declared.status.Status.TheVariants.{AllValues, NoMemory}
 use Rattle.exec_engine.specs.declared.task.Origin.{Origin}
 use Rattle.exec_engine.specs.declared.task.Origin.TheVariants.{Source, Generated}
 use Rattle.exec_engine.specs.declared.task.Task.{Task}
-use Rattle.exec_engine.specs.Complete.{IsFinished, AreNeverStopped, SettlesToValue, SettleToValues}
+use Rattle.exec_engine.specs.Complete.{IsFinished, SettlesToValue, SettleToValues}
 use Rattle.exec_engine.specs.Opening.{Finds}
 use Rattle.exec_io.specs.Outside.{Outside}
-use Rattle.exec_engine.specs.Says.{HasFailure, HasNoMemory, Lines, Prints, Says, Untouched, terms_for}
+use Rattle.exec_engine.specs.Says.{HasNoMemory, Lines, Says, Untouched, terms_for}
 use Rattle.exec_engine.specs.Taken.{Takes, OfRecords}
 use Rattle.exec_engine.proofs.RefusedLaws.{stands-same}
 

@@ -6,7 +6,7 @@ use Rattle.exec_value.specs.declared.outcome.Outcome.{Outcome}
 use Rattle.exec_io.specs.Untouched.{IsHandedOn}
 use Rattle.plan_reader.specs.declared.fault.PlanFault.{PlanFault}
 use Rattle.plan_reader.specs.PlanFile.{IsPlanOf}
-use Rattle.plan_settle.specs.Small.{IsSmall}
+use Rattle.plan_kinds.specs.Small.{IsSmall}
 use Rattle.plan_shape.specs.Blueprint.{Blueprint}
 use Rattle.record_lines.specs.declared.ending.End.{End}
 use Rattle.exec_status.specs.declared.status.Status.{Status}

@@ -12,13 +12,14 @@ use Rattle.exec_value.specs.declared.outcome.Completion.{Completion}
 use Rattle.plan_kinds.specs.Reached.{KindsMatch}
 use Rattle.plan_rules.specs.Settle.{stop_state}
 use Rattle.plan_settle.specs.Root.{settled_root}
-use Rattle.plan_settle.specs.Small.{IsSmall}
+use Rattle.plan_kinds.specs.Small.{IsSmall}
 use Rattle.plan_shape.specs.Blueprint.{Blueprint}
 use Rattle.run_rules.specs.PlanTerms.{AllowsRecord}
 use Rattle.run_rules.proofs.PlanLaws.{plan-covers, settled-allows}
 use Rattle.plain_runs.specs.declared.started.Started.{Started}
 use Rattle.plain_runs.specs.PlainWork.{Completes, WantsMemory, Plain, begun_of, work_of, IsSound}
-use Rattle.record_loop.specs.Works.{Begun, Work, Collects, MayComplete, seen_state}
+use Rattle.plan_rules.specs.Seen.{seen_state}
+use Rattle.record_loop.specs.Works.{Begun, Work, Collects, MayComplete}
 
 -- what is settled is allowed, under what the operation may have seen
 seen-allows : (plan : Blueprint) (number : ℕ) (datum : Datum) (asked requested : Bool) (done : Completion) → done ≡ settled_root plan datum number asked → AllowsRecord plan number datum (seen_state asked requested) done

@@ -7,7 +7,7 @@ use Rattle.plan_rules.specs.declared.node.Node.{Node}
 use Rattle.plan_kinds.specs.declared.sig.Sig.{Sig}
 use Rattle.plan_kinds.specs.Signatures.{sig_of}
 use Rattle.plan_kinds.proofs.OneShape.{run-under_one_shape}
-use Rattle.plan_settle.specs.Small.{IsSmall, IsSmallNode, IsSmallShape}
+use Rattle.plan_kinds.specs.Small.{IsSmall, IsSmallNode, IsSmallShape}
 use Rattle.plan_shape.specs.Blueprint.{Blueprint, IsPlan}
 use Rattle.sig_check.specs.Checked.{AreSignatures}
 

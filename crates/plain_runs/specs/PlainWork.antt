@@ -7,7 +7,7 @@ use Rattle.exec_value.specs.declared.outcome.Completion.{Completion}
 use Rattle.exec_value.specs.declared.outcome.Completion.TheVariants.{NoMemory}
 use Rattle.plan_kinds.specs.Reached.{KindsMatch}
 use Rattle.plan_settle.specs.Root.{settled_root}
-use Rattle.plan_settle.specs.Small.{IsSmall}
+use Rattle.plan_kinds.specs.Small.{IsSmall}
 use Rattle.plan_shape.specs.Blueprint.{Blueprint}
 use Rattle.plain_runs.specs.declared.started.Started.{Started}
 use Rattle.record_loop.specs.Works.{Begun, Work}

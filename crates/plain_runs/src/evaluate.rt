@@ -3,7 +3,7 @@ ghost use Rattle.std.specs.Prelude.{◌≡◌, false, IfSome, IfOk, IsSome};
 ghost use Rattle.exec_value.specs.Kinds.{HasKind};
 ghost use Rattle.plan_kinds.specs.Reached.{KindsMatch};
 ghost use Rattle.plan_settle.specs.Root.{settled_root};
-ghost use Rattle.plan_settle.specs.Small.{IsSmall};
+ghost use Rattle.plan_kinds.specs.Small.{IsSmall};
 ghost use Rattle.plain_runs.specs.PlainWork.{Completes};
 
 use crate::started::Started;

@@ -2,7 +2,7 @@
 ghost use Rattle.std.specs.Prelude.{◌≡◌, ◌<◌, ◌≤◌, ◌^◌, true, false, None, IfOk, replicate};
 ghost use Rattle.std.specs.Thread.{IsSync};
 ghost use Rattle.plan_kinds.specs.Reached.{KindsMatch};
-ghost use Rattle.plan_settle.specs.Small.{IsSmall};
+ghost use Rattle.plan_kinds.specs.Small.{IsSmall};
 ghost use Rattle.plain_runs.specs.PlainWork.{work_of, AreFree, WantsMemory};
 
 use crate::evaluate::evaluate;

@@ -1,7 +1,7 @@
 //! Whether a plan is small.
 ghost use Rattle.std.specs.Prelude.{◌≡◌, true, false};
 ghost use Rattle.exec_value.specs.declared.kinds.Kind.{Kind};
-ghost use Rattle.plan_settle.specs.Small.{IsSmall, IsSmallNode, IsSmallShape};
+ghost use Rattle.plan_kinds.specs.Small.{IsSmall, IsSmallNode, IsSmallShape};
 ghost use Rattle.sig_check.specs.Checked.{AreSignatures};
 
 use exec_value::Kind;

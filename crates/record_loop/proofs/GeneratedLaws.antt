@@ -1,5 +1,5 @@
 -- Generated records, one after another.
-use Rattle.std.proofs.Common.{◌≡◌, ℕ, ◌+◌, ◌≤◌, List, [], ◌∷◌, ◌++◌, length, Option, Some, None, nat_le, refl, sym, ap, ◌∙◌, add-one, arith}
+use Rattle.std.proofs.Common.{◌≡◌, ℕ, ◌+◌, ◌≤◌, List, [], ◌∷◌, ◌++◌, length, Some, None, nat_le, refl, sym, ap, ◌∙◌, add-one, arith}
 use Rattle.std.specs.Prelude.{if◌then◌else◌, Bool, true, false}
 use Rattle.std.proofs.lemmas.Bool.{leb-false}
 use Rattle.exec_value.specs.declared.kinds.Kind.{Kind}

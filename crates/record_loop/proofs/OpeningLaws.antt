@@ -1,5 +1,5 @@
 -- How a run begins.
-use Rattle.std.proofs.Common.{◌≡◌, ℕ, false, [], length, refl, sym, ap, subst, arith}
+use Rattle.std.proofs.Common.{◌≡◌, ℕ, false, [], length, refl, ap, subst, arith}
 use Rattle.plan_rules.specs.declared.settings.Settings.{Settings}
 use Rattle.plan_shape.specs.Blueprint.{Blueprint}
 use Rattle.run_rules.specs.PlanTerms.{MayRun}

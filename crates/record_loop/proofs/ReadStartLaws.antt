@@ -1,7 +1,7 @@
 -- How the reads that a source tells grow.
-use Rattle.std.proofs.Common.{◌≡◌, List, [], ◌∷◌, ◌++◌, Option, None, Some, sym, ap, ◌∙◌, append_assoc, append-nil}
+use Rattle.std.proofs.Common.{List, [], ◌∷◌, ◌++◌, Option, None, Some, sym, ap, ◌∙◌, append_assoc, append-nil}
 use Rattle.std.proofs.lemmas.List.Elements.{All-nil, All-cons, All-append}
-use Rattle.record_loop.specs.ReadStarts.{ReadStart, ReadsOnce, GrowsBy, ReadsOnly}
+use Rattle.record_loop.specs.ReadStarts.{ReadStart, ReadsOnce, ReadsOnly}
 
 module _ {P : ReadStart → Type 0} where
   -- nothing was read

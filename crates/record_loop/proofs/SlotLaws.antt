@@ -1,14 +1,12 @@
 -- How slots stand for records.
-use Rattle.std.proofs.Common.{◌≡◌, ◌≢◌, ◌⊎◌, ℕ, zero, suc, ◌+◌, ◌<◌, ◌≤◌, Bool, true, false, List, [], ◌∷◌, ◌++◌, length, drop, Option, Some, None, IsSome, nat_le, slice_get, refl, sym, ap, ◌∙◌, subst, inl, inr, arith}
+use Rattle.std.proofs.Common.{◌≡◌, ◌≢◌, ℕ, suc, ◌+◌, ◌<◌, ◌≤◌, Bool, true, false, List, [], ◌∷◌, ◌++◌, length, Option, Some, None, IsSome, nat_le, refl, sym, ap, ◌∙◌, subst, inl, inr, arith}
 use Rattle.std.proofs.lemmas.Bool.{leb-true}
-use Rattle.std.specs.Prelude.{is_some, option_and_then}
-use Rattle.exec_value.specs.declared.outcome.Completion.{Completion}
+use Rattle.std.specs.Prelude.{is_some}
 use Rattle.exec_value.specs.declared.outcome.Outcome.{Outcome}
 use Rattle.exec_value.specs.declared.outcome.Outcome.TheVariants.{Done, BadRecord}
 use Rattle.plan_rules.specs.declared.stop.StopState.{StopState}
-use Rattle.plan_rules.specs.declared.stop.StopState.TheVariants.{Never, May, Stands}
 use Rattle.plan_shape.specs.Blueprint.{Blueprint}
-use Rattle.run_rules.specs.Lawful.{Terms, MayEnd, EndsAllowed, datum_of}
+use Rattle.run_rules.specs.Lawful.{Terms, MayEnd}
 use Rattle.run_rules.specs.Moments.{Moment, license, is_asked}
 use Rattle.run_rules.specs.PlanTerms.{terms_of, AllowsRecord}
 use Rattle.run_rules.specs.StopStates.{state_between}
@@ -16,8 +14,9 @@ use Rattle.run_rules.proofs.LicenseLaws.{late-license}
 use Rattle.record_loop.specs.declared.slot.Slot.{Slot}
 use Rattle.record_loop.specs.declared.slot.Slot.TheVariants.{Running, Bad, NoMemory}
 use Rattle.record_loop.specs.Slots.{HasOperation, Settles}
-use Rattle.record_loop.specs.Standing.{IsBegun, StandsFor, StandForAll}
-use Rattle.record_loop.specs.Works.{Begun, Work, Keeps, Collects, MayComplete, seen_state}
+use Rattle.record_loop.specs.Standing.{StandsFor, StandForAll}
+use Rattle.plan_rules.specs.Seen.{seen_state}
+use Rattle.record_loop.specs.Works.{Begun, Work, MayComplete}
 
 -- each slot stands for one record
 pub StandForAll-length : (terms : Terms) (work : Work) (moment : Option Moment) (before : ℕ) (slots : List Slot) (lines : List (List ℕ)) → StandForAll terms work moment before slots lines → length slots ≡ length lines

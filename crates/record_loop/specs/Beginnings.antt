@@ -1,5 +1,5 @@
 -- A session that has read nothing.
-use Rattle.std.specs.Prelude.{◌≡◌, ℕ}
+use Rattle.std.specs.Prelude.{ℕ}
 use Rattle.plan_rules.specs.declared.settings.Settings.{Settings}
 use Rattle.record_loop.specs.Cutting.{IsCutting}
 use Rattle.record_loop.specs.declared.in_flight.InFlight.{InFlight}

@@ -3,8 +3,7 @@ use Rattle.std.specs.Prelude.{◌≡◌, ◌≢◌, ◌⊎◌, ℕ, Bool, true, 
 use Rattle.exec_value.specs.declared.data.Datum.{Datum}
 use Rattle.exec_value.specs.declared.outcome.Completion.{Completion}
 use Rattle.exec_value.specs.declared.outcome.Completion.TheVariants.{NoMemory}
-use Rattle.plan_rules.specs.declared.stop.StopState.{StopState}
-use Rattle.plan_rules.specs.declared.stop.StopState.TheVariants.{Never, May, Stands}
+use Rattle.plan_rules.specs.Seen.{seen_state}
 use Rattle.plan_shape.specs.Blueprint.{Blueprint}
 use Rattle.run_rules.specs.PlanTerms.{AllowsRecord, MayWant}
 
@@ -42,13 +41,6 @@ pub record Requests (old new : Work) : Type 0 where
   pub plan : new.plan ≡ old.plan
   pub requested : new.requested ≡ true
   pub blocks : (b : ℕ) (begun : Begun) → old.block b ≡ Some begun → new.block b ≡ Some begun
-
--- What an operation may have seen of the request, by whether it was begun after it, and whether it
--- was made.
-abbrev pub seen_state : Bool → Bool → StopState
-seen_state true requested = Stands
-seen_state false true = May
-seen_state false false = Never
 
 -- How an operation may complete: with want of memory, where the plan may want it, or as the plan
 -- allows it, under what it may have seen of the request.

@@ -14,10 +14,32 @@ use std::thread::Threads;
 const ADD_ONE: &str =
     r#"{"version":1,"input":"int","root":{"do":"then","child":{"do":"input"},"job":{"job":"add","n":1}}}"#;
 
-/// A source of these bytes that fails at the calls of these numbers.
-fn source(alloc: Global, bytes: &[u8], fails: &[u64]) -> Result<MemSource, AllocError> {
-    Ok(MemSource::new(bytes.to_vec(alloc)?, fails.to_vec(alloc)?))
+/// A trace that is taken.
+const WHOLE_RUN: &str = "exec 2 1 1 counting 1\nnode 1 plain\nnode - plain\n\
+    0 claim 0\n0 begin 0.1\n0 await 0.1 0\n0 begin 0.0\n0 finish 0.0\n0 report 0.0\n\
+    0 finish 0.1\n0 release 0\n";
+
+/// What a run is given: the bytes of its source, how many bytes out and notes take a write, and at
+/// which calls each of them fails.
+#[derive(Clone, Copy)]
+struct Given<'a> {
+    input: &'a [u8],
+    reads: &'a [u64],
+    out: usize,
+    writes: &'a [u64],
+    notes: usize,
+    told: &'a [u64],
 }
+
+/// What takes all.
+const ALL: Given<'_> = Given {
+    input: b"",
+    reads: &[],
+    out: 4096,
+    writes: &[],
+    notes: 4096,
+    told: &[],
+};
 
 /// A run with these words, where the shelf has this text under the name `plan.json`.
 fn run_with<R: Threads + Wait + Sync>(
@@ -25,13 +47,14 @@ fn run_with<R: Threads + Wait + Sync>(
     alloc: Global,
     words: &[&str],
     text: &str,
-    mut records: MemSource,
-    mut out: MemSink,
-    mut notes: MemSink,
+    given: Given<'_>,
 ) -> Result<Ran, AllocError>
     requires { IsSync R.row }
 {
     let mut shelf = shelf(alloc, "plan.json", text.as_bytes(), &[])?;
+    let mut records = MemSource::new(given.input.to_vec(alloc)?, given.reads.to_vec(alloc)?);
+    let mut out = sink(alloc, given.out, given.writes)?;
+    let mut notes = sink(alloc, given.notes, given.told)?;
     let status = run(
         rt,
         alloc,
@@ -51,10 +74,13 @@ fn a_failed_write_leaves_what_was_written(rt: HostRuntime) -> Result<(), Fail> {
     // Out fails at its first write, at a later one, or at no call.
     let rows: [(usize, u64, &str); 3] = [(1, 1, ""), (1, 9, "1 bad-re"), (4096, 99, lines)];
     for (most, call, written) in rows {
-        let records = source(alloc, b"abc\n7\n", &[])?;
-        let (out, notes) = (sink(alloc, most, &[call])?, sink(alloc, 4096, &[])?);
-        let words = ["run", "plan.json"];
-        let ran = run_with(&rt, alloc, &words, ADD_ONE, records, out, notes)?;
+        let given = Given {
+            input: b"abc\n7\n",
+            out: most,
+            writes: &[call],
+            ..ALL
+        };
+        let ran = run_with(&rt, alloc, &["run", "plan.json"], ADD_ONE, given)?;
         let lost = written.len() < lines.len();
         assert_eq!(rt; ran.status == Status::WriteFault, lost);
         assert_eq!(rt; ran.out.bytes(), written.as_bytes());
@@ -64,20 +90,38 @@ fn a_failed_write_leaves_what_was_written(rt: HostRuntime) -> Result<(), Fail> {
 }
 
 #[test]
+fn out_that_fails_is_a_write_fault_of_a_check(rt: HostRuntime) -> Result<(), Fail> {
+    let alloc = rt.alloc();
+    // Out takes one byte a write, and fails at the third.
+    let given = Given {
+        out: 1,
+        writes: &[3],
+        ..ALL
+    };
+    let ran = run_with(&rt, alloc, &["check", "plan.json"], WHOLE_RUN, given)?;
+    assert!(rt; ran.status == Status::WriteFault);
+    assert_eq!(rt; ran.out.bytes(), "ok".as_bytes());
+    assert_eq!(rt; ran.notes.bytes(), "write fault\n".as_bytes());
+    Ok(())
+}
+
+#[test]
 fn a_write_fault_comes_before_a_read_fault(rt: HostRuntime) -> Result<(), Fail> {
     let alloc = rt.alloc();
-    // The second read fails, and notes take five bytes and fail then, or take all.
-    let rows: [(&[u64], Status, &str); 2] = [
-        (&[], Status::ReadFault, "read fault\n"),
-        (&[2], Status::WriteFault, "read "),
-    ];
-    for (told, status, note) in rows {
-        let records = source(alloc, b"abc\n9", &[2])?;
-        let (out, notes) = (sink(alloc, 4096, &[])?, sink(alloc, 5, told)?);
-        let words = ["run", "plan.json"];
-        let ran = run_with(&rt, alloc, &words, ADD_ONE, records, out, notes)?;
-        assert_eq!(rt; ran.status, status);
-        assert_eq!(rt; ran.out.bytes(), b"1 bad-record\n".as_slice());
+    // The second read fails, and notes take five bytes a write and fail at the second, or at none.
+    let rows: [(u64, &str); 2] = [(99, "read fault\n"), (2, "read ")];
+    for (call, note) in rows {
+        let given = Given {
+            input: b"abc\n9",
+            reads: &[2],
+            notes: 5,
+            told: &[call],
+            ..ALL
+        };
+        let ran = run_with(&rt, alloc, &["run", "plan.json"], ADD_ONE, given)?;
+        let lost = call < 99;
+        assert_eq!(rt; ran.status == Status::WriteFault, lost);
+        assert_eq!(rt; ran.status == Status::ReadFault, !lost);
         assert_eq!(rt; ran.notes.bytes(), note.as_bytes());
     }
     Ok(())
@@ -86,18 +130,23 @@ fn a_write_fault_comes_before_a_read_fault(rt: HostRuntime) -> Result<(), Fail> 
 #[test]
 fn a_refusal_stands_where_notes_fail(rt: HostRuntime) -> Result<(), Fail> {
     let alloc = rt.alloc();
-    let rows: [(&[&str], Status, &str); 4] = [
-        (&["run", "plan.json"], Status::PlanRefused, "plan "),
-        (&["check", "plan.json"], Status::PlanRefused, "trace"),
-        (&["replay", "plan.json"], Status::PlanRefused, "trace"),
-        (&["run"], Status::Usage, "usage"),
+    let rows = [
+        ("run", "plan "),
+        ("check", "trace"),
+        ("replay", "trace"),
+        ("start", "usage"),
     ];
-    for (words, status, told) in rows {
-        let records = source(alloc, b"5\n", &[])?;
-        let (out, notes) = (sink(alloc, 4096, &[])?, sink(alloc, 5, &[2])?);
-        let ran = run_with(&rt, alloc, words, "{", records, out, notes)?;
-        assert_eq!(rt; ran.status, status);
-        assert_eq!(rt; ran.out.bytes(), b"".as_slice());
+    for (command, told) in rows {
+        let given = Given {
+            input: b"5\n",
+            notes: 5,
+            told: &[2],
+            ..ALL
+        };
+        let ran = run_with(&rt, alloc, &[command, "plan.json"], "{", given)?;
+        let refused = command != "start";
+        assert_eq!(rt; ran.status == Status::PlanRefused, refused);
+        assert_eq!(rt; ran.status == Status::Usage, !refused);
         assert_eq!(rt; ran.notes.bytes(), told.as_bytes());
     }
     Ok(())
@@ -107,7 +156,7 @@ fn a_refusal_stands_where_notes_fail(rt: HostRuntime) -> Result<(), Fail> {
 fn want_of_memory_ends_the_run(rt: HostRuntime) -> Result<(), Fail> {
     let alloc = rt.alloc();
     let mut shelf = shelf(alloc, "plan.json", ADD_ONE.as_bytes(), &[])?;
-    let mut records = source(alloc, b"5\n-1\n", &[])?;
+    let mut records = MemSource::new(b"5\n-1\n".to_vec(alloc)?, Vec::new(alloc));
     let mut out = NeverFails::new(MemSink::new(alloc, 4096, Vec::new(alloc)));
     let mut notes = NeverFails::new(MemSink::new(alloc, 4096, Vec::new(alloc)));
     let words = ["run", "plan.json"];
@@ -121,8 +170,8 @@ fn want_of_memory_ends_the_run(rt: HostRuntime) -> Result<(), Fail> {
         &mut notes,
     );
     if status != Status::NoMemory {
-        assert_eq!(rt; status, Status::AllValues);
-        assert_eq!(rt; notes.inner().bytes(), b"".as_slice());
+        assert!(rt; status == Status::AllValues);
+        assert_eq!(rt; notes.inner().bytes(), "".as_bytes());
     }
     Ok(())
 }

@@ -1,4 +1,4 @@
-use Rattle.std.proofs.Common.{◌≡◌, ◌-◌, ◌≤◌, ◌<◌, ℕ, List, length, Option, None}
+use Rattle.std.proofs.Common.{◌≡◌, ◌-◌, ◌≤◌, ◌<◌, length, None}
 use Rattle.record_lines.specs.declared.limits.TheConstants.{MOST_BYTES}
 use Rattle.record_loop.specs.Reading.{on, ReadsOn, ReadsCaughtUp}
 use Rattle.record_loop.proofs.session.Session.read_all.Given as goal

@@ -1,4 +1,7 @@
-use Rattle.std.proofs.Common.{refl}
+use Rattle.std.proofs.Common.{refl, ap, ◌∙◌}
+use Rattle.circular_buffer.specs.Buffer.{Buffer}
+use Rattle.record_lines.specs.Lines.{whole_lines}
+use Rattle.record_loop.specs.declared.slot.Slot.{Slot}
 use Rattle.record_loop.proofs.PrintingLaws.{Printed-same}
 use Rattle.record_loop.proofs.StandingLaws.{Standing-hands}
 use Rattle.record_loop.proofs.ReadingLaws.{TakenAt-stays}
@@ -12,3 +15,14 @@ returns-clause-stays g c = λ opening bytes taken.
     Standing-hands (λ outcomes. Printed-same handed.form handed.summary (λ text. handed.wrote text opening.sink)) handed.grows
     handed.slots handed.requested handed.settings (c.write_all.ensures.stays opening lines standing))
     refl refl taken
+
+pub write_all-requires-clause-going : goal.write_all-requires-clause-going
+write_all-requires-clause-going g c = λ κs lives.
+    let going = c.requires.going in
+    record { opening = going.opening; lines = whole_lines going.bytes; standing = going.taken.standing }
+
+pub returns-clause-none : goal.returns-clause-none
+returns-clause-none g c = ap (λ (b : Buffer Slot). b.items) c.hand_on.ensures.slots ∙ c.write_all.ensures.none
+
+pub returns-clause-settled : goal.returns-clause-settled
+returns-clause-settled g c = c.hand_on.ensures.settled

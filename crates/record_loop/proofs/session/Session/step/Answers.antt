@@ -1,4 +1,4 @@
-use Rattle.std.proofs.Common.{take, rules}
+use Rattle.std.proofs.Common.{take, rules, sym, ◌∙◌}
 use Rattle.record_loop.specs.ReadStarts.{start_of}
 use Rattle.record_loop.proofs.ReadStartLaws.{ReadsOnly-nil, ReadsOnly-one}
 use Rattle.record_loop.proofs.ReadingLaws.{Going-stays, Goes-piece, Halts-fault, Halts-ended, Keeps-nil, caught-up}
@@ -25,26 +25,30 @@ returns-in_default-clause-goes g c = λ opening source going.
 
 pub returns-then-count-eq0-clause-goes : goal.returns-then-count-eq0-clause-goes
 returns-then-count-eq0-clause-goes g c = λ opening source going.
+    let kept = sym c.is_lost-lost.ensures ∙ c.if-lost.false in
     Halts-ended (g.S.RecordSource.told c.read_beside-answer.new.self).left c.in-Ok.count c.read_beside-answer.new.buf c.if-count-eq0.true c.in-Ok.ensures.bytes.0
-    (c.in-Ok.ensures.bytes.1 c.if-count-eq0.true (search rules)) c.settle.ensures.none (search rules) (Going-stays (c.settle.ensures.stays opening) going)
+    (c.in-Ok.ensures.bytes.1 c.if-count-eq0.true (search rules)) c.settle.ensures.none kept (Going-stays (c.settle.ensures.stays opening) going)
 
 pub returns-clause-reads : goal.returns-clause-reads
 returns-clause-reads g c = λ opening source going.
+    let kept = sym c.is_lost-lost.ensures ∙ c.if-lost.false in
     let told = g.S.RecordSource.told c.args.records.now in
     ReadsOnly-one (start_of told (g.K.Sink.told c.settle.new.out)) _ _ c.in-Ok.ensures.reads
-    (caught-up told (Going-stays (c.settle.ensures.stays opening) going) c.settle.ensures.none (search rules) (search rules))
+    (caught-up told (Going-stays (c.settle.ensures.stays opening) going) c.settle.ensures.none kept (c.settle.ensures.settled kept))
 
 pub returns-then-count-eq0-clause-reads : goal.returns-then-count-eq0-clause-reads
 returns-then-count-eq0-clause-reads g c = λ opening source going.
+    let kept = sym c.is_lost-lost.ensures ∙ c.if-lost.false in
     let told = g.S.RecordSource.told c.args.records.now in
     ReadsOnly-one (start_of told (g.K.Sink.told c.settle.new.out)) _ _ c.in-Ok.ensures.reads
-    (caught-up told (Going-stays (c.settle.ensures.stays opening) going) c.settle.ensures.none (search rules) (search rules))
+    (caught-up told (Going-stays (c.settle.ensures.stays opening) going) c.settle.ensures.none kept (c.settle.ensures.settled kept))
 
 pub returns-in_default-clause-reads : goal.returns-in_default-clause-reads
 returns-in_default-clause-reads g c = λ opening source going.
+    let kept = sym c.is_lost-lost.ensures ∙ c.if-lost.false in
     let told = g.S.RecordSource.told c.args.records.now in
     ReadsOnly-one (start_of told (g.K.Sink.told c.settle.new.out)) _ _ c.in_default.ensures.reads
-    (caught-up told (Going-stays (c.settle.ensures.stays opening) going) c.settle.ensures.none (search rules) (search rules))
+    (caught-up told (Going-stays (c.settle.ensures.stays opening) going) c.settle.ensures.none kept (c.settle.ensures.settled kept))
 
 pub returns-then-lost-clause-reads : goal.returns-then-lost-clause-reads
 returns-then-lost-clause-reads g c = λ opening source going.

@@ -1,4 +1,4 @@
-use Rattle.std.proofs.Common.{◌≡◌, ◌+◌, ℕ, List, length}
+use Rattle.std.proofs.Common.{◌≡◌, ◌+◌, length}
 use Rattle.record_loop.specs.Reading.{on, TakesFront}
 use Rattle.record_loop.proofs.session.Session.take_lines.Given as goal
 
