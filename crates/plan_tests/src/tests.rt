@@ -3,7 +3,6 @@ mod building;
 mod examples;
 mod reading;
 mod runs;
-mod settling;
 mod signatures;
 mod writing;
 

@@ -7,8 +7,7 @@ use exec_io::{MemSink, MemSource};
 use exec_job::Job;
 use exec_value::{Completion, Datum};
 use plain_runs::PlainRuns;
-use plan_builder::{BuildFault, Context, PlanBuilder};
-use plan_shape::Plan;
+use plan_builder::{Built, Context, PlanBuilder};
 use record_lines::End;
 use record_loop::{Ending, Form, Operations, run_records};
 use run_rules::may_run;
@@ -19,12 +18,10 @@ use std::sync::Wait;
 use std::test::Fail;
 
 /// One more than the record, from the pool.
-fn adding(alloc: Global) -> Result<Plan, BuildFault> {
-    let mut builder = PlanBuilder::new(alloc);
+fn adding(builder: &mut PlanBuilder) -> Built {
     let input = builder.input()?;
     let added = builder.then(input, Job::Add(1))?;
-    let root = builder.starts_on(Context::Pool, added)?;
-    builder.finish(root, OF_INTS)
+    builder.starts_on(Context::Pool, added)
 }
 
 /// Operations that go on by turns: one is started, and collected, only where a turn came before.
@@ -87,7 +84,9 @@ fn run<R: Wait + Abort + Sync>(
 ) -> Result<Ran, Fail>
     requires { IsSync R.row }
 {
-    let plan = adding(alloc)?;
+    let mut builder = PlanBuilder::new(alloc);
+    let root = adding(&mut builder)?;
+    let plan = builder.finish(root, OF_INTS)?;
     check(alloc, &plan)?;
     let settings = *plan.settings();
     assert!(rt; may_run(&settings));
@@ -118,11 +117,8 @@ fn operations_that_need_turns_are_waited_for(rt: HostRuntime) -> Result<(), Fail
         source,
         MemSink::new(alloc, 4096, Vec::new(alloc)),
     )?;
-    assert_eq!(rt;
-        ran.out.bytes(),
-        b"1 value 6\n2 value 0\n3 value 8\n".as_slice()
-    );
-    assert_eq!(rt; ran.ending.end(), End::Ended);
+    assert!(rt; ran.out.bytes() == b"1 value 6\n2 value 0\n3 value 8\n".as_slice());
+    assert!(rt; ran.ending.end() == End::Ended);
     Ok(())
 }
 
@@ -136,8 +132,8 @@ fn lines_whose_line_feed_was_read_are_written_at_a_fault(rt: HostRuntime) -> Res
         source,
         MemSink::new(alloc, 4096, Vec::new(alloc)),
     )?;
-    assert_eq!(rt; ran.out.bytes(), b"1 value 6\n2 value 0\n".as_slice());
-    assert_eq!(rt; ran.ending.end(), End::Fault);
+    assert!(rt; ran.out.bytes() == b"1 value 6\n2 value 0\n".as_slice());
+    assert!(rt; ran.ending.end() == End::Fault);
     assert!(rt; !ran.ending.is_lost());
     Ok(())
 }
@@ -152,8 +148,8 @@ fn after_a_lost_write_no_record_is_begun(rt: HostRuntime) -> Result<(), Fail> {
         source,
         MemSink::new(alloc, 1, vec![in alloc; 3u64]?),
     )?;
-    assert_eq!(rt; ran.out.bytes(), b"1 ".as_slice());
+    assert!(rt; ran.out.bytes() == b"1 ".as_slice());
     assert!(rt; ran.ending.is_lost());
-    assert_eq!(rt; ran.ending.summary().lines(), 2);
+    assert!(rt; ran.ending.summary().lines() == 2);
     Ok(())
 }

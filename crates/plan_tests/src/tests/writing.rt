@@ -1,7 +1,7 @@
 //! Canonical texts, each test named by what it shows.
 use super::OF_INTS;
 use exec_job::Job;
-use plan_builder::{Context, PlanBuilder};
+use plan_builder::{Built, Context, PlanBuilder};
 use plan_reader::{PlanFault, read_plan};
 use plan_writer::{is_in_file_order, write_plan};
 use std::alloc::Global;
@@ -32,16 +32,21 @@ fn what_a_file_leaves_open_is_written(rt: HostRuntime) -> Result<(), Fail> {
     Ok(())
 }
 
+/// A `when_all` of which the second child has the first number.
+fn turned(alloc: Global, builder: &mut PlanBuilder) -> Built {
+    let second = builder.schedule(Context::Pool)?;
+    let input = builder.input()?;
+    let first = builder.then(input, Job::Neg)?;
+    builder.when_all(Vec::from_slice(alloc, &[first, second])?)
+}
+
 #[test]
 fn children_are_written_in_their_order_and_not_in_that_of_their_numbers(
     rt: HostRuntime,
 ) -> Result<(), Fail> {
     let alloc = rt.alloc();
     let mut builder = PlanBuilder::new(alloc);
-    let second = builder.schedule(Context::Pool)?;
-    let input = builder.input()?;
-    let first = builder.then(input, Job::Neg)?;
-    let root = builder.when_all(vec![in alloc; first, second]?)?;
+    let root = turned(alloc, &mut builder)?;
     let plan = builder.finish(root, OF_INTS)?;
     let canonical =
         r#"{"input":"int","on_error":"go","root":{"children":[{"child":{"do":"input"},"do":"then","job":{"job":"neg"}},{"do":"schedule","on":"pool"}],"do":"when_all"},"scope":"counting","version":2}"#;

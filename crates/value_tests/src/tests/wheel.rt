@@ -26,14 +26,14 @@ fn a_place_is_given_at_its_turn_and_not_before(rt: HostRuntime) -> Result<(), Fa
     for (place, turns) in [(3, 5), (4, 5), (9, 200), (1, 0)] {
         assert!(rt; add(&rt, &mut wheel, place, turns));
     }
-    assert_eq!(rt; wheel.due(), Some(1));
-    assert_eq!(rt; wheel.due(), None);
+    assert!(rt; wheel.due() == Some(1));
+    assert!(rt; wheel.due() == None);
     assert!(rt; wheel.remove(4));
     assert!(rt; !wheel.remove(4));
     for (turn, place) in [(4, None), (5, Some(3)), (199, None), (200, Some(9))] {
         go_on_to(&rt, &mut wheel, turn);
-        assert_eq!(rt; wheel.due(), place, "at turn {turn}");
-        assert_eq!(rt; wheel.due(), None);
+        assert!(rt; wheel.due() == place);
+        assert!(rt; wheel.due() == None);
     }
     Ok(())
 }
@@ -43,33 +43,36 @@ fn a_second_pair_of_a_place_is_refused(rt: HostRuntime) -> Result<(), Fail> {
     let mut wheel = Wheel::open(rt.alloc(), 2)?;
     assert!(rt; add(&rt, &mut wheel, 1, 3));
     assert!(rt; !add(&rt, &mut wheel, 1, 0));
-    assert_eq!(rt; wheel.due(), None);
+    assert!(rt; wheel.due() == None);
     assert!(rt; !wheel.remove(2));
     go_on_to(&rt, &mut wheel, 3);
-    assert_eq!(rt; wheel.turn(), 3);
-    assert_eq!(rt; wheel.due(), Some(1));
+    assert!(rt; wheel.turn() == 3);
+    assert!(rt; wheel.due() == Some(1));
     assert!(rt; add(&rt, &mut wheel, 1, 0));
     Ok(())
 }
 
+/// The turn at which a place is given next, after so many turns at the most.
+fn next_turn(rt: &impl Abort, wheel: &mut Wheel, most: u32) -> Option<u64> {
+    for _ in 0..=most {
+        if wheel.due().is_some() {
+            return Some(wheel.turn());
+        }
+        assert!(rt; wheel.turn() < LAST_TURN);
+        wheel.advance();
+    }
+    None
+}
+
 #[test]
 fn a_delay_of_any_length_comes_at_exactly_its_turn(rt: HostRuntime) -> Result<(), Fail> {
-    let delays = [127, 128, 16_383, 16_384, 1_000_000];
     for start in [0u64, 16_300] {
-        let mut wheel = Wheel::open(rt.alloc(), 5)?;
-        go_on_to(&rt, &mut wheel, start);
-        for (place, turns) in (0..5).zip(delays) {
-            assert!(rt; add(&rt, &mut wheel, place, turns));
-        }
-        for turns in 1..=1_000_000u32 {
-            assert!(rt; wheel.turn() < LAST_TURN);
-            wheel.advance();
-            let place = (0..5).find(|place| delays.get(*place) == Some(&turns));
-            assert_eq!(rt;
-                wheel.due(),
-                place.map(|place| place as u32),
-                "{turns} turns from {start}"
-            );
+        for turns in [127u32, 128, 16_383, 16_384, 1_000_000] {
+            let mut wheel = Wheel::open(rt.alloc(), 1)?;
+            go_on_to(&rt, &mut wheel, start);
+            assert!(rt; add(&rt, &mut wheel, 0, turns));
+            let turn = next_turn(&rt, &mut wheel, turns);
+            assert!(rt; turn == Some(start + u64::from(turns)));
         }
     }
     Ok(())
@@ -78,20 +81,22 @@ fn a_delay_of_any_length_comes_at_exactly_its_turn(rt: HostRuntime) -> Result<()
 #[test]
 fn a_list_of_calls_has_its_replies(rt: HostRuntime) -> Result<(), Fail> {
     let mut wheel = Wheel::open(rt.alloc(), 2)?;
-    let calls = [
-        (Command::Add { place: 0, turns: 1 }, Reply::Added(true)),
-        (Command::Add { place: 0, turns: 2 }, Reply::Added(false)),
-        (Command::Due, Reply::Taken(None)),
-        (Command::Advance, Reply::Advanced),
-        (Command::Due, Reply::Taken(Some(0))),
-        (Command::Remove { place: 0 }, Reply::Removed(false)),
+    let commands = [
+        Command::Add { place: 0, turns: 1 },
+        Command::Due,
+        Command::Advance,
+        Command::Due,
+        Command::Remove { place: 0 },
     ];
-    let commands = calls.map(|(command, _)| command);
+    let expected = [
+        Reply::Added(true),
+        Reply::Taken(None),
+        Reply::Advanced,
+        Reply::Taken(Some(0)),
+        Reply::Removed(false),
+    ];
     let replies = run(rt.alloc(), &mut wheel, &commands)?;
-    assert_eq!(rt;
-        replies.as_slice(),
-        calls.map(|(_, reply)| reply).as_slice()
-    );
+    assert!(rt; replies.as_slice() == expected.as_slice());
     Ok(())
 }
 
@@ -152,6 +157,41 @@ fn wheel_due(alloc: Global, wheel: &mut Wheel) -> Result<Vec<usize>, AllocError>
     Ok(places)
 }
 
+/// One call of a kind that the dice choose, of the wheel and of the plain list.
+fn call_both(
+    rt: &impl Abort,
+    alloc: Global,
+    dice: &mut Dice,
+    wheel: &mut Wheel,
+    plain: &mut Vec<Option<u64>>,
+) -> Result<(), AllocError> {
+    let place = dice.roll(300);
+    assert!(rt; (place as usize) < plain.len());
+    match dice.roll(6) {
+        0 => {
+            let turns = dice.delay();
+            let is_free = plain[place as usize].is_none();
+            if is_free {
+                plain[place as usize] = Some(wheel.turn() + u64::from(turns));
+            }
+            assert!(rt; add(rt, wheel, place, turns) == is_free);
+        }
+        1 => {
+            let is_there = plain[place as usize].take().is_some();
+            assert!(rt; wheel.remove(place) == is_there);
+        }
+        2 => {
+            let expected = plain_due(alloc, plain, wheel.turn())?;
+            assert!(rt; wheel_due(alloc, wheel)? == expected);
+        }
+        _ => {
+            let next = wheel.turn() + 1;
+            go_on_to(rt, wheel, next);
+        }
+    }
+    Ok(())
+}
+
 #[test]
 fn ten_thousand_calls_are_those_of_a_plain_list(rt: HostRuntime) -> Result<(), Fail> {
     let alloc = rt.alloc();
@@ -159,31 +199,8 @@ fn ten_thousand_calls_are_those_of_a_plain_list(rt: HostRuntime) -> Result<(), F
     let mut wheel = Wheel::open(alloc, 300)?;
     let mut plain: Vec<Option<u64>> = vec![in alloc; None; 300]?;
     go_on_to(&rt, &mut wheel, 14_000);
-    for call in 0..10_000 {
-        let place = dice.roll(300);
-        assert!(rt; (place as usize) < plain.len());
-        match dice.roll(6) {
-            0 => {
-                let turns = dice.delay();
-                let is_free = plain[place as usize].is_none();
-                if is_free {
-                    plain[place as usize] = Some(wheel.turn() + u64::from(turns));
-                }
-                assert_eq!(rt; add(&rt, &mut wheel, place, turns), is_free, "call {call}");
-            }
-            1 => {
-                let is_there = plain[place as usize].take().is_some();
-                assert_eq!(rt; wheel.remove(place), is_there, "call {call}");
-            }
-            2 => {
-                let expected = plain_due(alloc, &mut plain, wheel.turn())?;
-                assert_eq!(rt; wheel_due(alloc, &mut wheel)?, expected, "call {call}");
-            }
-            _ => {
-                let next = wheel.turn() + 1;
-                go_on_to(&rt, &mut wheel, next);
-            }
-        }
+    for _ in 0..10_000 {
+        call_both(&rt, alloc, &mut dice, &mut wheel, &mut plain)?;
     }
     Ok(())
 }
