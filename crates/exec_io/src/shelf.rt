@@ -16,7 +16,7 @@ pub trait Shelf {
     /// The first `max + 1` bytes of the named text, or all of it where it is shorter. A name
     /// without a text is a fault. Nothing on the shelf changes.
     fn read(&mut self, alloc: Global, name: &str, max: usize) -> Result<Vec<u8>, ShelfFault>
-        ensures text { IfSome (told self.old).texts (λ known. ReadsText known name.now max result) }
+        ensures text { IfSome (told self.old).texts (λ all. ReadsText all name.now max result) }
         ensures most { IfOk result (λ bytes. vec_len bytes ≤ max + 1) }
         ensures same { (told self.new).texts ≡ (told self.old).texts }
         ensures cause { HasShelfCause (told self.old).faults (told self.new).faults result };

@@ -31,6 +31,6 @@ pub trait Sink {
     fn finish(&mut self) -> Result<(), Failed>
         ensures written { Appends (told self.old).written (told self.new).written [] }
         ensures held { HoldsNoMore (told self.old) (told self.new) }
-        ensures handed_on { OnOk result (IfSome (told self.new).outstanding (λ count. count ≡ 0)) }
+        ensures handed_on { OnOk result (IfSome (told self.new).outstanding (λ n. n ≡ 0)) }
         ensures cause { HasCause (told self.old).faults (told self.new).faults result };
 }

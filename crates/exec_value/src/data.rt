@@ -145,7 +145,7 @@ impl Data {
 fn pushed(alloc: Global, items: Items, datum: Datum) -> (Items, Result<(), Datum>)
     requires { AreManyIfSeveral items }
     ensures ok { OnOk result.1 (listed result.0 ≡ listed items ++ datum ∷ []) }
-    ensures err { IfErr result.1 (λ returned. (listed result.0 ≡ listed items) × (returned ≡ datum)) }
+    ensures err { IfErr result.1 (λ it. (listed result.0 ≡ listed items) × (it ≡ datum)) }
     ensures first { listed items ≡ [] → IsOk result.1 }
     ensures many { AreManyIfSeveral result.0 }
 {
@@ -162,7 +162,7 @@ fn pushed(alloc: Global, items: Items, datum: Datum) -> (Items, Result<(), Datum
 /// Two data, or the first alone where there is no memory.
 fn with_second(alloc: Global, first: Datum, second: Datum) -> (Items, Result<(), Datum>)
     ensures ok { OnOk result.1 (listed result.0 ≡ first ∷ second ∷ []) }
-    ensures err { IfErr result.1 (λ returned. (listed result.0 ≡ first ∷ []) × (returned ≡ second)) }
+    ensures err { IfErr result.1 (λ it. (listed result.0 ≡ first ∷ []) × (it ≡ second)) }
     ensures many { AreManyIfSeveral result.0 }
 {
     match Vec::with_capacity(alloc, 2) {

@@ -2,7 +2,7 @@
 ghost use Rattle.std.specs.Prelude.{◌≡◌, ◌≢◌, ◌+◌, ◌<◌, ◌≤◌, ◌↔◌, [], ◌++◌, length, false, IsTrue, IsOk, IfOk, OnOk, OnErr, Err, nat_eq};
 ghost use Rattle.std.specs.Cmp.{partial_equiv_from_equiv};
 ghost use Rattle.std.specs.Cmp.Lexicographic.{pointwise, nat_list_eq_equiv};
-ghost use Rattle.exec_value.specs.Kept.{kept_bytes, AreManyIfShared};
+ghost use Rattle.exec_value.specs.Kept.{kept_bytes, FitInPlace, AreManyIfShared};
 ghost use Rattle.exec_value.specs.Short.{short_bytes};
 ghost use Rattle.exec_value.specs.Text.{is_text, IsText};
 ghost use Rattle.exec_value.specs.declared.limits.TheConstants.{INLINE_BYTES, TEXT_BYTES};
@@ -134,7 +134,7 @@ impl Kept {
         requires many { AreManyIfShared self.now }
         ensures ok { IfOk result (λ kept. kept_bytes kept ≡ kept_bytes self.now ++ more.now) }
         ensures many { IfOk result AreManyIfShared }
-        ensures small { length (kept_bytes self.now) + length more.now ≤ INLINE_BYTES → IsOk result }
+        ensures small { FitInPlace (kept_bytes self.now) more.now → IsOk result }
     {
         match self {
             Kept::InPlace(short) => short_with(alloc, short, more),
@@ -171,7 +171,7 @@ fn short_with(alloc: Global, short: &Short, more: &[u8]) -> Result<Kept, AllocEr
     requires { length (short_bytes short.now) + length more.now ≤ TEXT_BYTES }
     ensures ok { IfOk result (λ kept. kept_bytes kept ≡ short_bytes short.now ++ more.now) }
     ensures many { IfOk result AreManyIfShared }
-    ensures small { length (short_bytes short.now) + length more.now ≤ INLINE_BYTES → IsOk result }
+    ensures small { FitInPlace (short_bytes short.now) more.now → IsOk result }
 {
     if short.as_slice().len() + more.len() <= INLINE_BYTES {
         return Ok(Kept::InPlace(short.with(more)));
