@@ -21,6 +21,7 @@ use Rattle.table_rules.specs.declared.view.Owed.{Owed}
 use Rattle.table_rules.specs.declared.view.Reported.{Reported}
 use Rattle.table_rules.specs.Named.{find_by, Each}
 use Rattle.table_rules.specs.ShownViews.{scan_in, has_name}
+use Rattle.table_steps.specs.Views.{aimed}
 use Rattle.table_steps.specs.Awaits.{owes_each, is_named, is_unnamed, AwaitsAt, CanAwait}
 use Rattle.table_steps.specs.Claims.{Seated}
 use Rattle.table_steps.specs.Finishes.{is_settled, is_of_kids, CanEnd, CanFinish, FinishedAt, RootedAt}
@@ -30,7 +31,7 @@ use Rattle.table_steps.specs.Rests.{CanLeave, CanRest, RestsAt}
 use Rattle.table_steps.specs.Slots.{slot_of, is_of_family, kids_of, kept, has_seen}
 use Rattle.table_steps.specs.Swaps.{HasHome}
 use Rattle.op_slot.specs.Puts.{FitsOwed, CanPut}
-use Rattle.op_slot.specs.Tends.{aimed, IsCalm, OwesReport, HasPlaces, Owes, Tends}
+use Rattle.op_slot.specs.Tends.{IsCalm, OwesReport, HasPlaces, Owes, Tends}
 use Rattle.op_slot.proofs.Kept.{kept-shed}
 use Rattle.op_slot.proofs.Places.{kid-within, kid-apart, all-kids, not-of-kids}
 

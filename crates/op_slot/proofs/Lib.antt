@@ -5,3 +5,4 @@ pub mod Searching
 pub mod Tending
 pub mod Leaving
 pub mod Found
+pub mod Staying

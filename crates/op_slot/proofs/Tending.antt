@@ -14,6 +14,7 @@ use Rattle.table_rules.specs.declared.frame.Frame.{Frame}
 use Rattle.table_rules.specs.declared.view.Held.{Held}
 use Rattle.table_rules.specs.declared.view.Owed.{Owed}
 use Rattle.table_rules.specs.Named.{find_by}
+use Rattle.table_steps.specs.Views.{aimed}
 use Rattle.table_steps.specs.Begins.{begun_as, Begins, IsRenewed, start_shown}
 use Rattle.table_steps.specs.Claims.{Seated, with_step}
 use Rattle.table_steps.specs.Finishes.{is_of_kids}
@@ -25,7 +26,7 @@ use Rattle.table_steps.specs.Sheds.{shed}
 use Rattle.table_steps.specs.Slots.{slot_of, kids_of, kept}
 use Rattle.table_steps.specs.Swaps.{IsSwapped}
 use Rattle.table_steps.specs.Takes.{TakenAt}
-use Rattle.op_slot.specs.Tends.{aimed, IsCalm, put_at, HasPlaces, Owes, Tends}
+use Rattle.op_slot.specs.Tends.{IsCalm, put_at, HasPlaces, Owes, Tends}
 use Rattle.op_slot.proofs.Kept.{kept-first, kept-shed, find-noted, find-without, kept-empty, kept-beside, kept-laid}
 use Rattle.op_slot.proofs.Places.{kid-within, kid-apart, own-apart, kids-apart, kids-within, of-kids, not-of-kids}
 
@@ -106,7 +107,7 @@ swapped-kid {P} {E} f x n new old m m' held own kid places child did has =
     }
 
 -- the renewal of a source changes neither the homes nor the lists by name
-renewed-same : {P E O A : Type 0} (f : Frame O) (x : Name) (m m' : Seated P E) → IsRenewed (aimed f x) m m' →
+pub renewed-same : {P E O A : Type 0} (f : Frame O) (x : Name) (m m' : Seated P E) → IsRenewed (aimed f x) m m' →
     (g : Seated P E → A) → ((i read left : ℕ) (z : Seated P E) → g (with_step i read left z.0, z.1) ≡ g z) → g m' ≡ g m
 renewed-same f x m m' renewed g same_g =
     either (has_source f.tree x.node)

@@ -5,10 +5,9 @@ use Rattle.table_rules.specs.declared.cargo.Cargo.{Ghosts}
 use Rattle.table_rules.specs.declared.frame.Frame.{Frame}
 use Rattle.table_rules.specs.declared.view.Held.{Held}
 use Rattle.table_rules.specs.declared.view.Owed.{Owed}
-use Rattle.table_rules.specs.Named.{find_by}
 use Rattle.table_steps.specs.Claims.{Seated}
 use Rattle.table_steps.specs.Begins.{CanBegin}
-use Rattle.table_steps.specs.Slots.{slot_of, kept, has_seen}
+use Rattle.table_steps.specs.Slots.{has_seen, held_at, owed_at, home_at}
 use Rattle.table_steps.specs.Swaps.{IsSwapped}
 
 module _ {P E O : Type 0} (cargo : Ghosts P E O) (f : Frame O) (m : Seated P E) (x : Name) (item : P) where
@@ -16,7 +15,7 @@ module _ {P E O : Type 0} (cargo : Ghosts P E O) (f : Frame O) (m : Seated P E) 
   -- requests and was told when it came to hold the node
   pub record FitsHeld : Type 0 where
     pub held : Held E
-    pub holds : find_by (λ e. e.name) m.0.held x ≡ Some held
+    pub holds : held_at m.0 x ≡ Some held
     pub start : cargo.start item ≡ held.start
     pub fit : cargo.fits item x.node (has_seen f.tree m.0 x || held.told)
 
@@ -25,7 +24,7 @@ module _ {P E O : Type 0} (cargo : Ghosts P E O) (f : Frame O) (m : Seated P E) 
   -- nothing. The item fits by what the hand has seen of requests, and is no completion
   pub record FitsOwed : Type 0 where
     pub owed : Owed E
-    pub owes : find_by (λ e. e.name) m.0.owed x ≡ Some owed
+    pub owes : owed_at m.0 x ≡ Some owed
     pub entry : E
     pub start : cargo.start item ≡ entry ∷ owed.above
     pub key : cargo.key (cargo.start item) ≡ f.over.value
@@ -35,7 +34,7 @@ module _ {P E O : Type 0} (cargo : Ghosts P E O) (f : Frame O) (m : Seated P E) 
 
   -- and the node's home is empty
   pub record CanPut : Type 0 where
-    pub home : kept (slot_of f.layout x) m.1 ≡ Some None
+    pub home : home_at f.layout m x ≡ Some None
     pub fits : FitsHeld ⊎ FitsOwed
 
 module _ {P E O : Type 0} (f : Frame O) (x : Name) where

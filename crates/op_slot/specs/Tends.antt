@@ -8,9 +8,8 @@ use Rattle.table_rules.specs.declared.frame.Frame.{Frame}
 use Rattle.table_rules.specs.declared.view.Held.{Held}
 use Rattle.table_rules.specs.declared.view.Owed.{Owed}
 use Rattle.table_rules.specs.declared.view.Reported.{Reported}
-use Rattle.table_rules.specs.Named.{find_by}
 use Rattle.table_steps.specs.Claims.{Seated}
-use Rattle.table_steps.specs.Slots.{Aim, slot_of, kept}
+use Rattle.table_steps.specs.Slots.{slot_of, kept, held_at, owed_at, reported_at, home_at}
 
 -- the hand makes no scan
 abbrev pub IsCalm : {P E : Type 0} → Seated P E → Type 0
@@ -22,13 +21,9 @@ put_at n new kid k = if n == k then new else kid k
 
 -- the hand owes the report of the node, with this entry
 abbrev pub OwesReport : {P E : Type 0} → Name → Reported P E → Seated P E → Type 0
-OwesReport x entry m = find_by (λ e. e.name) m.0.reported x ≡ Some entry
+OwesReport x entry m = reported_at m.0 x ≡ Some entry
 
 module _ {O : Type 0} (f : Frame O) (x : Name) where
-  -- the node, as the steps' clauses have it
-  abbrev pub aimed : Aim
-  aimed = record { tree = f.tree; layout = f.layout; name = x }
-
   -- the table has a place for each node of the tree, the node is one of them, and its children stand
   -- before it
   pub record HasPlaces : Type 0 where
@@ -43,13 +38,13 @@ module _ {O : Type 0} (f : Frame O) (x : Name) where
 module _ {P E O : Type 0} (f : Frame O) (x : Name) where
   -- the hand owes the node's start, and this lies in the node's home
   pub record Owes (owed : Owed E) (inside : Option P) (m : Seated P E) : Type 0 where
-    pub owes : find_by (λ e. e.name) m.0.owed x ≡ Some owed
-    pub home : kept (slot_of f.layout x) m.1 ≡ Some inside
+    pub owes : owed_at m.0 x ≡ Some owed
+    pub home : home_at f.layout m x ≡ Some inside
 
   -- the hand holds the node. This lies in the node's home, and this in those of its children
   pub record Tends (held : Held E) (inside : Option P) (kid : ℕ → Option P) (m : Seated P E) : Type 0 where
-    pub holds : find_by (λ e. e.name) m.0.held x ≡ Some held
-    pub own : kept (slot_of f.layout x) m.1 ≡ Some inside
+    pub holds : held_at m.0 x ≡ Some held
+    pub own : home_at f.layout m x ≡ Some inside
     pub kids : (n : ℕ) → is_child f.tree x.node n ≡ true →
         kept (place_number f.layout x.block n) m.1 ≡ Some (kid n)
 

@@ -1,6 +1,6 @@
 //! How a block is found, and given back.
 ghost use Rattle.std.specs.Prelude.{◌≡◌, ◌<◌, ◌≤◌};
-ghost use Rattle.table_steps.specs.Views.{IsHandOf, IsSameHand};
+ghost use Rattle.table_steps.specs.Views.{IsHandOf, Stays};
 ghost use Rattle.table_steps.specs.Releases.{CanReleaseBlock, StayEmpty};
 ghost use Rattle.table_steps.specs.Steps.{Released, LeftAllEmpty};
 ghost use Rattle.op_slot.specs.Searches.{block_round, IsSearched, IsSearchedFrom};
@@ -15,8 +15,7 @@ use op_table::{Block, Cargo, Hand, OpTable};
 /// Afterwards: the hand has noted no start of that root.
 pub fn claim_any<P: Cargo>(table: &OpTable<P>, hand: &mut Hand<P>) -> Option<Block>
     requires table { IsHandOf table.now hand.old }
-    ensures table { IsSameHand hand.old hand.new }
-    ensures hand { IsHandOf table.now hand.new }
+    ensures stays { Stays table.now hand.old hand.new }
     ensures claimed { IsSearched table.now result hand.old hand.new }
 {
     claim_from(table, hand, 0)
@@ -48,8 +47,7 @@ fn block_round(blocks: u32, from: u32, step: u32) -> u32
 pub fn claim_from<P: Cargo>(table: &OpTable<P>, hand: &mut Hand<P>, from: u32) -> Option<Block>
     requires table { IsHandOf table.now hand.old }
     requires from { from ≤ table.now.frame.layout.blocks }
-    ensures table { IsSameHand hand.old hand.new }
-    ensures hand { IsHandOf table.now hand.new }
+    ensures stays { Stays table.now hand.old hand.new }
     ensures claimed { IsSearchedFrom table.now from result hand.old hand.new }
 {
     let blocks = table.blocks();
@@ -74,8 +72,7 @@ pub fn release<P: Cargo>(table: &OpTable<P>, hand: &mut Hand<P>, block: Block)
     requires table { IsHandOf table.now hand.old }
     requires block { block.index < table.now.frame.layout.blocks }
     requires needs { CanReleaseBlock table.now.frame block.index block.generation hand.old.me }
-    ensures table { IsSameHand hand.old hand.new }
-    ensures hand { IsHandOf table.now hand.new }
+    ensures stays { Stays table.now hand.old hand.new }
     ensures released { Released table.now block.index block.generation hand.old hand.new }
     ensures empty { LeftAllEmpty table.now block.index block.generation hand.new P.Cargo }
     ensures stay { StayEmpty P.Cargo table.now.frame block.index }

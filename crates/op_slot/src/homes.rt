@@ -1,5 +1,5 @@
 //! How an item is put into a home, and taken out.
-ghost use Rattle.table_steps.specs.Views.{IsHandOf, IsSameHand, IsPlaceIn};
+ghost use Rattle.table_steps.specs.Views.{IsHandOf, IsPlaceIn, Stays};
 ghost use Rattle.table_steps.specs.Swaps.{HasHome};
 ghost use Rattle.op_slot.specs.Puts.{CanPut, IsPut, IsTakenOut, BeginsThen};
 
@@ -20,8 +20,7 @@ pub fn put_home<P: Cargo>(table: &OpTable<P>, hand: &mut Hand<P>, name: Name, it
     requires table { IsHandOf table.now hand.old }
     requires place { IsPlaceIn table.now name }
     requires needs { CanPut P.Cargo table.now.frame hand.old.me name item }
-    ensures table { IsSameHand hand.old hand.new }
-    ensures hand { IsHandOf table.now hand.new }
+    ensures stays { Stays table.now hand.old hand.new }
     ensures put { IsPut table.now.frame name item hand.old.me hand.new.me }
     ensures begins { BeginsThen P.Cargo table.now.frame name item hand.old.me hand.new.me }
 {
@@ -39,8 +38,7 @@ pub fn take_home<P: Cargo>(table: &OpTable<P>, hand: &mut Hand<P>, name: Name) -
     requires table { IsHandOf table.now hand.old }
     requires place { IsPlaceIn table.now name }
     requires home { HasHome table.now.frame.layout hand.old.me name }
-    ensures table { IsSameHand hand.old hand.new }
-    ensures hand { IsHandOf table.now hand.new }
+    ensures stays { Stays table.now hand.old hand.new }
     ensures taken { IsTakenOut table.now.frame name result hand.old.me hand.new.me }
 {
     table.swap_home(hand, name, None)

@@ -1,7 +1,7 @@
 //! How a callback is registered ([stopcallback]).
 ghost use Rattle.std.specs.Prelude.{◌≡◌};
 ghost use Rattle.life_rules.specs.declared.words.CallbackPhase.TheVariants.{Never};
-ghost use Rattle.table_steps.specs.Views.{IsHandOf, IsSameHand, IsPlaceIn, aim_at};
+ghost use Rattle.table_steps.specs.Views.{IsHandOf, IsPlaceIn, aim_at, Stays, knows};
 ghost use Rattle.table_steps.specs.Callbacks.{CanArm, IsArmed, FindsCallback, arms};
 
 use crate::plays::Subject;
@@ -32,9 +32,8 @@ impl<P: Cargo> OpTable<P> {
     pub fn arm_step(&self, hand: &mut Hand<P>, name: Name)
         requires table { IsHandOf self.now hand.old }
         requires place { IsPlaceIn self.now name }
-        requires needs { CanArm self.now.frame.tree hand.old.me.0 name }
-        ensures table { IsSameHand hand.old hand.new }
-        ensures hand { IsHandOf self.now hand.new }
+        requires needs { CanArm self.now.frame.tree (knows hand.old) name }
+        ensures stays { Stays self.now hand.old hand.new }
         ensures armed { IsArmed self.now name hand.old hand.new }
     {
         self.arm_at::<Brand>(&mut hand.seat, name);
@@ -43,10 +42,9 @@ impl<P: Cargo> OpTable<P> {
     fn arm_at<K: Subject>(&self, seat: &mut SeatOf<P>, name: Name)
         requires table { IsHandOf self.now seat.old }
         requires place { IsPlaceIn self.now name }
-        requires needs { CanArm self.now.frame.tree seat.old.me.0 name }
+        requires needs { CanArm self.now.frame.tree (knows seat.old) name }
         requires subject { K.aim ≡ aim_at self.now name }
-        ensures table { IsSameHand seat.old seat.new }
-        ensures hand { IsHandOf self.now seat.new }
+        ensures stays { Stays self.now seat.old seat.new }
         ensures armed { IsArmed self.now name seat.old seat.new }
     {
         let armed = callback_number(name.generation, CallbackPhase::Armed);

@@ -1,6 +1,6 @@
 //! How a node is begun.
 ghost use Rattle.std.specs.Prelude.{◌≡◌};
-ghost use Rattle.table_steps.specs.Views.{IsHandOf, IsSameHand, IsPlaceIn, aim_at};
+ghost use Rattle.table_steps.specs.Views.{IsHandOf, IsPlaceIn, aim_at, Stays};
 ghost use Rattle.table_steps.specs.Begins.{CanBegin, HasRenewed};
 ghost use Rattle.table_steps.specs.Steps.{Renewed, Held, Begun};
 
@@ -26,8 +26,7 @@ impl<P: Cargo> OpTable<P> {
         requires table { IsHandOf self.now hand.old }
         requires place { IsPlaceIn self.now name }
         requires needs { CanBegin P.Cargo self.now.frame hand.old.me name }
-        ensures table { IsSameHand hand.old hand.new }
-        ensures hand { IsHandOf self.now hand.new }
+        ensures stays { Stays self.now hand.old hand.new }
         ensures begun { Begun self.now name hand.old hand.new P.Cargo }
     {
         self.renew::<Brand>(&mut hand.seat, name);
@@ -42,8 +41,7 @@ impl<P: Cargo> OpTable<P> {
         requires place { IsPlaceIn self.now name }
         requires needs { CanBegin P.Cargo self.now.frame seat.old.me name }
         requires subject { K.aim ≡ aim_at self.now name }
-        ensures table { IsSameHand seat.old seat.new }
-        ensures hand { IsHandOf self.now seat.new }
+        ensures stays { Stays self.now seat.old seat.new }
         ensures renewed { Renewed self.now name seat.old seat.new }
     {
         if self.frame.tree.node(name.node).source {
@@ -67,8 +65,7 @@ impl<P: Cargo> OpTable<P> {
         requires needs { CanBegin P.Cargo self.now.frame seat.old.me name }
         requires renewed { HasRenewed (aim_at self.now name) seat.old.me }
         requires subject { K.aim ≡ aim_at self.now name }
-        ensures table { IsSameHand seat.old seat.new }
-        ensures hand { IsHandOf self.now seat.new }
+        ensures stays { Stays self.now seat.old seat.new }
         ensures begun { Held self.now name seat.old seat.new P.Cargo }
     {
         let held = control_number(name.generation, ControlWord::Busy(0));

@@ -2,7 +2,7 @@
 ghost use Rattle.std.specs.Prelude.{◌≡◌, ◌<◌, true, IfSome};
 ghost use Rattle.life_rules.specs.Words.{is_free};
 ghost use Rattle.table_words.specs.Blocks.{block_read};
-ghost use Rattle.table_steps.specs.Views.{IsHandOf, IsSameHand, aim_at};
+ghost use Rattle.table_steps.specs.Views.{IsHandOf, aim_at, Stays, knows};
 ghost use Rattle.table_steps.specs.Claims.{IsAnswer, IsAnswerFrom, OwesNoneIn, root_name};
 
 use crate::plays::{Claims, Looks, Subject};
@@ -25,8 +25,7 @@ impl<P: Cargo> OpTable<P> {
     pub fn claim(&self, hand: &mut Hand<P>, block: u32) -> Option<Block>
         requires table { IsHandOf self.now hand.old }
         requires block { block < self.now.frame.layout.blocks }
-        ensures table { IsSameHand hand.old hand.new }
-        ensures hand { IsHandOf self.now hand.new }
+        ensures stays { Stays self.now hand.old hand.new }
         ensures claimed { IsAnswer self.now block result hand.old hand.new }
     {
         let _layout = self.frame.layout;
@@ -39,10 +38,9 @@ impl<P: Cargo> OpTable<P> {
     fn claim_at(&self, seat: &mut SeatOf<P>, block: u32) -> Option<Block>
         requires table { IsHandOf self.now seat.old }
         requires block { block < self.now.frame.layout.blocks }
-        ensures table { IsSameHand seat.old seat.new }
-        ensures hand { IsHandOf self.now seat.new }
+        ensures stays { Stays self.now seat.old seat.new }
         ensures claimed { IsAnswer self.now block result seat.old seat.new }
-        ensures owed { IfSome result (OwesNoneIn self.now seat.old.me.0) }
+        ensures owed { IfSome result (OwesNoneIn self.now (knows seat.old)) }
     {
         let index = self.frame.layout.block(block);
         let found = self.table.load::<Looks>(seat, index);
@@ -58,10 +56,9 @@ impl<P: Cargo> OpTable<P> {
         requires block { block < self.now.frame.layout.blocks }
         requires free { is_free (block_read found).state ≡ true }
         requires subject { K.aim ≡ aim_at self.now (root_name self.now block (block_read found).generation) }
-        ensures table { IsSameHand seat.old seat.new }
-        ensures hand { IsHandOf self.now seat.new }
+        ensures stays { Stays self.now seat.old seat.new }
         ensures claimed { IsAnswerFrom self.now block found result seat.old seat.new }
-        ensures owed { IfSome result (OwesNoneIn self.now seat.old.me.0) }
+        ensures owed { IfSome result (OwesNoneIn self.now (knows seat.old)) }
     {
         let generation = stamp(found);
         let open = block_number(BlockWord {

@@ -1,6 +1,6 @@
 //! How an association with the counting scope begins (P3149, [exec.scope]).
 ghost use Rattle.std.specs.Prelude.{◌≡◌, ℕ};
-ghost use Rattle.table_steps.specs.Views.{IsHandOf, IsSameHand};
+ghost use Rattle.table_steps.specs.Views.{IsHandOf, Stays, knows};
 ghost use Rattle.table_steps.specs.Lefts.{plus_one};
 ghost use Rattle.table_steps.specs.ScopeMoves.{MovesScopeAt, with_one_more};
 ghost use Rattle.table_steps.specs.ScopeEntries.{MayEnter, enters, IsEntered};
@@ -40,9 +40,8 @@ impl<P: Cargo> OpTable<P> {
     /// set; else one in the making.
     pub fn enter_step(&self, hand: &mut Hand<P>) -> ScopeWord
         requires table { IsHandOf self.now hand.old }
-        requires enters { MayEnter hand.old.me.0 }
-        ensures table { IsSameHand hand.old hand.new }
-        ensures hand { IsHandOf self.now hand.new }
+        requires enters { MayEnter (knows hand.old) }
+        ensures stays { Stays self.now hand.old hand.new }
         ensures entered { IsEntered self.now result hand.old hand.new }
     {
         self.enter_at::<Brand>(&mut hand.seat)
@@ -50,10 +49,9 @@ impl<P: Cargo> OpTable<P> {
 
     fn enter_at<K: Room>(&self, seat: &mut SeatOf<P>) -> ScopeWord
         requires table { IsHandOf self.now seat.old }
-        requires enters { MayEnter seat.old.me.0 }
+        requires enters { MayEnter (knows seat.old) }
         requires room { K.most ≡ self.now.frame.most }
-        ensures table { IsSameHand seat.old seat.new }
-        ensures hand { IsHandOf self.now seat.new }
+        ensures stays { Stays self.now seat.old seat.new }
         ensures entered { IsEntered self.now result seat.old seat.new }
     {
         let word = self.table.fetch_add::<Enters<K>>(seat, SCOPE, 1);

@@ -1,6 +1,6 @@
 //! How a node is finished.
 ghost use Rattle.std.specs.Prelude.{◌≡◌};
-ghost use Rattle.table_steps.specs.Views.{IsHandOf, IsSameHand, IsPlaceIn, aim_at};
+ghost use Rattle.table_steps.specs.Views.{IsHandOf, IsPlaceIn, aim_at, Stays};
 ghost use Rattle.table_steps.specs.Finishes.{CanFinish};
 ghost use Rattle.table_steps.specs.Steps.{Finished};
 
@@ -27,8 +27,7 @@ impl<P: Cargo> OpTable<P> {
         requires table { IsHandOf self.now hand.old }
         requires place { IsPlaceIn self.now name }
         requires needs { CanFinish P.Cargo self.now.frame hand.old.me name }
-        ensures table { IsSameHand hand.old hand.new }
-        ensures hand { IsHandOf self.now hand.new }
+        ensures stays { Stays self.now hand.old hand.new }
         ensures finished { Finished self.now name hand.old hand.new P.Cargo }
     {
         self.finish_at::<Brand>(&mut hand.seat, name);
@@ -40,8 +39,7 @@ impl<P: Cargo> OpTable<P> {
         requires place { IsPlaceIn self.now name }
         requires needs { CanFinish P.Cargo self.now.frame seat.old.me name }
         requires subject { K.aim ≡ aim_at self.now name }
-        ensures table { IsSameHand seat.old seat.new }
-        ensures hand { IsHandOf self.now seat.new }
+        ensures stays { Stays self.now seat.old seat.new }
         ensures finished { Finished self.now name seat.old seat.new P.Cargo }
     {
         let done = control_number(name.generation, ControlWord::Done);

@@ -1,7 +1,7 @@
 //! Loads of a node's control word, by hands that seek something to do.
 ghost use Rattle.std.specs.Prelude.{◌≡◌, ◌<◌};
 ghost use Rattle.life_rules.specs.Words.{is_parked};
-ghost use Rattle.table_steps.specs.Views.{IsHandOf, IsSameHand};
+ghost use Rattle.table_steps.specs.Views.{IsHandOf, Stays};
 ghost use Rattle.table_steps.specs.Looks.{is_ready_in, IsRead, IsReadAs};
 
 use crate::plays::Looks;
@@ -34,8 +34,7 @@ impl<P: Cargo> OpTable<P> {
         requires table { IsHandOf self.now seat.old }
         requires block { block < self.now.frame.layout.blocks }
         requires node { node < self.now.frame.layout.nodes }
-        ensures table { IsSameHand seat.old seat.new }
-        ensures hand { IsHandOf self.now seat.new }
+        ensures stays { Stays self.now seat.old seat.new }
         ensures read { IsRead self.now block node result seat.old seat.new }
     {
         let index = self.frame.layout.control(block, node);
@@ -50,8 +49,7 @@ impl<P: Cargo> OpTable<P> {
         requires table { IsHandOf self.now hand.old }
         requires block { block < self.now.frame.layout.blocks }
         requires node { node < self.now.frame.layout.nodes }
-        ensures table { IsSameHand hand.old hand.new }
-        ensures hand { IsHandOf self.now hand.new }
+        ensures stays { Stays self.now hand.old hand.new }
         ensures read { IsReadAs self.now block node (is_ready_in on) result hand.old hand.new }
     {
         let word = self.control_word(&mut hand.seat, block, node);
@@ -74,8 +72,7 @@ impl<P: Cargo> OpTable<P> {
         requires table { IsHandOf self.now hand.old }
         requires block { block < self.now.frame.layout.blocks }
         requires node { node < self.now.frame.layout.nodes }
-        ensures table { IsSameHand hand.old hand.new }
-        ensures hand { IsHandOf self.now hand.new }
+        ensures stays { Stays self.now hand.old hand.new }
         ensures read { IsReadAs self.now block node is_parked result hand.old hand.new }
     {
         let word = self.control_word(&mut hand.seat, block, node);

@@ -1,7 +1,7 @@
 //! The starts that a hand owes.
 ghost use Rattle.std.specs.Prelude.{◌≡◌, [], MatchOption};
 ghost use Rattle.name_set.specs.Sets.{IsOfItsBlock};
-ghost use Rattle.table_steps.specs.Views.{IsHandOf, IsPlaceIn};
+ghost use Rattle.table_steps.specs.Views.{IsHandOf, IsPlaceIn, knows};
 ghost use Rattle.table_steps.specs.Owing.{Owes};
 ghost use Rattle.table_steps.specs.Remembers.{AreAdded, ArePlacesOf};
 
@@ -42,7 +42,7 @@ impl<P: Cargo> OpTable<P> {
     /// No step: the hand remembers what it owes.
     pub fn owed(&self, hand: &Hand<P>) -> Option<Name>
         requires table { IsHandOf self.now hand.now }
-        ensures owes { MatchOption result (hand.now.me.0.owed ≡ []) (Owes hand.now.me.0) }
+        ensures owes { MatchOption result ((knows hand.now).owed ≡ []) (Owes (knows hand.now)) }
         ensures place { MatchOption result (Unit {0}) (IsPlaceIn self.now) }
     {
         let _layout = self.frame.layout;

@@ -1,7 +1,7 @@
 //! What a hand reads of a node that it holds, and notes.
 ghost use Rattle.std.specs.Prelude.{◌≡◌};
 ghost use Rattle.life_rules.specs.Words.{is_idle};
-ghost use Rattle.table_steps.specs.Views.{IsHandOf, IsSameHand, IsPlaceIn, aim_at};
+ghost use Rattle.table_steps.specs.Views.{IsHandOf, IsPlaceIn, aim_at, Stays, knows};
 ghost use Rattle.table_steps.specs.Readings.{above_it, says_begun, says_phase, HoldsAbove, Holds, IsBegunAs, IsPhaseAs};
 
 use crate::plays::{ReadsChild, ReadsPhase, Subject};
@@ -45,9 +45,8 @@ impl<P: Cargo> OpTable<P> {
     pub fn has_begun(&self, hand: &mut Hand<P>, child: Name) -> bool
         requires table { IsHandOf self.now hand.old }
         requires place { IsPlaceIn self.now child }
-        requires holds { HoldsAbove self.now.frame.tree hand.old.me.0 child }
-        ensures table { IsSameHand hand.old hand.new }
-        ensures hand { IsHandOf self.now hand.new }
+        requires holds { HoldsAbove self.now.frame.tree (knows hand.old) child }
+        ensures stays { Stays self.now hand.old hand.new }
         ensures begun { IsBegunAs self.now.frame child result hand.old.me hand.new.me }
     {
         self.read_child::<Brand, Brand>(&mut hand.seat, child)
@@ -56,11 +55,10 @@ impl<P: Cargo> OpTable<P> {
     fn read_child<K: Subject, J: Subject>(&self, seat: &mut SeatOf<P>, child: Name) -> bool
         requires table { IsHandOf self.now seat.old }
         requires place { IsPlaceIn self.now child }
-        requires holds { HoldsAbove self.now.frame.tree seat.old.me.0 child }
+        requires holds { HoldsAbove self.now.frame.tree (knows seat.old) child }
         requires parent { K.aim ≡ aim_at self.now (above_it self.now.frame.tree child) }
         requires child { J.aim ≡ aim_at self.now child }
-        ensures table { IsSameHand seat.old seat.new }
-        ensures hand { IsHandOf self.now seat.new }
+        ensures stays { Stays self.now seat.old seat.new }
         ensures begun { IsBegunAs self.now.frame child result seat.old.me seat.new.me }
     {
         let index = self.frame.layout.control(child.block, child.node);
@@ -76,9 +74,8 @@ impl<P: Cargo> OpTable<P> {
     pub fn phase_of(&self, hand: &mut Hand<P>, name: Name) -> CallbackPhase
         requires table { IsHandOf self.now hand.old }
         requires place { IsPlaceIn self.now name }
-        requires holds { Holds hand.old.me.0 name }
-        ensures table { IsSameHand hand.old hand.new }
-        ensures hand { IsHandOf self.now hand.new }
+        requires holds { Holds (knows hand.old) name }
+        ensures stays { Stays self.now hand.old hand.new }
         ensures phase { IsPhaseAs self.now.frame name result hand.old.me hand.new.me }
     {
         self.read_phase::<Brand>(&mut hand.seat, name)
@@ -87,10 +84,9 @@ impl<P: Cargo> OpTable<P> {
     fn read_phase<K: Subject>(&self, seat: &mut SeatOf<P>, name: Name) -> CallbackPhase
         requires table { IsHandOf self.now seat.old }
         requires place { IsPlaceIn self.now name }
-        requires holds { Holds seat.old.me.0 name }
+        requires holds { Holds (knows seat.old) name }
         requires subject { K.aim ≡ aim_at self.now name }
-        ensures table { IsSameHand seat.old seat.new }
-        ensures hand { IsHandOf self.now seat.new }
+        ensures stays { Stays self.now seat.old seat.new }
         ensures phase { IsPhaseAs self.now.frame name result seat.old.me seat.new.me }
     {
         let index = self.frame.layout.callback(name.block, name.node);

@@ -1,6 +1,6 @@
 //! How a block is given back.
 ghost use Rattle.std.specs.Prelude.{◌≡◌, ◌<◌, [], ◌∷◌};
-ghost use Rattle.table_steps.specs.Views.{IsHandOf, IsSameHand, aim_at};
+ghost use Rattle.table_steps.specs.Views.{IsHandOf, aim_at, Stays};
 ghost use Rattle.table_steps.specs.Claims.{root_name};
 ghost use Rattle.table_steps.specs.Releases.{CanReleaseBlock, StayEmpty, word_after};
 ghost use Rattle.table_steps.specs.Steps.{Released, LeftAllEmpty};
@@ -45,8 +45,7 @@ impl<P: Cargo> OpTable<P> {
         requires table { IsHandOf self.now hand.old }
         requires block { block.index < self.now.frame.layout.blocks }
         requires needs { CanReleaseBlock self.now.frame block.index block.generation hand.old.me }
-        ensures table { IsSameHand hand.old hand.new }
-        ensures hand { IsHandOf self.now hand.new }
+        ensures stays { Stays self.now hand.old hand.new }
         ensures released { Released self.now block.index block.generation hand.old hand.new }
         ensures empty { LeftAllEmpty self.now block.index block.generation hand.new P.Cargo }
         ensures stay { StayEmpty P.Cargo self.now.frame block.index }
@@ -61,8 +60,7 @@ impl<P: Cargo> OpTable<P> {
         requires subject { K.aim ≡ aim_at self.now (root_name self.now block.index block.generation) }
         requires frames { J.frames ≡ self.now.frame ∷ [] }
         requires site { J.hand ≡ seat.old.id }
-        ensures table { IsSameHand seat.old seat.new }
-        ensures hand { IsHandOf self.now seat.new }
+        ensures stays { Stays self.now seat.old seat.new }
         ensures released { Released self.now block.index block.generation seat.old seat.new }
         ensures empty { LeftAllEmpty self.now block.index block.generation seat.new P.Cargo }
         ensures stay { StayEmpty P.Cargo self.now.frame block.index }

@@ -2,7 +2,7 @@
 ghost use Rattle.std.specs.Prelude.{◌≡◌, ◌≢◌, ◌∷◌, []};
 ghost use Rattle.life_rules.specs.Words.{pending};
 ghost use Rattle.table_words.specs.Controls.{control_read};
-ghost use Rattle.table_steps.specs.Views.{IsHandOf, IsSameHand, IsPlaceIn, aim_at};
+ghost use Rattle.table_steps.specs.Views.{IsHandOf, IsPlaceIn, aim_at, Stays, knows};
 ghost use Rattle.table_steps.specs.Readings.{above_it};
 ghost use Rattle.table_steps.specs.declared.report.Report.TheVariants.{Last, Others};
 ghost use Rattle.table_steps.specs.Reports.{CanReport, IsReportedAs};
@@ -71,9 +71,8 @@ impl<P: Cargo> OpTable<P> {
     pub fn report(&self, hand: &mut Hand<P>, child: Name) -> Report
         requires table { IsHandOf self.now hand.old }
         requires place { IsPlaceIn self.now child }
-        requires needs { CanReport self.now.frame.tree hand.old.me.0 child }
-        ensures table { IsSameHand hand.old hand.new }
-        ensures hand { IsHandOf self.now hand.new }
+        requires needs { CanReport self.now.frame.tree (knows hand.old) child }
+        ensures stays { Stays self.now hand.old hand.new }
         ensures reported { IsReportedAs P.Cargo self.now.frame child result hand.old.me hand.new.me }
     {
         self.report_to::<Brand, Brand, Brand>(&mut hand.seat, child)
@@ -86,12 +85,11 @@ impl<P: Cargo> OpTable<P> {
     ) -> Report
         requires table { IsHandOf self.now seat.old }
         requires place { IsPlaceIn self.now child }
-        requires needs { CanReport self.now.frame.tree seat.old.me.0 child }
+        requires needs { CanReport self.now.frame.tree (knows seat.old) child }
         requires parent { K.aim ≡ aim_at self.now (above_it self.now.frame.tree child) }
         requires child { J.aim ≡ aim_at self.now child }
         requires key { L.overs ≡ self.now.frame.over.value ∷ [] }
-        ensures table { IsSameHand seat.old seat.new }
-        ensures hand { IsHandOf self.now seat.new }
+        ensures stays { Stays self.now seat.old seat.new }
         ensures reported { IsReportedAs P.Cargo self.now.frame child result seat.old.me seat.new.me }
     {
         words_are_exact();

@@ -1,6 +1,6 @@
 //! How a stop is requested ([stopsource], `request_stop`).
 ghost use Rattle.std.specs.Prelude.{◌≡◌, bit_or};
-ghost use Rattle.table_steps.specs.Views.{IsHandOf, IsSameHand};
+ghost use Rattle.table_steps.specs.Views.{IsHandOf, Stays, knows};
 ghost use Rattle.table_steps.specs.Sights.{IsSourceIn};
 ghost use Rattle.table_steps.specs.Requests.{mask, AsksAt, MayRequest, IsAsked};
 
@@ -46,9 +46,8 @@ impl<P: Cargo> OpTable<P> {
     pub fn request_step(&self, hand: &mut Hand<P>, source: SourceRef, failure: bool) -> Bits
         requires table { IsHandOf self.now hand.old }
         requires source { IsSourceIn self.now source }
-        requires needs { MayRequest P.Cargo self.now.frame hand.old.me.0 source failure }
-        ensures table { IsSameHand hand.old hand.new }
-        ensures hand { IsHandOf self.now hand.new }
+        requires needs { MayRequest P.Cargo self.now.frame (knows hand.old) source failure }
+        ensures stays { Stays self.now hand.old hand.new }
         ensures asked { IsAsked self.now source failure result hand.old hand.new }
     {
         self.request_at::<Brand>(&mut hand.seat, source, failure)
@@ -57,10 +56,9 @@ impl<P: Cargo> OpTable<P> {
     fn request_at<K: Regard>(&self, seat: &mut SeatOf<P>, source: SourceRef, failure: bool) -> Bits
         requires table { IsHandOf self.now seat.old }
         requires source { IsSourceIn self.now source }
-        requires needs { MayRequest P.Cargo self.now.frame seat.old.me.0 source failure }
+        requires needs { MayRequest P.Cargo self.now.frame (knows seat.old) source failure }
         requires source_is { K.source ≡ source }
-        ensures table { IsSameHand seat.old seat.new }
-        ensures hand { IsHandOf self.now seat.new }
+        ensures stays { Stays self.now seat.old seat.new }
         ensures asked { IsAsked self.now source failure result seat.old seat.new }
     {
         let index = source_index(&self.frame.layout, source);

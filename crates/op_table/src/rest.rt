@@ -2,7 +2,7 @@
 ghost use Rattle.std.specs.Prelude.{◌≡◌, ◌∷◌, []};
 ghost use Rattle.life_rules.specs.Words.{resting_at};
 ghost use Rattle.life_rules.specs.declared.event.Resting.TheVariants.{Parked};
-ghost use Rattle.table_steps.specs.Views.{IsHandOf, IsSameHand, IsPlaceIn, aim_at};
+ghost use Rattle.table_steps.specs.Views.{IsHandOf, IsPlaceIn, aim_at, Stays, knows};
 ghost use Rattle.table_steps.specs.Rests.{CanRest};
 ghost use Rattle.table_steps.specs.Steps.{Rested};
 ghost use Rattle.table_steps.specs.Takes.{resting_in, MayServe, IsTaken};
@@ -50,8 +50,7 @@ impl<P: Cargo> OpTable<P> {
         requires table { IsHandOf self.now hand.old }
         requires place { IsPlaceIn self.now name }
         requires needs { CanRest P.Cargo self.now.frame hand.old.me name }
-        ensures table { IsSameHand hand.old hand.new }
-        ensures hand { IsHandOf self.now hand.new }
+        ensures stays { Stays self.now hand.old hand.new }
         ensures rests { Rested self.now name hand.old hand.new (resting_in on) }
     {
         self.rest_at::<Brand>(&mut hand.seat, name, rests_in(on));
@@ -65,8 +64,7 @@ impl<P: Cargo> OpTable<P> {
         requires table { IsHandOf self.now hand.old }
         requires place { IsPlaceIn self.now name }
         requires needs { CanRest P.Cargo self.now.frame hand.old.me name }
-        ensures table { IsSameHand hand.old hand.new }
-        ensures hand { IsHandOf self.now hand.new }
+        ensures stays { Stays self.now hand.old hand.new }
         ensures rests { Rested self.now name hand.old hand.new Parked }
     {
         self.rest_at::<Brand>(&mut hand.seat, name, Resting::Parked);
@@ -78,8 +76,7 @@ impl<P: Cargo> OpTable<P> {
         requires place { IsPlaceIn self.now name }
         requires needs { CanRest P.Cargo self.now.frame seat.old.me name }
         requires subject { K.aim ≡ aim_at self.now name }
-        ensures table { IsSameHand seat.old seat.new }
-        ensures hand { IsHandOf self.now seat.new }
+        ensures stays { Stays self.now seat.old seat.new }
         ensures rests { Rested self.now name seat.old seat.new to }
     {
         let rests = control_number(name.generation, word_at(to));
@@ -98,9 +95,8 @@ impl<P: Cargo> OpTable<P> {
     pub fn take(&self, hand: &mut Hand<P>, name: Name, on: Context) -> bool
         requires table { IsHandOf self.now hand.old }
         requires place { IsPlaceIn self.now name }
-        requires serves { MayServe (resting_in on) hand.old.me.0 }
-        ensures table { IsSameHand hand.old hand.new }
-        ensures hand { IsHandOf self.now hand.new }
+        requires serves { MayServe (resting_in on) (knows hand.old) }
+        ensures stays { Stays self.now hand.old hand.new }
         ensures taken { IsTaken P.Cargo self.now.frame name (resting_in on) result hand.old.me hand.new.me }
     {
         self.take_at::<Brand, Brand>(&mut hand.seat, name, rests_in(on))
@@ -114,9 +110,8 @@ impl<P: Cargo> OpTable<P> {
     pub fn take_parked(&self, hand: &mut Hand<P>, name: Name) -> bool
         requires table { IsHandOf self.now hand.old }
         requires place { IsPlaceIn self.now name }
-        requires serves { MayServe Parked hand.old.me.0 }
-        ensures table { IsSameHand hand.old hand.new }
-        ensures hand { IsHandOf self.now hand.new }
+        requires serves { MayServe Parked (knows hand.old) }
+        ensures stays { Stays self.now hand.old hand.new }
         ensures taken { IsTaken P.Cargo self.now.frame name Parked result hand.old.me hand.new.me }
     {
         self.take_at::<Brand, Brand>(&mut hand.seat, name, Resting::Parked)
@@ -131,11 +126,10 @@ impl<P: Cargo> OpTable<P> {
     ) -> bool
         requires table { IsHandOf self.now seat.old }
         requires place { IsPlaceIn self.now name }
-        requires serves { MayServe from seat.old.me.0 }
+        requires serves { MayServe from (knows seat.old) }
         requires subject { K.aim ≡ aim_at self.now name }
         requires key { J.overs ≡ self.now.frame.over.value ∷ [] }
-        ensures table { IsSameHand seat.old seat.new }
-        ensures hand { IsHandOf self.now seat.new }
+        ensures stays { Stays self.now seat.old seat.new }
         ensures taken { IsTaken P.Cargo self.now.frame name from result seat.old.me seat.new.me }
     {
         let rests = control_number(name.generation, word_at(from));

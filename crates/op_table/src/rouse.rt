@@ -1,5 +1,5 @@
 //! How a parked node is woken.
-ghost use Rattle.table_steps.specs.Views.{IsHandOf, IsSameHand, IsPlaceIn};
+ghost use Rattle.table_steps.specs.Views.{IsHandOf, IsPlaceIn, Stays, knows};
 ghost use Rattle.table_steps.specs.Rouses.{MayRouse, IsRoused, rouses};
 
 use crate::table::{Hand, OpTable, SeatOf};
@@ -27,9 +27,8 @@ impl<P: Cargo> OpTable<P> {
     pub fn rouse(&self, hand: &mut Hand<P>, name: Name) -> bool
         requires table { IsHandOf self.now hand.old }
         requires place { IsPlaceIn self.now name }
-        requires rouses { MayRouse hand.old.me.0 name }
-        ensures table { IsSameHand hand.old hand.new }
-        ensures hand { IsHandOf self.now hand.new }
+        requires rouses { MayRouse (knows hand.old) name }
+        ensures stays { Stays self.now hand.old hand.new }
         ensures roused { IsRoused self.now name result hand.old hand.new }
     {
         self.rouse_at(&mut hand.seat, name)
@@ -38,9 +37,8 @@ impl<P: Cargo> OpTable<P> {
     fn rouse_at(&self, seat: &mut SeatOf<P>, name: Name) -> bool
         requires table { IsHandOf self.now seat.old }
         requires place { IsPlaceIn self.now name }
-        requires rouses { MayRouse seat.old.me.0 name }
-        ensures table { IsSameHand seat.old seat.new }
-        ensures hand { IsHandOf self.now seat.new }
+        requires rouses { MayRouse (knows seat.old) name }
+        ensures stays { Stays self.now seat.old seat.new }
         ensures roused { IsRoused self.now name result seat.old seat.new }
     {
         let parked = control_number(name.generation, ControlWord::Parked);

@@ -1,6 +1,6 @@
 //! How a scan runs the callback of its next place, or passes it ([stopcallback]).
 ghost use Rattle.std.specs.Prelude.{◌≡◌, ◌<◌, true, IfSome};
-ghost use Rattle.table_steps.specs.Views.{IsHandOf, IsSameHand, IsPlaceIn, aim_at};
+ghost use Rattle.table_steps.specs.Views.{IsHandOf, IsPlaceIn, aim_at, Stays, knows};
 ghost use Rattle.table_steps.specs.Runs.{place_named, says_armed, run_index, meets_at, RunsAt, CanRun, IsNewest, IsRun, IsRunFrom};
 
 use crate::plays::{Regard, Subject};
@@ -59,9 +59,8 @@ impl<P: Cargo> OpTable<P> {
     ) -> Option<Name>
         requires table { IsHandOf self.now hand.old }
         requires block { block < self.now.frame.layout.blocks }
-        requires needs { CanRun self.now.frame.tree hand.old.me.0 source block node }
-        ensures table { IsSameHand hand.old hand.new }
-        ensures hand { IsHandOf self.now hand.new }
+        requires needs { CanRun self.now.frame.tree (knows hand.old) source block node }
+        ensures stays { Stays self.now hand.old hand.new }
         ensures place { IfSome result (IsPlaceIn self.now) }
         ensures run { IsRun self.now source block node result hand.old hand.new }
     {
@@ -80,11 +79,10 @@ impl<P: Cargo> OpTable<P> {
     ) -> Option<Name>
         requires table { IsHandOf self.now seat.old }
         requires block { block < self.now.frame.layout.blocks }
-        requires needs { CanRun self.now.frame.tree seat.old.me.0 source block node }
+        requires needs { CanRun self.now.frame.tree (knows seat.old) source block node }
         requires subject { K.aim ≡ aim_at self.now (place_named block node) }
         requires source_is { J.source ≡ source }
-        ensures table { IsSameHand seat.old seat.new }
-        ensures hand { IsHandOf self.now seat.new }
+        ensures stays { Stays self.now seat.old seat.new }
         ensures place { IfSome result (IsPlaceIn self.now) }
         ensures run { IsRun self.now source block node result seat.old seat.new }
     {
@@ -108,13 +106,12 @@ impl<P: Cargo> OpTable<P> {
     ) -> Option<Name>
         requires table { IsHandOf self.now seat.old }
         requires block { block < self.now.frame.layout.blocks }
-        requires needs { CanRun self.now.frame.tree seat.old.me.0 source block node }
+        requires needs { CanRun self.now.frame.tree (knows seat.old) source block node }
         requires armed { says_armed word ≡ true }
-        requires newest { IsNewest (run_index self.now block node) word seat.old.me.0 }
+        requires newest { IsNewest (run_index self.now block node) word (knows seat.old) }
         requires subject { K.aim ≡ aim_at self.now (place_named block node) }
         requires source_is { J.source ≡ source }
-        ensures table { IsSameHand seat.old seat.new }
-        ensures hand { IsHandOf self.now seat.new }
+        ensures stays { Stays self.now seat.old seat.new }
         ensures place { IfSome result (IsPlaceIn self.now) }
         ensures run { IsRunFrom self.now source block node word result seat.old seat.new }
     {

@@ -1,7 +1,7 @@
 //! How a callback's run ends, also by a removal from inside it ([stopcallback]).
 ghost use Rattle.std.specs.Prelude.{◌≡◌};
 ghost use Rattle.life_rules.specs.declared.words.CallbackPhase.TheVariants.{Running};
-ghost use Rattle.table_steps.specs.Views.{IsHandOf, IsSameHand, IsPlaceIn, aim_at};
+ghost use Rattle.table_steps.specs.Views.{IsHandOf, IsPlaceIn, aim_at, Stays, knows};
 ghost use Rattle.table_steps.specs.Callbacks.{FindsCallback};
 ghost use Rattle.table_steps.specs.RunEnds.{ends_run, removes_own, CanEndRun, CanWithdrawOwn, IsRunEnded, IsOwnWithdrawn};
 
@@ -40,9 +40,8 @@ impl<P: Cargo> OpTable<P> {
     pub fn end_run_step(&self, hand: &mut Hand<P>, name: Name)
         requires table { IsHandOf self.now hand.old }
         requires place { IsPlaceIn self.now name }
-        requires needs { CanEndRun hand.old.me.0 name }
-        ensures table { IsSameHand hand.old hand.new }
-        ensures hand { IsHandOf self.now hand.new }
+        requires needs { CanEndRun (knows hand.old) name }
+        ensures stays { Stays self.now hand.old hand.new }
         ensures ended { IsRunEnded self.now name hand.old hand.new }
     {
         self.end_run_at::<Brand>(&mut hand.seat, name);
@@ -52,10 +51,9 @@ impl<P: Cargo> OpTable<P> {
     fn end_run_at<K: Subject>(&self, seat: &mut SeatOf<P>, name: Name)
         requires table { IsHandOf self.now seat.old }
         requires place { IsPlaceIn self.now name }
-        requires needs { CanEndRun seat.old.me.0 name }
+        requires needs { CanEndRun (knows seat.old) name }
         requires subject { K.aim ≡ aim_at self.now name }
-        ensures table { IsSameHand seat.old seat.new }
-        ensures hand { IsHandOf self.now seat.new }
+        ensures stays { Stays self.now seat.old seat.new }
         ensures ended { IsRunEnded self.now name seat.old seat.new }
     {
         let ran = callback_number(name.generation, CallbackPhase::Ran);
@@ -72,9 +70,8 @@ impl<P: Cargo> OpTable<P> {
     pub fn withdraw_own_step(&self, hand: &mut Hand<P>, name: Name)
         requires table { IsHandOf self.now hand.old }
         requires place { IsPlaceIn self.now name }
-        requires needs { CanWithdrawOwn hand.old.me.0 name }
-        ensures table { IsSameHand hand.old hand.new }
-        ensures hand { IsHandOf self.now hand.new }
+        requires needs { CanWithdrawOwn (knows hand.old) name }
+        ensures stays { Stays self.now hand.old hand.new }
         ensures withdrawn { IsOwnWithdrawn self.now name hand.old hand.new }
     {
         self.withdraw_own_at::<Brand>(&mut hand.seat, name);
@@ -84,10 +81,9 @@ impl<P: Cargo> OpTable<P> {
     fn withdraw_own_at<K: Subject>(&self, seat: &mut SeatOf<P>, name: Name)
         requires table { IsHandOf self.now seat.old }
         requires place { IsPlaceIn self.now name }
-        requires needs { CanWithdrawOwn seat.old.me.0 name }
+        requires needs { CanWithdrawOwn (knows seat.old) name }
         requires subject { K.aim ≡ aim_at self.now name }
-        ensures table { IsSameHand seat.old seat.new }
-        ensures hand { IsHandOf self.now seat.new }
+        ensures stays { Stays self.now seat.old seat.new }
         ensures withdrawn { IsOwnWithdrawn self.now name seat.old seat.new }
     {
         let removed = callback_number(name.generation, CallbackPhase::Removed);

@@ -1,6 +1,6 @@
 //! The callbacks that a hand runs.
 ghost use Rattle.std.specs.Prelude.{◌≡◌, nat_le};
-ghost use Rattle.table_steps.specs.Views.{IsHandOf, IsPlaceIn};
+ghost use Rattle.table_steps.specs.Views.{IsHandOf, IsPlaceIn, knows};
 ghost use Rattle.table_steps.specs.Remembers.{running};
 
 use crate::table::{Hand, OpTable};
@@ -14,7 +14,7 @@ impl<P: Cargo> OpTable<P> {
     pub fn runs(&self, hand: &Hand<P>, name: Name) -> bool
         requires table { IsHandOf self.now hand.now }
         requires place { IsPlaceIn self.now name }
-        ensures { result ≡ nat_le 1 (running hand.now.me.0 name) }
+        ensures { result ≡ nat_le 1 (running (knows hand.now) name) }
     {
         let _layout = self.frame.layout;
         hand.runs.contains(name)

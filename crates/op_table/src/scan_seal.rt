@@ -1,6 +1,6 @@
 //! How a scan of a stop source ends.
 ghost use Rattle.std.specs.Prelude.{◌≡◌, bit_or};
-ghost use Rattle.table_steps.specs.Views.{IsHandOf, IsSameHand};
+ghost use Rattle.table_steps.specs.Views.{IsHandOf, Stays, knows};
 ghost use Rattle.table_steps.specs.Sights.{IsSourceIn};
 ghost use Rattle.table_steps.specs.ScanSeals.{CanSealScan, SealsScanAt, IsScanSealed};
 
@@ -34,9 +34,8 @@ impl<P: Cargo> OpTable<P> {
     pub fn seal_scan_step(&self, hand: &mut Hand<P>, source: SourceRef)
         requires table { IsHandOf self.now hand.old }
         requires source { IsSourceIn self.now source }
-        requires needs { CanSealScan self.now.frame hand.old.me.0 source }
-        ensures table { IsSameHand hand.old hand.new }
-        ensures hand { IsHandOf self.now hand.new }
+        requires needs { CanSealScan self.now.frame (knows hand.old) source }
+        ensures stays { Stays self.now hand.old hand.new }
         ensures sealed { IsScanSealed self.now source hand.old hand.new }
     {
         self.seal_scan_at::<Brand>(&mut hand.seat, source);
@@ -45,10 +44,9 @@ impl<P: Cargo> OpTable<P> {
     fn seal_scan_at<K: Regard>(&self, seat: &mut SeatOf<P>, source: SourceRef)
         requires table { IsHandOf self.now seat.old }
         requires source { IsSourceIn self.now source }
-        requires needs { CanSealScan self.now.frame seat.old.me.0 source }
+        requires needs { CanSealScan self.now.frame (knows seat.old) source }
         requires source_is { K.source ≡ source }
-        ensures table { IsSameHand seat.old seat.new }
-        ensures hand { IsHandOf self.now seat.new }
+        ensures stays { Stays self.now seat.old seat.new }
         ensures sealed { IsScanSealed self.now source seat.old seat.new }
     {
         let index = source_index(&self.frame.layout, source);

@@ -8,7 +8,7 @@
 ghost use Rattle.std.specs.Prelude.{◌≡◌, ◌≢◌, true, bit_or, MatchResult};
 ghost use Rattle.life_rules.specs.Scopes.{may_seal};
 ghost use Rattle.table_words.specs.ScopeNumbers.{scope_read};
-ghost use Rattle.table_steps.specs.Views.{IsHandOf, IsSameHand};
+ghost use Rattle.table_steps.specs.Views.{IsHandOf, Stays, knows};
 ghost use Rattle.table_steps.specs.Claims.{exchanged};
 ghost use Rattle.table_steps.specs.Lefts.{less_one};
 ghost use Rattle.table_steps.specs.ScopeMoves.{IsMaking, MayLeaveScope, makes, leaves_scope, as_used, with_one_less, MovesScopeAt, MovesScope, IsMade, SealsAt, IsSealedAs};
@@ -62,9 +62,8 @@ impl<P: Cargo> OpTable<P> {
     /// Afterwards: the association is made.
     pub fn mark_used_step(&self, hand: &mut Hand<P>)
         requires table { IsHandOf self.now hand.old }
-        requires making { IsMaking hand.old.me.0 }
-        ensures table { IsSameHand hand.old hand.new }
-        ensures hand { IsHandOf self.now hand.new }
+        requires making { IsMaking (knows hand.old) }
+        ensures stays { Stays self.now hand.old hand.new }
         ensures made { IsMade hand.old hand.new }
     {
         self.mark_used_at(&mut hand.seat);
@@ -72,9 +71,8 @@ impl<P: Cargo> OpTable<P> {
 
     fn mark_used_at(&self, seat: &mut SeatOf<P>)
         requires table { IsHandOf self.now seat.old }
-        requires making { IsMaking seat.old.me.0 }
-        ensures table { IsSameHand seat.old seat.new }
-        ensures hand { IsHandOf self.now seat.new }
+        requires making { IsMaking (knows seat.old) }
+        ensures stays { Stays self.now seat.old seat.new }
         ensures made { IsMade seat.old seat.new }
     {
         let _word = self.table.fetch_or::<Makes>(seat, SCOPE, USED);
@@ -88,9 +86,8 @@ impl<P: Cargo> OpTable<P> {
     /// Afterwards: it has one less.
     pub fn leave_step(&self, hand: &mut Hand<P>) -> ScopeWord
         requires table { IsHandOf self.now hand.old }
-        requires leaves { MayLeaveScope hand.old.me.0 }
-        ensures table { IsSameHand hand.old hand.new }
-        ensures hand { IsHandOf self.now hand.new }
+        requires leaves { MayLeaveScope (knows hand.old) }
+        ensures stays { Stays self.now hand.old hand.new }
         ensures left { MovesScope with_one_less leaves_scope result hand.old hand.new }
     {
         self.leave_at(&mut hand.seat)
@@ -98,9 +95,8 @@ impl<P: Cargo> OpTable<P> {
 
     fn leave_at(&self, seat: &mut SeatOf<P>) -> ScopeWord
         requires table { IsHandOf self.now seat.old }
-        requires leaves { MayLeaveScope seat.old.me.0 }
-        ensures table { IsSameHand seat.old seat.new }
-        ensures hand { IsHandOf self.now seat.new }
+        requires leaves { MayLeaveScope (knows seat.old) }
+        ensures stays { Stays self.now seat.old seat.new }
         ensures left { MovesScope with_one_less leaves_scope result seat.old seat.new }
     {
         let word = self.table.fetch_sub::<Leaves>(seat, SCOPE, 1);
@@ -117,8 +113,7 @@ impl<P: Cargo> OpTable<P> {
     pub fn seal_step(&self, hand: &mut Hand<P>, expected: ScopeWord) -> Result<(), ScopeWord>
         requires table { IsHandOf self.now hand.old }
         requires seals { may_seal expected ≡ true }
-        ensures table { IsSameHand hand.old hand.new }
-        ensures hand { IsHandOf self.now hand.new }
+        ensures stays { Stays self.now hand.old hand.new }
         ensures sealed { IsSealedAs expected result hand.old hand.new }
     {
         self.seal_at(&mut hand.seat, expected)
@@ -127,8 +122,7 @@ impl<P: Cargo> OpTable<P> {
     fn seal_at(&self, seat: &mut SeatOf<P>, expected: ScopeWord) -> Result<(), ScopeWord>
         requires table { IsHandOf self.now seat.old }
         requires seals { may_seal expected ≡ true }
-        ensures table { IsSameHand seat.old seat.new }
-        ensures hand { IsHandOf self.now seat.new }
+        ensures stays { Stays self.now seat.old seat.new }
         ensures sealed { IsSealedAs expected result seat.old seat.new }
     {
         let old = scope_number(expected);

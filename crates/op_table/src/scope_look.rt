@@ -1,5 +1,5 @@
 //! A look at the counting scope (P3149, [exec.scope]).
-ghost use Rattle.table_steps.specs.Views.{IsHandOf, IsSameHand};
+ghost use Rattle.table_steps.specs.Views.{IsHandOf, Stays};
 ghost use Rattle.table_steps.specs.ScopeMoves.{ReadsScope};
 
 use crate::plays::Looks;
@@ -14,8 +14,7 @@ impl<P: Cargo> OpTable<P> {
     /// Step: one load of the scope's word.
     pub fn scope_step(&self, hand: &mut Hand<P>) -> ScopeWord
         requires table { IsHandOf self.now hand.old }
-        ensures table { IsSameHand hand.old hand.new }
-        ensures hand { IsHandOf self.now hand.new }
+        ensures stays { Stays self.now hand.old hand.new }
         ensures read { ReadsScope result hand.old hand.new }
     {
         self.scope_at(&mut hand.seat)
@@ -23,8 +22,7 @@ impl<P: Cargo> OpTable<P> {
 
     fn scope_at(&self, seat: &mut SeatOf<P>) -> ScopeWord
         requires table { IsHandOf self.now seat.old }
-        ensures table { IsSameHand seat.old seat.new }
-        ensures hand { IsHandOf self.now seat.new }
+        ensures stays { Stays self.now seat.old seat.new }
         ensures read { ReadsScope result seat.old seat.new }
     {
         let word = self.table.load::<Looks>(seat, SCOPE);

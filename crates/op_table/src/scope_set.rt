@@ -3,7 +3,7 @@
 //! Each sets a bit of the scope's word, and lists what it read and what it left. So a hand knows of a bit
 //! that it set: each word of the scope that it reads afterwards has it.
 ghost use Rattle.std.specs.Prelude.{◌≡◌, bit_or};
-ghost use Rattle.table_steps.specs.Views.{IsHandOf, IsSameHand};
+ghost use Rattle.table_steps.specs.Views.{IsHandOf, Stays};
 ghost use Rattle.table_steps.specs.Claims.{with_step};
 ghost use Rattle.table_steps.specs.ScopeSets.{SetsScope, closing, joining};
 
@@ -32,8 +32,7 @@ impl<P: Cargo> OpTable<P> {
     /// Step: one fetch_or of the scope's word, which sets the closed bit.
     pub fn close_step(&self, hand: &mut Hand<P>) -> ScopeWord
         requires table { IsHandOf self.now hand.old }
-        ensures table { IsSameHand hand.old hand.new }
-        ensures hand { IsHandOf self.now hand.new }
+        ensures stays { Stays self.now hand.old hand.new }
         ensures closed { SetsScope closing result hand.old hand.new }
     {
         self.close_at(&mut hand.seat)
@@ -41,8 +40,7 @@ impl<P: Cargo> OpTable<P> {
 
     fn close_at(&self, seat: &mut SeatOf<P>) -> ScopeWord
         requires table { IsHandOf self.now seat.old }
-        ensures table { IsSameHand seat.old seat.new }
-        ensures hand { IsHandOf self.now seat.new }
+        ensures stays { Stays self.now seat.old seat.new }
         ensures closed { SetsScope closing result seat.old seat.new }
     {
         let word = self.table.fetch_or::<Sets>(seat, SCOPE, CLOSED);
@@ -54,8 +52,7 @@ impl<P: Cargo> OpTable<P> {
     /// Step: one fetch_or of the scope's word, which sets the joining bit.
     pub fn join_step(&self, hand: &mut Hand<P>) -> ScopeWord
         requires table { IsHandOf self.now hand.old }
-        ensures table { IsSameHand hand.old hand.new }
-        ensures hand { IsHandOf self.now hand.new }
+        ensures stays { Stays self.now hand.old hand.new }
         ensures joins { SetsScope joining result hand.old hand.new }
     {
         self.join_at(&mut hand.seat)
@@ -63,8 +60,7 @@ impl<P: Cargo> OpTable<P> {
 
     fn join_at(&self, seat: &mut SeatOf<P>) -> ScopeWord
         requires table { IsHandOf self.now seat.old }
-        ensures table { IsSameHand seat.old seat.new }
-        ensures hand { IsHandOf self.now seat.new }
+        ensures stays { Stays self.now seat.old seat.new }
         ensures joins { SetsScope joining result seat.old seat.new }
     {
         let word = self.table.fetch_or::<Sets>(seat, SCOPE, JOINING);

@@ -4,7 +4,7 @@ ghost use Rattle.node_tree.specs.declared.node.TheConstants.{MOST_NODES};
 ghost use Rattle.life_rules.specs.declared.limits.TheConstants.{MOST_BLOCKS};
 ghost use Rattle.life_rules.specs.declared.event.SourceRef.TheVariants.{Scope};
 ghost use Rattle.table_words.specs.Layouts.{IsSpot, index, words_in};
-ghost use Rattle.table_steps.specs.Views.{IsHandOf, IsSameHand};
+ghost use Rattle.table_steps.specs.Views.{IsHandOf, Stays, knows};
 ghost use Rattle.table_steps.specs.Sights.{spot_of, says_requested, IsSourceIn, MayLookAfter, IsLookedAt, StillAsked, AgreesWithTold};
 
 use crate::plays::{Regard, Sights};
@@ -53,12 +53,11 @@ impl<P: Cargo> OpTable<P> {
     pub fn look_step(&self, hand: &mut Hand<P>, source: SourceRef, after: Option<Name>) -> bool
         requires table { IsHandOf self.now hand.old }
         requires source { IsSourceIn self.now source }
-        requires after { MayLookAfter self.now.frame.tree hand.old.me.0 source after }
-        ensures table { IsSameHand hand.old hand.new }
-        ensures hand { IsHandOf self.now hand.new }
+        requires after { MayLookAfter self.now.frame.tree (knows hand.old) source after }
+        ensures stays { Stays self.now hand.old hand.new }
         ensures looked { IsLookedAt self.now source after result hand.old hand.new }
-        ensures stands { StillAsked hand.old.me.0 source result }
-        ensures told { AgreesWithTold self.now.frame.tree hand.old.me.0 source result }
+        ensures stands { StillAsked (knows hand.old) source result }
+        ensures told { AgreesWithTold self.now.frame.tree (knows hand.old) source result }
     {
         self.look_after::<Brand>(&mut hand.seat, source, after)
     }
@@ -71,15 +70,14 @@ impl<P: Cargo> OpTable<P> {
     ) -> bool
         requires table { IsHandOf self.now seat.old }
         requires source { IsSourceIn self.now source }
-        requires after { MayLookAfter self.now.frame.tree seat.old.me.0 source after }
+        requires after { MayLookAfter self.now.frame.tree (knows seat.old) source after }
         requires tree_is { K.tree ≡ self.now.frame.tree }
         requires source_is { K.source ≡ source }
         requires after_is { K.after ≡ after }
-        ensures table { IsSameHand seat.old seat.new }
-        ensures hand { IsHandOf self.now seat.new }
+        ensures stays { Stays self.now seat.old seat.new }
         ensures looked { IsLookedAt self.now source after result seat.old seat.new }
-        ensures stands { StillAsked seat.old.me.0 source result }
-        ensures told { AgreesWithTold self.now.frame.tree seat.old.me.0 source result }
+        ensures stands { StillAsked (knows seat.old) source result }
+        ensures told { AgreesWithTold self.now.frame.tree (knows seat.old) source result }
     {
         let index = source_index(&self.frame.layout, source);
         let word = self.table.load::<Sights<K>>(seat, index);

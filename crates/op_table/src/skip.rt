@@ -1,7 +1,7 @@
 //! How a scan of the scope's source passes a block that is free.
 ghost use Rattle.std.specs.Prelude.{◌≡◌, ◌<◌};
 ghost use Rattle.life_rules.specs.declared.event.Name.{Name};
-ghost use Rattle.table_steps.specs.Views.{IsHandOf, IsSameHand, aim_at};
+ghost use Rattle.table_steps.specs.Views.{IsHandOf, aim_at, Stays, knows};
 ghost use Rattle.table_steps.specs.Skips.{says_free, skips_at, CanSkip, IsSkipped};
 
 use crate::plays::Subject;
@@ -49,9 +49,8 @@ impl<P: Cargo> OpTable<P> {
     pub fn skip_step(&self, hand: &mut Hand<P>, block: u32) -> bool
         requires table { IsHandOf self.now hand.old }
         requires block { block < self.now.frame.layout.blocks }
-        requires needs { CanSkip self.now.frame.tree hand.old.me.0 block }
-        ensures table { IsSameHand hand.old hand.new }
-        ensures hand { IsHandOf self.now hand.new }
+        requires needs { CanSkip self.now.frame.tree (knows hand.old) block }
+        ensures stays { Stays self.now hand.old hand.new }
         ensures skipped { IsSkipped self.now block result hand.old hand.new }
     {
         let first = first_of(block);
@@ -61,10 +60,9 @@ impl<P: Cargo> OpTable<P> {
     fn skip_at<K: Subject>(&self, seat: &mut SeatOf<P>, first: Name) -> bool
         requires table { IsHandOf self.now seat.old }
         requires block { first.block < self.now.frame.layout.blocks }
-        requires needs { CanSkip self.now.frame.tree seat.old.me.0 first.block }
+        requires needs { CanSkip self.now.frame.tree (knows seat.old) first.block }
         requires subject { K.aim ≡ aim_at self.now first }
-        ensures table { IsSameHand seat.old seat.new }
-        ensures hand { IsHandOf self.now seat.new }
+        ensures stays { Stays self.now seat.old seat.new }
         ensures skipped { IsSkipped self.now first.block result seat.old seat.new }
     {
         let index = self.frame.layout.block(first.block);

@@ -1,6 +1,6 @@
 //! How a hand moves what is in one of its homes.
 ghost use Rattle.std.specs.Prelude.{◌≡◌};
-ghost use Rattle.table_steps.specs.Views.{IsHandOf, IsSameHand, IsPlaceIn, aim_at};
+ghost use Rattle.table_steps.specs.Views.{IsHandOf, IsPlaceIn, aim_at, Stays};
 ghost use Rattle.table_steps.specs.Swaps.{HasHome, IsSwapped};
 
 use crate::plays::{Subject, Turns};
@@ -20,8 +20,7 @@ impl<P: Cargo> OpTable<P> {
         requires table { IsHandOf self.now hand.old }
         requires place { IsPlaceIn self.now name }
         requires home { HasHome self.now.frame.layout hand.old.me name }
-        ensures table { IsSameHand hand.old hand.new }
-        ensures hand { IsHandOf self.now hand.new }
+        ensures stays { Stays self.now hand.old hand.new }
         ensures swapped { IsSwapped self.now.frame name item result hand.old.me hand.new.me }
     {
         self.swap_at::<Brand>(&mut hand.seat, name, item)
@@ -34,8 +33,7 @@ impl<P: Cargo> OpTable<P> {
         requires place { IsPlaceIn self.now name }
         requires home { HasHome self.now.frame.layout seat.old.me name }
         requires subject { K.aim ≡ aim_at self.now name }
-        ensures table { IsSameHand seat.old seat.new }
-        ensures hand { IsHandOf self.now seat.new }
+        ensures stays { Stays self.now seat.old seat.new }
         ensures swapped { IsSwapped self.now.frame name item result seat.old.me seat.new.me }
     {
         let index = self.frame.layout.control(name.block, name.node);

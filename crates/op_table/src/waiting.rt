@@ -1,6 +1,6 @@
 //! How a node waits for children.
 ghost use Rattle.std.specs.Prelude.{◌≡◌};
-ghost use Rattle.table_steps.specs.Views.{IsHandOf, IsSameHand, IsPlaceIn, aim_at};
+ghost use Rattle.table_steps.specs.Views.{IsHandOf, IsPlaceIn, aim_at, Stays};
 ghost use Rattle.table_steps.specs.Awaits.{CanAwait};
 ghost use Rattle.table_steps.specs.Steps.{Awaited};
 
@@ -27,8 +27,7 @@ impl<P: Cargo> OpTable<P> {
         requires table { IsHandOf self.now hand.old }
         requires place { IsPlaceIn self.now name }
         requires needs { CanAwait P.Cargo self.now.frame hand.old.me name children.now }
-        ensures table { IsSameHand hand.old hand.new }
-        ensures hand { IsHandOf self.now hand.new }
+        ensures stays { Stays self.now hand.old hand.new }
         ensures awaits { Awaited self.now name hand.old hand.new P.Cargo children.now }
     {
         let _layout = self.frame.layout;
@@ -43,8 +42,7 @@ impl<P: Cargo> OpTable<P> {
         requires needs { CanAwait P.Cargo self.now.frame seat.old.me name children.now }
         requires subject { K.aim ≡ aim_at self.now name }
         requires names { J.names ≡ children.now }
-        ensures table { IsSameHand seat.old seat.new }
-        ensures hand { IsHandOf self.now seat.new }
+        ensures stays { Stays self.now seat.old seat.new }
         ensures awaits { Awaited self.now name seat.old seat.new P.Cargo children.now }
     {
         let index = self.frame.layout.control(name.block, name.node);

@@ -1,6 +1,6 @@
 //! How a callback is removed by the hand that holds its node ([stopcallback]).
 ghost use Rattle.std.specs.Prelude.{◌≡◌};
-ghost use Rattle.table_steps.specs.Views.{IsHandOf, IsSameHand, IsPlaceIn, aim_at};
+ghost use Rattle.table_steps.specs.Views.{IsHandOf, IsPlaceIn, aim_at, Stays, knows};
 ghost use Rattle.table_steps.specs.Callbacks.{WithdrawsAt, CanWithdraw, IsWithdrawn};
 
 use crate::plays::Subject;
@@ -34,9 +34,8 @@ impl<P: Cargo> OpTable<P> {
     pub fn withdraw_step(&self, hand: &mut Hand<P>, name: Name) -> CallbackPhase
         requires table { IsHandOf self.now hand.old }
         requires place { IsPlaceIn self.now name }
-        requires needs { CanWithdraw hand.old.me.0 name }
-        ensures table { IsSameHand hand.old hand.new }
-        ensures hand { IsHandOf self.now hand.new }
+        requires needs { CanWithdraw (knows hand.old) name }
+        ensures stays { Stays self.now hand.old hand.new }
         ensures withdrawn { IsWithdrawn self.now name result hand.old hand.new }
     {
         self.withdraw_at::<Brand>(&mut hand.seat, name)
@@ -45,10 +44,9 @@ impl<P: Cargo> OpTable<P> {
     fn withdraw_at<K: Subject>(&self, seat: &mut SeatOf<P>, name: Name) -> CallbackPhase
         requires table { IsHandOf self.now seat.old }
         requires place { IsPlaceIn self.now name }
-        requires needs { CanWithdraw seat.old.me.0 name }
+        requires needs { CanWithdraw (knows seat.old) name }
         requires subject { K.aim ≡ aim_at self.now name }
-        ensures table { IsSameHand seat.old seat.new }
-        ensures hand { IsHandOf self.now seat.new }
+        ensures stays { Stays self.now seat.old seat.new }
         ensures withdrawn { IsWithdrawn self.now name result seat.old seat.new }
     {
         let armed = callback_number(name.generation, CallbackPhase::Armed);

@@ -14,7 +14,7 @@ use Rattle.table_rules.specs.declared.view.View.{View}
 use Rattle.table_rules.specs.declared.view.Owed.{Owed}
 use Rattle.table_steps.specs.Owing.{owing, AreOfItsBlock}
 use Rattle.table_steps.specs.Claims.{with_step, Seated}
-use Rattle.table_steps.specs.Slots.{Aim, slot_of, kids_of, kept, IsSeated, has_seen}
+use Rattle.table_steps.specs.Slots.{Aim, slot_of, kids_of, IsSeated, has_seen, home_at}
 use Rattle.table_steps.specs.Sheds.{shed}
 use Rattle.table_steps.specs.Rests.{lets_go, CanLeave}
 
@@ -43,7 +43,7 @@ is_unnamed tree l x nodes slot =
 pub record CanAwait {P E O : Type 0} (cargo : Ghosts P E O) (f : Frame O) (m : Seated P E) (x : Name) (nodes : List ℕ) : Type 0 where
   pub leave : CanLeave f m x
   pub item : P
-  pub home : kept (slot_of f.layout x) m.1 ≡ Some (Some item)
+  pub home : home_at f.layout m x ≡ Some (Some item)
   pub start : cargo.start item ≡ leave.held.start
   pub fit : cargo.fits item x.node (has_seen f.tree m.0 x || leave.held.told)
   pub goes_on : ¬ cargo.ends item
@@ -56,7 +56,7 @@ pub record CanAwait {P E O : Type 0} (cargo : Ghosts P E O) (f : Frame O) (m : S
 -- named
 pub record AwaitsAt {P E O : Type 0} (cargo : Ghosts P E O) (aim : Aim) (nodes : List ℕ) (i read left : ℕ) (m m' : Seated P E) : Type 0 where
   pub item : P
-  pub home : kept (slot_of aim.layout aim.name) m.1 ≡ Some (Some item)
+  pub home : home_at aim.layout m aim.name ≡ Some (Some item)
   pub me_is : m' ≡ (
     with_step i read left (awaits aim.name (cargo.start item) (cargo.lot item) nodes m.0),
     shed (is_unnamed aim.tree aim.layout aim.name nodes) m.1,

@@ -15,11 +15,11 @@ use Rattle.table_rules.specs.declared.view.View.{View}
 use Rattle.table_rules.specs.declared.view.Held.{Held}
 use Rattle.table_rules.specs.declared.view.Owed.{Owed}
 use Rattle.table_rules.specs.declared.view.Rooted.{Rooted}
-use Rattle.table_rules.specs.Named.{find_by, without}
+use Rattle.table_rules.specs.Named.{without}
 use Rattle.table_steps.specs.Claims.{with_step, Seated}
 use Rattle.table_steps.specs.Lefts.{SaysSource, FoundSource, LeavesControl}
 use Rattle.table_steps.specs.Kids.{empty_slots}
-use Rattle.table_steps.specs.Slots.{Aim, slot_of, kids_of, kept, IsSeated, has_seen}
+use Rattle.table_steps.specs.Slots.{Aim, kids_of, IsSeated, has_seen, owed_at, home_at}
 use Rattle.table_steps.specs.Hearings.{HearsAs}
 
 -- the start of a root is noted
@@ -57,9 +57,9 @@ begins tree x start told told_children v =
 -- owed
 pub record CanBegin {P E O : Type 0} (cargo : Ghosts P E O) (f : Frame O) (m : Seated P E) (x : Name) : Type 0 where
   pub owed : Owed E
-  pub owes : find_by (λ e. e.name) m.0.owed x ≡ Some owed
+  pub owes : owed_at m.0 x ≡ Some owed
   pub item : P
-  pub home : kept (slot_of f.layout x) m.1 ≡ Some (Some item)
+  pub home : home_at f.layout m x ≡ Some (Some item)
   pub entry : E
   pub start : cargo.start item ≡ entry ∷ owed.above
   pub key : cargo.key (cargo.start item) ≡ f.over.value
@@ -83,7 +83,7 @@ module _ {P E O : Type 0} (cargo : Ghosts P E O) where
     pub hears : HearsAs aim.tree m.0 aim.name told told_children
     pub me_is : m' ≡ (
       with_step i read left
-          (begins aim.tree aim.name (start_shown (kept (slot_of aim.layout aim.name) m.1)) told
+          (begins aim.tree aim.name (start_shown (home_at aim.layout m aim.name)) told
           told_children m.0),
       empty_slots aim.layout aim.name.block (kids_of aim.tree aim.name.node) m.1,
     )
@@ -130,4 +130,4 @@ pub record Begins {P E O : Type 0} (cargo : Ghosts P E O) (aim : Aim) (m m' : Se
   pub renewed : IsRenewed aim m middle
   pub began : LeavesControl aim Idle (Busy 0) (BeginsAt cargo aim) middle m'
   -- what lies in the node's home then is no completion
-  pub goes_on : (item : P) → kept (slot_of aim.layout aim.name) m'.1 ≡ Some (Some item) → ¬ cargo.ends item
+  pub goes_on : (item : P) → home_at aim.layout m' aim.name ≡ Some (Some item) → ¬ cargo.ends item

@@ -14,11 +14,11 @@ use Rattle.atomic_table.specs.Table.{Step}
 use Rattle.atomic_table.specs.declared.shared.Seat.{Seat}
 use Rattle.table_rules.specs.declared.view.View.{View}
 use Rattle.table_rules.specs.declared.view.Held.{Held}
-use Rattle.table_rules.specs.Named.{count_by, find_by}
+use Rattle.table_rules.specs.Named.{count_by}
 use Rattle.table_steps.specs.Views.{Board}
 use Rattle.table_steps.specs.Claims.{with_step, Seated}
 use Rattle.table_steps.specs.Lefts.{SaysCallback, FoundCallback}
-use Rattle.table_steps.specs.Slots.{Aim}
+use Rattle.table_steps.specs.Slots.{Aim, held_at}
 use Rattle.table_steps.specs.Hearings.{UnderScope}
 use Rattle.table_steps.specs.Readings.{says_phase, notes_phase}
 
@@ -29,7 +29,7 @@ callback_index board x = index board.frame.layout (OfCallback x.block x.node)
 -- the hand holds the node, and has read that its callback was never registered; and the node hears a source
 pub record CanArm {P E : Type 0} (tree : List TreeNode) (v : View P E) (x : Name) : Type 0 where
   pub held : Held E
-  pub holds : find_by (λ e. e.name) v.held x ≡ Some held
+  pub holds : held_at v x ≡ Some held
   pub never : held.phase ≡ Some Never
   pub hears : is_some (source_for x (nearest tree x.node)) ≡ true
 
@@ -62,7 +62,7 @@ is_registered phase = is_armed phase || (is_running phase || has_run phase)
 -- the hand holds the node, doesn't run its callback, and has read that it was registered
 pub record CanWithdraw {P E : Type 0} (v : View P E) (x : Name) : Type 0 where
   pub held : Held E
-  pub holds : find_by (λ e. e.name) v.held x ≡ Some held
+  pub holds : held_at v x ≡ Some held
   pub known : CallbackPhase
   pub known_is : held.phase ≡ Some known
   pub registered : is_registered known ≡ true

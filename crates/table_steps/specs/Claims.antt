@@ -9,16 +9,15 @@ use Rattle.table_words.specs.Layouts.{OfBlock, index, place_number}
 use Rattle.atomic_table.specs.Table.{Me, Step}
 use Rattle.listed_steps.specs.Lists.{entry}
 use Rattle.table_rules.specs.declared.view.View.{View}
-use Rattle.table_rules.specs.Named.{find_by}
 use Rattle.atomic_table.specs.declared.shared.Seat.{Seat}
 use Rattle.table_steps.specs.declared.block.Block.{Block}
-use Rattle.table_steps.specs.Slots.{Aim, slot_of, IsSeated}
+use Rattle.table_steps.specs.Slots.{Aim, slot_of, IsSeated, noted_at}
 use Rattle.table_steps.specs.Owing.{OwesNoneThere}
 use Rattle.table_steps.specs.Views.{Board}
 
 -- the view has noted no start of x
 abbrev pub IsUnnoted : {P E : Type 0} → View P E → Name → Type 0
-IsUnnoted v x = find_by (λ e. e.name) v.noted x ≡ None
+IsUnnoted v x = noted_at v x ≡ None
 
 abbrev pub Seated : Type 0 → Type 0 → Type 0
 Seated P E = Me (Option P) (View P E)

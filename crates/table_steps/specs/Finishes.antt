@@ -12,7 +12,7 @@ use Rattle.table_rules.specs.declared.cargo.Cargo.{Ghosts}
 use Rattle.table_rules.specs.declared.frame.Frame.{Frame}
 use Rattle.table_rules.specs.declared.view.View.{View}
 use Rattle.table_steps.specs.Claims.{with_step, Seated}
-use Rattle.table_steps.specs.Slots.{Aim, slot_of, kids_of, is_of_family, kept, IsSeated, has_seen}
+use Rattle.table_steps.specs.Slots.{Aim, kids_of, is_of_family, IsSeated, has_seen, home_at}
 use Rattle.table_steps.specs.Sheds.{shed}
 use Rattle.table_steps.specs.Rests.{lets_go, CanLeave}
 
@@ -34,13 +34,13 @@ module _ {P E O : Type 0} (cargo : Ghosts P E O) (f : Frame O) (m : Seated P E) 
   pub record CanEnd : Type 0 where
     pub leave : CanLeave f m x
     pub phase : MatchOption leave.held.phase ⊥ (λ phase. is_settled phase ≡ true)
-    pub bound : (item : P) → kept (slot_of f.layout x) m.1 ≡ Some (Some item) → cargo.least item ≤ leave.held.named
+    pub bound : (item : P) → home_at f.layout m x ≡ Some (Some item) → cargo.least item ≤ leave.held.named
 
   -- in the home lies a completion that shows the node's start, and fits by what the hand has seen of
   -- requests and was told when it came to hold the node
   pub record Completes (end : CanEnd) : Type 0 where
     pub item : P
-    pub home : kept (slot_of f.layout x) m.1 ≡ Some (Some item)
+    pub home : home_at f.layout m x ≡ Some (Some item)
     pub start : cargo.start item ≡ end.leave.held.start
     pub fit : cargo.fits item x.node (has_seen f.tree m.0 x || end.leave.held.told)
     pub ends : cargo.ends item
@@ -62,7 +62,7 @@ has_root x v = record (lets_go x v) { finished = x ∷ v.finished }
 -- of its children
 pub record FinishedAt {P E O : Type 0} (cargo : Ghosts P E O) (aim : Aim) (i read left : ℕ) (m m' : Seated P E) : Type 0 where
   pub item : P
-  pub home : kept (slot_of aim.layout aim.name) m.1 ≡ Some (Some item)
+  pub home : home_at aim.layout m aim.name ≡ Some (Some item)
   pub me_is : m' ≡ (
     with_step i read left (owes_report aim.name (cargo.start item) item m.0),
     shed (is_of_family aim.tree aim.layout aim.name) m.1,

@@ -14,8 +14,8 @@ use Rattle.table_words.specs.Layouts.{OfControl, OfCallback, index}
 use Rattle.table_rules.specs.declared.frame.Frame.{Frame}
 use Rattle.table_rules.specs.declared.view.View.{View}
 use Rattle.table_rules.specs.declared.view.Held.{Held}
-use Rattle.table_rules.specs.Named.{find_by}
 use Rattle.table_steps.specs.Claims.{logged, Seated}
+use Rattle.table_steps.specs.Slots.{held_at}
 
 -- the list, with its first entry of x changed so
 abbrev pub at_entry : {A : Type 0} → (A → Name) → (A → A) → Name → List A → List A
@@ -63,12 +63,12 @@ pub record HoldsAbove {P E : Type 0} (tree : List TreeNode) (v : View P E) (chil
   pub parent : ℕ
   pub parent_is : parent_of tree child.node ≡ Some parent
   pub held : Held E
-  pub holds : find_by (λ e. e.name) v.held (beside child parent) ≡ Some held
+  pub holds : held_at v (beside child parent) ≡ Some held
 
 -- the hand holds the node
 pub record Holds {P E : Type 0} (v : View P E) (x : Name) : Type 0 where
   pub held : Held E
-  pub holds : find_by (λ e. e.name) v.held x ≡ Some held
+  pub holds : held_at v x ≡ Some held
 
 -- the answer is what the word that was read says, and the hand has noted it
 abbrev pub IsBegunAs : {P E O : Type 0} → Frame O → Name → Bool → Seated P E → Seated P E → Type 0

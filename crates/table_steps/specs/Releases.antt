@@ -19,7 +19,7 @@ use Rattle.table_rules.specs.Running.{Running}
 use Rattle.table_rules.specs.ShownViews.{has_name}
 use Rattle.table_rules.specs.ShownWords.{block_of}
 use Rattle.table_steps.specs.Claims.{with_step, Seated}
-use Rattle.table_steps.specs.Slots.{Aim, slot_of, kept, IsSeated}
+use Rattle.table_steps.specs.Slots.{Aim, slot_of, IsSeated, home_at}
 use Rattle.table_steps.specs.Sheds.{shed}
 
 -- the hand gave back one block more: it has the finished root no more, and forgets the start that it
@@ -38,7 +38,7 @@ is_own_slot l root slot = slot_of l root == slot
 -- the hand has the finished root, and its home, which is empty
 pub record CanRelease {P E : Type 0} (l : Layout) (m : Seated P E) (root : Name) : Type 0 where
   pub finished : has_name m.0.finished root ≡ true
-  pub home : kept (slot_of l root) m.1 ≡ Some None
+  pub home : home_at l m root ≡ Some None
 
 -- the store: the hand gave the root's home back
 pub record ReleasesAt {P E : Type 0} (aim : Aim) (i read left : ℕ) (m m' : Seated P E) : Type 0 where

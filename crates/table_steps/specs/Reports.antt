@@ -17,7 +17,7 @@ use Rattle.table_rules.specs.declared.cargo.Cargo.{Ghosts}
 use Rattle.table_rules.specs.declared.view.View.{View}
 use Rattle.table_rules.specs.declared.view.Reported.{Reported}
 use Rattle.table_rules.specs.declared.view.Rooted.{Rooted}
-use Rattle.table_rules.specs.Named.{find_by, without, Each}
+use Rattle.table_rules.specs.Named.{without, Each}
 use Rattle.table_rules.specs.ShownViews.{scan_in}
 use Rattle.table_rules.specs.declared.frame.Frame.{Frame}
 use Rattle.table_steps.specs.declared.report.Report.{Report}
@@ -25,7 +25,7 @@ use Rattle.table_steps.specs.declared.report.Report.TheVariants.{Last, Others}
 use Rattle.table_steps.specs.Readings.{above_it}
 use Rattle.table_steps.specs.Claims.{with_step, Seated}
 use Rattle.table_steps.specs.Lefts.{SaysControl, less_one}
-use Rattle.table_steps.specs.Slots.{Aim, slot_of, kids_of, IsSeated}
+use Rattle.table_steps.specs.Slots.{Aim, slot_of, kids_of, IsSeated, reported_at, noted_at}
 use Rattle.table_steps.specs.Hearings.{HearsAs}
 
 -- the hand owes the child's report no more
@@ -58,7 +58,7 @@ pub record CanReport {P E : Type 0} (tree : List TreeNode) (v : View P E) (child
   pub parent : ℕ
   pub parent_is : parent_of tree child.node ≡ Some parent
   pub entry : Reported P E
-  pub owes : find_by (λ e. e.name) v.reported child ≡ Some entry
+  pub owes : reported_at v child ≡ Some entry
   pub unscanned : scan_in v.scans (Node (beside child parent)) ≡ None
 
 -- the last report: the hand holds the parent x, and has its home and those of its children
@@ -83,7 +83,7 @@ pub record LastAt {P E O : Type 0} (cargo : Ghosts P E O) (aim : Aim) (child : N
   pub bound : cargo.least item ≤ named
   pub lot_is : cargo.lot item ≡ lot
   pub key : Each (λ over. cargo.key start ≡ over) overs
-  pub noted : (e : Rooted E) → find_by (λ e. e.name) m.0.noted aim.name ≡ Some e → start ≡ e.start
+  pub noted : (e : Rooted E) → noted_at m.0 aim.name ≡ Some e → start ≡ e.start
   -- as many of the children's homes are full as were named. Each keeps a completion that fits the child, and
   -- whose start goes on with the node's and draws the lot
   pub count : total (λ n. one (is_child aim.tree aim.name.node n) * one (is_some (content n))) (length aim.tree) ≡ named
@@ -96,8 +96,8 @@ pub record LastAt {P E O : Type 0} (cargo : Ghosts P E O) (aim : Aim) (child : N
       cargo.drawn (cargo.start kid) ≡ lot
   -- the home of the child that is reported keeps the item with which it finished, and the start with which
   -- it finished goes on with the node's
-  pub keeps : (e : Reported P E) → find_by (λ e. e.name) m.0.reported child ≡ Some e → content child.node ≡ Some e.item
-  pub descends : (e : Reported P E) → find_by (λ e. e.name) m.0.reported child ≡ Some e →
+  pub keeps : (e : Reported P E) → reported_at m.0 child ≡ Some e → content child.node ≡ Some e.item
+  pub descends : (e : Reported P E) → reported_at m.0 child ≡ Some e →
       (entry : E) × (e.start ≡ entry ∷ start)
   -- where a stop was requested of the children and not above, and all their homes are full, a child failed
   -- without having seen a request

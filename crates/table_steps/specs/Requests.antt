@@ -17,11 +17,11 @@ use Rattle.table_rules.specs.declared.frame.Frame.{Frame}
 use Rattle.table_rules.specs.declared.view.View.{View}
 use Rattle.table_rules.specs.declared.view.Held.{Held}
 use Rattle.table_rules.specs.declared.view.Reported.{Reported}
-use Rattle.table_rules.specs.Named.{count_by, find_by}
+use Rattle.table_rules.specs.Named.{count_by}
 use Rattle.table_rules.specs.ShownViews.{has_source_ref}
 use Rattle.table_steps.specs.Views.{Board}
 use Rattle.table_steps.specs.Claims.{with_step, Seated}
-use Rattle.table_steps.specs.Slots.{has_seen}
+use Rattle.table_steps.specs.Slots.{has_seen, held_at, reported_at}
 use Rattle.table_steps.specs.Sights.{spot_of, KeepsAlive, StillAsked}
 
 -- the hand owes the report of a child of x, and the child failed
@@ -29,13 +29,13 @@ pub record OwesFailed {P E O : Type 0} (cargo : Ghosts P E O) (tree : List TreeN
   pub child : ℕ
   pub is_below : is_child tree x.node child ≡ true
   pub entry : Reported P E
-  pub owes : find_by (λ e. e.name) v.reported (beside x child) ≡ Some entry
+  pub owes : reported_at v (beside x child) ≡ Some entry
   pub failed : cargo.fits entry.item x.node true
 
 -- the hand holds x, no child of which was ever awaited, and has seen the request on the source that x hears
 pub record HoldsAsked {P E : Type 0} (tree : List TreeNode) (v : View P E) (x : Name) : Type 0 where
   pub held : Held E
-  pub holds : find_by (λ e. e.name) v.held x ≡ Some held
+  pub holds : held_at v x ≡ Some held
   pub before : held.named ≡ 0
   pub seen : has_seen tree v x ≡ true
 

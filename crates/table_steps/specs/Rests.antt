@@ -8,10 +8,10 @@ use Rattle.table_rules.specs.declared.cargo.Cargo.{Ghosts}
 use Rattle.table_rules.specs.declared.frame.Frame.{Frame}
 use Rattle.table_rules.specs.declared.view.View.{View}
 use Rattle.table_rules.specs.declared.view.Held.{Held}
-use Rattle.table_rules.specs.Named.{find_by, without}
+use Rattle.table_rules.specs.Named.{without}
 use Rattle.table_rules.specs.ShownViews.{scan_in}
 use Rattle.table_steps.specs.Claims.{with_step, Seated}
-use Rattle.table_steps.specs.Slots.{Aim, slot_of, is_of_family, kept, IsSeated, has_seen}
+use Rattle.table_steps.specs.Slots.{Aim, is_of_family, kept, IsSeated, has_seen, held_at, home_at}
 use Rattle.table_steps.specs.Sheds.{shed}
 
 -- the hand holds the node no more
@@ -21,7 +21,7 @@ lets_go x v = record v { held = without (λ e. e.name) v.held x }
 -- the hand holds the node, makes no scan of its source, and has the homes of its children, all empty
 pub record CanLeave {P E O : Type 0} (f : Frame O) (m : Seated P E) (x : Name) : Type 0 where
   pub held : Held E
-  pub holds : find_by (λ e. e.name) m.0.held x ≡ Some held
+  pub holds : held_at m.0 x ≡ Some held
   pub unscanned : scan_in m.0.scans (Node x) ≡ None
   pub kids : (n : ℕ) → is_child f.tree x.node n ≡ true → kept (place_number f.layout x.block n) m.1 ≡ Some None
 
@@ -31,7 +31,7 @@ pub record CanLeave {P E O : Type 0} (f : Frame O) (m : Seated P E) (x : Name) :
 pub record CanRest {P E O : Type 0} (cargo : Ghosts P E O) (f : Frame O) (m : Seated P E) (x : Name) : Type 0 where
   pub leave : CanLeave f m x
   pub item : P
-  pub home : kept (slot_of f.layout x) m.1 ≡ Some (Some item)
+  pub home : home_at f.layout m x ≡ Some (Some item)
   pub start : cargo.start item ≡ leave.held.start
   pub fit : cargo.fits item x.node (has_seen f.tree m.0 x || leave.held.told)
   pub goes_on : ¬ cargo.ends item

@@ -13,11 +13,12 @@ use Rattle.atomic_table.specs.declared.shared.Seat.{Seat}
 use Rattle.table_rules.specs.declared.view.View.{View}
 use Rattle.table_rules.specs.declared.view.Held.{Held}
 use Rattle.table_rules.specs.declared.view.Scanning.{Scanning}
-use Rattle.table_rules.specs.Named.{count_by, find_by, without}
+use Rattle.table_rules.specs.Named.{count_by, without}
 use Rattle.table_rules.specs.ShownViews.{scan_in}
 use Rattle.table_steps.specs.Views.{Board}
 use Rattle.table_steps.specs.Readings.{notes_phase}
 use Rattle.table_steps.specs.Callbacks.{LeftCallback}
+use Rattle.table_steps.specs.Slots.{held_at}
 
 -- the hand runs the node's callback, and makes no scan of the node's own source
 pub record CanEndRun {P E : Type 0} (v : View P E) (x : Name) : Type 0 where
@@ -28,7 +29,7 @@ pub record CanEndRun {P E : Type 0} (v : View P E) (x : Name) : Type 0 where
 pub record CanWithdrawOwn {P E : Type 0} (v : View P E) (x : Name) : Type 0 where
   pub run : CanEndRun v x
   pub held : Held E
-  pub holds : find_by (λ e. e.name) v.held x ≡ Some held
+  pub holds : held_at v x ≡ Some held
 
 -- the scan of the source goes on from this number
 abbrev pub passes_to : SourceRef → ℕ → List Scanning → List Scanning

@@ -15,10 +15,11 @@ use Rattle.table_rules.specs.declared.view.View.{View}
 use Rattle.table_rules.specs.declared.view.Held.{Held}
 use Rattle.table_rules.specs.declared.view.Owed.{Owed}
 use Rattle.table_rules.specs.declared.view.Reported.{Reported}
-use Rattle.table_rules.specs.Named.{count_by, find_by}
+use Rattle.table_rules.specs.Named.{count_by}
 use Rattle.table_rules.specs.ShownViews.{has_name, has_source_ref}
 use Rattle.table_steps.specs.Views.{Board}
 use Rattle.table_steps.specs.Claims.{logged, Seated}
+use Rattle.table_steps.specs.Slots.{held_at, owed_at, reported_at}
 
 -- where the source's word lies
 abbrev pub spot_of : SourceRef → Spot
@@ -87,9 +88,9 @@ module _ {P E : Type 0} where
 -- the hand has a part in the operation of x, which can't end before: it holds a node of it, owes the start or
 -- the report of one, runs the callback of one, or has finished its root
 pub data HasPartIn {P E : Type 0} (v : View P E) (x : Name) : Type 0 where
-  ByNode : (node : ℕ) (held : Held E) → find_by (λ e. e.name) v.held (beside x node) ≡ Some held → HasPartIn v x
-  ByStart : (node : ℕ) (owed : Owed E) → find_by (λ e. e.name) v.owed (beside x node) ≡ Some owed → HasPartIn v x
-  ByReport : (node : ℕ) (reported : Reported P E) → find_by (λ e. e.name) v.reported (beside x node) ≡ Some reported → HasPartIn v x
+  ByNode : (node : ℕ) (held : Held E) → held_at v (beside x node) ≡ Some held → HasPartIn v x
+  ByStart : (node : ℕ) (owed : Owed E) → owed_at v (beside x node) ≡ Some owed → HasPartIn v x
+  ByReport : (node : ℕ) (reported : Reported P E) → reported_at v (beside x node) ≡ Some reported → HasPartIn v x
   ByRun : (node : ℕ) → 1 ≤ count_by (λ y. y) v.runs (beside x node) → HasPartIn v x
   ByRoot : (node : ℕ) → 1 ≤ count_by (λ y. y) v.finished (beside x node) → HasPartIn v x
 
@@ -112,7 +113,7 @@ pub record StillTold {E : Type 0} (tree : List TreeNode) (source : SourceRef) (a
 -- so it is of each node that the hand holds
 abbrev pub AgreesWithTold : {P E : Type 0} → List TreeNode → View P E → SourceRef → Bool → Type 0
 AgreesWithTold {P} {E} tree v source answer =
-    (x : Name) (e : Held E) → find_by (λ e. e.name) v.held x ≡ Some e → StillTold tree source answer x e
+    (x : Name) (e : Held E) → held_at v x ≡ Some e → StillTold tree source answer x e
 
 -- what the load tells: that, and that a request that was seen, or told of, still stands
 abbrev pub LooksAt : {P E : Type 0} → List TreeNode → SourceRef → Option Name → ℕ → ℕ → Seated P E → Seated P E → Type 0

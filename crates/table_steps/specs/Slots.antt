@@ -9,7 +9,11 @@ use Rattle.life_rules.specs.States.{source_for}
 use Rattle.table_words.specs.declared.layout.Layout.{Layout}
 use Rattle.table_words.specs.Layouts.{place_number}
 use Rattle.table_rules.specs.declared.view.View.{View}
-use Rattle.table_rules.specs.Named.{Each}
+use Rattle.table_rules.specs.declared.view.Held.{Held}
+use Rattle.table_rules.specs.declared.view.Owed.{Owed}
+use Rattle.table_rules.specs.declared.view.Reported.{Reported}
+use Rattle.table_rules.specs.declared.view.Rooted.{Rooted}
+use Rattle.table_rules.specs.Named.{Each, find_by}
 use Rattle.table_rules.specs.ShownViews.{has_source_ref}
 use Rattle.table_steps.specs.Kids.{children_below}
 
@@ -30,6 +34,24 @@ kids_of tree n = children_below tree n (length tree)
 abbrev pub kept : {A : Type 0} → ℕ → List (ℕ × A) → Option A
 kept slot [] = None
 kept slot (c ∷ cs) = if c.0 == slot then Some c.1 else kept slot cs
+
+-- what the view has of the node x: the entry with which it holds it, with which it owes its start or its
+-- report, and the start that it noted of a root
+abbrev pub held_at : {P E : Type 0} → View P E → Name → Option (Held E)
+held_at v x = find_by (λ e. e.name) v.held x
+
+abbrev pub owed_at : {P E : Type 0} → View P E → Name → Option (Owed E)
+owed_at v x = find_by (λ e. e.name) v.owed x
+
+abbrev pub reported_at : {P E : Type 0} → View P E → Name → Option (Reported P E)
+reported_at v x = find_by (λ e. e.name) v.reported x
+
+abbrev pub noted_at : {P E : Type 0} → View P E → Name → Option (Rooted E)
+noted_at v x = find_by (λ e. e.name) v.noted x
+
+-- what lies in the node's home: none where the hand hasn't the home
+abbrev pub home_at : {P E : Type 0} → Layout → View P E × List (ℕ × Option P) → Name → Option (Option P)
+home_at l m x = kept (slot_of l x) m.1
 
 -- the slot is that of the node, or of one of its children
 abbrev pub is_of_family : List TreeNode → Layout → Name → ℕ → Bool

@@ -5,19 +5,19 @@ use Rattle.table_words.specs.declared.layout.Layout.{Layout}
 use Rattle.table_words.specs.Layouts.{OfControl, index}
 use Rattle.table_rules.specs.declared.frame.Frame.{Frame}
 use Rattle.table_steps.specs.Claims.{logged, Seated}
-use Rattle.table_steps.specs.Slots.{Aim, slot_of, kept, IsSeated}
+use Rattle.table_steps.specs.Slots.{Aim, slot_of, IsSeated, home_at}
 use Rattle.table_steps.specs.Sheds.{shed}
 use Rattle.table_steps.specs.Releases.{is_own_slot}
 
 -- the hand has the node's home
 pub record HasHome {P E : Type 0} (l : Layout) (m : Seated P E) (x : Name) : Type 0 where
   pub inside : Option P
-  pub home : kept (slot_of l x) m.1 ≡ Some inside
+  pub home : home_at l m x ≡ Some inside
 
 -- the load by which the hand turns to the node's home: it carries that first, and all others as before
 pub record TurnsTo {P E : Type 0} (aim : Aim) (i word : ℕ) (m m' : Seated P E) : Type 0 where
   pub inside : Option P
-  pub home : kept (slot_of aim.layout aim.name) m.1 ≡ Some inside
+  pub home : home_at aim.layout m aim.name ≡ Some inside
   pub me_is : m' ≡ (
     logged i word m.0,
     (slot_of aim.layout aim.name, inside) ∷ shed (is_own_slot aim.layout aim.name) m.1,
@@ -27,7 +27,7 @@ pub record TurnsTo {P E : Type 0} (aim : Aim) (i word : ℕ) (m m' : Seated P E)
 -- the old lay in the node's home, and the new lies in it now. All other homes of the hand are as before
 pub record IsSwapped {P E O : Type 0} (f : Frame O) (x : Name) (new old : Option P) (m m' : Seated P E) : Type 0 where
   pub word : ℕ
-  pub home : kept (slot_of f.layout x) m.1 ≡ Some old
+  pub home : home_at f.layout m x ≡ Some old
   pub me_is : m' ≡ (
     logged (index f.layout (OfControl x.block x.node)) word m.0,
     (slot_of f.layout x, new) ∷ shed (is_own_slot f.layout x) m.1,

@@ -13,12 +13,12 @@ use Rattle.table_rules.specs.declared.frame.Frame.{Frame}
 use Rattle.table_rules.specs.declared.cargo.Cargo.{Ghosts}
 use Rattle.table_rules.specs.declared.view.View.{View}
 use Rattle.table_rules.specs.declared.view.Rooted.{Rooted}
-use Rattle.table_rules.specs.Named.{find_by, Each}
+use Rattle.table_rules.specs.Named.{Each}
 use Rattle.atomic_table.specs.Table.{Step}
 use Rattle.table_steps.specs.Claims.{with_step, logged, Seated}
 use Rattle.table_steps.specs.Lefts.{SaysControl}
 use Rattle.table_steps.specs.Kids.{empty_slots}
-use Rattle.table_steps.specs.Slots.{Aim, slot_of, kids_of, IsSeated}
+use Rattle.table_steps.specs.Slots.{Aim, slot_of, kids_of, IsSeated, noted_at}
 use Rattle.table_steps.specs.Hearings.{HearsAs}
 
 -- the hand holds the node, with the start with which it began. Named is how many children its last await
@@ -59,7 +59,7 @@ pub record TakenAt {P E : Type 0} {O : Type 0} (cargo : Ghosts P E O) (aim : Aim
   pub most : named ≤ length (kids_of aim.tree aim.name.node)
   -- the start has the key of what the table was opened over, and is the one that the hand noted of a root
   pub key : Each (λ over. cargo.key start ≡ over) overs
-  pub noted : (e : Rooted E) → find_by (λ e. e.name) m.0.noted aim.name ≡ Some e → start ≡ e.start
+  pub noted : (e : Rooted E) → noted_at m.0 aim.name ≡ Some e → start ≡ e.start
   -- what the two bits say of the sources
   pub hears : HearsAs aim.tree m.0 aim.name told told_children
   pub seated : IsSeated aim.tree aim.layout m → IsSeated aim.tree aim.layout m'

@@ -42,6 +42,11 @@ aim_at board x = aimed board.frame x
 abbrev pub IsSameHand : {P E : Type 0} → Seat (Option P) (View P E) → Seat (Option P) (View P E) → Type 0
 IsSameHand old new = (new.table_id ≡ old.table_id) × (new.id ≡ old.id)
 
+-- after a call it is the same hand, and one of this table's still
+pub record Stays {P E O : Type 0} (board : Board O) (old new : Seat (Option P) (View P E)) : Type 0 where
+  pub same : IsSameHand old new
+  pub hand : IsHandOf board new
+
 -- the table was opened with these
 pub record IsOpenedOver {O : Type 0} (board : Board O) (tree : List TreeNode) (over : O) (blocks hands : ℕ) (kind : ScopeKind) (most : ℕ) : Type 0 where
   pub tree_is : board.frame.tree ≡ tree

@@ -1,10 +1,14 @@
 use Rattle.std.proofs.Common.{◌<◌, arith, refl, ap, ◌∙◌}
 use Rattle.op_slot.specs.Searches.{block_round}
+use Rattle.op_slot.proofs.Staying.{stays-here}
 use Rattle.op_slot.proofs.Searching.{found-round}
 use Rattle.op_slot.proofs.blocks.claim_from.Goals as goal
 
 pub loop-step-init : goal.loop-step-init
-loop-step-init g c = record { table = (refl, refl); hand = c.requires.table; missed = refl }
+loop-step-init g c = record {
+  stays = stays-here c.args.table.now c.args.hand.now c.requires.table;
+  missed = refl;
+}
 
 pub returns-in-Some-clause-claimed : goal.returns-in-Some-clause-claimed
 returns-in-Some-clause-claimed g c =

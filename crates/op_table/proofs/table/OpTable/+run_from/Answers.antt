@@ -23,19 +23,20 @@ compare_exchange-was-requires g t c =
     )
 
 pub run_from-requires-clause-table : goal.run_from-requires-clause-table
-run_from-requires-clause-table g t c κs within =
-    hand-logged c.args.self.now c.args.seat.now c.compare_exchange-was.new.hand c.requires.table c.compare_exchange-was.ensures.0
+run_from-requires-clause-table g t c κs within = (
+    hand-logged c.args.self.now c.args.seat.now c.compare_exchange-was.new.hand c.requires.table (c.compare_exchange-was.ensures.0, c.compare_exchange-was.ensures.1)
     (run_index c.args.self.now c.args.block c.args.node) c.compare_exchange-was.result
     (met-armed c.args.self.now c.args.source c.args.block c.args.node c.callback-index.result c.compare_exchange-was.result g.K.Subject.aim
     g.J.Regard.source c.args.seat.now.me c.compare_exchange-was.new.hand.me
     (c.callback-index.ensures.value ∙ ap (λ b. index b.frame.layout (OfCallback c.args.block c.args.node)) c.self.view_is)
     (sym c.says_armed.ensures ∙ c.if-says_armed.true) (c.compare_exchange-was.ensures.2.rest.1 c.if-was-word.false).0)
+    ).hand
 
-pub returns-then-was-word-clause-hand : goal.returns-then-was-word-clause-hand
-returns-then-was-word-clause-hand g t c =
+pub returns-then-was-word-clause-stays : goal.returns-then-was-word-clause-stays
+returns-then-was-word-clause-stays g t c =
     let b = c.args.self.now in
     let aim = g.K.Subject.aim in
-    hand-seated b c.args.seat.now c.compare_exchange-was.new.hand c.requires.table c.compare_exchange-was.ensures.0
+    hand-seated b c.args.seat.now c.compare_exchange-was.new.hand c.requires.table (c.compare_exchange-was.ensures.0, c.compare_exchange-was.ensures.1)
     (subst (IsSeated b.frame.tree b.frame.layout) (sym (c.compare_exchange-was.ensures.2.rest.0 c.if-was-word.true).0)
     (run-seated b.frame.tree b.frame.layout c.callback-index.result c.compare_exchange-was.result c.args.seat.now.me c.requires.table.seated
     c.callback_number-running.result (node_named aim.name.block aim.name.node c.compare_exchange-was.result)))
@@ -61,10 +62,10 @@ returns-then-says_armed-clause-run g t c =
     armed told.0)
     c.args.word c.run_from.result (told.1 armed) c.run_from.ensures.run
 
-pub returns-else-says_armed-clause-hand : goal.returns-else-says_armed-clause-hand
-returns-else-says_armed-clause-hand g t c =
+pub returns-else-says_armed-clause-stays : goal.returns-else-says_armed-clause-stays
+returns-else-says_armed-clause-stays g t c =
     let b = c.args.self.now in
-    hand-seated b c.args.seat.now c.compare_exchange-was.new.hand c.requires.table c.compare_exchange-was.ensures.0
+    hand-seated b c.args.seat.now c.compare_exchange-was.new.hand c.requires.table (c.compare_exchange-was.ensures.0, c.compare_exchange-was.ensures.1)
     (subst (IsSeated b.frame.tree b.frame.layout) (sym (c.compare_exchange-was.ensures.2.rest.1 c.if-was-word.false).0)
     (met-seated b.frame.tree b.frame.layout c.callback-index.result c.compare_exchange-was.result c.args.seat.now.me c.requires.table.seated
     g.K.Subject.aim g.J.Regard.source))

@@ -28,9 +28,9 @@ returns-clause-awaits g c =
     c.requires.subject c.requires.names c.control_number-busy.ensures.stamp c.control_number-busy.ensures.control
     c.store.ensures.2.1.rest
 
-pub returns-clause-hand : goal.returns-clause-hand
-returns-clause-hand g c =
-    hand-aimed c.args.self.now c.args.seat.now c.store.new.hand c.requires.table c.store.ensures.0 c.args.name
+pub returns-clause-stays : goal.returns-clause-stays
+returns-clause-stays g c =
+    hand-aimed c.args.self.now c.args.seat.now c.store.new.hand c.requires.table (c.store.ensures.0, c.store.ensures.1) c.args.name
     g.K.Subject.aim c.requires.subject (λ _. c.store.ensures.2.1.rest.did.seated)
 
 pub overflow_cast-pending : goal.overflow_cast-pending

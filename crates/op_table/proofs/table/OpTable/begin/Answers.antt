@@ -27,7 +27,7 @@ pub invariant_of-hand : goal.invariant_of-hand
 invariant_of-hand g c =
     let can = subst (λ s. CanBegin g.P.Cargo c.args.self.now.frame s.me c.args.name) (sym c.hand.view_is) c.requires.needs in
     remembers-begun c.args.self.now c.hand.inside.seat c.begin_at.new.seat c.hand.inside.owed c.remove.new.self c.hand.invariant
-    (c.begin_at.ensures.table.0 ∙ c.renew.ensures.table.0) c.remove.ensures.layout g.P.Cargo _ _ _ c.args.name c.renew.new.seat.me
+    (c.begin_at.ensures.stays.same.0 ∙ c.renew.ensures.stays.same.0) c.remove.ensures.layout g.P.Cargo _ _ _ c.args.name c.renew.new.seat.me
     (has-owed c.hand.inside.seat c.hand.inside.owed c.hand.invariant c.args.name (record { owed = can.owed; owes = can.owes }))
     c.renew.ensures.renewed c.begin_at.ensures.begun.did c.remove.ensures.has
 
@@ -40,5 +40,5 @@ returns-clause-begun g c =
       renewed = c.renew.ensures.renewed;
       began = c.begin_at.ensures.begun;
       goes_on = begun-goes-on g.P.Cargo c.args.self.now.frame _ _ _ c.args.name c.hand.inside.seat.me c.renew.new.seat.me
-          c.begin_at.new.seat.me can c.renew.ensures.renewed c.begin_at.ensures.begun.did c.begin_at.ensures.hand.seated;
+          c.begin_at.new.seat.me can c.renew.ensures.renewed c.begin_at.ensures.begun.did c.begin_at.ensures.stays.hand.seated;
     })

@@ -32,8 +32,7 @@ returns-in-Open g c =
     ⊎_elim (λ (e : c.read_block.result.state ≡ Open). ap is_free e)
     (λ (e : c.read_block.result.state ≡ Retired). ap is_free e) c.in-Open.is in
     record {
-      table = (c.load-found.ensures.0, c.load-found.ensures.1);
-      hand = hand-logged c.args.self.now c.args.seat.now c.load-found.new.hand c.requires.table c.load-found.ensures.0
+      stays = hand-logged c.args.self.now c.args.seat.now c.load-found.new.hand c.requires.table (c.load-found.ensures.0, c.load-found.ensures.1)
           c.block-index.result c.load-found.result c.load-found.ensures.2.rest;
       claimed = inl (record {
         word = c.load-found.result;

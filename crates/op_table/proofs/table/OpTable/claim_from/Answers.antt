@@ -32,16 +32,16 @@ returns-then-was-found-clause-claimed g c =
     c.compare_exchange-was.new.hand c.stamp-generation.ensures (c.block-index.ensures.value ∙ ap (λ b. index b.frame.layout (OfBlock c.args.block)) c.self.view_is) c.if-was-found.true
     c.requires.subject c.block_number-open.ensures.reads (c.compare_exchange-was.ensures.2.rest.0 c.if-was-found.true).3 (c.compare_exchange-was.ensures.2.rest.0 c.if-was-found.true).0
 
-pub returns-then-was-found-clause-hand : goal.returns-then-was-found-clause-hand
-returns-then-was-found-clause-hand g c =
+pub returns-then-was-found-clause-stays : goal.returns-then-was-found-clause-stays
+returns-then-was-found-clause-stays g c =
     hand-aimed c.args.self.now c.args.seat.now c.compare_exchange-was.new.hand c.requires.table
-    c.compare_exchange-was.ensures.0 (root_name c.args.self.now c.args.block (block_read c.args.found).generation)
+    (c.compare_exchange-was.ensures.0, c.compare_exchange-was.ensures.1) (root_name c.args.self.now c.args.block (block_read c.args.found).generation)
     g.K.Subject.aim c.requires.subject (c.compare_exchange-was.ensures.2.rest.0 c.if-was-found.true).1
 
-pub returns-else-was-found-clause-hand : goal.returns-else-was-found-clause-hand
-returns-else-was-found-clause-hand g c =
+pub returns-else-was-found-clause-stays : goal.returns-else-was-found-clause-stays
+returns-else-was-found-clause-stays g c =
     hand-logged c.args.self.now c.args.seat.now c.compare_exchange-was.new.hand c.requires.table
-    c.compare_exchange-was.ensures.0 c.block-index.result c.compare_exchange-was.result
+    (c.compare_exchange-was.ensures.0, c.compare_exchange-was.ensures.1) c.block-index.result c.compare_exchange-was.result
     (c.compare_exchange-was.ensures.2.rest.1 c.if-was-found.false)
 
 pub returns-else-was-found-clause-claimed : goal.returns-else-was-found-clause-claimed

@@ -23,10 +23,10 @@ store-requires g c =
           c.callback_number-ran.ensures.stamp c.callback_number-ran.ensures.phase c.requires.table.seated.itself,
     )
 
-pub returns-clause-hand : goal.returns-clause-hand
-returns-clause-hand g c =
+pub returns-clause-stays : goal.returns-clause-stays
+returns-clause-stays g c =
     let b = c.args.self.now in
-    hand-seated b c.args.seat.now c.store.new.hand c.requires.table c.store.ensures.0
+    hand-seated b c.args.seat.now c.store.new.hand c.requires.table (c.store.ensures.0, c.store.ensures.1)
     (subst (IsSeated b.frame.tree b.frame.layout) (sym c.store.ensures.2.1.rest.me_is)
     (ended-seated b.frame.tree b.frame.layout c.callback-index.result c.store.ensures.2.0 c.callback_number-ran.result g.K.Subject.aim.tree g.K.Subject.aim.name
     c.args.seat.now.me c.requires.table.seated))

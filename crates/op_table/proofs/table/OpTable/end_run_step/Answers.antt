@@ -13,5 +13,5 @@ invariant_of-hand g c =
     let can = subst (λ s. CanEndRun s.me.0 c.args.name) (sym c.hand.view_is) c.requires.needs in
     let left = c.end_run_at.ensures.ended.me_is in
     remembers-ended c.hand.inside.seat c.hand.inside.owed c.hand.inside.runs c.hand.invariant c.end_run_at.new.seat
-    c.remove.new.self c.end_run_at.ensures.table.0 c.remove.ensures.layout (ap (λ m. m.0.owed) left) c.args.name can.runs
+    c.remove.new.self c.end_run_at.ensures.stays.same.0 c.remove.ensures.layout (ap (λ m. m.0.owed) left) c.args.name can.runs
     (ap (λ m. m.0.runs) left) c.remove.ensures.has

@@ -20,10 +20,10 @@ fetch_add-word-requires g c =
           c.requires.room (subst (λ b. b.frame.most ≤ MOST_ASSOCIATIONS) c.self.view_is c.self.invariant.1.most) c.requires.enters c.requires.table.seated.itself,
     )
 
-pub returns-clause-hand : goal.returns-clause-hand
-returns-clause-hand g c =
+pub returns-clause-stays : goal.returns-clause-stays
+returns-clause-stays g c =
     let b = c.args.self.now in
-    hand-seated b c.args.seat.now c.fetch_add-word.new.hand c.requires.table c.fetch_add-word.ensures.0
+    hand-seated b c.args.seat.now c.fetch_add-word.new.hand c.requires.table (c.fetch_add-word.ensures.0, c.fetch_add-word.ensures.1)
     (subst (IsSeated b.frame.tree b.frame.layout) (sym c.fetch_add-word.ensures.2.rest.me_is)
     (entered-seated b.frame.tree b.frame.layout g.K.Room.most 0 c.fetch_add-word.result (plus_one c.fetch_add-word.result) c.args.seat.now.me c.requires.table.seated))
 

@@ -25,8 +25,8 @@ returns-clause-finished g c =
     (c.control-index.ensures.value ∙ ap (λ b. index b.frame.layout (OfControl c.args.name.block c.args.name.node)) c.self.view_is)
     c.requires.subject c.control_number-done.ensures.stamp c.control_number-done.ensures.control c.store.ensures.2.1.rest
 
-pub returns-clause-hand : goal.returns-clause-hand
-returns-clause-hand g c =
-    hand-aimed c.args.self.now c.args.seat.now c.store.new.hand c.requires.table c.store.ensures.0 c.args.name
+pub returns-clause-stays : goal.returns-clause-stays
+returns-clause-stays g c =
+    hand-aimed c.args.self.now c.args.seat.now c.store.new.hand c.requires.table (c.store.ensures.0, c.store.ensures.1) c.args.name
     g.K.Subject.aim c.requires.subject
     (λ _. finished-seated g.P.Cargo g.K.Subject.aim c.control-index.result c.store.ensures.2.0 c.control_number-done.result c.args.seat.now.me c.store.new.hand.me c.store.ensures.2.1.rest.did)

@@ -14,9 +14,9 @@ fetch_or-word-requires g c =
       sets-joining g.P.Cargo c.self.inside.table.key _ c.args.seat.now.id c.args.seat.now.me c.requires.table.seated.itself,
     )
 
-pub returns-clause-hand : goal.returns-clause-hand
-returns-clause-hand g c =
-    hand-listed c.args.self.now c.args.seat.now c.fetch_or-word.new.hand c.requires.table c.fetch_or-word.ensures.0
+pub returns-clause-stays : goal.returns-clause-stays
+returns-clause-stays g c =
+    hand-listed c.args.self.now c.args.seat.now c.fetch_or-word.new.hand c.requires.table (c.fetch_or-word.ensures.0, c.fetch_or-word.ensures.1)
     0 c.fetch_or-word.result (bit_or c.fetch_or-word.result (2 ^ 34)) c.fetch_or-word.ensures.2.rest
 
 pub returns-clause-joins : goal.returns-clause-joins

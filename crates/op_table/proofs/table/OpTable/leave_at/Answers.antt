@@ -14,10 +14,10 @@ fetch_sub-word-requires g c =
       leaves_allowed g.P.Cargo c.self.inside.table.key _ c.args.seat.now.id c.args.seat.now.me c.requires.leaves c.requires.table.seated.itself,
     )
 
-pub returns-clause-hand : goal.returns-clause-hand
-returns-clause-hand g c =
+pub returns-clause-stays : goal.returns-clause-stays
+returns-clause-stays g c =
     let b = c.args.self.now in
-    hand-seated b c.args.seat.now c.fetch_sub-word.new.hand c.requires.table c.fetch_sub-word.ensures.0
+    hand-seated b c.args.seat.now c.fetch_sub-word.new.hand c.requires.table (c.fetch_sub-word.ensures.0, c.fetch_sub-word.ensures.1)
     (subst (IsSeated b.frame.tree b.frame.layout) (sym c.fetch_sub-word.ensures.2.rest.me_is)
     (left-seated b.frame.tree b.frame.layout c.fetch_sub-word.result (less_one c.fetch_sub-word.result) c.args.seat.now.me c.requires.table.seated))
 

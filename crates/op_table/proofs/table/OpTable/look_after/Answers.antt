@@ -29,10 +29,10 @@ returns-clause-looked g c = (
       (c.source_index-index.ensures.value ∙ ap (λ b. index b.frame.layout (spot_of c.args.source)) c.self.view_is),
 )
 
-pub returns-clause-hand : goal.returns-clause-hand
-returns-clause-hand g c =
+pub returns-clause-stays : goal.returns-clause-stays
+returns-clause-stays g c =
     let b = c.args.self.now in
-    hand-seated b c.args.seat.now c.load-word.new.hand c.requires.table c.load-word.ensures.0
+    hand-seated b c.args.seat.now c.load-word.new.hand c.requires.table (c.load-word.ensures.0, c.load-word.ensures.1)
     (subst (IsSeated b.frame.tree b.frame.layout) (sym c.load-word.ensures.2.rest.0)
     (look-seated b.frame.tree b.frame.layout g.K.Regard.source g.K.Regard.after c.source_index-index.result c.load-word.result
     c.args.seat.now.me c.requires.table.seated))

@@ -31,10 +31,10 @@ returns-clause-begun g c =
           (c.control-index.ensures.value ∙ ap (λ b. index b.frame.layout (OfControl c.args.child.block c.args.child.node)) c.self.view_is),
     )
 
-pub returns-clause-hand : goal.returns-clause-hand
-returns-clause-hand g c =
+pub returns-clause-stays : goal.returns-clause-stays
+returns-clause-stays g c =
     let b = c.args.self.now in
-    hand-seated b c.args.seat.now c.load-word.new.hand c.requires.table c.load-word.ensures.0
+    hand-seated b c.args.seat.now c.load-word.new.hand c.requires.table (c.load-word.ensures.0, c.load-word.ensures.1)
     (subst (IsSeated b.frame.tree b.frame.layout) (sym c.load-word.ensures.2.rest)
     (child-seated b.frame.tree b.frame.layout g.K.Subject.aim.name g.J.Subject.aim.name c.control-index.result c.load-word.result
     c.args.seat.now.me c.requires.table.seated))

@@ -29,10 +29,10 @@ returns-clause-phase g c = (
       (c.callback-index.ensures.value ∙ ap (λ b. index b.frame.layout (OfCallback c.args.name.block c.args.name.node)) c.self.view_is),
 )
 
-pub returns-clause-hand : goal.returns-clause-hand
-returns-clause-hand g c =
+pub returns-clause-stays : goal.returns-clause-stays
+returns-clause-stays g c =
     let b = c.args.self.now in
-    hand-seated b c.args.seat.now c.load-word.new.hand c.requires.table c.load-word.ensures.0
+    hand-seated b c.args.seat.now c.load-word.new.hand c.requires.table (c.load-word.ensures.0, c.load-word.ensures.1)
     (subst (IsSeated b.frame.tree b.frame.layout) (sym c.load-word.ensures.2.rest)
     (phase-seated b.frame.tree b.frame.layout g.K.Subject.aim.name c.callback-index.result c.load-word.result
     c.args.seat.now.me c.requires.table.seated))

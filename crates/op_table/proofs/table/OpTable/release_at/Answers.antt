@@ -25,9 +25,9 @@ returns-clause-released g c =
     g.K.Subject.aim g.J.Site.frames c.args.seat.now.me c.store.new.hand.me (c.block-index.ensures.value ∙ ap (λ b. index b.frame.layout (OfBlock c.args.block.index)) c.self.view_is)
     c.requires.subject (c.block_number-free.ensures.reads ∙ c.word_after.ensures) c.store.ensures.2.1.rest
 
-pub returns-clause-hand : goal.returns-clause-hand
-returns-clause-hand g c =
-    hand-aimed c.args.self.now c.args.seat.now c.store.new.hand c.requires.table c.store.ensures.0
+pub returns-clause-stays : goal.returns-clause-stays
+returns-clause-stays g c =
+    hand-aimed c.args.self.now c.args.seat.now c.store.new.hand c.requires.table (c.store.ensures.0, c.store.ensures.1)
     (root_name c.args.self.now c.args.block.index c.args.block.generation) g.K.Subject.aim c.requires.subject
     (λ _. c.store.ensures.2.1.rest.did.seated)
 

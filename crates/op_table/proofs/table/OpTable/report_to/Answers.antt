@@ -29,9 +29,9 @@ returns-clause-reported g c =
     c.requires.parent (ap (λ a. a.name) c.requires.child) c.requires.key c.report_of.ensures.last c.report_of.ensures.others
     c.fetch_sub-word.ensures.2.rest
 
-pub returns-clause-hand : goal.returns-clause-hand
-returns-clause-hand g c =
-    hand-aimed c.args.self.now c.args.seat.now c.fetch_sub-word.new.hand c.requires.table c.fetch_sub-word.ensures.0
+pub returns-clause-stays : goal.returns-clause-stays
+returns-clause-stays g c =
+    hand-aimed c.args.self.now c.args.seat.now c.fetch_sub-word.new.hand c.requires.table (c.fetch_sub-word.ensures.0, c.fetch_sub-word.ensures.1)
     (above_it c.args.self.now.frame.tree c.args.child) g.K.Subject.aim c.requires.parent
     (reports-seated g.P.Cargo g.K.Subject.aim g.J.Subject.aim.name g.L.Keyed.overs c.self.inside.table.table_id.slots
     c.control-index.result c.args.seat.now.me c.fetch_sub-word.new.hand.me c.fetch_sub-word.result c.fetch_sub-word.ensures.2.rest)

@@ -26,10 +26,10 @@ fetch_or-word-requires g c =
           c.mask.ensures c.requires.source_is c.requires.source.spot c.requires.source.is_one c.requires.needs c.requires.table.seated.itself,
     )
 
-pub returns-clause-hand : goal.returns-clause-hand
-returns-clause-hand g c =
+pub returns-clause-stays : goal.returns-clause-stays
+returns-clause-stays g c =
     let b = c.args.self.now in
-    hand-seated b c.args.seat.now c.fetch_or-word.new.hand c.requires.table c.fetch_or-word.ensures.0
+    hand-seated b c.args.seat.now c.fetch_or-word.new.hand c.requires.table (c.fetch_or-word.ensures.0, c.fetch_or-word.ensures.1)
     (subst (IsSeated b.frame.tree b.frame.layout) (sym c.fetch_or-word.ensures.2.rest.me_is)
     (asked-seated b.frame.tree b.frame.layout c.source_index-index.result c.fetch_or-word.result (bit_or c.fetch_or-word.result c.mask.result) g.K.Regard.source
     c.args.seat.now.me c.requires.table.seated))

@@ -31,7 +31,7 @@ returns-clause-rests g c =
     c.requires.subject c.control_number-rests.ensures.stamp (c.control_number-rests.ensures.control ∙ c.word_at.ensures)
     c.store.ensures.2.1.rest
 
-pub returns-clause-hand : goal.returns-clause-hand
-returns-clause-hand g c =
-    hand-aimed c.args.self.now c.args.seat.now c.store.new.hand c.requires.table c.store.ensures.0 c.args.name
+pub returns-clause-stays : goal.returns-clause-stays
+returns-clause-stays g c =
+    hand-aimed c.args.self.now c.args.seat.now c.store.new.hand c.requires.table (c.store.ensures.0, c.store.ensures.1) c.args.name
     g.K.Subject.aim c.requires.subject (λ _. c.store.ensures.2.1.rest.did.seated)

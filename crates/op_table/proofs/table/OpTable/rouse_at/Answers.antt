@@ -23,10 +23,10 @@ compare_exchange-was-requires g c =
           c.control_number-ready.ensures.stamp c.control_number-ready.ensures.control c.requires.table.seated.itself,
     )
 
-pub returns-clause-hand : goal.returns-clause-hand
-returns-clause-hand g c =
+pub returns-clause-stays : goal.returns-clause-stays
+returns-clause-stays g c =
     hand-listed c.args.self.now c.args.seat.now c.compare_exchange-was.new.hand c.requires.table
-    c.compare_exchange-was.ensures.0 c.control-index.result c.compare_exchange-was.result _ c.compare_exchange-was.ensures.2.rest
+    (c.compare_exchange-was.ensures.0, c.compare_exchange-was.ensures.1) c.control-index.result c.compare_exchange-was.result _ c.compare_exchange-was.ensures.2.rest
 
 pub returns-clause-roused : goal.returns-clause-roused
 returns-clause-roused g c =

@@ -21,13 +21,14 @@ load-word-requires g c =
     )
 
 pub run_from-requires-clause-table : goal.run_from-requires-clause-table
-run_from-requires-clause-table g c κs within =
-    hand-logged c.args.self.now c.args.seat.now c.load-word.new.hand c.requires.table c.load-word.ensures.0
+run_from-requires-clause-table g c κs within = (
+    hand-logged c.args.self.now c.args.seat.now c.load-word.new.hand c.requires.table (c.load-word.ensures.0, c.load-word.ensures.1)
     (run_index c.args.self.now c.args.block c.args.node) c.load-word.result
     (met-armed c.args.self.now c.args.source c.args.block c.args.node c.callback-index.result c.load-word.result g.K.Subject.aim
     g.J.Regard.source c.args.seat.now.me c.load-word.new.hand.me
     (c.callback-index.ensures.value ∙ ap (λ b. index b.frame.layout (OfCallback c.args.block c.args.node)) c.self.view_is)
     (sym c.says_armed.ensures ∙ c.if-says_armed.true) c.load-word.ensures.2.rest)
+    ).hand
 
 pub run_from-requires-clause-newest : goal.run_from-requires-clause-newest
 run_from-requires-clause-newest g c κs within =
@@ -48,10 +49,10 @@ returns-then-says_armed-clause-run g c =
     armed c.load-word.ensures.2.rest)
     c.run_from.result c.run_from.ensures.run
 
-pub returns-else-says_armed-clause-hand : goal.returns-else-says_armed-clause-hand
-returns-else-says_armed-clause-hand g c =
+pub returns-else-says_armed-clause-stays : goal.returns-else-says_armed-clause-stays
+returns-else-says_armed-clause-stays g c =
     let b = c.args.self.now in
-    hand-seated b c.args.seat.now c.load-word.new.hand c.requires.table c.load-word.ensures.0
+    hand-seated b c.args.seat.now c.load-word.new.hand c.requires.table (c.load-word.ensures.0, c.load-word.ensures.1)
     (subst (IsSeated b.frame.tree b.frame.layout) (sym c.load-word.ensures.2.rest)
     (met-seated b.frame.tree b.frame.layout c.callback-index.result c.load-word.result c.args.seat.now.me c.requires.table.seated
     g.K.Subject.aim g.J.Regard.source))

@@ -22,7 +22,7 @@ invariant_of-hand-2 g c =
     let ran = c.in_ok-name.ensures.run in
     let can = subst (λ s. CanRun c.args.self.now.frame.tree s.me.0 c.args.source c.args.block c.args.node) (sym c.hand.view_is) c.requires.needs in
     remembers-run c.hand.inside.seat c.hand.inside.owed c.hand.inside.runs c.hand.invariant c.run_at.new.seat
-    c.insert.new.self c.run_at.ensures.table.0 c.insert.ensures.layout (ap (λ m. m.0.owed) ran.me_is) name
+    c.insert.new.self c.run_at.ensures.stays.same.0 c.insert.ensures.layout (ap (λ m. m.0.owed) ran.me_is) name
     (ap (λ m. m.0.runs) ran.me_is)
     (unrun-named c.args.block c.args.node _ name c.hand.inside.seat.me.0.runs ran.name_is can.unrun)
     c.insert.ensures.has

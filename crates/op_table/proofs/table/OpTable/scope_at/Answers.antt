@@ -12,9 +12,9 @@ load-word-requires g c =
           c.args.seat.now.me.0 c.args.seat.now.me.1 c.requires.table.seated.itself,
     )
 
-pub returns-clause-hand : goal.returns-clause-hand
-returns-clause-hand g c =
-    hand-logged c.args.self.now c.args.seat.now c.load-word.new.hand c.requires.table c.load-word.ensures.0
+pub returns-clause-stays : goal.returns-clause-stays
+returns-clause-stays g c =
+    hand-logged c.args.self.now c.args.seat.now c.load-word.new.hand c.requires.table (c.load-word.ensures.0, c.load-word.ensures.1)
     0 c.load-word.result c.load-word.ensures.2.rest
 
 pub returns-clause-read : goal.returns-clause-read

@@ -15,9 +15,9 @@ compare_exchange-word-requires g c =
           (written-narrow _ c.scope_number-new.result c.scope_number-new.ensures.value c.scope_number-new.ensures.reads) c.requires.table.seated.itself,
     )
 
-pub returns-clause-hand : goal.returns-clause-hand
-returns-clause-hand g c =
-    hand-listed c.args.self.now c.args.seat.now c.compare_exchange-word.new.hand c.requires.table c.compare_exchange-word.ensures.0
+pub returns-clause-stays : goal.returns-clause-stays
+returns-clause-stays g c =
+    hand-listed c.args.self.now c.args.seat.now c.compare_exchange-word.new.hand c.requires.table (c.compare_exchange-word.ensures.0, c.compare_exchange-word.ensures.1)
     0 c.compare_exchange-word.result _ c.compare_exchange-word.ensures.2.rest.me_is
 
 pub returns-clause-sealed : goal.returns-clause-sealed

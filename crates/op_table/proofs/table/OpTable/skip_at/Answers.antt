@@ -19,10 +19,10 @@ load-word-requires g c =
           c.requires.subject c.requires.needs c.requires.block c.requires.table.seated.itself,
     )
 
-pub returns-clause-hand : goal.returns-clause-hand
-returns-clause-hand g c =
+pub returns-clause-stays : goal.returns-clause-stays
+returns-clause-stays g c =
     let b = c.args.self.now in
-    hand-seated b c.args.seat.now c.load-word.new.hand c.requires.table c.load-word.ensures.0
+    hand-seated b c.args.seat.now c.load-word.new.hand c.requires.table (c.load-word.ensures.0, c.load-word.ensures.1)
     (subst (IsSeated b.frame.tree b.frame.layout) (sym c.load-word.ensures.2.rest)
     (skip-seated b.frame.tree b.frame.layout c.block-index.result c.load-word.result g.K.Subject.aim.tree g.K.Subject.aim.name.block
     c.args.seat.now.me c.requires.table.seated))

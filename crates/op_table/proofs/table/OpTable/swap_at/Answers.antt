@@ -35,10 +35,10 @@ returns-clause-swapped g c =
     (c.place-slot.ensures.value ∙ ap (λ b. slot_of b.frame.layout c.args.name) c.self.view_is)
     c.requires.subject c.load.ensures.2.rest c.exchange.ensures.2 c.exchange.ensures.3
 
-pub returns-clause-hand : goal.returns-clause-hand
-returns-clause-hand g c =
+pub returns-clause-stays : goal.returns-clause-stays
+returns-clause-stays g c =
     hand-seated c.args.self.now c.args.seat.now c.exchange.new.hand c.requires.table
-    (c.exchange.ensures.0 ∙ c.load.ensures.0)
+    (c.exchange.ensures.0 ∙ c.load.ensures.0, c.exchange.ensures.1 ∙ c.load.ensures.1)
     (swapped-seated c.args.self.now.frame c.control-index.result c.place-slot.result c.load.result c.args.name
     g.K.Subject.aim c.args.item c.exchange.result c.args.seat.now.me c.load.new.hand.me c.exchange.new.hand.me
     (c.control-index.ensures.value ∙ ap (λ b. index b.frame.layout (OfControl c.args.name.block c.args.name.node)) c.self.view_is)

@@ -26,10 +26,10 @@ compare_exchange-was-requires g c =
           c.control_number-held.ensures.stamp c.control_number-held.ensures.control c.requires.table.seated.itself,
     )
 
-pub returns-clause-hand : goal.returns-clause-hand
-returns-clause-hand g c =
+pub returns-clause-stays : goal.returns-clause-stays
+returns-clause-stays g c =
     hand-aimed c.args.self.now c.args.seat.now c.compare_exchange-was.new.hand c.requires.table
-    c.compare_exchange-was.ensures.0 c.args.name g.K.Subject.aim c.requires.subject
+    (c.compare_exchange-was.ensures.0, c.compare_exchange-was.ensures.1) c.args.name g.K.Subject.aim c.requires.subject
     (taken-seated g.P.Cargo g.K.Subject.aim g.J.Keyed.overs c.self.inside.table.table_id.slots
     c.control-index.result c.control_number-rests.result
     c.control_number-held.result c.args.seat.now.me c.compare_exchange-was.new.hand.me c.compare_exchange-was.result

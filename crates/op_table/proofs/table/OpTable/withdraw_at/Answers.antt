@@ -26,10 +26,10 @@ compare_exchange-was-requires g c =
           c.callback_number-removed.ensures.stamp c.callback_number-removed.ensures.phase c.requires.table.seated.itself,
     )
 
-pub returns-clause-hand : goal.returns-clause-hand
-returns-clause-hand g c =
+pub returns-clause-stays : goal.returns-clause-stays
+returns-clause-stays g c =
     let b = c.args.self.now in
-    hand-seated b c.args.seat.now c.compare_exchange-was.new.hand c.requires.table c.compare_exchange-was.ensures.0
+    hand-seated b c.args.seat.now c.compare_exchange-was.new.hand c.requires.table (c.compare_exchange-was.ensures.0, c.compare_exchange-was.ensures.1)
     (subst (IsSeated b.frame.tree b.frame.layout) (sym c.compare_exchange-was.ensures.2.rest.0)
     (withdrawn-seated b.frame.tree b.frame.layout c.callback-index.result c.compare_exchange-was.result
     (left_by g.K.Subject.aim.name.generation c.compare_exchange-was.result) g.K.Subject.aim.tree g.K.Subject.aim.name

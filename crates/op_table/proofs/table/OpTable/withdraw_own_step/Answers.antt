@@ -13,5 +13,5 @@ invariant_of-hand g c =
     let can = subst (λ s. CanWithdrawOwn s.me.0 c.args.name) (sym c.hand.view_is) c.requires.needs in
     let left = c.withdraw_own_at.ensures.withdrawn.me_is in
     remembers-ended c.hand.inside.seat c.hand.inside.owed c.hand.inside.runs c.hand.invariant c.withdraw_own_at.new.seat
-    c.remove.new.self c.withdraw_own_at.ensures.table.0 c.remove.ensures.layout (ap (λ m. m.0.owed) left) c.args.name can.run.runs
+    c.remove.new.self c.withdraw_own_at.ensures.stays.same.0 c.remove.ensures.layout (ap (λ m. m.0.owed) left) c.args.name can.run.runs
     (ap (λ m. m.0.runs) left) c.remove.ensures.has
