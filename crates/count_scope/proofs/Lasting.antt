@@ -74,8 +74,9 @@ module _ {P E O : Type 0} (cargo : Ghosts P E O) where
       (f : Frame O) (s : table.State (Option P) (View P E)) → Running cargo f s → StillLists new s → (scope_of f.layout s.words).used ≡ true
   used-by true word left m new was marks f s r lists =
       (scope-later cargo f s r new word left m.0.steps (ap (λ (z : Seated P E). z.0.steps) marks) lists).used was
-  used-by false word left m new was (read, marked, marked_is, me_is) f s r lists =
-      (scope-later cargo f s r new read marked _ (ap (λ (z : Seated P E). z.0.steps) me_is) lists).used (ap (λ (w : ScopeWord). w.used) marked_is)
+  used-by false word left m new was mark f s r lists =
+      (scope-later cargo f s r new mark.read mark.left _ (ap (λ (z : Seated P E). z.0.steps) mark.me_is) lists).used
+      (ap (λ (w : ScopeWord). w.used) mark.left_is)
 
   pub associated-is_used : AssociatedIsUsed cargo
   associated-is_used most place m new did f s r lists =

@@ -4,3 +4,4 @@ mod Leaving
 mod Associating
 mod Starting
 mod Lasting
+mod CallLists

@@ -17,15 +17,21 @@ module _ {P E : Type 0} where
   abbrev pub associated : Seated P E → Seated P E
   associated m = (record (m.0) { made = m.0.made + 1 }, m.1)
 
+  -- a step read this word, and left it with the used bit set
+  pub record IsMarked (m m' : Seated P E) : Type 0 where
+    pub read : ℕ
+    pub left : ℕ
+    pub left_is : scope_read left ≡ as_used (scope_read read)
+    pub me_is : m' ≡ (with_step 0 read left m.0, m.1)
+
   -- the used bit was read as set, and there was no step more; else a step marked it
   abbrev pub MarksWhere : Bool → Seated P E → Seated P E → Type 0
   MarksWhere true m m' = m' ≡ m
-  MarksWhere false m m' =
-      (read : ℕ) × (left : ℕ) × (scope_read left ≡ as_used (scope_read read)) × (m' ≡ (with_step 0 read left m.0, m.1))
+  MarksWhere false m m' = IsMarked m m'
 
-  -- the entry read this word, and left one that counts one more. By the word that was read alone the
-  -- association is kept or refused. One that is kept
-  -- is made, the scope being marked as used. One that is refused is left again
+  -- the entry read this word, and left one that counts one more. By the word that was read alone
+  -- the association is kept or refused. One that is kept is made, the scope being marked as used.
+  -- One that is refused is left again
   pub record Associates (most : ℕ) (answer : Answer) (m m' : Seated P E) : Type 0 where
     pub word : ℕ
     pub left : ℕ

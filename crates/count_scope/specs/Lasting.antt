@@ -1,5 +1,5 @@
--- What a call on a scope left stays so, in every table that keeps the rule and in which some hand still lists
--- the call's steps: whatever steps the hands made since.
+-- What a call on a scope left stays so, in every table that keeps the rule and in which some hand
+-- still lists the call's steps: whatever steps the hands made since.
 use Rattle.std.specs.Prelude.{◌≡◌, ℕ, true, Option, Ok}
 use Rattle.atomic_table.specs.Table as table
 use Rattle.atomic_table.specs.declared.shared.Seat.{Seat}

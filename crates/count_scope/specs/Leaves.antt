@@ -4,7 +4,7 @@ use Rattle.life_rules.specs.declared.scope.ScopeWord.{ScopeWord}
 use Rattle.table_words.specs.ScopeNumbers.{scope_read}
 use Rattle.table_rules.specs.declared.view.View.{View}
 use Rattle.table_steps.specs.Claims.{with_step, Seated}
-use Rattle.table_steps.specs.ScopeMoves.{with_one_less}
+use Rattle.table_steps.specs.ScopeMoves.{with_one_less, leaves_scope}
 use Rattle.table_steps.specs.ScopeEntries.{MayEnter}
 use Rattle.count_scope.specs.Tries.{Sealed, AreTries}
 use Rattle.count_scope.specs.Seals.{tried}
@@ -28,6 +28,10 @@ module _ {P E : Type 0} where
   pub record HasAssociation (v : View P E) : Type 0 where
     pub settled : MayEnter v
     pub one : 1 ≤ v.made
+
+  -- the hand with one association less: one that is being refused goes first
+  abbrev pub with_one_left : Seated P E → Seated P E
+  with_one_left m = (leaves_scope m.0, m.1)
 
   -- the hand has one association less
   abbrev pub disassociated : Seated P E → Seated P E

@@ -5,6 +5,7 @@ pub mod Associations
 pub mod Joins
 pub mod Looks
 pub mod Lasting
+pub mod CallLists
 -- the definitions that the public contracts cite
 pub use Rattle.life_rules.specs.Scopes
 pub use Rattle.table_words.specs.ScopeNumbers

@@ -7,7 +7,8 @@ use Rattle.table_steps.specs.ScopeSets.{closing}
 
 module _ {P E : Type 0} where
   -- one load read this word, and the answer is what it says
-  pub record Reads {A : Type 0} (says : ScopeWord → A) (answer : A) (m m' : Seated P E) : Type 0 where
+  pub record Reads {A : Type 0} (says : ScopeWord → A) (answer : A) (m m' : Seated P E)
+      : Type 0 where
     pub word : ℕ
     pub answer_is : answer ≡ says (scope_read word)
     pub me_is : m' ≡ (logged 0 word m.0, m.1)

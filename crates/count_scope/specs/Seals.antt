@@ -27,7 +27,8 @@ module _ {P E : Type 0} where
   abbrev pub listed : List ℕ → View P E → View P E
   listed words v = record v { steps = seen_after words v.steps }
 
-  -- the view lists tries that read these words, the newest of which left this, and is as before else
+  -- the view lists tries that read these words, the newest of which left this, and is as before
+  -- else
   abbrev pub tried : List ℕ → ℕ → View P E → View P E
   tried [] left v = v
   tried (last ∷ before) left v = with_step 0 last left (listed before v)

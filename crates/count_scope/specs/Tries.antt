@@ -1,6 +1,6 @@
--- The tries of a seal. A seal sets the joined bit of a scope that joins and whose count came to 0: by
--- an exchange that expects such a word, and fails where the word is another. Lists of words that were
--- read begin with the newest.
+-- The tries of a seal. A seal sets the joined bit of a scope that joins and whose count came to 0:
+-- by an exchange that expects such a word, and fails where the word is another. Lists of words that
+-- were read begin with the newest.
 use Rattle.std.specs.Prelude.{◌≡◌, ◌≢◌, ℕ, ◌≤◌, Bool, true, not, ◌||◌, ◌==◌, List, [], ◌∷◌, length, Result, MatchResult}
 use Rattle.life_rules.specs.declared.scope.ScopeWord.{ScopeWord}
 use Rattle.life_rules.specs.Scopes.{may_seal}
@@ -30,8 +30,8 @@ AllFailed first (word ∷ words) =
     × (may_seal (scope_read word) ≡ true)
     × AllFailed first words
 
--- the last of at most three tries found what it expected, and left the scope joined; or it read that
--- no seal is asked, and changed nothing. Each try before it failed
+-- the last of at most three tries found what it expected, and left the scope joined; or it read
+-- that no seal is asked, and changed nothing. Each try before it failed
 pub record AreTries (first : ScopeWord) (answer : Sealed) (words : List ℕ) (left : ℕ) : Type 0 where
   pub last : ℕ
   pub before : List ℕ

@@ -1,6 +1,6 @@
 //! How a scope is closed and joined (P3149, [exec.counting.scopes]).
 ghost use Rattle.std.specs.Prelude.{◌≡◌};
-ghost use Rattle.table_steps.specs.Views.{IsHandOf, IsSameHand};
+ghost use Rattle.table_steps.specs.Views.{IsHandOf, Stays};
 ghost use Rattle.count_scope.specs.Joins.{start_of, start_after, Starts};
 ghost use Rattle.count_scope.specs.Looks.{Closes};
 
@@ -43,8 +43,7 @@ fn start_after(sealed: Result<(), ScopeWord>) -> JoinStart
 /// Step: one fetch_or of the scope's word, which sets the closed bit.
 pub fn close<P: Cargo>(table: &OpTable<P>, hand: &mut Hand<P>)
     requires table { IsHandOf table.now hand.old }
-    ensures table { IsSameHand hand.old hand.new }
-    ensures hand { IsHandOf table.now hand.new }
+    ensures stays { Stays table.now hand.old hand.new }
     ensures closed { Closes hand.old.me hand.new.me }
 {
     let _ = table.close_step(hand);
@@ -60,8 +59,7 @@ pub fn close<P: Cargo>(table: &OpTable<P>, hand: &mut Hand<P>)
 /// exchanges.
 pub fn start_join<P: Cargo>(table: &OpTable<P>, hand: &mut Hand<P>) -> JoinStart
     requires table { IsHandOf table.now hand.old }
-    ensures table { IsSameHand hand.old hand.new }
-    ensures hand { IsHandOf table.now hand.new }
+    ensures stays { Stays table.now hand.old hand.new }
     ensures starts { Starts result hand.old.me hand.new.me }
 {
     let read = table.join_step(hand);

@@ -1,5 +1,5 @@
 //! Associations: places in the scope's count (P3149, [exec.scope]).
-ghost use Rattle.table_steps.specs.Views.{IsHandOf, IsSameHand};
+ghost use Rattle.table_steps.specs.Views.{IsHandOf, Stays, knows};
 ghost use Rattle.table_steps.specs.ScopeEntries.{MayEnter};
 ghost use Rattle.count_scope.specs.Leaves.{HasAssociation, disassociated, Leaves};
 ghost use Rattle.count_scope.specs.Associations.{Associates, CountsOne};
@@ -23,9 +23,8 @@ pub struct Association {
 /// Afterwards: the hand has one association more, or as many as before.
 pub fn associate<P: Cargo>(table: &OpTable<P>, hand: &mut Hand<P>) -> Result<Association, Refused>
     requires table { IsHandOf table.now hand.old }
-    requires settled { MayEnter hand.old.me.0 }
-    ensures table { IsSameHand hand.old hand.new }
-    ensures hand { IsHandOf table.now hand.new }
+    requires settled { MayEnter (knows hand.old) }
+    ensures stays { Stays table.now hand.old hand.new }
     ensures associated { Associates table.now.frame.most result hand.old.me hand.new.me }
     ensures counted { CountsOne result hand.old.me hand.new.me }
 {
@@ -50,9 +49,8 @@ pub fn associate<P: Cargo>(table: &OpTable<P>, hand: &mut Hand<P>) -> Result<Ass
 /// Afterwards: the hand has one association less.
 pub fn disassociate<P: Cargo>(table: &OpTable<P>, hand: &mut Hand<P>, association: Association)
     requires table { IsHandOf table.now hand.old }
-    requires has { HasAssociation hand.old.me.0 }
-    ensures table { IsSameHand hand.old hand.new }
-    ensures hand { IsHandOf table.now hand.new }
+    requires has { HasAssociation (knows hand.old) }
+    ensures stays { Stays table.now hand.old hand.new }
     ensures left { Leaves (disassociated hand.old.me) hand.new.me }
 {
     let Association { place: () } = association;

@@ -7,11 +7,11 @@
 //! tries at most.
 ghost use Rattle.std.specs.Prelude.{◌≡◌, true};
 ghost use Rattle.life_rules.specs.Scopes.{may_seal};
-ghost use Rattle.table_steps.specs.Views.{IsHandOf, IsSameHand};
-ghost use Rattle.table_steps.specs.ScopeMoves.{MayLeaveScope, leaves_scope};
+ghost use Rattle.table_steps.specs.Views.{IsHandOf, Stays, knows};
+ghost use Rattle.table_steps.specs.ScopeMoves.{MayLeaveScope};
 ghost use Rattle.count_scope.specs.Tries.{is_settled};
 ghost use Rattle.count_scope.specs.Seals.{IsFresh, Seals};
-ghost use Rattle.count_scope.specs.Leaves.{is_last, Leaves};
+ghost use Rattle.count_scope.specs.Leaves.{is_last, with_one_left, Leaves};
 
 use life_rules::ScopeWord;
 use op_table::{Cargo, Hand, OpTable};
@@ -41,9 +41,8 @@ pub(crate) fn seal<P: Cargo>(
 ) -> Result<(), ScopeWord>
     requires table { IsHandOf table.now hand.old }
     requires seals { may_seal first ≡ true }
-    requires fresh { IsFresh first hand.old.me.0.steps }
-    ensures table { IsSameHand hand.old hand.new }
-    ensures hand { IsHandOf table.now hand.new }
+    requires fresh { IsFresh first (knows hand.old).steps }
+    ensures stays { Stays table.now hand.old hand.new }
     ensures sealed { Seals first result hand.old.me hand.new.me }
 {
     let Err(second) = table.seal_step(hand, first) else {
@@ -67,10 +66,9 @@ pub(crate) fn seal<P: Cargo>(
 /// Needs: the hand has an association that is made or being refused.
 pub(crate) fn leave<P: Cargo>(table: &OpTable<P>, hand: &mut Hand<P>)
     requires table { IsHandOf table.now hand.old }
-    requires leaves { MayLeaveScope hand.old.me.0 }
-    ensures table { IsSameHand hand.old hand.new }
-    ensures hand { IsHandOf table.now hand.new }
-    ensures left { Leaves (leaves_scope hand.old.me.0, hand.old.me.1) hand.new.me }
+    requires leaves { MayLeaveScope (knows hand.old) }
+    ensures stays { Stays table.now hand.old hand.new }
+    ensures left { Leaves (with_one_left hand.old.me) hand.new.me }
 {
     let word = table.leave_step(hand);
     if !is_last(word) {

@@ -2,5 +2,9 @@ pub mod Order
 pub mod Walking
 pub mod Looking
 pub mod Waiting
+pub mod Listing
+pub mod Keeping
+pub mod Nesting
+pub mod Passing
 mod Asking
 mod LookedAfter

@@ -257,6 +257,7 @@ module _ {P E O : Type 0} (board : Board O) (before : Scan) (old : Seat (Option 
               inr (inr (record {
                 block = place.block;
                 node = place.node;
+                within = n.block;
                 next = can-run none;
                 may = may;
                 told = told;
@@ -297,6 +298,7 @@ module _ {P E O : Type 0} (board : Board O) (before : Scan) (old : Seat (Option 
                 told.me_is
                 ∙ ap (λ (y : Name). (record now.me.0 { runs = y ∷ now.me.0.runs; steps = lists now.me.0.steps }, now.me.1)) told.name_is
                 ∙ ap (λ (m : Seated P E). (record m.0 { runs = name ∷ m.0.runs; steps = lists m.0.steps }, m.1)) w.me_is;
+            block = n.block;
             within = n.node;
             is_next = next;
             forward = let a = w.forward in let b = n.reached in omega (arith, a, b);

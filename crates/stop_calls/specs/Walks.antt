@@ -33,6 +33,7 @@ module _ {P E O : Type 0} (board : Board O) (source : SourceRef) (read read' : O
   -- the scan is of the scope's source, and its next place lies in this block, whose word was read
   pub record ReadsBlock (block : ℕ) (free : Bool) : Type 0 where
     pub scope : source ≡ Scope
+    pub within : block < board.frame.layout.blocks
     pub next : CanSkip board.frame.tree old.me.0 block
     pub told : IsSkipped board block free old new
 
@@ -50,6 +51,7 @@ module _ {P E O : Type 0} (board : Board O) (source : SourceRef) (read read' : O
   pub record PassesPlace : Type 0 where
     pub block : ℕ
     pub node : ℕ
+    pub within : block < board.frame.layout.blocks
     pub next : CanRun board.frame.tree old.me.0 source block node
     pub may : MayTry source read block
     pub told : HasPassed board source block node old new
@@ -80,6 +82,7 @@ module _ {P E O : Type 0} (board : Board O) (before : Scan) (old new : Seat (Opt
     pub at : ℕ
     pub steps : List Seen
     pub me_is : new.me ≡ (scanning_at before.source at (x ∷ old.me.0.runs) steps old.me.0, old.me.1)
+    pub block : x.block < board.frame.layout.blocks
     pub within : x.node < length board.frame.tree
     pub is_next : is_next_place board.frame.tree before.source at x.block x.node ≡ true
     pub forward : cursor board.frame.tree before ≤ number_of board.frame.tree x

@@ -3,7 +3,7 @@
 ghost use Rattle.std.specs.Prelude.{◌≡◌, ◌<◌, length, None, MatchOption};
 ghost use Rattle.node_tree.specs.Tree.{nearest};
 ghost use Rattle.life_rules.specs.States.{source_for};
-ghost use Rattle.table_steps.specs.Views.{IsHandOf, IsSameHand, IsPlaceIn};
+ghost use Rattle.table_steps.specs.Views.{IsHandOf, IsPlaceIn, Stays};
 ghost use Rattle.table_steps.specs.Callbacks.{CanArm};
 ghost use Rattle.table_steps.specs.Sights.{IsSourceIn, IsLookedAt, StillAsked, AgreesWithTold};
 ghost use Rattle.stop_calls.specs.Armings.{IsSourceAt, IsArmedSo};
@@ -32,8 +32,7 @@ pub enum Armed {
 pub fn stop_requested<P: Cargo>(table: &OpTable<P>, hand: &mut Hand<P>, source: SourceRef) -> bool
     requires table { IsHandOf table.now hand.old }
     requires source { IsSourceIn table.now source }
-    ensures table { IsSameHand hand.old hand.new }
-    ensures hand { IsHandOf table.now hand.new }
+    ensures stays { Stays table.now hand.old hand.new }
     ensures looked { IsLookedAt table.now source None result hand.old hand.new }
     ensures stands { StillAsked hand.old.me.0 source result }
     ensures told { AgreesWithTold table.now.frame.tree hand.old.me.0 source result }
@@ -74,8 +73,7 @@ pub fn arm<P: Cargo>(table: &OpTable<P>, hand: &mut Hand<P>, node: Name) -> Arme
     requires table { IsHandOf table.now hand.old }
     requires place { IsPlaceIn table.now node }
     requires needs { CanArm table.now.frame.tree hand.old.me.0 node }
-    ensures table { IsSameHand hand.old hand.new }
-    ensures hand { IsHandOf table.now hand.new }
+    ensures stays { Stays table.now hand.old hand.new }
     ensures armed { IsArmedSo table.now node result hand.old hand.new }
 {
     table.arm_step(hand, node);

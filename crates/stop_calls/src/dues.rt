@@ -1,6 +1,6 @@
 //! A callback that runs ([stopcallback.inplace.cons]).
 ghost use Rattle.std.specs.Prelude.{◌≡◌};
-ghost use Rattle.table_steps.specs.Views.{IsHandOf, IsSameHand, IsPlaceIn};
+ghost use Rattle.table_steps.specs.Views.{IsHandOf, IsPlaceIn, Stays};
 ghost use Rattle.stop_calls.specs.Removals.{MayEndRun, IsOver};
 
 use life_rules::Name;
@@ -32,8 +32,7 @@ impl Due {
         requires table { IsHandOf table.now hand.old }
         requires place { IsPlaceIn table.now self.place }
         requires needs { MayEndRun hand.old.me.0 self.place }
-        ensures table { IsSameHand hand.old hand.new }
-        ensures hand { IsHandOf table.now hand.new }
+        ensures stays { Stays table.now hand.old hand.new }
         ensures over { IsOver table.now self.place hand.old hand.new }
     {
         let Due { place } = self;

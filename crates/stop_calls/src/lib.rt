@@ -1,9 +1,10 @@
 //! In-place stop sources and stop callbacks ([stopsource.inplace], [stopcallback.inplace]) on a
 //! running table: stops are requested, callbacks registered, run and removed.
 //!
-//! It stands on op_table, whose steps it makes. It keeps one promise: a callback that was removed
-//! never runs afterwards, and one that is registered when a stop is requested is run, or its
-//! registration tells of the request. No call takes memory or a lock, and only `withdraw` waits.
+//! It stands on op_table, whose steps it makes, and on table_laws, from which it follows which steps
+//! each call lists. It keeps one promise: a callback that was removed never runs afterwards, and one
+//! that is registered when a stop is requested is run, or its registration tells of the request. No
+//! call takes memory or a lock, and only `withdraw` waits.
 //!
 //! # A request
 //!
@@ -12,6 +13,7 @@
 //!                             --Already, where a request was made before
 //!
 //! A scan and a due are spent: each has to go into `seal` or `finish`, else it doesn't compile.
+//! From inside a due one of its own source may be made: scans nest downwards in the tree.
 //!
 //! # A callback
 //!
@@ -22,6 +24,7 @@
 
 mod arming;
 mod dues;
+mod laws;
 mod removing;
 mod requesting;
 mod scanning;
@@ -29,6 +32,7 @@ mod searching;
 
 pub use arming::{Armed, arm, source_above, stop_requested};
 pub use dues::Due;
+pub use laws::calls_list_their_steps;
 pub use op_table::{Cargo, Hand, OpTable};
 pub use removing::{Settled, Withdrawn, try_withdraw, withdraw};
 pub use requesting::{Failure, Request, fail_stop, request_stop};

@@ -1,7 +1,7 @@
 //! How a callback is removed ([stopcallback.inplace.cons], the destructor).
 ghost use Rattle.std.specs.Prelude.{◌≢◌};
 ghost use Rattle.table_steps.specs.Hearings.{UnderScope};
-ghost use Rattle.table_steps.specs.Views.{IsHandOf, IsSameHand, IsPlaceIn};
+ghost use Rattle.table_steps.specs.Views.{IsHandOf, IsPlaceIn, Stays};
 ghost use Rattle.stop_calls.specs.declared.removing.Withdrawn.TheVariants.{Running};
 ghost use Rattle.stop_calls.specs.Removals.{MayWithdraw, IsTried, IsSettled};
 
@@ -48,8 +48,7 @@ pub fn try_withdraw<P: Cargo>(table: &OpTable<P>, hand: &mut Hand<P>, node: Name
     requires table { IsHandOf table.now hand.old }
     requires place { IsPlaceIn table.now node }
     requires needs { MayWithdraw hand.old.me.0 node }
-    ensures table { IsSameHand hand.old hand.new }
-    ensures hand { IsHandOf table.now hand.new }
+    ensures stays { Stays table.now hand.old hand.new }
     ensures tried { IsTried table.now node hand.old hand.new result }
     ensures scope { UnderScope table.now.frame.tree hand.old.me.0 node (result ≢ Running) }
 {
@@ -80,8 +79,7 @@ pub fn withdraw<P: Cargo, R: Wait>(
     requires table { IsHandOf table.now hand.old }
     requires place { IsPlaceIn table.now node }
     requires needs { MayWithdraw hand.old.me.0 node }
-    ensures table { IsSameHand hand.old hand.new }
-    ensures hand { IsHandOf table.now hand.new }
+    ensures stays { Stays table.now hand.old hand.new }
     ensures settled { IsSettled table.now node hand.old hand.new result }
 {
     for _ in rt.forever() {

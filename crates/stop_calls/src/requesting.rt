@@ -1,7 +1,7 @@
 //! How a stop is requested ([stopsource.inplace.mem], `request_stop`).
 ghost use Rattle.std.specs.Prelude.{true, false};
 ghost use Rattle.life_rules.specs.declared.event.SourceRef.TheVariants.{Node};
-ghost use Rattle.table_steps.specs.Views.{IsHandOf, IsSameHand};
+ghost use Rattle.table_steps.specs.Views.{IsHandOf, Stays};
 ghost use Rattle.table_steps.specs.Sights.{IsSourceIn};
 ghost use Rattle.table_steps.specs.Requests.{MayRequest};
 ghost use Rattle.stop_calls.specs.Requests.{is_answer, IsRequested, IsFailed};
@@ -51,8 +51,7 @@ pub fn request_stop<P: Cargo>(table: &OpTable<P>, hand: &mut Hand<P>, source: So
     requires table { IsHandOf table.now hand.old }
     requires source { IsSourceIn table.now source }
     requires needs { MayRequest P.Cargo table.now.frame hand.old.me.0 source false }
-    ensures table { IsSameHand hand.old hand.new }
-    ensures hand { IsHandOf table.now hand.new }
+    ensures stays { Stays table.now hand.old hand.new }
     ensures requested { IsRequested table.now source result hand.old hand.new }
 {
     let read = table.request_step(hand, source, false);
@@ -71,8 +70,7 @@ pub fn fail_stop<P: Cargo>(table: &OpTable<P>, hand: &mut Hand<P>, node: Name) -
     requires table { IsHandOf table.now hand.old }
     requires source { IsSourceIn table.now (Node node) }
     requires needs { MayRequest P.Cargo table.now.frame hand.old.me.0 (Node node) true }
-    ensures table { IsSameHand hand.old hand.new }
-    ensures hand { IsHandOf table.now hand.new }
+    ensures stays { Stays table.now hand.old hand.new }
     ensures failed { IsFailed table.now node result hand.old hand.new }
 {
     let source = SourceRef::Node(node);

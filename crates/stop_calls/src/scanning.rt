@@ -1,6 +1,6 @@
 //! How a scan goes through the callbacks of a source ([stopsource.inplace.mem]).
 ghost use Rattle.std.specs.Prelude.{◌≡◌, ◌<◌, true, false, IfSome};
-ghost use Rattle.table_steps.specs.Views.{IsHandOf, IsSameHand, IsPlaceIn};
+ghost use Rattle.table_steps.specs.Views.{IsHandOf, IsPlaceIn, Stays};
 ghost use Rattle.table_steps.specs.Sights.{IsSourceIn};
 ghost use Rattle.table_steps.specs.ScanSeals.{CanSealScan, IsScanSealed};
 ghost use Rattle.stop_calls.specs.Cursors.{first_scan, Stands, NoneHears};
@@ -44,8 +44,7 @@ fn passes_block<P: Cargo>(
     requires table { IsHandOf table.now hand.old }
     requires block { block < table.now.frame.layout.blocks }
     requires next { CanEnter table.now.frame.tree source hand.old.me.0 block }
-    ensures table { IsSameHand hand.old hand.new }
-    ensures hand { IsHandOf table.now hand.new }
+    ensures stays { Stays table.now hand.old hand.new }
     ensures met { IsBlockMet table.now source block read.old read.new hand.old hand.new result }
 {
     if !must_read(source, *read, block) {
@@ -95,8 +94,7 @@ impl Scan {
         requires table { IsHandOf table.now hand.old }
         requires stands { Stands table.now.frame.tree self.old hand.old.me.0 }
         requires idle { NoneHears table.now.frame.tree self.old.source hand.old.me.0.runs }
-        ensures table { IsSameHand hand.old hand.new }
-        ensures hand { IsHandOf table.now hand.new }
+        ensures stays { Stays table.now hand.old hand.new }
         ensures source { self.new.source ≡ self.old.source }
         ensures place { IfSome result (λ due. IsPlaceIn table.now due.place) }
         ensures scanned { IsScanned table.now self.old hand.old hand.new self.new result }
@@ -132,8 +130,7 @@ impl Scan {
         requires table { IsHandOf table.now hand.old }
         requires source { IsSourceIn table.now self.source }
         requires needs { CanSealScan table.now.frame hand.old.me.0 self.source }
-        ensures table { IsSameHand hand.old hand.new }
-        ensures hand { IsHandOf table.now hand.new }
+        ensures stays { Stays table.now hand.old hand.new }
         ensures sealed { IsScanSealed table.now self.source hand.old hand.new }
     {
         let Scan {

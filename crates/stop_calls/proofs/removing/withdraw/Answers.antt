@@ -1,4 +1,5 @@
-use Rattle.std.proofs.Common.{◌∙◌, suc}
+use Rattle.std.proofs.Common.{suc}
+use Rattle.op_slot.proofs.Staying.{stays-on}
 use Rattle.stop_calls.specs.declared.removing.Settled.TheVariants.{NeverRan, Ran, OwnHand}
 use Rattle.stop_calls.proofs.Waiting.{again, settled-so}
 use Rattle.stop_calls.proofs.removing.withdraw.Goals as goal
@@ -10,8 +11,7 @@ loop-preserved g c =
     record {
       next = tt;
       finite = tt;
-      table = (c.try_withdraw.ensures.table.0 ∙ before.table.0, c.try_withdraw.ensures.table.1 ∙ before.table.1);
-      hand = c.try_withdraw.ensures.hand;
+      stays = stays-on c.args.table.now c.args.hand.now c.loop.hand c.try_withdraw.new.hand before.stays c.try_withdraw.ensures.stays;
       may = again c.args.table.now c.args.node c.loop.hand c.try_withdraw.new.hand before.may tried;
       waited = (suc before.waited.0, (c.loop.hand, before.waited.1, tried));
     }

@@ -1,6 +1,7 @@
-use Rattle.std.proofs.Common.{false, refl, sym, ap, ◌∙◌, subst}
+use Rattle.std.proofs.Common.{false, sym, ap, ◌∙◌, subst}
 use Rattle.life_rules.specs.declared.event.SourceRef.{SourceRef}
 use Rattle.table_steps.specs.Runs.{CanRun, HasPassed, HasRun}
+use Rattle.op_slot.proofs.Staying.{stays-here, stays-on}
 use Rattle.stop_calls.specs.declared.scanning.Scan.{Scan}
 use Rattle.stop_calls.specs.Searches.{IsBlockMet}
 use Rattle.stop_calls.specs.Walks.{PassesBlock}
@@ -9,8 +10,7 @@ use Rattle.stop_calls.proofs.scanning.Scan.next.Goals as goal
 
 pub loop-place-init : goal.loop-place-init
 loop-place-init g c = record {
-  table = (refl, refl);
-  hand = c.requires.table;
+  stays = stays-here c.args.table.now c.args.hand.now c.requires.table;
   walk = begins c.args.table.now c.args.self.now c.args.hand.now c.requires.stands;
 }
 
@@ -30,11 +30,8 @@ loop-place-preserved-then-passes_block g c =
     let passed = subst (λ (t : SourceRef). PassesBlock board t c.loop-place.read c.passes_block.new.read c.loop-place.hand c.passes_block.new.hand c.in-Some.place.block)
     walk.source_is c.if-passes_block.ensures.met in
     record {
-      table = (
-        c.passes_block.ensures.table.0 ∙ c.loop-place.invariant.table.0,
-        c.passes_block.ensures.table.1 ∙ c.loop-place.invariant.table.1,
-      );
-      hand = c.passes_block.ensures.hand;
+      stays = stays-on board c.args.hand.now c.loop-place.hand c.passes_block.new.hand c.loop-place.invariant.stays
+          c.passes_block.ensures.stays;
       walk = subst (λ (s : Scan). IsWalking board c.args.self.now c.args.hand.now s c.passes_block.new.read c.passes_block.new.hand) (sym c.goes_to.ensures)
           (passes-block board c.args.self.now c.args.hand.now c.loop-place.self c.loop-place.read c.loop-place.hand walk c.in-Some.place n
           c.passes_block.new.read c.passes_block.new.hand passed);
@@ -79,11 +76,9 @@ loop-place-preserved g c =
     let passed = subst (λ (t : SourceRef). HasPassed board t c.in-Some.place.block c.in-Some.place.node c.passes_block.new.hand c.run_step.new.hand)
     (ap (λ (s : Scan). s.source) c.goes_to-in-Some.ensures ∙ walk.source_is) c.in_default-run_step.ensures.run in
     record {
-      table = (
-        c.run_step.ensures.table.0 ∙ (c.passes_block.ensures.table.0 ∙ c.loop-place.invariant.table.0),
-        c.run_step.ensures.table.1 ∙ (c.passes_block.ensures.table.1 ∙ c.loop-place.invariant.table.1),
-      );
-      hand = c.run_step.ensures.hand;
+      stays = stays-on board c.args.hand.now c.passes_block.new.hand c.run_step.new.hand
+          (stays-on board c.args.hand.now c.loop-place.hand c.passes_block.new.hand c.loop-place.invariant.stays c.passes_block.ensures.stays)
+          c.run_step.ensures.stays;
       walk = subst (λ (s : Scan). IsWalking board c.args.self.now c.args.hand.now s c.passes_block.new.read c.run_step.new.hand) (sym c.goes_to-in-Some.ensures)
           (passes-place board c.args.self.now c.args.hand.now c.loop-place.self c.passes_block.new.read c.passes_block.new.hand on.0 c.in-Some.place n
           c.run_step.new.hand c.requires.idle on.1 passed);

@@ -1,13 +1,12 @@
 use Rattle.std.specs.Prelude.{◌-◌, ◌*◌, length}
-use Rattle.table_steps.specs.Views.{IsHandOf, IsSameHand}
+use Rattle.table_steps.specs.Views.{Stays}
 use Rattle.stop_calls.specs.Cursors.{cursor}
 use Rattle.stop_calls.proofs.Walking.{IsWalking}
 use Rattle.stop_calls.proofs.scanning.Scan.next.Given as goal
 
 abbrev pub invariant-loop-place : goal.invariant-loop-place
 invariant-loop-place g l = record {
-  table : IsSameHand l.fn.hand l.hand;
-  hand : IsHandOf l.table l.hand;
+  stays : Stays l.table l.fn.hand l.hand;
   walk : IsWalking l.table l.fn.self l.fn.hand l.self l.read l.hand;
 }
 
