@@ -5,7 +5,7 @@ use Rattle.life_rules.specs.declared.words.CallbackPhase.{CallbackPhase}
 use Rattle.life_rules.specs.declared.words.CallbackPhase.TheVariants.{Never}
 use Rattle.life_rules.specs.declared.event.Name.{Name}
 use Rattle.table_rules.specs.declared.view.Held.{Held}
-use Rattle.table_steps.specs.Views.{Board}
+use Rattle.table_steps.specs.Views.{Board, aimed}
 use Rattle.table_steps.specs.Claims.{Seated}
 use Rattle.table_steps.specs.Finishes.{CanFinish, FinishesAt}
 use Rattle.table_steps.specs.Readings.{Holds, IsPhaseAs}
@@ -13,7 +13,7 @@ use Rattle.table_steps.specs.Releases.{CanRelease, ReleasesAt}
 use Rattle.table_steps.specs.Swaps.{HasHome}
 use Rattle.table_steps.specs.Takes.{TakenAt}
 use Rattle.op_slot.specs.Puts.{CanPut, IsPut, IsTakenOut}
-use Rattle.op_slot.specs.Tends.{aimed, IsCalm, Tends}
+use Rattle.op_slot.specs.Tends.{IsCalm, Tends}
 use Rattle.op_slot.proofs.Tending.{swapped-calm, swapped-old, swapped-own, phased-tends, phased-calm, taken-calm, taken-tends, held_as}
 use Rattle.op_slot.proofs.Leaving.{tends-home, tends-puts, root-finishes, rooted-calm, rooted-releases}
 use Rattle.table_use.specs.declared.cargo.Entry.{Entry}

@@ -1,8 +1,6 @@
 -- Each call on the scope leaves a hand that can associate.
-use Rattle.std.proofs.Common.{◌≡◌, ℕ, zero, suc, ◌<◌, ◌≤◌, List, [], ◌∷◌, length, refl, sym, subst, arith}
-use Rattle.std.specs.Prelude.{Option, Result, Ok, Err, All, slice_index_or}
-use mathlib.Core.Option.{some}
-use lib.ListN.{get_elem?}
+use Rattle.std.proofs.Common.{◌≡◌, ℕ, ◌≤◌, List, [], ◌∷◌, sym, subst, arith}
+use Rattle.std.specs.Prelude.{Option, Result, Ok, Err}
 use Rattle.life_rules.specs.declared.scope.ScopeWord.{ScopeWord}
 use Rattle.life_rules.specs.declared.scope.Refused.{Refused}
 use Rattle.atomic_table.specs.declared.shared.Seat.{Seat}
@@ -10,7 +8,7 @@ use Rattle.table_rules.specs.declared.view.View.{View}
 use Rattle.listed_steps.specs.declared.seen.Seen.{Seen}
 use Rattle.table_steps.specs.Claims.{Seated}
 use Rattle.table_steps.specs.ScopeEntries.{MayEnter}
-use Rattle.table_steps.specs.Views.{Board, IsHandOf, AreFreshHands}
+use Rattle.table_steps.specs.Views.{Board, IsHandOf}
 use Rattle.count_scope.specs.declared.members.Association.{Association}
 use Rattle.count_scope.specs.declared.joining.JoinStart.{JoinStart}
 use Rattle.count_scope.specs.Seals.{tried}

@@ -6,13 +6,13 @@ use Rattle.life_rules.specs.declared.words.CallbackPhase.TheVariants.{Never}
 use Rattle.life_rules.specs.declared.words.ControlWord.TheVariants.{Busy, Done as IsDone}
 use Rattle.life_rules.specs.declared.event.Name.{Name}
 use Rattle.table_rules.specs.declared.view.Held.{Held}
-use Rattle.table_steps.specs.Views.{Board}
+use Rattle.table_steps.specs.Views.{Board, aimed}
 use Rattle.table_steps.specs.Claims.{Seated}
 use Rattle.table_steps.specs.Finishes.{CanFinish, FinishesAt, FinishedAt}
 use Rattle.table_steps.specs.Readings.{Holds, IsPhaseAs}
 use Rattle.table_steps.specs.Lefts.{LeavesControl}
 use Rattle.op_slot.specs.Puts.{CanPut, IsPut, IsTakenOut}
-use Rattle.op_slot.specs.Tends.{aimed, IsCalm, Tends}
+use Rattle.op_slot.specs.Tends.{IsCalm, Tends}
 use Rattle.op_slot.proofs.Tending.{swapped-calm, swapped-own, swapped-beside, phased-tends, phased-calm, phased-beside}
 use Rattle.op_slot.proofs.Leaving.{tends-puts, tends-finishes, finished-owes, finished-beside}
 use Rattle.table_use.specs.declared.cargo.Item.{Item}

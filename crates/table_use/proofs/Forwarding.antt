@@ -1,25 +1,20 @@
 -- A request begins a scan inside those that the hand makes, and the branch's callback makes one.
-use Rattle.std.proofs.Common.{◌≡◌, inr, ℕ, ◌<◌, Bool, true, false, not, ◌&&◌, ◌==◌, List, ◌∷◌, refl, sym, ap, ◌∙◌, subst, arith}
+use Rattle.std.proofs.Common.{◌≡◌, inr, ℕ, ◌<◌, true, false, List, ◌∷◌, refl, sym, ap, ◌∙◌, subst, arith}
 use Rattle.std.specs.Prelude.{Option}
-use Rattle.std.proofs.lemmas.Bool.{cond-true}
 use Rattle.life_rules.specs.declared.event.Name.{Name}
 use Rattle.life_rules.specs.declared.event.SourceRef.{SourceRef}
 use Rattle.life_rules.specs.declared.event.SourceRef.TheVariants.{Scope, Node}
-use Rattle.node_tree.specs.Tree.{nearest, has_source, parent_of}
+use Rattle.node_tree.specs.Tree.{has_source, parent_of}
 use Rattle.life_rules.specs.Views.{beside}
 use Rattle.table_words.specs.Controls.{source_read}
 use Rattle.atomic_table.specs.declared.shared.Seat.{Seat}
 use Rattle.table_rules.specs.declared.view.View.{View}
 use Rattle.table_rules.specs.declared.view.Scanning.{Scanning}
-use Rattle.table_rules.specs.ShownViews.{scan_in}
 use Rattle.table_steps.specs.Views.{Board}
 use Rattle.table_steps.specs.Claims.{Seated}
-use Rattle.table_steps.specs.Sights.{IsSourceIn}
 use Rattle.table_steps.specs.Requests.{asks_at, OwesFailed}
-use Rattle.table_steps.specs.RunEnds.{passes_to}
 use Rattle.table_steps.specs.Reports.{CanReport}
 use Rattle.op_slot.proofs.Leaving.{owes-reports}
-use Rattle.table_steps.specs.ScanOrders.{hears, is_the_node}
 use Rattle.stop_calls.specs.declared.scanning.Scan.{Scan}
 use Rattle.stop_calls.specs.declared.requesting.Request.TheVariants.{Made}
 use Rattle.stop_calls.specs.Cursors.{first_scan, NoneHears}
@@ -34,76 +29,35 @@ use Rattle.table_use.specs.Starts.{IsParent, FitsAt}
 use Rattle.table_use.specs.contracts.cargo.ItemCargo.TheImpl.{ghosts}
 use Rattle.table_use.specs.Uses.{use_tree, IsNode, IsRoot, IsIdle, LeafFailed, KeepsReports}
 use Rattle.table_use.specs.Causes.{GoesOn, WasArmed, IsCauseAt, IsScanCause}
-use Rattle.table_use.specs.Scans.{AreAbove, AreOuter, Hears, Scans, IsInside, IsOuter}
-use Rattle.table_use.proofs.Nodes.{use-nearest, source-in, named-kid, kid-of, heard-is, heard-before, heard-twig, heard-leaf}
+use Rattle.table_use.specs.Scans.{AreAbove, Hears, Scans, IsInside, IsOuter}
+use Rattle.table_use.proofs.Nodes.{tree-of, source-in, named-kid, kid-of, heard-is, heard-before, heard-twig, heard-leaf}
 use Rattle.table_use.proofs.Waiting.{still-owes}
-use Rattle.table_use.proofs.Steps.{on, found-on, walks-on}
+use Rattle.table_use.proofs.Steps.{on, found-on, walks-longer}
 use Rattle.table_use.proofs.Readings.{read-within, run-armed}
 use Rattle.table_use.proofs.Reasons.{stop-within, stop-at}
-use Rattle.table_use.proofs.Nesting.{scan_at, first-found, through-scans, ended-scans, found-heard, found-runs, found-scans, over-runs, over-scans}
+use Rattle.stop_calls.proofs.Nesting.{deaf-above}
+use Rattle.table_use.proofs.Nesting.{scan_at, made, made-runs, begun, through-scans, ended-scans, found-heard, found-runs, found-scans, over-runs, over-scans}
 
--- a request that is made gives a scan
-module _ (board : Board ℕ) (tree : board.frame.tree ≡ use_tree) (source : SourceRef) (is_one : IsSourceIn board source) (m m1 : Seated Item Entry) (above : AreOuter source m.0.scans) (unrun : NoneHears board.frame.tree source m.0.runs) (i word left : ℕ) (clear : (source_read word).requested ≡ false) (me_is : m1 ≡ asks_at source i word left m) where
-  made-scans : m1.0.scans ≡ scan_at source 0 ∷ m.0.scans
-  made-scans =
-      ap (λ (z : Seated Item Entry). z.0.scans) me_is
-      ∙ cond-true (not (source_read word).requested) (scan_at source 0 ∷ m.0.scans) m.0.scans (ap not clear)
-
-  pub made-runs : m1.0.runs ≡ m.0.runs
-  made-runs = ap (λ (z : Seated Item Entry). z.0.runs) me_is
-
-  pub begun : Scans board (first_scan source) m1
-  begun =
-      record {
-        tree = tree;
-        is_one = is_one;
-        from = 0;
-        outer = m.0.scans;
-        scans = made-scans;
-        above = above;
-        stands = record {
-          within = omega arith;
-          from = 0;
-          scans = ap (λ (l : List Scanning). scan_in l source) made-scans ∙ first-found source 0 m.0.scans;
-          reached = omega arith;
-          between = λ b n inside low high. absurd (omega (arith, high));
-        };
-        unrun = subst (NoneHears board.frame.tree source) (sym made-runs) unrun;
-      }
-
-  pub made : (scan : Scan) → scan ≡ first_scan source → Scans board scan m1
-  made scan first = subst (λ (s : Scan). Scans board s m1) (sym first) begun
-
--- one on the scope's source, by an idle hand
+-- a request on the scope's source by an idle hand gives a scan
 pub asked-scans : (board : Board ℕ) → board.frame.tree ≡ use_tree → (old new : Seat (Option Item) (View Item Entry)) → IsIdle old.me → (scan : Scan) →
     IsRequested board Scope (Made scan) old new → Scans board scan new.me
 asked-scans board tree old new idle scan r =
-    made board tree Scope (record { spot = tt; is_one = tt }) old.me new.me idle.scans (subst (NoneHears board.frame.tree Scope) (sym idle.runs) tt) _ r.word r.left r.answer_is.0
+    made board (tree-of board tree) Scope (record { spot = tt; is_one = tt }) old.me new.me idle.scans (subst (NoneHears board.frame.tree Scope) (sym idle.runs) tt) _ r.word r.left r.answer_is.0
     r.me_is scan r.answer_is.1
-
-and-none : (b : Bool) → (b && false) ≡ false
-and-none true = refl
-and-none false = refl
 
 -- from inside the branch's callback
 module _ (board : Board ℕ) (x : Name) (is : IsNode board x) (two : x.node ≡ 2) where
   pub branch-source : has_source board.frame.tree x.node ≡ true
   branch-source = ap (λ t. has_source t x.node) is.tree ∙ ap (has_source use_tree) two
 
-  -- the branch doesn't hear its own source
-  branch-deaf : hears board.frame.tree (Node x) x.block x.node ≡ false
-  branch-deaf =
-      ap (λ t. x.block == x.block && is_the_node x.node (nearest t x.node)) is.tree
-      ∙ ap (λ n. x.block == x.block && is_the_node n (nearest use_tree n)) two
-      ∙ ap (λ k. x.block == x.block && is_the_node 2 k) (use-nearest 2 (omega arith))
-      ∙ and-none (x.block == x.block)
-
   pub branch-scans : (old new : Seat (Option Item) (View Item Entry)) → IsInside x old.me → (scan : Scan) → IsRequested board (Node x) (Made scan) old new →
       Scans board scan new.me
   branch-scans old new inside scan r =
       let low : x.node < 3 = omega (arith, two) in
-      made board is.tree (Node x) (source-in board x is branch-source) old.me new.me (subst (AreAbove x.node) (sym inside.scans) (low, tt))
-      (subst (NoneHears board.frame.tree (Node x)) (sym inside.runs) (branch-deaf, tt)) _ r.word r.left r.answer_is.0 r.me_is scan r.answer_is.1
+      let tree = tree-of board is.tree in
+      made board tree (Node x) (source-in board x is branch-source) old.me new.me (subst (AreAbove x.node) (sym inside.scans) (low, tt))
+      (subst (NoneHears board.frame.tree (Node x)) (sym inside.runs) (deaf-above board.frame.tree tree x x.block x.node (omega arith), tt))
+      _ r.word r.left r.answer_is.0 r.me_is scan r.answer_is.1
 
   -- what runs then is the twig's
   pub twig-is : (y : Name) (source : SourceRef) → source ≡ Node x → Hears board.frame.tree source y → y ≡ beside x 1
@@ -145,7 +99,7 @@ module _ (board : Board ℕ) (root : Name) (is : IsRoot board root) (before afte
       let leaf : x ≡ beside root 0 = heard-leaf board is.is_node.tree x root heard-root is.three cause in
       subst (λ (z : Name). WasArmed board old.me end.me z) leaf
       (read-within board _ _ old.me f.middle.me new.me end.me
-      (walks-on board before.source f.count f.read old f.middle f.passed)
+      (walks-longer board old f.middle before.source f.count f.read f.passed)
       (run-armed board before.source f.middle new x f.begun)
       (on new.me mid.me end.me went over))
   outer-cause mid end went over Moved cause =
@@ -194,9 +148,9 @@ failed-outer board root is m m1 idle i word left clear me_is scan first =
     let unrun = subst (NoneHears board.frame.tree (Node root)) (sym idle.runs) tt in
     subst (λ (s : Scan). IsOuter board root s m1) (sym first)
     (record {
-      makes = begun board is.is_node.tree (Node root) (source-in board root is.is_node (root-source board root is)) m m1 above unrun i word left clear me_is;
+      makes = begun board (tree-of board is.is_node.tree) (Node root) (source-in board root is.is_node (root-source board root is)) m m1 above unrun i word left clear me_is;
       source = refl;
-      runs = made-runs board is.is_node.tree (Node root) (source-in board root is.is_node (root-source board root is)) m m1 above unrun i word left clear me_is ∙ idle.runs;
+      runs = made-runs board (tree-of board is.is_node.tree) (Node root) (source-in board root is.is_node (root-source board root is)) m m1 above unrun i word left clear me_is ∙ idle.runs;
       alone = idle.scans;
     })
 

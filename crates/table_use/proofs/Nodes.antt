@@ -7,7 +7,7 @@ use Rattle.std.proofs.lemmas.Bool.{eqb-true, ne_eqb}
 use Rattle.life_rules.specs.declared.event.Name.{Name}
 use Rattle.life_rules.specs.declared.event.SourceRef.{SourceRef}
 use Rattle.life_rules.specs.declared.event.SourceRef.TheVariants.{Scope, Node}
-use Rattle.node_tree.specs.Tree.{TheScope, TheNode, nearest, has_source, source_above, is_child, is_root}
+use Rattle.node_tree.specs.Tree.{IsTree, TheScope, TheNode, nearest, has_source, source_above, is_child, is_node, is_root}
 use Rattle.life_rules.specs.Views.{beside}
 use Rattle.life_rules.specs.States.{source_for}
 use Rattle.life_kept.proofs.Trees.{child-parent}
@@ -24,6 +24,18 @@ use Rattle.table_use.specs.declared.cargo.Env.{Env}
 use Rattle.table_use.specs.Starts.{entry_at, above_of, path}
 use Rattle.table_use.specs.Uses.{use_tree, IsNode, IsRoot}
 use Rattle.table_use.specs.Scans.{Hears}
+
+-- the nodes are a tree
+use-node : (n : ℕ) → n < 4 → is_node use_tree n ≡ true
+use-node zero below = refl
+use-node (suc zero) below = refl
+use-node (suc (suc zero)) below = refl
+use-node (suc (suc (suc zero))) below = refl
+use-node (suc (suc (suc (suc n)))) below = absurd (omega (arith, below))
+
+pub tree-of : {O : Type 0} (board : Board O) → board.frame.tree ≡ use_tree → IsTree board.frame.tree
+tree-of board is =
+    let four : length use_tree ≡ 4 = refl in subst IsTree (sym is) (record { some = omega (arith, four); each = use-node })
 
 -- children stand before their parent
 use-before : (p n : ℕ) → is_child use_tree p n ≡ true → n < p

@@ -13,7 +13,7 @@ use Rattle.table_rules.specs.declared.view.Rooted.{Rooted}
 use Rattle.table_rules.specs.Named.{find_by}
 use Rattle.table_steps.specs.declared.report.Report.{Report}
 use Rattle.table_steps.specs.declared.report.Report.TheVariants.{Last, Others}
-use Rattle.table_steps.specs.Views.{Board}
+use Rattle.table_steps.specs.Views.{Board, aimed}
 use Rattle.table_steps.specs.Awaits.{AwaitsAt}
 use Rattle.table_steps.specs.Begins.{Begins, notes_start, start_shown}
 use Rattle.table_steps.specs.Claims.{Seated}
@@ -23,7 +23,6 @@ use Rattle.table_steps.specs.Reports.{IsReportedAs}
 use Rattle.table_steps.specs.Rests.{RestsAt}
 use Rattle.table_steps.specs.Slots.{slot_of, kept}
 use Rattle.table_steps.specs.Swaps.{IsSwapped}
-use Rattle.op_slot.specs.Tends.{aimed}
 use Rattle.table_use.specs.declared.cargo.Entry.{Entry}
 use Rattle.table_use.specs.declared.cargo.Env.{Env}
 use Rattle.table_use.specs.declared.cargo.Item.{Item}

@@ -15,7 +15,7 @@ use Rattle.table_rules.specs.declared.view.View.{View}
 use Rattle.table_rules.specs.declared.view.Held.{Held}
 use Rattle.table_rules.specs.Named.{find_by}
 use Rattle.table_words.specs.Layouts.{place_number}
-use Rattle.table_steps.specs.Views.{Board}
+use Rattle.table_steps.specs.Views.{Board, aimed}
 use Rattle.table_steps.specs.Begins.{Begins}
 use Rattle.table_steps.specs.Callbacks.{CanArm}
 use Rattle.table_steps.specs.Claims.{Seated}
@@ -23,7 +23,7 @@ use Rattle.table_steps.specs.Readings.{Holds, IsPhaseAs}
 use Rattle.table_steps.specs.Rests.{CanRest}
 use Rattle.table_steps.specs.Slots.{slot_of, kept}
 use Rattle.op_slot.specs.Puts.{CanPut, FitsOwed, IsPut}
-use Rattle.op_slot.specs.Tends.{aimed, Owes, Tends}
+use Rattle.op_slot.specs.Tends.{Owes, Tends}
 use Rattle.op_slot.proofs.Kept.{find-noted}
 use Rattle.op_slot.proofs.Tending.{swapped-owes, swapped-beside, begun-tends, begun-beside, phased-tends}
 use Rattle.op_slot.proofs.Leaving.{owes-puts, owes-fits, tends-rests}

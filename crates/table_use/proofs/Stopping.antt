@@ -10,7 +10,7 @@ use Rattle.atomic_table.specs.declared.shared.Seat.{Seat}
 use Rattle.table_rules.specs.declared.view.View.{View}
 use Rattle.table_steps.specs.declared.report.Report.{Report}
 use Rattle.table_steps.specs.declared.report.Report.TheVariants.{Others}
-use Rattle.table_steps.specs.Views.{Board}
+use Rattle.table_steps.specs.Views.{Board, aimed}
 use Rattle.table_steps.specs.Claims.{Seated}
 use Rattle.table_steps.specs.Readings.{above_it, Holds}
 use Rattle.table_steps.specs.Reports.{IsReportedAs}
@@ -18,7 +18,7 @@ use Rattle.table_steps.specs.Lefts.{SaysControl, LeavesControl}
 use Rattle.table_steps.specs.Rests.{RestsAt}
 use Rattle.table_steps.specs.Takes.{rest_word, IsTaken, TakenAt}
 use Rattle.op_slot.specs.Puts.{IsPut, IsTakenOut}
-use Rattle.op_slot.specs.Tends.{aimed, IsCalm}
+use Rattle.op_slot.specs.Tends.{IsCalm}
 use Rattle.op_slot.proofs.Tending.{swapped-home}
 use Rattle.table_use.specs.declared.cargo.Entry.{Entry}
 use Rattle.table_use.specs.declared.cargo.Env.{Env}

@@ -14,12 +14,12 @@ use Rattle.table_rules.specs.declared.view.Held.{Held}
 use Rattle.table_rules.specs.declared.view.Reported.{Reported}
 use Rattle.table_rules.specs.Named.{find_by}
 use Rattle.table_steps.specs.declared.block.Block.{Block}
-use Rattle.table_steps.specs.Views.{Board}
+use Rattle.table_steps.specs.Views.{Board, aimed}
 use Rattle.table_steps.specs.Awaits.{is_named, AwaitsAt, CanAwait}
 use Rattle.table_steps.specs.Claims.{Seated, Missed}
 use Rattle.table_steps.specs.Readings.{IsBegunAs, HoldsAbove}
 use Rattle.op_slot.specs.Searches.{IsMissedBelow, IsFound}
-use Rattle.op_slot.specs.Tends.{aimed, AreApart, IsCalm, KeepsOwed, OwesReport, Owes, Tends}
+use Rattle.op_slot.specs.Tends.{AreApart, IsCalm, KeepsOwed, OwesReport, Owes, Tends}
 use Rattle.op_slot.proofs.Places.{kids-apart}
 use Rattle.op_slot.proofs.Tending.{read-tends, read-calm}
 use Rattle.op_slot.proofs.Leaving.{tends-awaits, awaited-owes}

@@ -1,6 +1,6 @@
 -- Why an operation isn't taken to its end: each fault rests on what words said that the hand read in the call.
 -- The list of its steps has them. An operation is named by any node of it.
-use Rattle.std.specs.Prelude.{◌≡◌, ◌≢◌, ◌⊎◌, ℕ, ◌<◌, Bool, true, List, ◌∷◌, ◌++◌, Option}
+use Rattle.std.specs.Prelude.{◌≡◌, ◌≢◌, ◌⊎◌, ℕ, ◌<◌, Bool, true, List, ◌∷◌, Option}
 use Rattle.life_rules.specs.declared.words.BlockState.TheVariants.{Free}
 use Rattle.life_rules.specs.declared.words.CallbackPhase.TheVariants.{Never}
 use Rattle.life_rules.specs.declared.event.Name.{Name}
@@ -25,18 +25,14 @@ use Rattle.table_steps.specs.Sights.{says_requested}
 use Rattle.op_slot.specs.Searches.{IsMissedBelow}
 use Rattle.stop_calls.specs.declared.requesting.Request.TheVariants.{Made}
 use Rattle.stop_calls.specs.declared.scanning.Scan.{Scan}
+pub use Rattle.stop_calls.specs.Asides.{IsLonger}
 use Rattle.stop_calls.specs.Requests.{IsAskedFor}
 use Rattle.stop_calls.specs.Walks.{IsThrough}
 use Rattle.table_use.specs.declared.cargo.Item.{Item}
 use Rattle.table_use.specs.declared.cargo.Entry.{Entry}
 use Rattle.table_use.specs.declared.node.Fault.{Fault}
-use Rattle.table_use.specs.declared.node.Fault.TheVariants.{NoBlock, Begun, Registered, Asked, Moved, OtherPlace, Order, Lost, OtherItem}
+use Rattle.table_use.specs.declared.node.Fault.TheVariants.{NoBlock, Begun, Registered, Asked, Moved, OtherPlace, Order}
 use Rattle.table_use.specs.Uses.{use_tree, IsRoot}
-
--- the second list is the first with further steps, or none, in front
-pub record IsLonger (before after : List Seen) : Type 0 where
-  pub made : List Seen
-  pub is : after ≡ made ++ before
 
 -- the hand made further steps, or none
 abbrev pub GoesOn : Seated Item Entry → Seated Item Entry → Type 0

@@ -1,5 +1,5 @@
 -- What a hand has of a root that hears the scope's source.
-use Rattle.std.specs.Prelude.{◌≡◌, ℕ, List, [], Some}
+use Rattle.std.specs.Prelude.{◌≡◌, ℕ, [], Some}
 use Rattle.life_rules.specs.declared.words.CallbackPhase.{CallbackPhase}
 use Rattle.life_rules.specs.declared.words.CallbackPhase.TheVariants.{Ran as HasRun, Removed, Running as Runs}
 use Rattle.life_rules.specs.declared.event.Name.{Name}

@@ -4,4 +4,5 @@ pub mod Scans
 pub mod Causes
 pub mod Ends
 pub mod Hearing
+pub mod Asking
 pub mod Members

@@ -1,19 +1,25 @@
 //! A root that hears the scope's source: its callback is registered, and removed after a scan, from
-//! inside it, or beside it.
+//! inside it, or beside it. Each call hands on what the calls that it makes read, left and
+//! answered.
 ghost use Rattle.std.specs.Prelude.{◌≡◌, true, IfOk, IfErr, IfSome, IfNone};
+ghost use Rattle.life_rules.specs.declared.event.SourceRef.TheVariants.{Scope};
 ghost use Rattle.life_rules.specs.declared.words.CallbackPhase.TheVariants.{Armed as IsArmed};
 ghost use Rattle.life_rules.specs.StopSteps.{is_counting};
-ghost use Rattle.table_steps.specs.Views.{IsHandOf};
+ghost use Rattle.table_steps.specs.Views.{IsHandOf, knows};
 ghost use Rattle.table_steps.specs.Callbacks.{is_registered};
 ghost use Rattle.op_slot.specs.Tends.{IsCalm};
+ghost use Rattle.stop_calls.specs.Removals.{IsTried, IsSettled};
+ghost use Rattle.stop_calls.specs.Requests.{IsRequested};
 ghost use Rattle.table_use.specs.Uses.{use_tree, IsRoot, HoldsGoing, KeepsPlays, KeepsHoldings, IsIdle};
 ghost use Rattle.table_use.specs.Causes.{WasRegistered};
 ghost use Rattle.table_use.specs.Hearing.{HoldsRoot, AsksScope, tried_as, settled_as};
+ghost use Rattle.table_use.specs.Asking.{request_of, Listens, AsksAll, RemovesNext, RemovesInside, LetsGo};
 
+use crate::cargo::Item;
 use crate::node::{Fault, Table, Worker, is_registered};
 use crate::scans::runs_out;
 use life_rules::{CallbackPhase, Name, SourceRef};
-use op_slot::take_home;
+use op_slot::{Cargo, take_home};
 use std::sync::Wait;
 use stop_calls::{
     Armed, Request, Scan, Settled, Withdrawn, arm, request_stop, try_withdraw, withdraw,
@@ -26,8 +32,9 @@ pub fn listens(table: &Table, hand: &mut Worker, root: Name) -> Result<Armed, Fa
     requires holds { HoldsGoing table.now.frame root hand.old.me }
     ensures table { IsHandOf table.now hand.new }
     ensures plays { KeepsPlays hand.old.me hand.new.me }
-    ensures number { hand.new.me.0.number ≡ hand.old.me.0.number }
+    ensures number { (knows hand.new).number ≡ (knows hand.old).number }
     ensures holds { IfOk result (λ _. HoldsRoot table.now.frame root IsArmed hand.new.me) }
+    ensures heard { IfOk result (λ armed. Listens table.now root armed hand.old hand.new) }
     ensures fault { IfErr result (λ _. WasRegistered table.now hand.old.me hand.new.me root) }
 {
     if is_registered(table.phase_of(hand, root)) {
@@ -41,10 +48,11 @@ pub fn asks(table: &Table, hand: &mut Worker) -> Option<Scan>
     requires table { IsHandOf table.now hand.old }
     requires tree { table.now.frame.tree ≡ use_tree }
     requires kind { is_counting table.now.frame.kind ≡ true }
-    requires number { hand.old.me.0.number ≡ 0 }
+    requires number { (knows hand.old).number ≡ 0 }
     requires idle { IsIdle hand.old.me }
     ensures table { IsHandOf table.now hand.new }
     ensures holds { KeepsHoldings hand.old.me hand.new.me }
+    ensures requested { IsRequested table.now Scope (request_of result) hand.old hand.new }
     ensures made { IfSome result (λ scan. AsksScope table.now scan hand.new.me) }
     ensures none { IfNone result (IsIdle hand.new.me) }
 {
@@ -59,11 +67,12 @@ pub fn asks_all(table: &Table, hand: &mut Worker) -> Option<u32>
     requires table { IsHandOf table.now hand.old }
     requires tree { table.now.frame.tree ≡ use_tree }
     requires kind { is_counting table.now.frame.kind ≡ true }
-    requires number { hand.old.me.0.number ≡ 0 }
+    requires number { (knows hand.old).number ≡ 0 }
     requires idle { IsIdle hand.old.me }
     ensures table { IsHandOf table.now hand.new }
     ensures holds { KeepsHoldings hand.old.me hand.new.me }
     ensures idle { IsIdle hand.new.me }
+    ensures asked { AsksAll table.now result hand.old hand.new }
 {
     let scan = asks(table, hand)?;
     Some(runs_out(table, hand, scan))
@@ -77,6 +86,7 @@ fn removes_next(table: &Table, hand: &mut Worker, root: Name, scan: &mut Scan) -
     requires holds { HoldsRoot table.now.frame root IsArmed hand.old.me }
     ensures table { IsHandOf table.now hand.new }
     ensures scan { AsksScope table.now scan.new hand.new.me }
+    ensures removed { RemovesNext table.now root scan.old scan.new result hand.old hand.new }
 {
     let due = scan.next(table, hand)?;
     let inside = try_withdraw(table, hand, root);
@@ -90,11 +100,12 @@ pub fn removes_inside(table: &Table, hand: &mut Worker, root: Name) -> Option<(W
     requires table { IsHandOf table.now hand.old }
     requires root { IsRoot table.now root }
     requires kind { is_counting table.now.frame.kind ≡ true }
-    requires number { hand.old.me.0.number ≡ 0 }
+    requires number { (knows hand.old).number ≡ 0 }
     requires idle { IsIdle hand.old.me }
     requires holds { HoldsRoot table.now.frame root IsArmed hand.old.me }
     ensures table { IsHandOf table.now hand.new }
     ensures idle { IsIdle hand.new.me }
+    ensures removed { RemovesInside table.now root result hand.old hand.new }
 {
     let mut scan = asks(table, hand)?;
     let found = removes_next(table, hand, root, &mut scan);
@@ -111,6 +122,7 @@ pub fn tries(table: &Table, hand: &mut Worker, root: Name) -> Withdrawn
     ensures table { IsHandOf table.now hand.new }
     ensures idle { IsIdle hand.new.me }
     ensures holds { HoldsRoot table.now.frame root (tried_as result) hand.new.me }
+    ensures tried { IsTried table.now root hand.old hand.new result }
 {
     try_withdraw(table, hand, root)
 }
@@ -132,6 +144,7 @@ pub fn removes<R: Wait>(
     ensures table { IsHandOf table.now hand.new }
     ensures idle { IsIdle hand.new.me }
     ensures holds { HoldsRoot table.now.frame root (settled_as result) hand.new.me }
+    ensures settled { IsSettled table.now root hand.old hand.new result }
 {
     withdraw(rt, table, hand, root)
 }
@@ -143,6 +156,7 @@ pub fn lets_go(table: &Table, hand: &mut Worker, root: Name, settled: Settled)
     requires calm { IsCalm hand.old.me }
     requires holds { HoldsRoot table.now.frame root (settled_as settled) hand.old.me }
     ensures table { IsHandOf table.now hand.new }
+    ensures finished { LetsGo table.now root hand.old hand.new ⟦<Item as Cargo>⟧ }
 {
     let _start = take_home(table, hand, root);
     table.finish(hand, root);

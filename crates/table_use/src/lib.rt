@@ -26,7 +26,8 @@
 //! `runs_out` runs what the scan comes to; the callback is removed from inside its run, beside it, or
 //! after it (`removes_inside`, `tries`, `removes`), and then the root can end (`lets_go`). A hand
 //! associates with the scope and leaves, closes and joins it, and can associate again (`enter`,
-//! `leave`, `shut`, `join_now`, `look`).
+//! `leave`, `pass`, `shut`, `join_now`, `look`, `has_joined`). Each of them tells what was read and
+//! left, as specs/Asking.antt and the contracts of count_scope say it.
 //!
 //!     begins -> listens -> asks -> runs_out -> removes -> lets_go
 //!                              \-> removes_inside

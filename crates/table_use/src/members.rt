@@ -1,5 +1,11 @@
 //! A hand that uses the scope: it associates and leaves, closes and joins, and can associate again.
-ghost use Rattle.table_use.specs.Members.{MayAssociate, IsMember, IsMemberAs};
+//! Each call hands on what the call of count_scope that it makes read, left and answered.
+ghost use Rattle.life_rules.specs.Scopes.{scope_state};
+ghost use Rattle.count_scope.specs.Associations.{Associates};
+ghost use Rattle.count_scope.specs.Joins.{Starts};
+ghost use Rattle.count_scope.specs.Leaves.{disassociated, Leaves};
+ghost use Rattle.count_scope.specs.Looks.{Closes, Reads};
+ghost use Rattle.table_use.specs.Members.{MayAssociate, IsMember, IsMemberAs, ComesAndGoes};
 
 use crate::node::{Table, Worker};
 use count_scope::{
@@ -10,7 +16,8 @@ use count_scope::{
 /// Associates with the scope.
 pub fn enter(table: &Table, hand: &mut Worker) -> Result<Association, Refused>
     requires { MayAssociate table.now hand.old }
-    ensures { IsMemberAs table.now result hand.new }
+    ensures member { IsMemberAs table.now result hand.new }
+    ensures associated { Associates table.now.frame.most result hand.old.me hand.new.me }
 {
     associate(table, hand)
 }
@@ -18,7 +25,8 @@ pub fn enter(table: &Table, hand: &mut Worker) -> Result<Association, Refused>
 /// Leaves the association.
 pub fn leave(table: &Table, hand: &mut Worker, association: Association)
     requires { IsMember table.now hand.old }
-    ensures { MayAssociate table.now hand.new }
+    ensures ready { MayAssociate table.now hand.new }
+    ensures left { Leaves (disassociated hand.old.me) hand.new.me }
 {
     disassociate(table, hand, association);
 }
@@ -26,15 +34,17 @@ pub fn leave(table: &Table, hand: &mut Worker, association: Association)
 /// Closes the scope.
 pub fn shut(table: &Table, hand: &mut Worker)
     requires { MayAssociate table.now hand.old }
-    ensures { MayAssociate table.now hand.new }
+    ensures ready { MayAssociate table.now hand.new }
+    ensures closed { Closes hand.old.me hand.new.me }
 {
     close(table, hand);
 }
 
-/// Closes the scope and begins to join it.
+/// Begins to join the scope.
 pub fn join_now(table: &Table, hand: &mut Worker) -> JoinStart
     requires { MayAssociate table.now hand.old }
-    ensures { MayAssociate table.now hand.new }
+    ensures ready { MayAssociate table.now hand.new }
+    ensures starts { Starts result hand.old.me hand.new.me }
 {
     start_join(table, hand)
 }
@@ -42,7 +52,8 @@ pub fn join_now(table: &Table, hand: &mut Worker) -> JoinStart
 /// The state of the scope.
 pub fn look(table: &Table, hand: &mut Worker) -> ScopeState
     requires { MayAssociate table.now hand.old }
-    ensures { MayAssociate table.now hand.new }
+    ensures ready { MayAssociate table.now hand.new }
+    ensures read { Reads scope_state result hand.old.me hand.new.me }
 {
     state(table, hand)
 }
@@ -50,7 +61,8 @@ pub fn look(table: &Table, hand: &mut Worker) -> ScopeState
 /// Whether the scope is joined.
 pub fn has_joined(table: &Table, hand: &mut Worker) -> bool
     requires { MayAssociate table.now hand.old }
-    ensures { MayAssociate table.now hand.new }
+    ensures ready { MayAssociate table.now hand.new }
+    ensures read { Reads (λ w. w.joined) result hand.old.me hand.new.me }
 {
     is_joined(table, hand)
 }
@@ -58,7 +70,8 @@ pub fn has_joined(table: &Table, hand: &mut Worker) -> bool
 /// An association is made, and left at once; or it is refused, which is told.
 pub fn pass(table: &Table, hand: &mut Worker) -> Option<Refused>
     requires { MayAssociate table.now hand.old }
-    ensures { MayAssociate table.now hand.new }
+    ensures ready { MayAssociate table.now hand.new }
+    ensures passed { ComesAndGoes table.now.frame.most result hand.old.me hand.new.me }
 {
     match enter(table, hand) {
         Ok(association) => {

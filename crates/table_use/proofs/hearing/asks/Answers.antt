@@ -32,3 +32,9 @@ returns-in-Already-clause-holds c =
 pub returns-in-Already-clause-none : goal.returns-in-Already-clause-none
 returns-in-Already-clause-none c =
     asked-again c.args.table.now c.args.hand.now c.request_stop.new.hand c.requires.idle c.in-Already.ensures.requested
+
+pub returns-in-Made-clause-requested : goal.returns-in-Made-clause-requested
+returns-in-Made-clause-requested c = c.in-Made.ensures.requested
+
+pub returns-in-Already-clause-requested : goal.returns-in-Already-clause-requested
+returns-in-Already-clause-requested c = c.in-Already.ensures.requested

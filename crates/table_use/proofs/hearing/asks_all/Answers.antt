@@ -1,4 +1,5 @@
-use Rattle.std.proofs.Common.{◌∙◌}
+use Rattle.std.proofs.Common.{sym, ◌∙◌, subst}
+use Rattle.table_use.specs.Asking.{AsksAll}
 use Rattle.table_use.proofs.Nesting.{keeps-on}
 use Rattle.table_use.proofs.Roots.{asks-others}
 use Rattle.table_use.proofs.hearing.asks_all.Goals as goal
@@ -17,3 +18,16 @@ returns-clause-idle c =
 pub returns-clause-holds : goal.returns-clause-holds
 returns-clause-holds c =
     keeps-on c.args.hand.now.me c.asks.new.hand.me c.runs_out.new.hand.me c.asks.ensures.holds c.runs_out.ensures.holds
+
+pub returns-in_err-scan-clause-asked : goal.returns-in_err-scan-clause-asked
+returns-in_err-scan-clause-asked c =
+    subst (λ r. AsksAll c.args.table.now r c.args.hand.now c.asks.new.hand) (sym c.from_residual.ensures) c.in_err-scan.ensures.requested
+
+pub returns-clause-asked : goal.returns-clause-asked
+returns-clause-asked c =
+    record {
+      scan = c.in_ok-scan.scan;
+      asked = c.asks.new.hand;
+      requested = c.in_ok-scan.ensures.requested;
+      went_on = c.runs_out.ensures.steps;
+    }

@@ -11,3 +11,12 @@ pub finish-requires-clause-needs : goal.finish-requires-clause-needs
 finish-requires-clause-needs c κs =
     root-ends c.args.table.now c.args.root c.requires.root c.args.settled c.args.hand.now.me c.take_home-start.new.hand.me c.requires.holds c.requires.calm
     c.take_home-start.result c.take_home-start.ensures.taken
+
+pub returns-clause-finished : goal.returns-clause-finished
+returns-clause-finished c =
+    record {
+      item = c.take_home-start.result;
+      middle = c.take_home-start.new.hand;
+      taken = c.take_home-start.ensures.taken;
+      finished = c.finish.ensures.finished;
+    }

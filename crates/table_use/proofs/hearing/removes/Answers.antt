@@ -18,3 +18,6 @@ pub returns-clause-holds : goal.returns-clause-holds
 returns-clause-holds g c =
     (settled-root c.args.table.now c.args.root c.withdraw.result c.args.hand.now c.withdraw.new.hand _ c.requires.holds c.requires.idle
     c.withdraw.ensures.settled).0
+
+pub returns-clause-settled : goal.returns-clause-settled
+returns-clause-settled g c = c.withdraw.ensures.settled

@@ -1,4 +1,5 @@
-use Rattle.std.proofs.Common.{◌∙◌}
+use Rattle.std.proofs.Common.{inl, inr, sym, ◌∙◌, subst}
+use Rattle.table_use.specs.Asking.{RemovesInside}
 use Rattle.table_use.proofs.Roots.{still-root, asks-others}
 use Rattle.table_use.proofs.hearing.removes_inside.Goals as goal
 
@@ -15,4 +16,35 @@ returns-clause-idle c =
     record {
       runs = c.runs_out-left.ensures.runs ∙ asks.runs;
       scans = c.runs_out-left.ensures.scans ∙ asks-others c.args.table.now c.removes_next-found.new.scan c.removes_next-found.new.hand.me asks;
+    }
+
+pub returns-in_err-scan-clause-removed : goal.returns-in_err-scan-clause-removed
+returns-in_err-scan-clause-removed c =
+    subst (λ r. RemovesInside c.args.table.now c.args.root r c.args.hand.now c.asks.new.hand) (sym c.from_residual.ensures)
+    (inl c.in_err-scan.ensures.requested)
+
+pub returns-in_err-found-clause-removed : goal.returns-in_err-found-clause-removed
+returns-in_err-found-clause-removed c =
+    subst (λ r. RemovesInside c.args.table.now c.args.root r c.args.hand.now c.runs_out-left.new.hand)
+    (sym c.from_residual-in_err-found.ensures)
+    (inr (record {
+      scan = c.in_ok-scan.scan;
+      asked = c.asks.new.hand;
+      requested = c.in_ok-scan.ensures.requested;
+      after = c.removes_next-found.new.scan;
+      left = c.removes_next-found.new.hand;
+      next = c.in_err-found.ensures.removed;
+      went_on = c.runs_out-left.ensures.steps;
+    }))
+
+pub returns-clause-removed : goal.returns-clause-removed
+returns-clause-removed c =
+    record {
+      scan = c.in_ok-scan.scan;
+      asked = c.asks.new.hand;
+      requested = c.in_ok-scan.ensures.requested;
+      after = c.removes_next-found.new.scan;
+      left = c.removes_next-found.new.hand;
+      next = c.in_ok-found.ensures.removed;
+      went_on = c.runs_out-left.ensures.steps;
     }

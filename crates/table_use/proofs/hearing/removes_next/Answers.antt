@@ -1,4 +1,5 @@
-use Rattle.std.proofs.Common.{refl}
+use Rattle.std.proofs.Common.{refl, sym, subst}
+use Rattle.table_use.specs.Asking.{RemovesNext}
 use Rattle.table_use.proofs.Nesting.{found-keeps}
 use Rattle.table_use.proofs.Roots.{still-root, can-withdraw, scan-unmade, may-finish, inside-asks, scan-through}
 use Rattle.table_use.proofs.hearing.removes_next.Goals as goal
@@ -35,3 +36,19 @@ next-requires-clause-stands c κs = c.requires.scan.makes.stands
 
 pub next-requires-clause-idle : goal.next-requires-clause-idle
 next-requires-clause-idle c κs = c.requires.scan.makes.unrun
+
+pub returns-in_err-due-clause-removed : goal.returns-in_err-due-clause-removed
+returns-in_err-due-clause-removed c =
+    subst (λ r. RemovesNext c.args.table.now c.args.root c.args.scan.now c.next.new.self r c.args.hand.now c.next.new.hand)
+    (sym c.from_residual.ensures) c.in_err-due.ensures.scanned
+
+pub returns-clause-removed : goal.returns-clause-removed
+returns-clause-removed c =
+    record {
+      place = c.in_ok-due.due.place;
+      running = c.next.new.hand;
+      found = c.in_ok-due.ensures.scanned;
+      tried = c.try_withdraw-inside.new.hand;
+      answered = c.try_withdraw-inside.ensures.tried;
+      over = c.finish.ensures.over;
+    }

@@ -18,3 +18,6 @@ pub returns-clause-holds : goal.returns-clause-holds
 returns-clause-holds c =
     (tried-root c.args.table.now c.args.root c.args.hand.now c.try_withdraw.new.hand _ c.requires.holds c.requires.idle
     c.try_withdraw.result c.try_withdraw.ensures.tried).0
+
+pub returns-clause-tried : goal.returns-clause-tried
+returns-clause-tried c = c.try_withdraw.ensures.tried

@@ -1,7 +1,8 @@
 use Rattle.std.specs.Prelude.{◌≡◌}
 use Rattle.table_steps.specs.Views.{IsHandOf}
+use Rattle.stop_calls.specs.Nestings.{Scans, places_left}
 use Rattle.table_use.specs.Uses.{KeepsReports, KeepsHoldings}
-use Rattle.table_use.specs.Scans.{Scans, other_scans, places_left}
+use Rattle.table_use.specs.Scans.{other_scans}
 use Rattle.table_use.specs.Causes.{GoesOn}
 use Rattle.table_use.proofs.scans.runs_out.Given as goal
 
