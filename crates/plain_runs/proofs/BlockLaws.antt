@@ -1,7 +1,6 @@
 -- What becomes of the blocks of plain runs.
-use Rattle.std.proofs.Common.{◌≡◌, ◌≢◌, ◌⊎◌, ℕ, ◌^◌, ◌+◌, ◌<◌, ◌≤◌, Bool, true, false, List, [], ◌∷◌, ◌++◌, length, get_or, set, replicate, Option, Some, None, IsSome, refl, sym, ap, ◌∙◌, subst, inl, inr, length-append, arith}
+use Rattle.std.proofs.Common.{◌≡◌, ℕ, ◌^◌, ◌<◌, ◌≤◌, Bool, true, false, List, [], ◌∷◌, ◌++◌, length, get_or, set, replicate, Option, Some, None, IsSome, sym, ap, ◌∙◌, subst, inl, inr, length-append, arith}
 use Rattle.std.proofs.lemmas.Bool.{cases_eq, cases_lt}
-use Rattle.std.proofs.lemmas.Grind.{common_steps}
 use Rattle.std.proofs.lemmas.List.{get_or-set_same, get_or-set_other, get_or_past, length-replicate, replicate-append-replicate}
 use Rattle.common_lemmas.proofs.Lists.{get_or-replicate_same}
 use Rattle.std.proofs.Math.ListN.{length-set}
@@ -19,6 +18,7 @@ use Rattle.run_rules.proofs.PlanLaws.{plan-covers, settled-allows}
 use Rattle.plain_runs.specs.declared.started.Started.{Started}
 use Rattle.plain_runs.specs.PlainWork.{Completes, WantsMemory, Plain, begun_of, work_of, IsSound}
 use Rattle.plan_rules.specs.Seen.{seen_state}
+use Rattle.run_tally.specs.Tallied.{IsSmallTally, raised}
 use Rattle.record_loop.specs.Works.{Begun, Work, Collects, MayComplete}
 
 -- what is settled is allowed, under what the operation may have seen
@@ -35,11 +35,12 @@ evaluated-may work started completion (inl settled) = inr (seen-allows work.plan
 evaluated-may work started completion (inr wants) = inl (wants.0, inr wants.1)
 
 -- the operation of a block is collected, and the block is free
-pub collects-at : (old new : Plain) (at next : ℕ) (small : Bool) (started : Started) (completion : Completion) → new.plan ≡ old.plan → new.requested ≡ old.requested → new.blocks ≡ set old.blocks at None → at < length old.blocks
+pub collects-at : (old new : Plain) (at next : ℕ) (small : Bool) (started : Started) (completion : Completion) → new.plan ≡ old.plan → new.requested ≡ old.requested → (IsSmallTally old.tally → new.tally ≡ raised completion old.tally) → new.blocks ≡ set old.blocks at None → at < length old.blocks
     → get_or old.blocks at None ≡ Some started → Completes old.plan started completion → Collects WantsMemory (work_of old) (work_of new) at completion
-collects-at old new at next small started completion plan requested blocks within is completes = record {
+collects-at old new at next small started completion plan requested tally blocks within is completes = record {
   plan = plan;
   requested = requested;
+  tally = tally;
   free = ap (option_map begun_of) (ap (λ (bs : List (Option Started)). get_or bs at None) blocks ∙ get_or-set_same old.blocks at None None within);
   others = λ b begun apart has.
       ap (λ (bs : List (Option Started)). option_map begun_of (get_or bs b None)) blocks ∙ ap (option_map begun_of) (get_or-set_other old.blocks at b None None apart) ∙ has;

@@ -11,6 +11,7 @@ use Rattle.plan_kinds.specs.Small.{IsSmall}
 use Rattle.plan_shape.specs.Blueprint.{Blueprint}
 use Rattle.plain_runs.specs.declared.started.Started.{Started}
 use Rattle.record_loop.specs.Works.{Begun, Work}
+use Rattle.run_tally.specs.Tallied.{Tallied}
 
 -- A plan may want memory where it isn't small.
 abbrev pub WantsMemory : Blueprint → Type 0
@@ -23,11 +24,12 @@ Completes plan started completion =
     (completion ≡ settled_root plan started.datum started.number started.asked)
     ⊎ ((completion ≡ NoMemory) × WantsMemory plan)
 
--- The plan, what each block has, and whether a stop was requested.
+-- The plan, what each block has, whether a stop was requested, and the tally of what was collected.
 pub record Plain : Type 0 where
   pub plan : Blueprint
   pub blocks : List (Option Started)
   pub requested : Bool
+  pub tally : Tallied
 
 -- What an operation was begun with.
 abbrev pub begun_of : Started → Begun
@@ -40,6 +42,7 @@ work_of plain = record {
   plan = plain.plan;
   block = λ b. option_map begun_of (slice_index_or plain.blocks b None);
   requested = plain.requested;
+  tally = plain.tally;
 }
 
 -- The kinds of the plan match, and each block has a datum of the input's kind. A plan that isn't

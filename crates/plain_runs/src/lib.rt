@@ -8,8 +8,9 @@
 //! It is the plain implementation of record_loop's seam: all work is done on the calling thread,
 //! and a turn does nothing. It keeps the seam's promise, that each completion is one that the plan
 //! allows its record, since plain evaluation gives such a one; and that a small plan of int records
-//! never answers want of memory, whatever evaluation answers. It stands on record_loop and
-//! plan_settle, and on sig_check, whose signatures tell whether a plan is small.
+//! never answers want of memory, whatever evaluation answers. Its tally counts what was collected.
+//! It stands on record_loop and plan_settle, and on sig_check, whose signatures tell whether a plan
+//! is small.
 #![tactic(auto)]
 
 mod evaluate;

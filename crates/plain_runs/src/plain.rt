@@ -4,6 +4,8 @@ ghost use Rattle.std.specs.Thread.{IsSync};
 ghost use Rattle.plan_kinds.specs.Reached.{KindsMatch};
 ghost use Rattle.plan_kinds.specs.Small.{IsSmall};
 ghost use Rattle.plain_runs.specs.PlainWork.{work_of, AreFree, WantsMemory};
+ghost use Rattle.record_loop.specs.Works.{IsIdle};
+ghost use Rattle.run_tally.specs.Tallied.{IsSmallTally, raised};
 
 use crate::evaluate::evaluate;
 use crate::small::is_small;
@@ -11,6 +13,7 @@ use crate::started::{Started, at_block, free_block, is_free, put_block};
 use exec_value::{Completion, Datum};
 use plan_shape::Plan;
 use record_loop::Operations;
+use run_tally::Tally;
 use sig_check::check;
 use std::alloc::{AllocError, Global};
 use std::marker::Model;
@@ -27,6 +30,8 @@ pub struct PlainRuns<'a> {
     /// The block that the next operation takes.
     next: usize,
     requested: bool,
+    /// What was collected.
+    tally: Tally,
 }
 
 impl<'a> Model for PlainRuns<'a> {
@@ -38,6 +43,7 @@ impl<'a> Model for PlainRuns<'a> {
       plan = s.plan.now;
       blocks = s.blocks.items;
       requested = s.requested;
+      tally = s.tally;
     } };
 
     ghost invariant = { λ s. IsSound s.plan.now s.blocks.items s.next s.small };
@@ -67,6 +73,15 @@ fn find_small(alloc: Global, plan: &Plan) -> Result<bool, AllocError>
     }
 }
 
+/// Counts an operation more, which completed so, while the tally is small.
+fn count(tally: &mut Tally, done: &Completion)
+    ensures { IsSmallTally tally.old → tally.new ≡ raised done.now tally.old }
+{
+    if tally.is_small() {
+        tally.raise(done);
+    }
+}
+
 impl<'a> PlainRuns<'a> {
     /// No operations of the plan, and so many blocks for them, which is all the memory that it
     /// takes beside what evaluation wants.
@@ -75,7 +90,7 @@ impl<'a> PlainRuns<'a> {
         requires few { blocks ≤ 2 ^ 16 }
         requires kinds { KindsMatch plan.now.nodes plan.now.settings.input }
         ensures plan { IfOk result (λ runs. runs.plan ≡ plan.now) }
-        ensures idle { IfOk result (λ runs. runs.requested ≡ false) }
+        ensures idle { IfOk result (λ runs. IsIdle (work_of runs)) }
         ensures blocks { IfOk result (λ runs. runs.blocks ≡ replicate blocks None) }
     {
         Ok(PlainRuns {
@@ -85,7 +100,15 @@ impl<'a> PlainRuns<'a> {
             blocks: free_blocks(alloc, blocks)?,
             next: 0,
             requested: false,
+            tally: Tally::new(),
         })
+    }
+
+    /// How many operations were collected with each kind of completion.
+    pub fn tally(&self) -> Tally
+        ensures { result ≡ self.now.tally }
+    {
+        self.tally
     }
 }
 
@@ -123,6 +146,7 @@ impl<'a> Operations for PlainRuns<'a> {
         let started = at_block(&self.blocks, at)?;
         let done = evaluate(self.alloc, self.plan, self.small, started)?;
         free_block(&mut self.blocks, at);
+        count(&mut self.tally, &done);
         Some(done)
     }
 

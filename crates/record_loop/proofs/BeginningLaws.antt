@@ -23,6 +23,7 @@ use Rattle.record_loop.specs.Works.{Work, Keeps}
 use Rattle.record_loop.proofs.PrintingLaws.{HoldsAllBut-all}
 use Rattle.record_loop.proofs.SlotLaws.{StandForAll-kept, StandForAll-push}
 use Rattle.record_loop.proofs.StandingLaws.{read-lines, read-count}
+use Rattle.record_loop.proofs.TallyLaws.{TalliesWith-kept}
 
 -- all operations are kept, once a slot was begun
 begun-keeps : (old new : Work) (kind : Kind) (number : ℕ) (text : Option (List ℕ)) (slot : Slot) → BeginsSlot old new kind number text slot → Keeps old new
@@ -86,6 +87,7 @@ module _ {Wants : Blueprint → Type 0} {opening : Opening} {lines : List (List 
         waiting = subst (λ (s : List Slot). StandForAll (terms_at Wants opening) new standing.moment (length standing.outcomes) s (standing.back ++ line ∷ [])) (sym items) waiting;
         caused = subst (λ (n : ℕ). IsCaused (terms_at Wants opening).rules opening.window n standing.outcomes standing.moment) (sym (length-append lines (line ∷ []))) standing.caused;
         printed = subst (λ (p : Printer). Printed opening.form opening.sink now p standing.outcomes) (sym printer) standing.printed;
+        tallied = TalliesWith-kept keeps.tally printer standing.tallied;
         requested = keeps.requested ∙ standing.requested;
         known = requested ∙ standing.known;
         plan_is = keeps.plan ∙ standing.plan_is;

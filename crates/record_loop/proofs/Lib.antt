@@ -7,5 +7,6 @@ pub mod ReadStartLaws
 pub mod ReadingLaws
 pub mod SlotLaws
 pub mod StandingLaws
+pub mod TallyLaws
 pub mod WorkLaws
 pub mod WritingLaws

@@ -19,9 +19,10 @@ use Rattle.record_loop.specs.declared.slot.Slot.{Slot}
 use Rattle.record_loop.specs.Printing.{AppendsAtLeast, Printed}
 use Rattle.exec_io.specs.Views.{SinkView}
 use Rattle.record_loop.specs.Standing.{Opening, terms_at, StandForAll, Standing, Counted}
-use Rattle.record_loop.specs.Works.{Work, Requests}
+use Rattle.record_loop.specs.Works.{Work, IsIdle, Requests}
 use Rattle.record_loop.proofs.PrintingLaws.{AtLeast-nil, HoldsAllBut-none, HoldsAllBut-grows}
 use Rattle.record_loop.proofs.SlotLaws.{StandForAll-length, StandForAll-kept, StandForAll-asks}
+use Rattle.record_loop.proofs.TallyLaws.{TalliesWith-new, TalliesWith-same, TalliesWith-kept}
 
 -- a request that was made makes the two records of it agree
 asked-none : {b : Bool} {moment : Option Moment} → b ≡ is_some moment → b ≡ false → moment ≡ None
@@ -69,8 +70,8 @@ error-set settings set = by (is_some settings.stop_after) settings.on_error_stop
 
 -- no record was read
 pub Standing-fresh : (Wants : Blueprint → Type 0) (opening : Opening) (work : Work) (flight : InFlight) → IsFresh opening.window opening.plan.settings opening.form flight
-    → work.requested ≡ false → work.plan ≡ opening.plan → MayRun opening.plan.settings → Standing Wants opening 0 [] work opening.sink flight
-Standing-fresh Wants opening work flight fresh requested plan may_run = record {
+    → IsIdle work → work.plan ≡ opening.plan → MayRun opening.plan.settings → Standing Wants opening 0 [] work opening.sink flight
+Standing-fresh Wants opening work flight fresh idle plan may_run = record {
   outcomes = [];
   front = [];
   back = [];
@@ -80,7 +81,8 @@ Standing-fresh Wants opening work flight fresh requested plan may_run = record {
   waiting = subst (λ (slots : List Slot). StandForAll (terms_at Wants opening) work None 0 slots []) (sym fresh.slots) tt;
   caused = quiet-nil (rules_of opening.plan.settings) may_run.stop_after;
   printed = fresh.printed opening.sink;
-  requested = requested;
+  tallied = TalliesWith-new idle.tally (fresh.printed opening.sink).counted;
+  requested = idle.requested;
   known = fresh.requested;
   plan_is = plan;
   settings_are = fresh.settings_are;
@@ -105,6 +107,7 @@ Standing-hands {Wants = Wants} {opening = opening} {work = work} {old = old} {ne
   waiting = subst (λ (s : _). StandForAll (terms_at Wants opening) work standing.moment (length standing.outcomes) s standing.back) (sym (ap (λ (s : _). s.items) slots)) standing.waiting;
   caused = standing.caused;
   printed = hands standing.outcomes standing.printed;
+  tallied = TalliesWith-same standing.printed.counted (hands standing.outcomes standing.printed).counted standing.tallied;
   requested = standing.requested;
   known = requested ∙ standing.known;
   plan_is = standing.plan_is;
@@ -140,6 +143,7 @@ Standing-counts {Wants = Wants} {opening = opening} {lines = lines} {flight = fl
     waiting = standing.waiting;
     caused = caused-read (rules_of opening.plan.settings) opening.window (length lines) standing.outcomes standing.moment (λ after. other (ap (λ (s : Settings). s.stop_after) standing.settings_are ∙ after ∙ ap (λ n. Some (n + 1)) (sym (read-count standing)))) standing.caused;
     printed = standing.printed;
+    tallied = standing.tallied;
     requested = standing.requested;
     known = standing.known;
     plan_is = standing.plan_is;
@@ -160,8 +164,8 @@ module _ {Wants : Blueprint → Type 0} {opening : Opening} {lines : List (List 
   counted-with : (moment : Option Moment) → Licensed (terms_at Wants opening) moment standing.front standing.outcomes
       → StandForAll (terms_at Wants opening) new moment (length standing.outcomes) flight.slots.items standing.back
       → IsCaused (terms_at Wants opening).rules opening.window (length lines + 1) standing.outcomes moment
-      → is_some moment ≡ true → new.requested ≡ true → new.plan ≡ old.plan → ((m : Moment) → moment ≡ Some m → m.first ≤ length lines + 1) → Counted Wants opening lines new now next
-  counted-with moment licensed waiting caused some requested plan early = record {
+      → is_some moment ≡ true → new.requested ≡ true → new.plan ≡ old.plan → new.tally ≡ old.tally → ((m : Moment) → moment ≡ Some m → m.first ≤ length lines + 1) → Counted Wants opening lines new now next
+  counted-with moment licensed waiting caused some requested plan tally early = record {
     early = early;
     standing = record {
       outcomes = standing.outcomes;
@@ -173,6 +177,7 @@ module _ {Wants : Blueprint → Type 0} {opening : Opening} {lines : List (List 
       waiting = subst (λ (s : List Slot). StandForAll (terms_at Wants opening) new moment (length standing.outcomes) s standing.back) (sym (ap (λ s. s.items) slots)) waiting;
       caused = caused;
       printed = subst (λ (p : Printer). Printed opening.form opening.sink now p standing.outcomes) (sym printer) standing.printed;
+      tallied = TalliesWith-kept tally printer standing.tallied;
       requested = requested ∙ sym some;
       known = asked ∙ sym some;
       plan_is = plan ∙ standing.plan_is;
@@ -199,7 +204,7 @@ module _ {Wants : Blueprint → Type 0} {opening : Opening} {lines : List (List 
           (subst (λ (x : Option Moment). Licensed (terms_at Wants opening) x standing.front standing.outcomes) is standing.licensed)
           (StandForAll-kept (terms_at Wants opening) old new (Some m) (length standing.outcomes) flight.slots.items standing.back (λ b begun at. ap (λ (w : Work). w.block b) same ∙ at)
           (subst (λ (x : Option Moment). StandForAll (terms_at Wants opening) old x (length standing.outcomes) flight.slots.items standing.back) is standing.waiting))
-          timely refl (ap (λ (w : Work). w.requested) same ∙ standing.requested ∙ ap is_some is) (ap (λ (w : Work). w.plan) same)
+          timely refl (ap (λ (w : Work). w.requested) same ∙ standing.requested ∙ ap is_some is) (ap (λ (w : Work). w.plan) same) (ap (λ (w : Work). w.tally) same)
           (λ n same_moment. early-moment (rules_of opening.plan.settings) opening.window (length lines) standing.outcomes standing.moment standing.caused n (is ∙ same_moment))
       by None is =
           let requests = first (standing.known ∙ ap is_some is) in
@@ -212,7 +217,7 @@ module _ {Wants : Blueprint → Type 0} {opening : Opening} {lines : List (List 
           (StandForAll-asks (terms_at Wants opening) old moment (length standing.outcomes) flight.slots.items standing.back (omega (arith, few))
           (subst (λ (x : Option Moment). StandForAll (terms_at Wants opening) old x (length standing.outcomes) flight.slots.items standing.back) is standing.waiting)))
           (timely-read (rules_of opening.plan.settings) opening.window (length lines) standing.outcomes rules (omega (arith, few)) (omega (arith, few, room, standing.window_is)) quiet)
-          refl requests.requested requests.plan
+          refl requests.requested requests.plan requests.tally
           (λ n same_moment. let e : moment ≡ n = cc in omega (arith, ap (λ (x : Moment). x.first) e))
 
 -- the records are of the plan's kind

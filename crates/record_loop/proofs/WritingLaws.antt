@@ -10,16 +10,19 @@ use Rattle.run_rules.specs.Moments.{Moment, IsCaused, IsTimely, IsQuiet, License
 use Rattle.run_rules.specs.StopStates.{rules_of}
 use Rattle.run_rules.proofs.LicenseLaws.{Licensed-more, Licensed-asks}
 use Rattle.run_rules.proofs.MomentLaws.{quiet-write, timely-write, timely-written}
+use Rattle.run_tally.specs.Tallied.{Tallied}
 use Rattle.record_loop.specs.declared.in_flight.InFlight.{InFlight}
 use Rattle.record_loop.specs.declared.slot.Slot.{Slot}
 use Rattle.record_loop.specs.Printing.{AppendsAtLeast, Printed}
 use Rattle.record_loop.specs.Slots.{HasOperation, Settles}
 use Rattle.exec_io.specs.Views.{SinkView}
 use Rattle.record_loop.specs.Standing.{Opening, terms_at, StandsFor, StandForAll, Standing}
+use Rattle.record_loop.specs.Tallies.{TalliesWith}
 use Rattle.record_loop.specs.Works.{Work, Requests}
 use Rattle.record_loop.proofs.PrintingLaws.{HoldsAllBut-more}
 use Rattle.record_loop.proofs.SlotLaws.{StandForAll-kept, StandForAll-asks, StandsFor-operation, MayEnd-settles, Settles-plan, StandForAll-settles}
 use Rattle.record_loop.proofs.StandingLaws.{read-lines}
+use Rattle.record_loop.proofs.TallyLaws.{TalliesWith-settles, TalliesWith-small}
 
 -- the first slot, the line of its record, and the rest
 record First (terms : Terms) (work : Work) (moment : Option Moment) (before : ℕ) (slot : Slot) (slots : List Slot) (lines : List (List ℕ)) : Type 0 where
@@ -59,13 +62,19 @@ module _ {Wants : Blueprint → Type 0} {opening : Opening} {lines : List (List 
   longer : length (standing.outcomes ++ outcome ∷ []) ≡ length standing.outcomes + 1
   longer = length-append standing.outcomes (outcome ∷ [])
 
+  -- the tally counts what the slot was settled with
+  tallied-next : TalliesWith mid.tally next.printer.summary
+  tallied-next =
+      TalliesWith-settles Wants old mid slot outcome settles standing.printed.counted (prints standing.outcomes standing.printed).counted
+      (TalliesWith-small flight.printer.summary (omega (arith, flight.few)) standing.tallied) standing.tallied
+
   -- what stays as it was, with one more line
   written-with : (work : Work) (moment : Option Moment) → Licensed (terms_at Wants opening) moment (standing.front ++ first.line ∷ []) (standing.outcomes ++ outcome ∷ [])
       → StandForAll (terms_at Wants opening) work moment (length standing.outcomes + 1) (drop 1 flight.slots.items) first.rest
       → IsCaused (terms_at Wants opening).rules opening.window (length lines) (standing.outcomes ++ outcome ∷ []) moment
-      → work.requested ≡ is_some moment → next.requested ≡ is_some moment → work.plan ≡ old.plan → Standing Wants opening (length lines) lines work later next
+      → work.requested ≡ is_some moment → next.requested ≡ is_some moment → work.plan ≡ old.plan → work.tally ≡ mid.tally → Standing Wants opening (length lines) lines work later next
   unfolding first
-  written-with work moment licensed waiting caused requested known plan = record {
+  written-with work moment licensed waiting caused requested known plan tally = record {
     outcomes = standing.outcomes ++ outcome ∷ [];
     front = standing.front ++ first.line ∷ [];
     back = first.rest;
@@ -78,6 +87,7 @@ module _ {Wants : Blueprint → Type 0} {opening : Opening} {lines : List (List 
         subst Q (sym items) (subst P (sym longer) waiting);
     caused = caused;
     printed = prints standing.outcomes standing.printed;
+    tallied = subst (λ (t : Tallied). TalliesWith t next.printer.summary) (sym tally) tallied-next;
     requested = requested;
     known = known;
     plan_is = plan ∙ standing.plan_is;
@@ -110,7 +120,7 @@ module _ {Wants : Blueprint → Type 0} {opening : Opening} {lines : List (List 
   pub Standing-writes : (flight.settings.on_error_stop ≡ true → is_error outcome ≡ false) → next.requested ≡ flight.requested → Standing Wants opening (length lines) lines mid later next
   Standing-writes fine same =
       written-with mid standing.moment licensed-more others (caused standing.moment standing.caused)
-      (after-settling.1 ∙ standing.requested) (same ∙ standing.known) after-settling.0
+      (after-settling.1 ∙ standing.requested) (same ∙ standing.known) after-settling.0 refl
     where
       none : (rules_of opening.plan.settings).on_error ≡ true → is_error outcome ≡ false
       none set = fine (ap (λ (s : Settings). s.on_error_stop) standing.settings_are ∙ set)
@@ -134,7 +144,7 @@ module _ {Wants : Blueprint → Type 0} {opening : Opening} {lines : List (List 
           (subst (λ (x : Option Moment). Licensed (terms_at Wants opening) x (standing.front ++ first.line ∷ []) (standing.outcomes ++ outcome ∷ [])) at licensed-more)
           (StandForAll-kept (terms_at Wants opening) mid new (Some m) (length standing.outcomes + 1) (drop 1 flight.slots.items) first.rest (λ b begun found. ap (λ (w : Work). w.block b) same ∙ found)
           (subst (λ (x : Option Moment). StandForAll (terms_at Wants opening) mid x (length standing.outcomes + 1) (drop 1 flight.slots.items) first.rest) at others))
-          timely (ap (λ (w : Work). w.requested) same ∙ after-settling.1 ∙ standing.requested ∙ ap is_some at) asked (ap (λ (w : Work). w.plan) same ∙ after-settling.0)
+          timely (ap (λ (w : Work). w.requested) same ∙ after-settling.1 ∙ standing.requested ∙ ap is_some at) asked (ap (λ (w : Work). w.plan) same ∙ after-settling.0) (ap (λ (w : Work). w.tally) same)
       by None at =
           let made = requests (standing.known ∙ ap is_some at) in
           let moment : Moment = record { written = length standing.outcomes + 1; first = length lines + 1 } in
@@ -147,4 +157,4 @@ module _ {Wants : Blueprint → Type 0} {opening : Opening} {lines : List (List 
           (StandForAll-asks (terms_at Wants opening) mid moment (length standing.outcomes + 1) (drop 1 flight.slots.items) first.rest (omega (arith, few, fewer))
           (subst (λ (x : Option Moment). StandForAll (terms_at Wants opening) mid x (length standing.outcomes + 1) (drop 1 flight.slots.items) first.rest) at others)))
           (timely-write (rules_of opening.plan.settings) opening.window (length lines) standing.outcomes outcome rule failed (omega (arith, few, fewer)) (omega (arith, few, standing.fits)) quiet)
-          made.requested asked (made.plan ∙ after-settling.0)
+          made.requested asked (made.plan ∙ after-settling.0) made.tally

@@ -9,4 +9,5 @@ pub mod ReadStarts
 pub mod Reading
 pub mod Slots
 pub mod Standing
+pub mod Tallies
 pub mod Works

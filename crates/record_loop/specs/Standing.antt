@@ -9,6 +9,7 @@ use Rattle.record_loop.specs.declared.printer.Form.{Form}
 use Rattle.record_loop.specs.declared.slot.Slot.{Slot}
 use Rattle.record_loop.specs.declared.slot.Slot.TheVariants.{Running, Bad, NoMemory}
 use Rattle.record_loop.specs.Printing.{Printed, HoldsAllBut, MayBegin}
+use Rattle.record_loop.specs.Tallies.{TalliesWith}
 use Rattle.exec_io.specs.Views.{SinkView}
 use Rattle.record_loop.specs.Works.{Work}
 use Rattle.run_rules.specs.Lawful.{Terms, datum_of}
@@ -59,7 +60,7 @@ StandForAll terms work moment before (slot ∷ slots) (line ∷ lines) =
 -- Of the records of these lines the first have outcomes, which are licensed and printed, and slots
 -- stand for the rest. The request was made at the moment at which it was due, by so many records
 -- that were read. Those whose text doesn't stand whole in out, with those in the slots, are a window
--- at most: none was begun after a lost write.
+-- at most: none was begun after a lost write. The tally of the operations is that of the lines.
 pub record Standing (WantsMemory : Blueprint → Type 0) (opening : Opening) (read : ℕ)
     (lines : List (List ℕ)) (work : Work) (now : SinkView) (flight : InFlight) : Type 0 where
   pub outcomes : List Outcome
@@ -72,6 +73,7 @@ pub record Standing (WantsMemory : Blueprint → Type 0) (opening : Opening) (re
       flight.slots.items back
   pub caused : IsCaused (terms_at WantsMemory opening).rules opening.window read outcomes moment
   pub printed : Printed opening.form opening.sink now flight.printer outcomes
+  pub tallied : TalliesWith work.tally flight.printer.summary
   pub requested : work.requested ≡ is_some moment
   pub known : flight.requested ≡ is_some moment
   pub plan_is : work.plan ≡ opening.plan
@@ -124,8 +126,8 @@ pub record StandsEmpty (WantsMemory : Blueprint → Type 0) (run : RunState) : T
   pub standing : StandsAt WantsMemory opening [] run
 
 -- A run that stands so before a call stands so afterwards, with the same records.
-abbrev pub Stays : (Blueprint → Type 0) → RunState → RunState → Type 0
-Stays WantsMemory old new =
+abbrev pub StaysStanding : (Blueprint → Type 0) → RunState → RunState → Type 0
+StaysStanding WantsMemory old new =
     (opening : Opening) (lines : List (List ℕ)) → StandsAt WantsMemory opening lines old
     → StandsAt WantsMemory opening lines new
 

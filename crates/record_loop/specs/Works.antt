@@ -6,6 +6,7 @@ use Rattle.exec_value.specs.declared.outcome.Completion.TheVariants.{NoMemory}
 use Rattle.plan_rules.specs.Seen.{seen_state}
 use Rattle.plan_shape.specs.Blueprint.{Blueprint}
 use Rattle.run_rules.specs.PlanTerms.{AllowsRecord, MayWant}
+use Rattle.run_tally.specs.Tallied.{Tallied, IsSmallTally, new_tally, raised}
 
 -- What an operation was begun with: the number and the datum of its record, and whether a stop had
 -- been requested.
@@ -14,20 +15,24 @@ pub record Begun : Type 0 where
   pub datum : Datum
   pub asked : Bool
 
--- The plan, the operation that each block has, and whether a stop was requested.
+-- The plan, the operation that each block has, whether a stop was requested, and how many operations
+-- were collected with each kind of completion.
 pub record Work : Type 0 where
   pub plan : Blueprint
   pub block : ℕ → Option Begun
   pub requested : Bool
+  pub tally : Tallied
 
--- No operation was begun, and no stop requested.
+-- No stop was requested, and no operation collected.
 pub record IsIdle (work : Work) : Type 0 where
   pub requested : work.requested ≡ false
+  pub tally : work.tally ≡ new_tally
 
 -- All operations are kept.
 pub record Keeps (old new : Work) : Type 0 where
   pub plan : new.plan ≡ old.plan
   pub requested : new.requested ≡ old.requested
+  pub tally : new.tally ≡ old.tally
   pub blocks : (b : ℕ) (begun : Begun) → old.block b ≡ Some begun → new.block b ≡ Some begun
 
 -- The operation of this record is begun in a block.
@@ -40,6 +45,7 @@ pub record Begins (old new : Work) (number : ℕ) (datum : Datum) (block : ℕ) 
 pub record Requests (old new : Work) : Type 0 where
   pub plan : new.plan ≡ old.plan
   pub requested : new.requested ≡ true
+  pub tally : new.tally ≡ old.tally
   pub blocks : (b : ℕ) (begun : Begun) → old.block b ≡ Some begun → new.block b ≡ Some begun
 
 -- How an operation may complete: with want of memory, where the plan may want it, or as the plan
@@ -51,11 +57,12 @@ MayComplete WantsMemory work begun completion =
     completion
 
 -- The operation of a block is collected, with this completion, and the block is free. The others are
--- kept.
+-- kept. The tally counts the completion, where it is small.
 pub record Collects (WantsMemory : Blueprint → Type 0) (old new : Work) (block : ℕ)
     (completion : Completion) : Type 0 where
   pub plan : new.plan ≡ old.plan
   pub requested : new.requested ≡ old.requested
+  pub tally : IsSmallTally old.tally → new.tally ≡ raised completion old.tally
   pub free : new.block block ≡ None
   pub others : (b : ℕ) (begun : Begun) → b ≢ block → old.block b ≡ Some begun
       → new.block b ≡ Some begun

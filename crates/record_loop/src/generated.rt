@@ -1,5 +1,5 @@
 //! A run over generated records.
-ghost use Rattle.std.specs.Prelude.{◌≡◌, ◌≤◌, ◌<◌, false, [], IfOk, OnErr, vec_len, vec_capacity};
+ghost use Rattle.std.specs.Prelude.{◌≡◌, ◌≤◌, ◌<◌, [], IfOk, OnErr, vec_len, vec_capacity};
 ghost use Rattle.std.specs.Thread.{IsSync};
 ghost use Rattle.record_lines.specs.declared.ending.End.{End};
 ghost use Rattle.record_lines.specs.declared.limits.TheConstants.{MOST_RECORDS};
@@ -7,6 +7,8 @@ ghost use Rattle.record_loop.specs.Flights.{read_of};
 ghost use Rattle.record_loop.specs.Generated.{generated, shown_as, generated_lines};
 ghost use Rattle.record_loop.specs.Ran.{Answered};
 ghost use Rattle.record_loop.specs.Standing.{at, opening_of, TakesFirst, StandsEmpty};
+ghost use Rattle.record_loop.specs.Tallies.{TalliesWith};
+ghost use Rattle.record_loop.specs.Works.{IsIdle};
 ghost use Rattle.record_loop.specs.declared.printer.Form.{Form};
 ghost use Rattle.run_rules.specs.PlanTerms.{MayRun};
 
@@ -102,13 +104,15 @@ pub fn run_generated<R: Wait + Sync, O: Operations, K: Sink>(
     requires some { 0 < window }
     requires few { count ≤ MOST_RECORDS }
     requires settings_are { settings ≡ (O.state operations.old).plan.settings }
-    requires idle { (O.state operations.old).requested ≡ false }
+    requires idle { IsIdle (O.state operations.old) }
     requires may_run { MayRun settings }
     ensures untouched { OnErr result (K.told out.new ≡ K.told out.old) }
     ensures end { IfOk result (λ ending. ending.end ≡ End.Ended) }
     ensures ran { IfOk result (Answered O.WantsMemory
         (opening_of (O.state operations.old) window Form.Summary (K.told out.old))
         (generated_lines settings.input count) (K.told out.new)) }
+    ensures told { IfOk result (λ ending.
+        TalliesWith (O.state operations.new).tally ending.summary) }
 {
     let mut line = Vec::with_capacity(alloc, LINE)?;
     let mut flight = InFlight::open(alloc, window, settings, Form::Summary)?;

@@ -54,7 +54,7 @@ pub struct InFlight {
 
 impl InFlight {
     ghost use Rattle.record_loop.specs.declared.in_flight.InFlight.{InFlight};
-    ghost use Rattle.record_loop.specs.Standing.{at, IsGoing, MayTake, Stays, CountsNext, BeginsNext, Takes};
+    ghost use Rattle.record_loop.specs.Standing.{at, IsGoing, MayTake, StaysStanding, CountsNext, BeginsNext, Takes};
     ghost use Rattle.record_loop.specs.Flights.{IsFresh, read_of, Requested, MayAsk};
     ghost use Rattle.record_loop.specs.Printing.{over, AppendsAtLeast, KeepsWritten, FinishesAll, OnlyAppends};
 
@@ -138,7 +138,7 @@ impl InFlight {
         ensures stays_lost { self.old.printer.lost ≡ true → self.new.printer.lost ≡ true }
         ensures capacity { self.new.slots.capacity ≡ self.old.slots.capacity }
         ensures read { read_of self.new ≡ read_of self.old }
-        ensures stays { Stays O.WantsMemory
+        ensures stays { StaysStanding O.WantsMemory
             (at (O.state operations.old) (K.told out.old) self.old)
             (at (O.state operations.new) (K.told out.new) self.new) }
     {
@@ -193,7 +193,7 @@ impl InFlight {
             (at (O.state operations.old) (K.told out.old) self.old) }
         ensures room { length self.new.slots.items < self.new.slots.capacity }
         ensures read { read_of self.new ≡ read_of self.old }
-        ensures stays { Stays O.WantsMemory
+        ensures stays { StaysStanding O.WantsMemory
             (at (O.state operations.old) (K.told out.old) self.old)
             (at (O.state operations.new) (K.told out.new) self.new) }
     {
@@ -239,7 +239,7 @@ impl InFlight {
             (at (O.state operations.old) (K.told out.old) self.old) }
         ensures none { self.new.slots.items ≡ [] }
         ensures stays_lost { self.old.printer.lost ≡ true → self.new.printer.lost ≡ true }
-        ensures stays { Stays O.WantsMemory
+        ensures stays { StaysStanding O.WantsMemory
             (at (O.state operations.old) (K.told out.old) self.old)
             (at (O.state operations.new) (K.told out.new) self.new) }
     {

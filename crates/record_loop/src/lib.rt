@@ -16,7 +16,10 @@
 //! read (run_rules): one a record, in order, under the stop state of each.
 //!
 //! The operations are run by a layer below, behind the trait `Operations`; the loop is proved once
-//! for all of them. It stands on run_rules, record_lines and line_summary.
+//! for all of them. That layer counts what it collects in a tally (run_tally). At the end there are
+//! as many values, errors and stops in the tally as among the outcomes that were printed, or counted
+//! after a lost write (`TalliesWith`). It stands on run_rules, record_lines, line_summary and
+//! run_tally.
 #![tactic(auto)]
 
 mod ending;

@@ -16,7 +16,8 @@ use std::sync::Wait;
 ///
 /// A record is started as one of which a stop was asked where `request` was called before.
 pub trait Operations {
-    /// The plan, the operation that each block has, and whether a stop was requested.
+    /// The plan, the operation that each block has, whether a stop was requested, and the tally of
+    /// what was collected.
     ghost state: { Self → Work };
 
     /// Whether an operation of a plan of int records may want memory.
@@ -43,7 +44,8 @@ pub trait Operations {
         requires sync { IsSync R.row }
         ensures { Keeps (state self.old) (state self.new) };
 
-    /// The completion of the operation in a block, where it is complete. The block is free then.
+    /// The completion of the operation in a block, where it is complete. The block is free then, and
+    /// the tally counts the completion.
     fn collect<R: Wait + Sync>(&mut self, rt: &R, block: u32) -> Option<Completion>
         requires sync { IsSync R.row }
         requires begun { IsSome ((state self.old).block block) }

@@ -1,10 +1,12 @@
 //! A run over the records of a source.
-ghost use Rattle.std.specs.Prelude.{◌≡◌, ◌≢◌, ◌≤◌, ◌<◌, false, IfOk, OnErr, OnOk, ℕ, List, length};
+ghost use Rattle.std.specs.Prelude.{◌≡◌, ◌≢◌, ◌≤◌, ◌<◌, IfOk, OnErr, OnOk, ℕ, List, length};
 ghost use Rattle.std.specs.Thread.{IsSync};
 ghost use Rattle.record_loop.specs.CaughtUp.{HasCaughtUp};
 ghost use Rattle.record_loop.specs.Ran.{Ran};
 ghost use Rattle.record_loop.specs.ReadStarts.{ReadsOnly};
 ghost use Rattle.record_loop.specs.Standing.{opening_of};
+ghost use Rattle.record_loop.specs.Tallies.{TalliesWith};
+ghost use Rattle.record_loop.specs.Works.{IsIdle};
 ghost use Rattle.exec_io.specs.Untouched.{IsUntouched};
 ghost use Rattle.record_loop.specs.Beginnings.{IsReady};
 ghost use Rattle.record_lines.specs.declared.ending.End.{End};
@@ -58,7 +60,7 @@ pub fn run_records<R: Wait + Sync, O: Operations, S: RecordSource, K: Sink>(
     requires sync { IsSync R.row }
     requires some { 0 < window }
     requires settings_are { settings ≡ (O.state operations.old).plan.settings }
-    requires idle { (O.state operations.old).requested ≡ false }
+    requires idle { IsIdle (O.state operations.old) }
     requires may_run { MayRun settings }
     ensures untouched { OnErr result (IsUntouched
         (S.told records.old) (S.told records.new) (K.told out.old) (K.told out.new)) }
@@ -69,6 +71,8 @@ pub fn run_records<R: Wait + Sync, O: Operations, S: RecordSource, K: Sink>(
     ensures ran { IfOk result (Ran O.WantsMemory
         (opening_of (O.state operations.old) window form (K.told out.old))
         (S.told records.old) (S.told records.new) (K.told out.new)) }
+    ensures told { IfOk result (λ ending.
+        TalliesWith (O.state operations.new).tally ending.summary) }
 
     // When a read began, all records whose line feed was read were written and handed on, and no
     // write was lost.

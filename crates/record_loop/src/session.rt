@@ -43,6 +43,7 @@ impl Session {
     ghost use Rattle.record_loop.specs.Ran.{RunsFrom};
     ghost use Rattle.record_loop.specs.Standing.{at};
     ghost use Rattle.record_loop.specs.Cutting.{IsCutting};
+    ghost use Rattle.record_loop.specs.Tallies.{TalliesWith};
 
     /// A session with these records in flight, of which there are none yet.
     pub fn open(alloc: Global, flight: InFlight) -> Result<Session, AllocError>
@@ -209,6 +210,7 @@ impl Session {
             (S.reads records.old) (S.reads records.new) }
         ensures ran { RunsFrom O.WantsMemory (on (O.state operations.old) (K.told out.old) self)
             (S.told records.old) (S.told records.new) (K.told out.new) result }
+        ensures told { TalliesWith (O.state operations.new).tally result.summary }
     {
         let end = self.read_all(rt, alloc, buffer, operations, records, out);
         let mut flight = self.take_rest(rt, alloc, end, operations);

@@ -1,7 +1,8 @@
 use Rattle.std.specs.Option.{option_copied}
-use Rattle.std.proofs.Common.{◌≡◌, ◌<◌, List, Option, None, Some, length, get_or, set, sym, ap, ◌∙◌, subst}
+use Rattle.std.proofs.Common.{◌≡◌, ◌<◌, List, Option, None, length, get_or, set, sym, ap, ◌∙◌, subst}
 use Rattle.plain_runs.specs.declared.started.Started.{Started}
 use Rattle.plain_runs.specs.PlainWork.{Completes, Plain}
+use Rattle.run_tally.specs.Tallied.{IsSmallTally, raised}
 use Rattle.plain_runs.proofs.BlockLaws.{collects-at, sound-frees, within-begun}
 use Rattle.plain_runs.proofs.plain.PlainRunsOperations.collect.Goals as goal
 
@@ -18,6 +19,7 @@ returns g c =
     let shown = ap (λ (bs : List (Option Started)). get_or bs c.args.block None) (sym blocks ∙ sym lent) in
     collects-at old _ c.args.block c.self.inside.next c.self.inside.small c.in_ok-started.started.now c.in_ok-done.done
     (ap (λ (p : Plain). p.plan) c.self.view_is) (ap (λ (p : Plain). p.requested) c.self.view_is)
+    (subst (λ (p : Plain). IsSmallTally p.tally → c.count.new.tally ≡ raised c.in_ok-done.done p.tally) c.self.view_is c.count.ensures)
     (c.free_block.ensures.items ∙ ap (λ (bs : List (Option Started)). set bs c.args.block None) blocks)
     (within-begun old c.args.block c.requires.begun)
     (shown ∙ (sym c.at_block.ensures ∙ ap option_copied c.in_ok-started.was))

@@ -6,5 +6,6 @@ pub returns : goal.returns
 returns g c = record {
   plan = ap (λ (p : Plain). p.plan) c.self.view_is;
   requested = refl;
+  tally = ap (λ (p : Plain). p.tally) c.self.view_is;
   blocks = λ b begun is. ap (λ (p : Plain). (work_of p).block b) c.self.view_is ∙ is;
 }
