@@ -1,0 +1,16 @@
+pub mod Pairs
+pub mod LeafCases
+pub mod ImageCases
+pub mod Operands
+pub mod Begun
+pub mod Knowing
+pub mod Putting
+pub mod Reporting
+pub mod Places
+pub mod Bounding
+pub mod Bodies
+pub mod Together
+pub mod Walks
+pub mod Walked
+pub mod Rows
+pub mod Rooms

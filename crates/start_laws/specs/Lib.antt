@@ -1,0 +1,12 @@
+pub mod Nodes
+pub mod Leaves
+pub mod Lets
+pub mod Holding
+pub mod Laws
+pub mod HoldingLaws
+pub mod StepLaws
+pub mod LetLaws
+pub mod AllLaws
+pub mod AllEnds
+pub mod BulkLaws
+pub mod RoomLaws
