@@ -1,0 +1,12 @@
+pub mod Behind
+pub mod Asiding
+pub mod Fitting
+pub mod Starts
+pub mod Places
+pub mod Sources
+pub mod Arriving
+pub mod Begun
+pub mod Failing
+pub mod Stopping
+pub mod Completing
+pub mod Delivered

@@ -1,0 +1,52 @@
+-- The starts that a hand owes can begin still, after calls that leave them and what lies in their homes.
+use Rattle.std.proofs.Common.{◌≡◌, ℕ, ◌≤◌, refl, sym, ap, ◌∙◌, subst}
+use Rattle.std.specs.Prelude.{Option, Some}
+use Rattle.life_rules.specs.declared.event.Name.{Name}
+use Rattle.plan_shape.specs.Blueprint.{Blueprint}
+use Rattle.table_rules.specs.declared.view.Owed.{Owed}
+use Rattle.table_rules.specs.Named.{find_by, count_by, Each}
+use Rattle.table_steps.specs.Views.{Board}
+use Rattle.table_steps.specs.Claims.{Seated}
+use Rattle.table_steps.specs.Owing.{Owes}
+use Rattle.table_steps.specs.Slots.{slot_of, kept, has_seen}
+use Rattle.exec_start.specs.declared.entry.Entry.{Entry}
+use Rattle.exec_start.specs.declared.item.Item.{Item}
+use Rattle.exec_recv.specs.Asides.{SeesMore}
+use Rattle.exec_recv.specs.Beginnings.{CanStart, AllCanStart}
+use Rattle.exec_recv.proofs.Fitting.{fits-more, sees-more}
+
+module _ (board : Board Blueprint) (m m' : Seated Item Entry) where
+  -- what lies in the home of a node whose start is owed stays there
+  abbrev pub KeepsHomes : Type 0
+  KeepsHomes =
+      (y : Name) (owed : Owed Entry) → find_by (λ (e : Owed Entry). e.name) m.0.owed y ≡ Some owed → (inside : Option Item) →
+      kept (slot_of board.frame.layout y) m.1 ≡ Some inside → kept (slot_of board.frame.layout y) m'.1 ≡ Some inside
+
+  module _ (owed_same : m'.0.owed ≡ m.0.owed) (homes : KeepsHomes) (sees : SeesMore m m') where
+    pub can-still : (y : Name) → CanStart board y m → CanStart board y m'
+    can-still y can =
+        record {
+          place = can.place;
+          begin = record {
+            owed = can.begin.owed;
+            owes = ap (λ l. find_by (λ (e : Owed Entry). e.name) l y) owed_same ∙ can.begin.owes;
+            item = can.begin.item;
+            home = homes y can.begin.owed can.begin.owes (Some can.begin.item) can.begin.home;
+            entry = can.begin.entry;
+            start = can.begin.start;
+            key = can.begin.key;
+            drawn = can.begin.drawn;
+            goes_on = can.begin.goes_on;
+          };
+          is_start = can.is_start;
+          fit = fits-more can.begin.item y.node (has_seen board.frame.tree m.0 y) (has_seen board.frame.tree m'.0 y)
+              (sees-more board.frame.tree m m' y sees) can.fit;
+          once = subst (λ l. count_by (λ (e : Owed Entry). e.name) l y ≤ 1) (sym owed_same) can.once;
+          beside = subst (λ l. Each (λ (e : Owed Entry). e.name.block ≡ y.block → e.name.generation ≡ y.generation) l) (sym owed_same) can.beside;
+        }
+
+    pub all-still : AllCanStart board m → AllCanStart board m'
+    all-still all y owes =
+        can-still y
+        (all y
+        (record { owed = owes.owed; owes = ap (λ l. find_by (λ (e : Owed Entry). e.name) l y) (sym owed_same) ∙ owes.owes }))

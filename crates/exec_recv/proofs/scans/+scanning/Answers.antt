@@ -1,0 +1,146 @@
+use Rattle.std.proofs.Common.{◌≡◌, ◌<◌, ◌*◌, ◌+◌, arith, inl, refl, sym, ap, ◌∙◌, subst}
+use Rattle.life_rules.specs.declared.event.Name.{Name}
+use Rattle.life_rules.specs.declared.event.SourceRef.{SourceRef}
+use Rattle.life_rules.specs.declared.event.SourceRef.TheVariants.{Node}
+use Rattle.std.specs.Prelude.{Some}
+use Rattle.plan_rules.specs.declared.node.Node.{Node as PlanNode}
+use Rattle.table_steps.specs.ScanSeals.{IsScanSealed}
+use Rattle.table_steps.specs.Sights.{IsSourceIn}
+use Rattle.table_steps.specs.Views.{IsPlaceIn}
+use Rattle.op_slot.proofs.Staying.{stays-here, stays-on}
+use Rattle.stop_calls.specs.declared.scanning.Scan.{Scan}
+use Rattle.stop_calls.specs.Asides.{ScansOn, EndsScan}
+use Rattle.stop_calls.specs.Nestings.{Nests, RunsInside, depth_of}
+use Rattle.stop_calls.specs.Removals.{IsOver}
+use Rattle.stop_calls.specs.Walks.{IsFound, IsThrough}
+use Rattle.stop_calls.proofs.Keeping.{already-back, roused-back}
+use Rattle.stop_calls.proofs.Nesting.{found-fewer}
+use Rattle.stop_calls.proofs.Passing.{own-source, scans-here, scans-on, asked-nests, asked-back, found-deeper, due-ends, due-on, found-inside, due-nests, through-on, sealed-ends}
+use Rattle.exec_recv.proofs.Sources.{all-source}
+use Rattle.exec_recv.proofs.scans.+scanning.Goals as goal
+
+pub act-request_stop-requires-clause-source : goal.act-request_stop-requires-clause-source
+act-request_stop-requires-clause-source g t c κs =
+    own-source c.args.table.now c.args.place c.requires.place
+    (all-source c.args.table.now c.args.plan.now c.requires.over c.args.place.node c.in-WhenAll.children
+    (c.node.ensures ∙ ap (λ (n : PlanNode). Some n) c.in-WhenAll.is))
+
+pub act-request_stop-requires-clause-needs : goal.act-request_stop-requires-clause-needs
+act-request_stop-requires-clause-needs g t c κs = inl (inl c.requires.inside.runs)
+
+pub act-run_scan-requires-clause-nests : goal.act-run_scan-requires-clause-nests
+act-run_scan-requires-clause-nests g t c κs within =
+    asked-nests c.args.table.now c.requires.over.is_tree (Node c.args.place) (own-source c.args.table.now c.args.place c.requires.place
+    (all-source c.args.table.now c.args.plan.now c.requires.over c.args.place.node c.in-WhenAll.children
+    (c.node.ensures ∙ ap (λ (n : PlanNode). Some n) c.in-WhenAll.is))) _ c.in-Made.scan c.args.hand.now c.request_stop.new.hand
+    c.requires.inside.may c.in-Made.ensures.requested
+
+pub act-returns-in-Delay-clause-back : goal.act-returns-in-Delay-clause-back
+act-returns-in-Delay-clause-back g t c = roused-back c.args.table.now c.args.hand.now c.rouse.new.hand c.args.place c.rouse.result c.rouse.ensures.roused
+
+pub act-returns-in-Made-clause-back : goal.act-returns-in-Made-clause-back
+act-returns-in-Made-clause-back g t c =
+    asked-back c.args.table.now c.requires.over.is_tree c.args.place (own-source c.args.table.now c.args.place c.requires.place
+    (all-source c.args.table.now c.args.plan.now c.requires.over c.args.place.node c.in-WhenAll.children
+    (c.node.ensures ∙ ap (λ (n : PlanNode). Some n) c.in-WhenAll.is))) _ c.in-Made.scan c.args.hand.now c.request_stop.new.hand
+    c.requires.inside.may c.in-Made.ensures.requested c.run_scan.new.hand.me c.run_scan.ensures.ended
+
+pub act-returns-in-Already-clause-back : goal.act-returns-in-Already-clause-back
+act-returns-in-Already-clause-back g t c =
+    already-back c.args.table.now c.args.hand.now c.request_stop.new.hand (Node c.args.place) _ c.in-Already.ensures.requested
+
+pub run_scan-loop-due-init : goal.run_scan-loop-due-init
+run_scan-loop-due-init g t c = record {
+  stays = stays-here c.args.table.now c.args.hand.now c.requires.hand;
+  source = refl;
+  nests = c.requires.nests;
+  on = scans-here c.args.scan.source c.args.hand.now.me;
+}
+
+pub run_scan-finish-requires-clause-needs : goal.run_scan-finish-requires-clause-needs
+run_scan-finish-requires-clause-needs g t c κs =
+    due-ends c.args.table.now c.loop-due.scan c.next.new.self c.loop-due.hand c.next.new.hand c.loop-due.invariant.nests.makes
+    c.in-Some.due.place c.next.ensures.source c.in-Some.ensures.scanned c.act.new.hand c.act.ensures.back
+
+pub run_scan-loop-due-smaller : goal.run_scan-loop-due-smaller
+run_scan-loop-due-smaller g t c =
+    found-fewer c.args.table.now c.loop-due.scan c.next.new.self c.loop-due.hand c.next.new.hand c.in-Some.due.place c.in-Some.ensures.scanned
+
+pub run_scan-loop-due-preserved : goal.run_scan-loop-due-preserved
+run_scan-loop-due-preserved g t c =
+    let board = c.args.table.now in
+    let at = c.loop-due.invariant in
+    record {
+      stays = stays-on board c.args.hand.now c.act.new.hand c.finish.new.hand
+          (stays-on board c.args.hand.now c.next.new.hand c.act.new.hand
+          (stays-on board c.args.hand.now c.loop-due.hand c.next.new.hand at.stays c.next.ensures.stays) c.act.ensures.stays)
+          c.finish.ensures.stays;
+      source = c.next.ensures.source ∙ at.source;
+      nests = due-nests board c.loop-due.scan c.next.new.self c.loop-due.hand c.next.new.hand at.nests c.in-Some.due.place
+          c.next.ensures.source c.in-Some.ensures.scanned c.act.new.hand c.finish.new.hand c.act.ensures.back c.finish.ensures.over;
+      on = scans-on c.args.scan.source c.args.hand.now.me c.loop-due.hand.me c.finish.new.hand.me at.on
+          (subst (λ (s : SourceRef). ScansOn c.loop-due.hand.me c.finish.new.hand.me s) at.source
+          (due-on board c.loop-due.scan c.next.new.self c.loop-due.hand c.next.new.hand at.nests.makes c.in-Some.due.place
+          c.next.ensures.source c.in-Some.ensures.scanned c.act.new.hand c.act.ensures.back c.finish.new.hand c.finish.ensures.over));
+    }
+
+pub run_scan-seal-requires-clause-source : goal.run_scan-seal-requires-clause-source
+run_scan-seal-requires-clause-source g t c κs =
+    subst (IsSourceIn c.args.table.now) (sym c.next.ensures.source) c.loop-due.invariant.nests.makes.is_one
+
+pub run_scan-returns-clause-stays : goal.run_scan-returns-clause-stays
+run_scan-returns-clause-stays g t c =
+    stays-on c.args.table.now c.args.hand.now c.next.new.hand c.seal.new.hand
+    (stays-on c.args.table.now c.args.hand.now c.loop-due.hand c.next.new.hand c.loop-due.invariant.stays c.next.ensures.stays)
+    c.seal.ensures.stays
+
+pub run_scan-returns-clause-ended : goal.run_scan-returns-clause-ended
+run_scan-returns-clause-ended g t c =
+    let board = c.args.table.now in
+    let at = c.loop-due.invariant in
+    let source = c.next.ensures.source ∙ at.source in
+    sealed-ends board c.args.scan.source c.args.hand.now.me c.next.new.hand c.seal.new.hand
+    (scans-on c.args.scan.source c.args.hand.now.me c.loop-due.hand.me c.next.new.hand.me at.on
+    (subst (λ (s : SourceRef). ScansOn c.loop-due.hand.me c.next.new.hand.me s) at.source
+    (through-on board c.loop-due.scan c.next.new.self c.loop-due.hand c.next.new.hand at.nests.makes c.in_default.ensures.scanned)))
+    (subst (λ (s : SourceRef). IsScanSealed board s c.next.new.hand c.seal.new.hand) source c.seal.ensures.sealed)
+
+-- the callback's action scans less deep
+pub run_scan-act-requires : goal.run_scan-act-requires
+run_scan-act-requires g t c κs within =
+    let tree = c.args.table.now.frame.tree in
+    let at = c.loop-due.invariant in
+    let falls = c.decreases in
+    let deeper : c.in-Some.due.place.node < depth_of tree c.loop-due.scan.source =
+    found-deeper c.args.table.now c.loop-due.scan c.next.new.self c.loop-due.hand c.next.new.hand at.nests.makes c.in-Some.due.place
+    c.next.ensures.source c.in-Some.ensures.scanned in
+    let less : c.place-place.result.node < depth_of tree c.args.scan.source =
+    subst (λ (x : Name). x.node < depth_of tree c.args.scan.source) (sym c.place-place.ensures)
+    (subst (λ (s : SourceRef). c.in-Some.due.place.node < depth_of tree s) at.source deeper) in
+    let place = sym c.place-place.ensures in
+    let inside = found-inside c.args.table.now c.loop-due.scan c.next.new.self c.loop-due.hand c.next.new.hand at.nests c.in-Some.due.place
+    c.next.ensures.source c.in-Some.ensures.scanned in (
+      omega (arith, falls, less),
+      (
+        within.0,
+        (
+          within.1,
+          (
+            c.requires.sync,
+            (
+              c.requires.sync,
+              (
+                c.next.ensures.stays.hand,
+                (
+                  c.requires.over,
+                  (
+                    subst (λ (x : Name). IsPlaceIn c.args.table.now x) place c.in-Some.ensures.place,
+                    subst (λ (x : Name). RunsInside c.next.new.hand.me.0 x) place inside,
+                  ),
+                ),
+              ),
+            ),
+          ),
+        ),
+      ),
+    )

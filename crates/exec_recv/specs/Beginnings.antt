@@ -1,0 +1,29 @@
+-- The starts that a hand owes between two steps: each can begin.
+use Rattle.std.specs.Prelude.{◌≡◌, ℕ, ◌≤◌}
+use Rattle.life_rules.specs.declared.event.Name.{Name}
+use Rattle.plan_shape.specs.Blueprint.{Blueprint}
+use Rattle.table_steps.specs.Views.{Board, IsPlaceIn}
+use Rattle.table_steps.specs.Begins.{CanBegin}
+use Rattle.table_steps.specs.Claims.{Seated}
+use Rattle.table_steps.specs.Owing.{owing, Owes, AreOfItsBlock}
+use Rattle.table_steps.specs.Slots.{has_seen}
+use Rattle.exec_start.specs.contracts.item.ItemCargo.TheImpl.{ghosts}
+use Rattle.exec_start.specs.declared.entry.Entry.{Entry}
+use Rattle.exec_start.specs.declared.item.Item.{Item}
+use Rattle.exec_start.specs.declared.item.Item.TheVariants.{Start}
+use Rattle.exec_start.specs.Items.{start_in}
+use Rattle.exec_start.specs.Fits.{FitsHome}
+
+-- The node's home keeps its start, which fits by what the hand has seen of requests. The hand owes it
+-- once, and what it owes in the block is of one generation.
+pub record CanStart (board : Board Blueprint) (y : Name) (m : Seated Item Entry) : Type 0 where
+  pub place : IsPlaceIn board y
+  pub begin : CanBegin ghosts board.frame m y
+  pub is_start : begin.item ≡ Start (start_in begin.item)
+  pub fit : FitsHome begin.item y.node (has_seen board.frame.tree m.0 y)
+  pub once : owing m.0 y ≤ 1
+  pub beside : AreOfItsBlock m.0 y
+
+-- so it is of each start that the hand owes
+abbrev pub AllCanStart : Board Blueprint → Seated Item Entry → Type 0
+AllCanStart board m = (y : Name) → Owes m.0 y → CanStart board y m

@@ -1,0 +1,9 @@
+pub mod Over
+pub mod Family
+pub mod Beginnings
+pub mod Steppable
+pub mod Asides
+pub mod Nexts
+pub mod Deliveries
+-- the definitions that the public contracts cite
+pub use Rattle.table_steps.specs.Views

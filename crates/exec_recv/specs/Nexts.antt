@@ -1,0 +1,56 @@
+-- Where a step leaves its node.
+use Rattle.std.specs.Prelude.{◌≡◌, ℕ, List, ◌∷◌}
+use Rattle.life_rules.specs.declared.event.Name.{Name}
+use Rattle.life_rules.specs.Words.{resting_at}
+use Rattle.life_rules.specs.declared.event.Resting.{Resting}
+use Rattle.life_rules.specs.declared.event.Resting.TheVariants.{Parked as parked}
+use Rattle.listed_steps.specs.declared.seen.Seen.{Seen}
+use Rattle.listed_steps.specs.Lists.{entry}
+use Rattle.plan_shape.specs.Blueprint.{Blueprint}
+use Rattle.table_rules.specs.declared.view.Held.{Held}
+use Rattle.table_rules.specs.Named.{without}
+use Rattle.table_steps.specs.Views.{Board}
+use Rattle.table_steps.specs.Claims.{Seated}
+use Rattle.table_steps.specs.Lefts.{SaysControl}
+use Rattle.table_steps.specs.Steps.{control_index}
+use Rattle.table_steps.specs.Takes.{resting_in}
+use Rattle.exec_start.specs.declared.entry.Entry.{Entry}
+use Rattle.exec_start.specs.declared.item.Item.{Item}
+use Rattle.exec_recv.specs.declared.next.Next.{Next}
+use Rattle.exec_recv.specs.declared.next.Next.TheVariants.{Go, Rest, Ready, Parked}
+use Rattle.exec_recv.specs.Asides.{KeepsAside}
+use Rattle.exec_recv.specs.Beginnings.{AllCanStart}
+use Rattle.exec_recv.specs.Steppable.{CanStep}
+
+module _ (board : Board Blueprint) (x : Name) (m m' : Seated Item Entry) where
+  -- the hand holds the node no more, and nothing in its place
+  abbrev pub LetsGo : Type 0
+  LetsGo = m'.0.held ≡ without (λ (e : Held Entry). e.name) m.0.held x
+
+  -- and its newest step left the node at rest there
+  pub record LeftAt (to : Resting) : Type 0 where
+    pub lets_go : LetsGo
+    pub read : ℕ
+    pub left : ℕ
+    pub earlier : List Seen
+    pub steps_are : m'.0.steps ≡ entry (control_index board x) read left ∷ earlier
+    pub says : SaysControl x (resting_at to) left
+
+  -- it holds y in its place, which it may step
+  pub record GoesTo (y : Name) : Type 0 where
+    pub held : Held Entry
+    pub holds : m'.0.held ≡ held ∷ without (λ (e : Held Entry). e.name) m.0.held x
+    pub can : CanStep board y m'
+
+  abbrev pub IsNext : Next → Type 0
+  IsNext (Go y) = GoesTo y
+  IsNext Rest = LetsGo
+  IsNext (Ready on) = LeftAt (resting_in on)
+  IsNext Parked = LeftAt parked
+
+  -- What each step of a node x leaves: the hand's view beside nodes and starts is as before, and each
+  -- start that it owes can begin.
+  pub record IsStepped (next : Next) : Type 0 where
+    pub aside : KeepsAside m m'
+    pub starts : AllCanStart board m'
+    pub goes : IsNext next
