@@ -1,5 +1,5 @@
 # `make try` runs the sample before any proof, in under a minute on four free cores.
-# `make run` proves the program and runs the sample: some 35 minutes of processor time on a new machine, seconds later.
+# `make run` proves the program and runs the sample: half an hour on a new machine with four free cores, seconds later.
 # `make test` is the gate: everything is proved, and the proved program is tested.
 
 PROGRAM := crates/exec_run/out/exec_run
