@@ -1,0 +1,15 @@
+pub mod Frames
+pub mod Noting
+pub mod Swapping
+pub mod Settled
+pub mod Completed
+pub mod Left
+pub mod Opened
+pub mod RunKinds
+pub mod Awaited
+pub mod Wanted
+pub mod Started
+pub mod Only
+pub mod Asked
+pub mod Topped
+pub mod Telling
