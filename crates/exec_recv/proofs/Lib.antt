@@ -4,6 +4,9 @@ pub mod Fitting
 pub mod Starts
 pub mod Places
 pub mod Sources
+pub mod Acting
+pub mod Running
+pub mod Actions
 pub mod Arriving
 pub mod Begun
 pub mod Failing

@@ -3,6 +3,7 @@ pub mod Family
 pub mod Beginnings
 pub mod Steppable
 pub mod Asides
+pub mod Actions
 pub mod Nexts
 pub mod Deliveries
 -- the definitions that the public contracts cite

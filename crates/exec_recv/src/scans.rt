@@ -4,6 +4,7 @@ ghost use Rattle.table_steps.specs.Views.{IsHandOf, IsPlaceIn, Stays, knows};
 ghost use Rattle.stop_calls.specs.Asides.{ComesBack, EndsScan};
 ghost use Rattle.stop_calls.specs.Nestings.{Nests, RunsInside};
 ghost use Rattle.exec_recv.specs.Over.{IsOver};
+ghost use Rattle.exec_recv.specs.Actions.{Acts, ListsActions};
 
 use crate::gate::{Gate, Point};
 use exec_start::Item;
@@ -32,6 +33,7 @@ fn act<G: Gate, R: Wait + Sync>(
     requires inside { RunsInside (knows hand.old) place }
     ensures stays { Stays table.now hand.old hand.new }
     ensures back { ComesBack hand.old.me hand.new.me }
+    ensures acts { Acts table.now plan.now place hand.old.me hand.new.me }
 {
     if place.node >= plan.size() {
         return;
@@ -55,8 +57,9 @@ fn act<G: Gate, R: Wait + Sync>(
 /// Step: those of the scan, of each callback's action, and of the end of its run; last that of the
 /// seal.
 /// Needs: the hand makes the scan, innermost, and each callback of it that it ran is over.
-/// Afterwards: the hand makes the scan no more, and runs what it ran. Beside requests that it has
-/// seen and the list of its steps all that it knows and has in homes is as before.
+/// Afterwards: the hand makes the scan no more, and runs what it ran. Each callback whose run this
+/// call began did what it does. Beside requests that it has seen and the list of its steps all that
+/// the hand knows and has in homes is as before.
 #[cycle(scanning)]
 pub fn run_scan<G: Gate, R: Wait + Sync>(
     rt: &R,
@@ -72,6 +75,7 @@ pub fn run_scan<G: Gate, R: Wait + Sync>(
     requires nests { Nests table.now scan hand.old.me }
     ensures stays { Stays table.now hand.old hand.new }
     ensures ended { EndsScan hand.old.me hand.new.me scan.source }
+    ensures acts { ListsActions table.now plan.now hand.old.me hand.new.me }
 {
     while let Some(due) = scan.next(table, hand) {
         let place = due.place();

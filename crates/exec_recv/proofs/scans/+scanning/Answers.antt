@@ -1,8 +1,9 @@
-use Rattle.std.proofs.Common.{◌≡◌, ◌<◌, ◌*◌, ◌+◌, arith, inl, refl, sym, ap, ◌∙◌, subst}
+use Rattle.std.proofs.Common.{◌≡◌, ◌<◌, ◌≤◌, ◌*◌, ◌+◌, false, arith, inl, refl, sym, ap, ◌∙◌, subst}
 use Rattle.life_rules.specs.declared.event.Name.{Name}
 use Rattle.life_rules.specs.declared.event.SourceRef.{SourceRef}
 use Rattle.life_rules.specs.declared.event.SourceRef.TheVariants.{Node}
 use Rattle.std.specs.Prelude.{Some}
+use Rattle.std.proofs.lemmas.Option.{same_Some}
 use Rattle.plan_rules.specs.declared.node.Node.{Node as PlanNode}
 use Rattle.table_steps.specs.ScanSeals.{IsScanSealed}
 use Rattle.table_steps.specs.Sights.{IsSourceIn}
@@ -16,7 +17,11 @@ use Rattle.stop_calls.specs.Walks.{IsFound, IsThrough}
 use Rattle.stop_calls.proofs.Keeping.{already-back, roused-back}
 use Rattle.stop_calls.proofs.Nesting.{found-fewer}
 use Rattle.stop_calls.proofs.Passing.{own-source, scans-here, scans-on, asked-nests, asked-back, found-deeper, due-ends, due-on, found-inside, due-nests, through-on, sealed-ends}
+use Rattle.exec_recv.specs.Actions.{Acts}
 use Rattle.exec_recv.proofs.Sources.{all-source}
+use Rattle.exec_recv.proofs.Acting.{lists-others, lists-on, others-on}
+use Rattle.exec_recv.proofs.Running.{due-lists, through-others, sealed-others}
+use Rattle.exec_recv.proofs.Actions.{lists-here, other-acts, past-acts, delay-acts, all-acts}
 use Rattle.exec_recv.proofs.scans.+scanning.Goals as goal
 
 pub act-request_stop-requires-clause-source : goal.act-request_stop-requires-clause-source
@@ -49,12 +54,46 @@ pub act-returns-in-Already-clause-back : goal.act-returns-in-Already-clause-back
 act-returns-in-Already-clause-back g t c =
     already-back c.args.table.now c.args.hand.now c.request_stop.new.hand (Node c.args.place) _ c.in-Already.ensures.requested
 
+pub act-returns-then-place-size-clause-acts : goal.act-returns-then-place-size-clause-acts
+act-returns-then-place-size-clause-acts g t c =
+    past-acts c.args.table.now c.args.plan.now c.args.place c.args.hand.now.me
+    (subst (λ n. n ≤ c.args.place.node) c.size.ensures.size c.if-place-size.true)
+
+pub act-returns-in_default-clause-acts : goal.act-returns-in_default-clause-acts
+act-returns-in_default-clause-acts g t c =
+    other-acts c.args.table.now c.args.plan.now c.args.place c.args.hand.now.me
+    (λ turns at. c.in_default.not-Delay turns (same_Some _ _ (sym c.node.ensures ∙ at)))
+    (λ children at. c.in_default.not-WhenAll children (same_Some _ _ (sym c.node.ensures ∙ at)))
+
+pub act-returns-in-Delay-clause-acts : goal.act-returns-in-Delay-clause-acts
+act-returns-in-Delay-clause-acts g t c =
+    delay-acts c.args.table.now c.args.plan.now c.args.place c.args.hand.now c.rouse.new.hand c.requires.place _
+    (c.node.ensures ∙ ap (λ (n : PlanNode). Some n) c.in-Delay.is) c.rouse.result c.rouse.ensures.roused
+
+pub act-returns-in-Made-clause-acts : goal.act-returns-in-Made-clause-acts
+act-returns-in-Made-clause-acts g t c =
+    let at = c.node.ensures ∙ ap (λ (n : PlanNode). Some n) c.in-WhenAll.is in
+    all-acts c.args.table.now c.args.plan.now c.args.place c.args.hand.now c.request_stop.new.hand
+    (own-source c.args.table.now c.args.place c.requires.place
+    (all-source c.args.table.now c.args.plan.now c.requires.over c.args.place.node c.in-WhenAll.children at)) c.in-WhenAll.children at
+    false _ c.in-Made.ensures.requested c.run_scan.new.hand.me c.run_scan.ensures.acts
+
+pub act-returns-in-Already-clause-acts : goal.act-returns-in-Already-clause-acts
+act-returns-in-Already-clause-acts g t c =
+    let at = c.node.ensures ∙ ap (λ (n : PlanNode). Some n) c.in-WhenAll.is in
+    all-acts c.args.table.now c.args.plan.now c.args.place c.args.hand.now c.request_stop.new.hand
+    (own-source c.args.table.now c.args.place c.requires.place
+    (all-source c.args.table.now c.args.plan.now c.requires.over c.args.place.node c.in-WhenAll.children at)) c.in-WhenAll.children at
+    false _ c.in-Already.ensures.requested c.request_stop.new.hand.me
+    (lists-here c.args.table.now c.args.plan.now c.request_stop.new.hand.me)
+
 pub run_scan-loop-due-init : goal.run_scan-loop-due-init
 run_scan-loop-due-init g t c = record {
   stays = stays-here c.args.table.now c.args.hand.now c.requires.hand;
   source = refl;
   nests = c.requires.nests;
   on = scans-here c.args.scan.source c.args.hand.now.me;
+  acts = lists-here c.args.table.now c.args.plan.now c.args.hand.now.me;
 }
 
 pub run_scan-finish-requires-clause-needs : goal.run_scan-finish-requires-clause-needs
@@ -82,6 +121,11 @@ run_scan-loop-due-preserved g t c =
           (subst (λ (s : SourceRef). ScansOn c.loop-due.hand.me c.finish.new.hand.me s) at.source
           (due-on board c.loop-due.scan c.next.new.self c.loop-due.hand c.next.new.hand at.nests.makes c.in-Some.due.place
           c.next.ensures.source c.in-Some.ensures.scanned c.act.new.hand c.act.ensures.back c.finish.new.hand c.finish.ensures.over));
+      acts = lists-on board c.args.plan.now c.args.hand.now.me c.loop-due.hand.me c.finish.new.hand.me at.acts
+          (due-lists board c.args.plan.now c.loop-due.scan c.next.new.self c.loop-due.hand c.next.new.hand c.act.new.hand c.finish.new.hand
+          c.in-Some.due.place c.in-Some.ensures.place c.in-Some.ensures.scanned
+          (subst (λ (x : Name). Acts board c.args.plan.now x c.next.new.hand.me c.act.new.hand.me) c.place-place.ensures c.act.ensures.acts)
+          c.finish.ensures.over);
     }
 
 pub run_scan-seal-requires-clause-source : goal.run_scan-seal-requires-clause-source
@@ -104,6 +148,17 @@ run_scan-returns-clause-ended g t c =
     (subst (λ (s : SourceRef). ScansOn c.loop-due.hand.me c.next.new.hand.me s) at.source
     (through-on board c.loop-due.scan c.next.new.self c.loop-due.hand c.next.new.hand at.nests.makes c.in_default.ensures.scanned)))
     (subst (λ (s : SourceRef). IsScanSealed board s c.next.new.hand c.seal.new.hand) source c.seal.ensures.sealed)
+
+pub run_scan-returns-clause-acts : goal.run_scan-returns-clause-acts
+run_scan-returns-clause-acts g t c =
+    let board = c.args.table.now in
+    let at = c.loop-due.invariant in
+    let is_one = subst (IsSourceIn board) (sym c.next.ensures.source) at.nests.makes.is_one in
+    lists-on board c.args.plan.now c.args.hand.now.me c.loop-due.hand.me c.seal.new.hand.me at.acts
+    (lists-others board c.args.plan.now c.loop-due.hand.me c.seal.new.hand.me
+    (others-on board c.loop-due.hand.me.0.steps c.next.new.hand.me.0.steps c.seal.new.hand.me.0.steps
+    (through-others board c.loop-due.scan c.next.new.self c.loop-due.hand c.next.new.hand c.in_default.ensures.scanned)
+    (sealed-others board c.next.new.self.source c.next.new.hand c.seal.new.hand is_one c.seal.ensures.sealed)))
 
 -- the callback's action scans less deep
 pub run_scan-act-requires : goal.run_scan-act-requires

@@ -2,6 +2,7 @@ use Rattle.std.proofs.Common.{◌≡◌, ◌+◌, ◌*◌}
 use Rattle.table_steps.specs.Views.{Stays}
 use Rattle.stop_calls.specs.Asides.{ScansOn}
 use Rattle.stop_calls.specs.Nestings.{Nests, depth_of, places_left}
+use Rattle.exec_recv.specs.Actions.{ListsActions}
 use Rattle.exec_recv.proofs.scans.+scanning.Given as goal
 
 -- a callback's action runs scans of its own node's source alone, which come to sources that lie less deep
@@ -17,6 +18,7 @@ invariant-run_scan-loop-due g l = record {
   source : l.scan.source ≡ l.fn.scan.source;
   nests : Nests l.table l.scan l.hand.me;
   on : ScansOn l.fn.hand.me l.hand.me l.fn.scan.source;
+  acts : ListsActions l.table l.plan l.fn.hand.me l.hand.me;
 }
 
 abbrev pub decreases-run_scan-loop-due : goal.decreases-run_scan-loop-due
