@@ -1,6 +1,7 @@
 -- The starts that a hand owes between two steps: each can begin.
-use Rattle.std.specs.Prelude.{◌≡◌, ℕ, ◌≤◌}
+use Rattle.std.specs.Prelude.{◌≡◌, ℕ, ◌≤◌, false}
 use Rattle.life_rules.specs.declared.event.Name.{Name}
+use Rattle.node_tree.specs.Tree.{is_root}
 use Rattle.plan_shape.specs.Blueprint.{Blueprint}
 use Rattle.table_steps.specs.Views.{Board, IsPlaceIn}
 use Rattle.table_steps.specs.Begins.{CanBegin}
@@ -27,3 +28,7 @@ pub record CanStart (board : Board Blueprint) (y : Name) (m : Seated Item Entry)
 -- so it is of each start that the hand owes
 abbrev pub AllCanStart : Board Blueprint → Seated Item Entry → Type 0
 AllCanStart board m = (y : Name) → Owes m.0 y → CanStart board y m
+
+-- no start that it owes is of a root
+abbrev pub OwesNoRoot : Board Blueprint → Seated Item Entry → Type 0
+OwesNoRoot board m = (y : Name) → Owes m.0 y → is_root board.frame.tree y.node ≡ false

@@ -4,7 +4,7 @@ ghost use Rattle.plan_shape.specs.Blueprint.{Blueprint};
 ghost use Rattle.plan_kinds.specs.Runnable.{IsRunnable};
 ghost use Rattle.table_steps.specs.Views.{IsHandOf, Stays};
 ghost use Rattle.exec_recv.specs.Over.{IsOver};
-ghost use Rattle.exec_recv.specs.Beginnings.{AllCanStart};
+ghost use Rattle.exec_recv.specs.Beginnings.{AllCanStart, OwesNoRoot};
 ghost use Rattle.exec_recv.specs.Steppable.{CanStep};
 ghost use Rattle.exec_recv.specs.Nexts.{IsStepped};
 
@@ -53,7 +53,8 @@ pub trait Stepper: Gate {
     /// came to hold the node it has made no step on it and has moved nothing of its home and of its
     /// children's. Each start that the hand owes can begin.
     /// Afterwards: Go names the node that the hand holds in place of this one, and may step next;
-    /// else it holds none in its place. Each start that the hand owes can begin. What its view has
+    /// else it holds none in its place. Each start that the hand owes can begin, and it owes that of
+    /// a root only where it did before. What its view has
     /// besides is as before, but for requests that it has seen and the list of its steps.
     fn step<R: Wait + Sync>(
         &self,
@@ -70,5 +71,6 @@ pub trait Stepper: Gate {
         requires can { CanStep table.now name hand.old.me }
         requires starts { AllCanStart table.now hand.old.me }
         ensures stays { Stays table.now hand.old hand.new }
-        ensures stepped { IsStepped table.now name hand.old.me hand.new.me result };
+        ensures stepped { IsStepped table.now name hand.old.me hand.new.me result }
+        ensures inner { OwesNoRoot table.now hand.old.me → OwesNoRoot table.now hand.new.me };
 }
