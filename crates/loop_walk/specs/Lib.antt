@@ -1,0 +1,5 @@
+pub mod Resting
+-- the definitions that the public contracts cite
+pub use Rattle.table_steps.specs.Views
+pub use Rattle.exec_recv.specs.Over
+pub use Rattle.exec_recv.specs.Asides

@@ -1,0 +1,98 @@
+//! How a hand goes on from one node to the next.
+ghost use Rattle.std.specs.Prelude.{◌≡◌};
+ghost use Rattle.std.specs.Thread.{IsSync};
+ghost use Rattle.plan_kinds.specs.Runnable.{IsRunnable};
+ghost use Rattle.table_steps.specs.Views.{IsHandOf, Stays, knows};
+ghost use Rattle.exec_recv.specs.Asides.{KeepsAside};
+ghost use Rattle.exec_recv.specs.Over.{IsOver};
+ghost use Rattle.loop_walk.specs.Resting.{IsAtRest, OwesOnly, CanGoOn, GoesOn};
+
+use crate::mail::Mail;
+use exec_recv::{Item, Next, Stepper};
+use life_rules::Name;
+use op_slot::{Hand, OpTable};
+use std::alloc::Global;
+use std::sync::Wait;
+
+// Begins a node whose start the hand owes. None exactly where it owes none.
+fn begin_owed<T: Stepper>(table: &OpTable<Item>, hand: &mut Hand<Item>, stepper: &T) -> Option<Name>
+    requires hand { IsHandOf table.now hand.old }
+    requires over { IsOver table.now (T.plan stepper.now) }
+    requires owes { OwesOnly table.now hand.old.me }
+    ensures stays { Stays table.now hand.old hand.new }
+    ensures aside { KeepsAside hand.old.me hand.new.me }
+    ensures next { GoesOn table.now result hand.new.me }
+{
+    let _ = stepper;
+    let name = table.owed(hand)?;
+    table.begin(hand, name);
+    Some(name)
+}
+
+// Steps the node. Then the hand may step the node that is answered; with none it is at rest.
+fn step_once<T: Stepper, M: Mail, R: Wait + Sync>(
+    rt: &R,
+    alloc: Global,
+    table: &OpTable<Item>,
+    hand: &mut Hand<Item>,
+    stepper: &T,
+    name: Name,
+    mail: &mut M,
+) -> Option<Name>
+    requires sync { IsSync R.row }
+    requires hand { IsHandOf table.now hand.old }
+    requires over { IsOver table.now (T.plan stepper.now) }
+    requires kinds { IsRunnable (T.plan stepper.now) }
+    requires can { CanGoOn table.now name hand.old.me }
+    ensures stays { Stays table.now hand.old hand.new }
+    ensures aside { KeepsAside hand.old.me hand.new.me }
+    ensures next { GoesOn table.now result hand.new.me }
+{
+    match stepper.step(rt, alloc, table, hand, name) {
+        Next::Go(next) => Some(next),
+        Next::Ready(on) => {
+            mail.ready(rt, name, on);
+            begin_owed(table, hand, stepper)
+        }
+        Next::Rest => begin_owed(table, hand, stepper),
+        Next::Parked => begin_owed(table, hand, stepper),
+    }
+}
+
+/// Steps the node, and goes on: it steps the node that Go names, and where there is none begins one
+/// whose start it owes and steps that, until it owes none. Names of nodes that were left ready go
+/// to the mail. What is promised holds if it returns: no contract of a stepper says that the steps
+/// of a plan's operations end.
+///
+/// Step: those of the steps, and of the begins.
+/// Needs: the table is over the stepper's plan, whose kinds match. The hand may step the node, and
+/// has nothing besides but starts that it owes, each of which can begin, and none of a root.
+/// Afterwards: the hand is at rest. All else that its view says is as before, but for requests that
+/// it has seen and the list of its steps.
+pub fn go_on<T: Stepper, M: Mail, R: Wait + Sync>(
+    rt: &R,
+    alloc: Global,
+    table: &OpTable<Item>,
+    hand: &mut Hand<Item>,
+    stepper: &T,
+    name: Name,
+    mail: &mut M,
+)
+    requires sync { IsSync R.row }
+    requires hand { IsHandOf table.now hand.old }
+    requires over { IsOver table.now (T.plan stepper.now) }
+    requires kinds { IsRunnable (T.plan stepper.now) }
+    requires can { CanGoOn table.now name hand.old.me }
+    ensures stays { Stays table.now hand.old hand.new }
+    ensures rests { IsAtRest (knows hand.new) }
+    ensures aside { KeepsAside hand.old.me hand.new.me }
+{
+    let mut name = name;
+    for _ in rt.forever() {
+        match step_once(rt, alloc, table, hand, stepper, name, mail) {
+            Some(next) => name = next,
+            None => return,
+        }
+    }
+    unreachable!()
+}
