@@ -1,0 +1,6 @@
+pub mod Names
+pub mod Making
+pub mod Places
+pub mod Adapting
+pub mod Leafing
+pub mod Receiving

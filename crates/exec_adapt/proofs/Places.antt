@@ -1,0 +1,185 @@
+-- Where the nodes stand that are stepped here, and whose starts they have.
+use Rattle.std.specs.Prelude.{Contains, slice_get}
+use Rattle.std.specs.Option.{option_to_list}
+use Rattle.std.proofs.Common.{◌≡◌, ℕ, ◌+◌, Bool, false, List, [], ◌∷◌, length, Some, None, refl, sym, ap, ◌∙◌, subst, arith}
+use Rattle.std.proofs.lemmas.Bool.{eqb-true}
+use Rattle.std.proofs.lemmas.Option.{same_Some, slice_get_within}
+use Rattle.common_lemmas.proofs.Bool.{either}
+use Rattle.life_rules.specs.declared.event.Name.{Name}
+use Rattle.node_tree.specs.Tree.{is_root, has_source}
+use Rattle.plan_rules.specs.declared.node.Node.{Node}
+use Rattle.plan_rules.specs.declared.node.Node.TheVariants.{Input, Just, JustError, JustStopped, ReadEnv, Then, UponError, UponStopped, StoppedAsOptional, StoppedAsError}
+use Rattle.plan_shape.specs.Blueprint.{Blueprint}
+use Rattle.plan_shape.specs.Children.{children_of}
+use Rattle.plan_shape.specs.PlanTree.{is_when_all, spawns}
+use Rattle.plan_kinds.specs.Runnable.{IsRunnable}
+use Rattle.plan_kinds.specs.TreeLaws.{ShowsNode}
+use Rattle.plan_kinds.proofs.Trees.{trees-show}
+use Rattle.table_steps.specs.Views.{Board}
+use Rattle.table_steps.specs.Claims.{Seated}
+use Rattle.exec_start.specs.declared.entry.Entry.{Entry}
+use Rattle.exec_start.specs.declared.item.Item.{Item}
+use Rattle.exec_start.specs.Entries.{plan_of, node_of}
+use Rattle.exec_start.specs.Starts.{IsStart}
+use Rattle.exec_recv.specs.Over.{IsOver}
+use Rattle.start_laws.specs.Nodes.{IsStartOf, plain_children, AwaitsOne, MakesImage, MayHaveSeen}
+use Rattle.start_laws.specs.Leaves.{IsLeaf}
+use Rattle.exec_value.specs.declared.outcome.Completion.{Completion}
+use Rattle.node_steps.specs.Midway.{Ready}
+use Rattle.node_steps.specs.TakenOut.{IsOnlyChild}
+use Rattle.node_steps.proofs.Only.{only-named}
+use Rattle.exec_adapt.specs.Kinds.{IsFactory, IsAdaptor, adapted, CanAdvance}
+
+-- an adaptor has one child, which runs with its arguments, and no source
+pub adaptor-is : (node : Node) (child : ℕ) → adapted node ≡ Some child → IsAdaptor node
+adaptor-is (Then x job) child adapts = tt
+adaptor-is (UponError x job) child adapts = tt
+adaptor-is (UponStopped x job) child adapts = tt
+adaptor-is (StoppedAsOptional x of) child adapts = tt
+adaptor-is (StoppedAsError x name) child adapts = tt
+adaptor-is node child adapts = cc
+
+adaptor-children : (node : Node) (child n : ℕ) → adapted node ≡ Some child → children_of n node ≡ option_to_list (Some child)
+adaptor-children (Then x job) child n adapts = ap (λ (k : ℕ). k ∷ []) (same_Some x child adapts)
+adaptor-children (UponError x job) child n adapts = ap (λ (k : ℕ). k ∷ []) (same_Some x child adapts)
+adaptor-children (UponStopped x job) child n adapts = ap (λ (k : ℕ). k ∷ []) (same_Some x child adapts)
+adaptor-children (StoppedAsOptional x of) child n adapts = ap (λ (k : ℕ). k ∷ []) (same_Some x child adapts)
+adaptor-children (StoppedAsError x name) child n adapts = ap (λ (k : ℕ). k ∷ []) (same_Some x child adapts)
+adaptor-children node child n adapts = cc
+
+adaptor-spawns : (node : Node) → IsAdaptor node → (k : ℕ) → spawns k node ≡ false
+adaptor-spawns (Then x job) is k = refl
+adaptor-spawns (UponError x job) is k = refl
+adaptor-spawns (UponStopped x job) is k = refl
+adaptor-spawns (StoppedAsOptional x of) is k = refl
+adaptor-spawns (StoppedAsError x name) is k = refl
+adaptor-spawns node is k = absurd is
+
+first-there : (x child : ℕ) → Some x ≡ Some child → Contains (x ∷ []) child
+first-there x child e = (0, omega arith, same_Some x child e)
+
+pub adaptor-runs : (node : Node) (child : ℕ) → adapted node ≡ Some child → Contains (plain_children node) child
+adaptor-runs (Then x job) child adapts = first-there x child adapts
+adaptor-runs (UponError x job) child adapts = first-there x child adapts
+adaptor-runs (UponStopped x job) child adapts = first-there x child adapts
+adaptor-runs (StoppedAsOptional x of) child adapts = first-there x child adapts
+adaptor-runs (StoppedAsError x name) child adapts = first-there x child adapts
+adaptor-runs node child adapts = cc
+
+pub adaptor-plain : (node : Node) → IsAdaptor node → is_when_all node ≡ false
+adaptor-plain (Then x job) is = refl
+adaptor-plain (UponError x job) is = refl
+adaptor-plain (UponStopped x job) is = refl
+adaptor-plain (StoppedAsOptional x of) is = refl
+adaptor-plain (StoppedAsError x name) is = refl
+adaptor-plain node is = absurd is
+
+pub adaptor-awaits : (node : Node) → IsAdaptor node → AwaitsOne node
+adaptor-awaits (Then x job) is = tt
+adaptor-awaits (UponError x job) is = tt
+adaptor-awaits (UponStopped x job) is = tt
+adaptor-awaits (StoppedAsOptional x of) is = tt
+adaptor-awaits (StoppedAsError x name) is = tt
+adaptor-awaits node is = absurd is
+
+pub adaptor-makes : (node : Node) → IsAdaptor node → (done : Completion) → MakesImage node done
+adaptor-makes (Then x job) is done = tt
+adaptor-makes (UponError x job) is done = tt
+adaptor-makes (UponStopped x job) is done = tt
+adaptor-makes (StoppedAsOptional x of) is done = tt
+adaptor-makes (StoppedAsError x name) is done = tt
+adaptor-makes node is done = absurd is
+
+pub adaptor-sees : (node : Node) → IsAdaptor node → (saw : Bool) → MayHaveSeen node saw
+adaptor-sees (Then x job) is saw = tt
+adaptor-sees (UponError x job) is saw = tt
+adaptor-sees (UponStopped x job) is saw = tt
+adaptor-sees (StoppedAsOptional x of) is saw = tt
+adaptor-sees (StoppedAsError x name) is saw = tt
+adaptor-sees node is saw = absurd is
+
+-- a factory has none
+factory-children : (node : Node) (n : ℕ) → IsFactory node → children_of n node ≡ option_to_list None
+factory-children Input n is = refl
+factory-children (Just values) n is = refl
+factory-children (JustError name) n is = refl
+factory-children JustStopped n is = refl
+factory-children (ReadEnv query) n is = refl
+factory-children node n is = absurd is
+
+factory-spawns : (node : Node) → IsFactory node → (k : ℕ) → spawns k node ≡ false
+factory-spawns Input is k = refl
+factory-spawns (Just values) is k = refl
+factory-spawns (JustError name) is k = refl
+factory-spawns JustStopped is k = refl
+factory-spawns (ReadEnv query) is k = refl
+factory-spawns node is k = absurd is
+
+pub factory-leaf : (node : Node) → IsFactory node → IsLeaf node
+factory-leaf Input is = tt
+factory-leaf (Just values) is = tt
+factory-leaf (JustError name) is = tt
+factory-leaf JustStopped is = tt
+factory-leaf (ReadEnv query) is = tt
+factory-leaf node is = absurd is
+
+pub factory-plain : (node : Node) → IsFactory node → is_when_all node ≡ false
+factory-plain Input is = refl
+factory-plain (Just values) is = refl
+factory-plain (JustError name) is = refl
+factory-plain JustStopped is = refl
+factory-plain (ReadEnv query) is = refl
+factory-plain node is = absurd is
+
+-- what is advanced, and is no adaptor, is a factory
+pub factory-is : (plan : Blueprint) (node : Node) → CanAdvance plan (Some node) → adapted node ≡ None → IsFactory node
+factory-is plan Input can none = tt
+factory-is plan (Just values) can none = tt
+factory-is plan (JustError name) can none = tt
+factory-is plan JustStopped can none = tt
+factory-is plan (ReadEnv query) can none = tt
+factory-is plan (Then x job) can none = cc
+factory-is plan (UponError x job) can none = cc
+factory-is plan (UponStopped x job) can none = cc
+factory-is plan (StoppedAsOptional x of) can none = cc
+factory-is plan (StoppedAsError x name) can none = cc
+factory-is plan node can none = absurd can
+
+-- a node of the plan, in the table over it
+module _ (board : Board Blueprint) (plan : Blueprint) (x : Name) (node : Node) (over : IsOver board plan)
+    (at : slice_get plan.nodes x.node ≡ Some node) where
+  shows : ShowsNode board.frame.tree x.node node
+  shows = subst (λ t. ShowsNode t x.node node) (sym over.tree) ((trees-show plan over.is_plan).each x.node node at)
+
+  pub source-none : is_when_all node ≡ false → has_source board.frame.tree x.node ≡ false
+  source-none plain = shows.source ∙ plain
+
+  -- isn't the receiver node
+  pub inner-is : is_root board.frame.tree x.node ≡ false
+  inner-is =
+      let size : length board.frame.tree ≡ length plan.nodes + 1 = ap length over.tree ∙ (trees-show plan over.is_plan).size in
+      let within = slice_get_within plan.nodes x.node node at in
+      either (is_root board.frame.tree x.node)
+      (λ t. let last : x.node + 1 ≡ length board.frame.tree = eqb-true (x.node + 1) (length board.frame.tree) t in
+      absurd (omega (arith, size, within, last)))
+      (λ f. f)
+
+  pub adaptor-only : (child : ℕ) → adapted node ≡ Some child → IsOnlyChild board x (Some child)
+  adaptor-only child adapts =
+      only-named board plan x node (Some child) over at (adaptor-children node child x.node adapts)
+      (adaptor-spawns node (adaptor-is node child adapts))
+
+  pub factory-only : IsFactory node → IsOnlyChild board x None
+  factory-only is = only-named board plan x node None over at (factory-children node x.node is) (factory-spawns node is)
+
+  -- the start of a node that is held is one of this node
+  pub start-of : (start : List Entry) (least : ℕ) (m : Seated Item Entry) → IsRunnable plan → Ready board x start least m →
+      IsStart start → IsStartOf start node
+  start-of start least m runnable ready is =
+      let same : plan_of start ≡ plan = ready.key ∙ over.over in
+      record {
+        start_is = is;
+        runnable = subst IsRunnable (sym same) runnable;
+        node_is = ap (λ (b : Blueprint). slice_get b.nodes (node_of start)) same
+            ∙ ap (slice_get plan.nodes) ready.node ∙ at;
+      }

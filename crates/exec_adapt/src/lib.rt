@@ -1,0 +1,25 @@
+//! The steps of factories, of adaptors with one child, and of the receiver node ([exec.factories],
+//! [exec.adapt]).
+//!
+//! It stands on node_steps, of whose calls each step is made, on node_images, which makes what a
+//! node completes with, and on the laws of start_laws. It keeps one promise: a step of these nodes
+//! starts from where a step may, and ends as a step does, and what it delivers is allowed by the
+//! plan for the node's start.
+//!
+//!     factory   Start --> Done(what it makes)
+//!     adaptor   Start --start_unbegun_child--> Rest .. its child is done --> Done(the image)
+//!     receiver  Start --start_top--> Rest .. its child is done --> Rest(with the child's parcel)
+//!
+//! Where a long name of an error wants memory, the node goes on later, in the loop. What else wants
+//! memory is delivered so; small plans have nothing of the kind.
+#![tactic(auto)]
+
+mod adaptors;
+mod advancing;
+mod errors;
+mod factories;
+mod images;
+mod opening;
+mod receiver;
+
+pub use advancing::advance;

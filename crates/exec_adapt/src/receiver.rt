@@ -1,0 +1,100 @@
+//! The step of the receiver node, under which the operation of a record runs ([exec.recv]).
+ghost use Rattle.std.specs.Prelude.{◌≡◌, ◌≤◌, ◌-◌, length};
+ghost use Rattle.std.specs.Thread.{IsSync};
+ghost use Rattle.plan_kinds.specs.Runnable.{IsRunnable};
+ghost use Rattle.table_steps.specs.Views.{IsHandOf, Stays};
+ghost use Rattle.exec_start.specs.Starts.{IsStart};
+ghost use Rattle.exec_recv.specs.Over.{IsOver};
+ghost use Rattle.exec_recv.specs.Beginnings.{AllCanStart};
+ghost use Rattle.exec_recv.specs.Steppable.{CanStep};
+ghost use Rattle.exec_recv.specs.Nexts.{IsStepped};
+ghost use Rattle.node_steps.specs.Midway.{KeepsReady};
+ghost use Rattle.node_steps.specs.Starts.{KnowsIdle, MayRun};
+ghost use Rattle.exec_adapt.specs.Kinds.{SpawnsNone};
+
+use crate::opening::at_hand;
+use life_rules::Name;
+use node_steps::{Env, Item, Next, leave_at_rest, start_top, take_out};
+use node_tree::Context;
+use op_slot::{Hand, OpTable};
+use plan_rules::NodeId;
+use plan_shape::Plan;
+use std::alloc::Global;
+use std::sync::Wait;
+use std::thread::yield_now;
+
+// The plan's root.
+fn root_of(plan: &Plan) -> NodeId
+    ensures { result ≡ length plan.now.nodes - 1 }
+{
+    plan.size() - 1
+}
+
+// Reads whether the child has begun, until it reads that it hasn't. That it has doesn't come; what
+// is promised holds if this returns.
+fn read_idle<R: Wait + Sync>(
+    rt: &R,
+    plan: &Plan,
+    table: &OpTable<Item>,
+    hand: &mut Hand<Item>,
+    name: Name,
+    env: &Env,
+    child: NodeId,
+    asked: bool,
+)
+    requires sync { IsSync R.row }
+    requires hand { IsHandOf table.now hand.old }
+    requires over { IsOver table.now plan.now }
+    requires runnable { IsRunnable plan.now }
+    requires is { IsStart env.now }
+    requires may { MayRun table.now name env.now child asked hand.old.me }
+    ensures stays { Stays table.now hand.old hand.new }
+    ensures keeps { KeepsReady table.now name hand.old.me hand.new.me }
+    ensures idle { KnowsIdle name child hand.new.me }
+{
+    let node = Name {
+        node: child,
+        ..name
+    };
+    for _ in rt.forever() {
+        if !table.has_begun(hand, node) {
+            return;
+        }
+        yield_now();
+    }
+    unreachable!()
+}
+
+/// Steps the receiver node: starts the child that its start names, or where that has completed
+/// leaves the node ready in the loop with the child's parcel, which is collected there.
+pub(crate) fn step_receiver<R: Wait + Sync>(
+    rt: &R,
+    alloc: Global,
+    plan: &Plan,
+    table: &OpTable<Item>,
+    hand: &mut Hand<Item>,
+    name: Name,
+) -> Next
+    requires sync { IsSync R.row }
+    requires hand { IsHandOf table.now hand.old }
+    requires over { IsOver table.now plan.now }
+    requires kinds { IsRunnable plan.now }
+    requires behind { length plan.now.nodes ≤ name.node }
+    requires spawns { SpawnsNone plan.now }
+    requires can { CanStep table.now name hand.old.me }
+    requires starts { AllCanStart table.now hand.old.me }
+    ensures stays { Stays table.now hand.old hand.new }
+    ensures stepped { IsStepped table.now name hand.old.me hand.new.me result }
+{
+    let root = root_of(plan);
+    let (env, found) = at_hand(take_out(table, hand, name, Some(root)));
+    env.known();
+    match found {
+        Some(parcel) => leave_at_rest(table, hand, name, env, Some(parcel), Context::Loop),
+        None => {
+            let asked = env.asked();
+            read_idle(rt, plan, table, hand, name, &env, root, asked);
+            start_top(alloc, plan, table, hand, name, env, root, asked)
+        }
+    }
+}
