@@ -2,8 +2,8 @@
 ghost use Rattle.std.specs.Prelude.{◌≡◌, ◌<◌, true, IfSome};
 ghost use Rattle.life_rules.specs.Words.{is_free};
 ghost use Rattle.table_words.specs.Blocks.{block_read};
-ghost use Rattle.table_steps.specs.Views.{IsHandOf, aim_at, Stays, knows};
-ghost use Rattle.table_steps.specs.Claims.{IsAnswer, IsAnswerFrom, OwesNoneIn, root_name};
+ghost use Rattle.table_steps.specs.Views.{IsHandOf, Stays, knows};
+ghost use Rattle.table_steps.specs.Claims.{IsAnswer, IsAnswerFrom, OwesNoneIn, root_aim};
 
 use crate::plays::{Claims, Looks, Subject};
 use crate::table::{Hand, OpTable, SeatOf};
@@ -55,7 +55,7 @@ impl<P: Cargo> OpTable<P> {
         requires table { IsHandOf self.now seat.old }
         requires block { block < self.now.frame.layout.blocks }
         requires free { is_free (block_read found).state ≡ true }
-        requires subject { K.aim ≡ aim_at self.now (root_name self.now block (block_read found).generation) }
+        requires subject { K.aim ≡ root_aim self.now block (block_read found).generation }
         ensures stays { Stays self.now seat.old seat.new }
         ensures claimed { IsAnswerFrom self.now block found result seat.old seat.new }
         ensures owed { IfSome result (OwesNoneIn self.now (knows seat.old)) }

@@ -119,7 +119,8 @@ impl<P: Cargo> OpTable<P> {
 
     // The first hand counts for the other too.
     fn join<K: Knower<View<P, <P as Cargo>::Entry>>>(&self, all: &mut SeatOf<P>, next: SeatOf<P>)
-        requires table { (all.old.table_id ≡ self.now.table_id) × (next.table_id ≡ self.now.table_id) }
+        requires table { all.old.table_id ≡ self.now.table_id }
+        requires next { next.table_id ≡ self.now.table_id }
         requires itself { 1 ≤ (knows all.old).hands }
         requires slots { next.me.1 ≡ [] }
         requires knower { K.view ≡ knows next }

@@ -1,9 +1,10 @@
 //! How a table is opened, and with what it was.
 ghost use Rattle.std.specs.Prelude.{◌≡◌, ◌≤◌, [], ◌∷◌, length, IfOk};
+ghost use Rattle.node_tree.specs.Tree.{IsTree};
 ghost use Rattle.life_rules.specs.declared.limits.TheConstants.{MOST_BLOCKS, MOST_HANDS};
 ghost use Rattle.table_rules.specs.declared.frame.TheConstants.{MOST_ASSOCIATIONS};
 ghost use Rattle.table_rules.specs.Named.{Each};
-ghost use Rattle.table_steps.specs.Views.{IsHandOf, AreFreshHands, IsOpenedOver};
+ghost use Rattle.table_steps.specs.Views.{AreFreshHands, OpensWith};
 ghost use Rattle.table_steps.specs.Openings.{StaysAsOpened};
 ghost use Rattle.table_steps.specs.Remembers.{OwesAndRunsNone};
 
@@ -35,7 +36,7 @@ impl<P: Cargo> OpTable<P> {
         requires blocks { (1 ≤ blocks) × (blocks ≤ MOST_BLOCKS) }
         requires hands { (1 ≤ hands) × (hands ≤ MOST_HANDS) }
         requires most { (1 ≤ most) × (most ≤ MOST_ASSOCIATIONS) }
-        ensures opened { IfOk result (λ t. IsOpenedOver t.0 tree.now over.now blocks hands kind most) }
+        ensures opened { IfOk result (OpensWith tree.now over.now blocks hands kind most) }
         ensures hands { IfOk result (λ t. AreFreshHands t.0 hands t.1.items) }
         ensures vacant { IfOk result (λ t. StaysAsOpened P.Cargo t.0.frame t.1.items) }
     {
@@ -128,8 +129,10 @@ impl<P: Cargo> OpTable<P> {
     /// The tree of each operation's nodes. A block has a place for each.
     pub fn tree(&self) -> &Tree
         ensures tree { result.now ≡ self.now.frame.tree }
+        ensures is_tree { IsTree self.now.frame.tree }
         ensures nodes { self.now.frame.layout.nodes ≡ length self.now.frame.tree }
     {
+        let _nodes = self.frame.tree.size();
         &self.frame.tree
     }
 

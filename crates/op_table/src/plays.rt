@@ -16,7 +16,7 @@ ghost use Rattle.table_steps.specs.Rests.{RestsAt};
 ghost use Rattle.table_steps.specs.Takes.{TakesAt};
 ghost use Rattle.table_steps.specs.Finishes.{FinishesAt};
 ghost use Rattle.table_steps.specs.Awaits.{AwaitsAt};
-ghost use Rattle.table_steps.specs.Readings.{reads_child, reads_phase};
+ghost use Rattle.table_steps.specs.Readings.{ChildReads, reads_phase};
 ghost use Rattle.table_steps.specs.Sights.{LooksAt};
 ghost use Rattle.table_steps.specs.Reports.{ReportsAt};
 ghost use Rattle.table_steps.specs.Releases.{TellsRelease};
@@ -170,7 +170,7 @@ pub struct ReadsChild<K, J> {
 }
 
 impl<P, E, K: Subject, J: Subject> Play<Option<P>, View<P, E>> for ReadsChild<K, J> {
-    ghost then = { λ step m found m'. m' ≡ reads_child K.aim.name J.aim.name step.word found m };
+    ghost then = { λ step m found m'. ChildReads K.aim.name J.aim.name step.word found m m' };
 }
 
 /// The load of a node's callback word, by the hand that holds it.

@@ -2,7 +2,7 @@
 ghost use Rattle.std.specs.Prelude.{◌≡◌};
 ghost use Rattle.life_rules.specs.Words.{is_idle};
 ghost use Rattle.table_steps.specs.Views.{IsHandOf, IsPlaceIn, aim_at, Stays, knows};
-ghost use Rattle.table_steps.specs.Readings.{above_it, says_begun, says_phase, HoldsAbove, Holds, IsBegunAs, IsPhaseAs};
+ghost use Rattle.table_steps.specs.Readings.{above_it, says_begun, says_phase, HoldsAbove, Holds, IsBegunAs, IsIdleStill, IsPhaseAs};
 
 use crate::plays::{ReadsChild, ReadsPhase, Subject};
 use crate::table::{Hand, OpTable, SeatOf};
@@ -38,7 +38,7 @@ pub(crate) fn says_phase(generation: u32, word: u64) -> CallbackPhase
 impl<P: Cargo> OpTable<P> {
     /// Whether the child has begun: false exactly where the word that was read is idle. Then the
     /// child stays so until this hand awaits it or gives its parent away, and the hand has noted
-    /// it.
+    /// it: it reads false each time until then.
     ///
     /// Step: one load of the child's control word.
     /// Needs: the hand holds the child's parent.
@@ -48,6 +48,7 @@ impl<P: Cargo> OpTable<P> {
         requires holds { HoldsAbove self.now.frame.tree (knows hand.old) child }
         ensures stays { Stays self.now hand.old hand.new }
         ensures begun { IsBegunAs self.now.frame child result hand.old.me hand.new.me }
+        ensures idle { IsIdleStill self.now.frame child result hand.old.me }
     {
         self.read_child::<Brand, Brand>(&mut hand.seat, child)
     }
@@ -60,6 +61,7 @@ impl<P: Cargo> OpTable<P> {
         requires child { J.aim ≡ aim_at self.now child }
         ensures stays { Stays self.now seat.old seat.new }
         ensures begun { IsBegunAs self.now.frame child result seat.old.me seat.new.me }
+        ensures idle { IsIdleStill self.now.frame child result seat.old.me }
     {
         let index = self.frame.layout.control(child.block, child.node);
         let word = self.table.load::<ReadsChild<K, J>>(seat, index);

@@ -1,7 +1,7 @@
 //! How a block is given back.
 ghost use Rattle.std.specs.Prelude.{◌≡◌, ◌<◌, [], ◌∷◌};
-ghost use Rattle.table_steps.specs.Views.{IsHandOf, aim_at, Stays};
-ghost use Rattle.table_steps.specs.Claims.{root_name};
+ghost use Rattle.table_steps.specs.Views.{IsHandOf, Stays};
+ghost use Rattle.table_steps.specs.Claims.{root_aim};
 ghost use Rattle.table_steps.specs.Releases.{CanReleaseBlock, StayEmpty, word_after};
 ghost use Rattle.table_steps.specs.Steps.{Released, LeftAllEmpty};
 
@@ -57,7 +57,7 @@ impl<P: Cargo> OpTable<P> {
         requires table { IsHandOf self.now seat.old }
         requires block { block.index < self.now.frame.layout.blocks }
         requires needs { CanReleaseBlock self.now.frame block.index block.generation seat.old.me }
-        requires subject { K.aim ≡ aim_at self.now (root_name self.now block.index block.generation) }
+        requires subject { K.aim ≡ root_aim self.now block.index block.generation }
         requires frames { J.frames ≡ self.now.frame ∷ [] }
         requires site { J.hand ≡ seat.old.id }
         ensures stays { Stays self.now seat.old seat.new }

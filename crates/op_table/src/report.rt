@@ -41,8 +41,8 @@ fn report_of(word: u64) -> Report
 }
 
 impl<P: Cargo> OpTable<P> {
-    // The node's parent; of the root the root.
-    fn above(&self, child: Name) -> Name
+    /// The node's parent; of the root the root.
+    pub fn parent_of(&self, child: Name) -> Name
         requires place { IsPlaceIn self.now child }
         ensures name { result ≡ above_it self.now.frame.tree child }
         ensures place { IsPlaceIn self.now result }
@@ -58,7 +58,7 @@ impl<P: Cargo> OpTable<P> {
         }
     }
 
-    /// Reports the child, which is done, to its parent. Last exactly where the word that was read
+    /// Reports the node, which is done, to its parent. Last exactly where the word that was read
     /// had one pending.
     ///
     /// Step: one subtraction from the parent's control word, one pending less. A store would lose
@@ -66,34 +66,34 @@ impl<P: Cargo> OpTable<P> {
     /// Needs: the hand owes the report, and makes no scan of the parent's source.
     /// Afterwards: the hand owes the report no more. After the last it holds the parent with the
     /// start with which it began, and has the item of its home, and the homes of its children, of
-    /// which as many are full as the last await named. That of the child keeps the item with which
-    /// it finished.
-    pub fn report(&self, hand: &mut Hand<P>, child: Name) -> Report
+    /// which as many are full as the last await named. That of the node keeps the item with which it
+    /// finished.
+    pub fn report(&self, hand: &mut Hand<P>, name: Name) -> Report
         requires table { IsHandOf self.now hand.old }
-        requires place { IsPlaceIn self.now child }
-        requires needs { CanReport self.now.frame.tree (knows hand.old) child }
+        requires place { IsPlaceIn self.now name }
+        requires needs { CanReport self.now.frame.tree (knows hand.old) name }
         ensures stays { Stays self.now hand.old hand.new }
-        ensures reported { IsReportedAs P.Cargo self.now.frame child result hand.old.me hand.new.me }
+        ensures reported { IsReportedAs P.Cargo self.now.frame name result hand.old.me hand.new.me }
     {
-        self.report_to::<Brand, Brand, Brand>(&mut hand.seat, child)
+        self.report_to::<Brand, Brand, Brand>(&mut hand.seat, name)
     }
 
     fn report_to<K: Subject, J: Subject, L: Keyed<P::Over>>(
         &self,
         seat: &mut SeatOf<P>,
-        child: Name,
+        name: Name,
     ) -> Report
         requires table { IsHandOf self.now seat.old }
-        requires place { IsPlaceIn self.now child }
-        requires needs { CanReport self.now.frame.tree (knows seat.old) child }
-        requires parent { K.aim ≡ aim_at self.now (above_it self.now.frame.tree child) }
-        requires child { J.aim ≡ aim_at self.now child }
+        requires place { IsPlaceIn self.now name }
+        requires needs { CanReport self.now.frame.tree (knows seat.old) name }
+        requires parent { K.aim ≡ aim_at self.now (above_it self.now.frame.tree name) }
+        requires child { J.aim ≡ aim_at self.now name }
         requires key { L.overs ≡ self.now.frame.over.value ∷ [] }
         ensures stays { Stays self.now seat.old seat.new }
-        ensures reported { IsReportedAs P.Cargo self.now.frame child result seat.old.me seat.new.me }
+        ensures reported { IsReportedAs P.Cargo self.now.frame name result seat.old.me seat.new.me }
     {
         words_are_exact();
-        let parent = self.above(child);
+        let parent = self.parent_of(name);
         let index = self.frame.layout.control(parent.block, parent.node);
         let word = self.table.fetch_sub::<Reports<K, J, L>>(seat, index, 1);
         report_of(word)

@@ -5,7 +5,7 @@ ghost use Rattle.life_rules.specs.declared.event.Resting.TheVariants.{Parked};
 ghost use Rattle.table_steps.specs.Views.{IsHandOf, IsPlaceIn, aim_at, Stays, knows};
 ghost use Rattle.table_steps.specs.Rests.{CanRest};
 ghost use Rattle.table_steps.specs.Steps.{Rested};
-ghost use Rattle.table_steps.specs.Takes.{resting_in, MayServe, IsTaken};
+ghost use Rattle.table_steps.specs.Takes.{resting_in, MayServe, IsTaken, IsTakenOn};
 
 use crate::plays::{Keyed, Rests, Subject, Takes};
 use crate::table::{Hand, OpTable, SeatOf};
@@ -97,7 +97,7 @@ impl<P: Cargo> OpTable<P> {
         requires place { IsPlaceIn self.now name }
         requires serves { MayServe (resting_in on) (knows hand.old) }
         ensures stays { Stays self.now hand.old hand.new }
-        ensures taken { IsTaken P.Cargo self.now.frame name (resting_in on) result hand.old.me hand.new.me }
+        ensures taken { IsTakenOn P.Cargo self.now.frame name on result hand.old.me hand.new.me }
     {
         self.take_at::<Brand, Brand>(&mut hand.seat, name, rests_in(on))
     }

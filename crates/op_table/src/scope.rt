@@ -5,13 +5,12 @@
 //!
 //! Each bit of the scope's word is set once and never cleared. An exchange seals a scope that joins and
 //! whose count came to 0.
-ghost use Rattle.std.specs.Prelude.{◌≡◌, ◌≢◌, true, bit_or, MatchResult};
+ghost use Rattle.std.specs.Prelude.{◌≡◌, true, bit_or};
 ghost use Rattle.life_rules.specs.Scopes.{may_seal};
-ghost use Rattle.table_words.specs.ScopeNumbers.{scope_read};
 ghost use Rattle.table_steps.specs.Views.{IsHandOf, Stays, knows};
 ghost use Rattle.table_steps.specs.Claims.{exchanged};
 ghost use Rattle.table_steps.specs.Lefts.{less_one};
-ghost use Rattle.table_steps.specs.ScopeMoves.{IsMaking, MayLeaveScope, makes, leaves_scope, as_used, with_one_less, MovesScopeAt, MovesScope, IsMade, SealsAt, IsSealedAs};
+ghost use Rattle.table_steps.specs.ScopeMoves.{IsMaking, MayLeaveScope, makes, leaves_scope, as_used, with_one_less, MovesScopeAt, MovesScope, IsMade, SealsAt, AnswersSeal, IsSealedAs};
 
 use crate::table::{Hand, OpTable, SeatOf};
 use atomic_table::Play;
@@ -45,7 +44,7 @@ impl<P, E> Play<Option<P>, View<P, E>> for Seals {
 
 // The word that was read, where it isn't the old one.
 fn sealed_as(word: u64, old: u64) -> Result<(), ScopeWord>
-    ensures { MatchResult result (λ _. word ≡ old) (λ read. (word ≢ old) × (read ≡ scope_read word)) }
+    ensures { AnswersSeal word old result }
 {
     if word == old {
         Ok(())

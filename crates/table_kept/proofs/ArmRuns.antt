@@ -2,8 +2,6 @@
 use Rattle.std.proofs.Common.{◌≡◌, ℕ, ◌<◌, ◌≤◌, true, not, ◌&&◌, ◌||◌, List, ◌∷◌, set, refl, sym, ap, ◌∙◌, subst, arith}
 use Rattle.std.specs.Prelude.{Option, Some, MatchOption, is_some, nat_le, slice_index}
 use Rattle.std.proofs.lemmas.Bool.{and_from, or_left, cond-true, cond-false, eq-eqb, le-leb}
-use mathlib.Core.Option.{some}
-use lib.ListN.{get_elem?}
 use Rattle.node_tree.specs.declared.node.TreeNode.{TreeNode}
 use Rattle.life_rules.specs.declared.words.BlockWord.{BlockWord}
 use Rattle.life_rules.specs.declared.words.CallbackPhase.{CallbackPhase}
@@ -25,7 +23,6 @@ use Rattle.table_words.specs.Stamps.{stamp_of}
 use Rattle.table_words.specs.Controls.{callback_read, callback_code}
 use Rattle.table_words.specs.Layouts.{OfCallback, index}
 use Rattle.atomic_table.specs.Table.{Allows, keeps}
-use Rattle.atomic_table.specs.Table as table
 use Rattle.listed_steps.specs.Lists.{entry}
 use Rattle.table_rules.specs.declared.cargo.Cargo.{Ghosts}
 use Rattle.table_rules.specs.declared.frame.Frame.{Frame}
@@ -41,6 +38,7 @@ use Rattle.table_steps.specs.Claims.{with_step, Seated}
 use Rattle.table_steps.specs.Lefts.{FoundCallback}
 use Rattle.table_steps.specs.Slots.{IsSeated}
 use Rattle.table_steps.specs.Callbacks.{CanArm, arms, FindsCallback}
+use Rattle.table_kept.proofs.Standing.{Standing}
 use Rattle.table_kept.proofs.Listing.{AllowsListed, allows-listed, lists-one}
 use Rattle.table_kept.proofs.Among.{among}
 use Rattle.table_kept.proofs.Loads.{known-listed}
@@ -50,9 +48,9 @@ use Rattle.table_kept.proofs.HeldNotes.{each-changed}
 use Rattle.table_kept.proofs.ViewMoves.{views-moved}
 use Rattle.table_kept.proofs.ControlRuns.{place_of, place-live, name-live, open-kept}
 use Rattle.table_kept.proofs.FoundNow.{found-callback}
-use Rattle.table_kept.proofs.HeldNow.{shows, below, holds-now, held, phase-so, others-none}
+use Rattle.table_kept.proofs.HeldNow.{Holding, shows, below, holds-now, held, phase-so, others-none}
 use Rattle.table_kept.proofs.Asides.{owning, homes-aside, starts-aside, items-aside, lots-aside, held-aside, known-aside}
-use Rattle.table_kept.proofs.CallbackRuns.{callback-runs}
+use Rattle.table_kept.proofs.CallbackRuns.{ToWriteCallback, callback-runs}
 
 -- the hand noted that the callback is registered
 abbrev noted : {E : Type 0} → Held E → Held E
@@ -62,7 +60,20 @@ never-of : (o : Option CallbackPhase) (phase : CallbackPhase) → o ≡ Some Nev
     MatchOption o (Unit {0}) (λ known. is_still known phase) → phase ≡ Never
 never-of o phase is so = subst (λ p. MatchOption p (Unit {0}) (λ known. is_still known phase)) is so
 
-module _ {P E O : Type 0} (cargo : Ghosts P E O) (f : Frame O) (s : table.State (Option P) (View P E)) (id value : ℕ) (x : Name) (v : View P E) (r : Running cargo f s) (at : get_elem? s.views id ≡ some v) (can : CanArm f.tree v x) (stamped : stamp_of value ≡ x.generation) (reads : callback_read value ≡ Armed) where
+-- which callback is registered, and by which word
+pub record ToArm {P E O : Type 0} {cargo : Ghosts P E O} {f : Frame O}
+    (hand : Standing cargo f) : Type 0 where
+  pub value : ℕ
+  pub name : Name
+  pub can : CanArm f.tree hand.view name
+  pub stamped : stamp_of value ≡ name.generation
+  pub reads : callback_read value ≡ Armed
+
+module _ {P E O : Type 0} (cargo : Ghosts P E O) (f : Frame O) (hand : Standing cargo f)
+    (task : ToArm hand) where
+  open hand use {state as s, id, view as v, running as r, at}
+  open task use {value, name as x, can, stamped, reads}
+
   abbrev now : State
   now = shown f s
 
@@ -72,11 +83,14 @@ module _ {P E O : Type 0} (cargo : Ghosts P E O) (f : Frame O) (s : table.State 
   abbrev blocks : ℕ → BlockWord
   blocks = block_of f.layout s.words
 
-  held-now : IsHeld now x
-  held-now = held cargo f s id x v r at can.held can.holds
+  abbrev holding : Holding hand
+  holding = record { name = x; entry = can.held; holds = can.holds }
 
-  hand : id < f.hands
-  hand = below cargo f s id x v r at can.held can.holds
+  held-now : IsHeld now x
+  held-now = held cargo f hand holding
+
+  hand_below : id < f.hands
+  hand_below = below cargo f hand holding
 
   abbrev u : PureView
   u = record (now.view id) { unlooked = mark x true (now.view id).unlooked }
@@ -85,7 +99,7 @@ module _ {P E O : Type 0} (cargo : Ghosts P E O) (f : Frame O) (s : table.State 
   written = with_view (with_callback now x.block x.node Armed) id u
 
   never : phase_at now x ≡ Never
-  never = never-of can.held.phase (phase_at now x) can.never (phase-so cargo f s id x v r at can.held can.holds)
+  never = never-of can.held.phase (phase_at now x) can.never (phase-so cargo f hand holding)
 
   -- so says the word that the step finds
   pub found-never : FoundCallback x Never (word_of f.layout s.words (OfCallback x.block x.node))
@@ -95,10 +109,10 @@ module _ {P E O : Type 0} (cargo : Ghosts P E O) (f : Frame O) (s : table.State 
   sound-now =
       let name = name-live now x held-now.live in
       subst (λ y. Sound (with_view (with_callback now x.block x.node Armed) id (record (now.view id) { unlooked = mark y true (now.view id).unlooked }))) name
-      (sound-arm now id (place_of x) r.stands.sound hand
+      (sound-arm now id (place_of x) r.stands.sound hand_below
       (and_from _ _ (place-live now x held-now.live)
       (subst (λ y. (nat_le 1 ((now.view id).holds y) && (is_never (phase_at now y) && is_some (nearest_of now y))) ≡ true) (sym name)
-      (and_from _ _ (le-leb 1 ((now.view id).holds x) (holds-now cargo f s id x v r at can.held can.holds))
+      (and_from _ _ (le-leb 1 ((now.view id).holds x) (holds-now cargo f hand holding))
       (and_from _ _ (ap is_never never) can.hears)))))
 
   -- the callback of x is armed then, all others are as before
@@ -106,6 +120,16 @@ module _ {P E O : Type 0} (cargo : Ghosts P E O) (f : Frame O) (s : table.State 
   wrote =
       subst (λ y. Writes now written y Armed) (name-live now x held-now.live)
       (writes now (place_of x) Armed written.view (subst (λ y. is_under_way (control_at now y) ≡ true) (sym (name-live now x held-now.live)) (ap is_under_way held-now.word)))
+
+  abbrev writing : ToWriteCallback hand
+  writing = record {
+    value = value;
+    name = x;
+    phase = Armed;
+    live = held-now.live;
+    stamped = stamped;
+    reads = reads;
+  }
 
   module _ (i n : ℕ) where
     abbrev mine : View P E
@@ -134,7 +158,7 @@ module _ {P E O : Type 0} (cargo : Ghosts P E O) (f : Frame O) (s : table.State 
           holds = λ y. count-at (λ (e : Held E). e.name) noted (λ e. refl) x v.held y k;
           unlooked = λ y. marks y k;
         })
-        ∙ ap (λ (z : PureView). record z { unlooked = mark x true z.unlooked }) (sym (shows cargo f s id x v r at can.held can.holds))
+        ∙ ap (λ (z : PureView). record z { unlooked = mark x true z.unlooked }) (sym (shows cargo f hand holding))
 
     abbrev after : Scene P E
     after = record here { state = written }
@@ -190,7 +214,7 @@ module _ {P E O : Type 0} (cargo : Ghosts P E O) (f : Frame O) (s : table.State 
               known-aside here c now.source now.scope_source now.scope w (λ t h. h) z
               (λ y counts known so.
               still y (λ is. absurd
-              (let none = others-none cargo f s id x v r at can.held can.holds j z ne there in
+              (let none = others-none cargo f hand holding j z ne there in
               let c : 1 ≤ count_by (λ (e : Held E). e.name) z.held x = subst (λ y. 1 ≤ count_by (λ (e : Held E). e.name) z.held y) (sym is) counts in
               omega (arith, none, c))) known so) old)
               (mine-known (r.stands.views.each id v at)) refl refl r.stands.views;
@@ -203,7 +227,7 @@ module _ {P E O : Type 0} (cargo : Ghosts P E O) (f : Frame O) (s : table.State 
       views = set s.views id mine;
     }
     arm-runs is was =
-        callback-runs cargo f s id value x Armed v r at held-now.live stamped reads mine u shows-mine
+        callback-runs cargo f hand writing mine u shows-mine
         (subst (λ p. callback_code p < callback_code Armed) (sym never) (omega arith))
         (λ k. entry (is k) (was k) value ∷ v.steps) stands-armed
 
@@ -213,12 +237,20 @@ arms_allowed : {P E O : Type 0} (cargo : Ghosts P E O) (f : Frame O) (slots id v
     Allows (Running cargo f) slots id m (index f.layout (OfCallback x.block x.node)) (λ _. value)
     (λ n. FindsCallback x Never (arms x) (index f.layout (OfCallback x.block x.node)) n value m)
 arms_allowed cargo f slots id value x m can stamped reads s r deep at small =
+    let hand : Standing cargo f = record { state = s; id = id; view = m.0; running = r; at = at } in
+    let arming : ToArm hand = record {
+      value = value;
+      name = x;
+      can = can;
+      stamped = stamped;
+      reads = reads;
+    } in
     let i = index f.layout (OfCallback x.block x.node) in (
       with_step i (slice_index s.words i) value (arms x m.0),
       keeps,
       tt,
-      arm-runs cargo f s id value x m.0 r at can stamped reads i (slice_index s.words i) refl refl,
-      record { found = found-never cargo f s id value x m.0 r at can stamped reads; me_is = refl },
+      arm-runs cargo f hand arming i (slice_index s.words i) refl refl,
+      record { found = found-never cargo f hand arming; me_is = refl },
     )
 
 -- the same by the frame that the table shows

@@ -1,7 +1,7 @@
 -- A step that moves no home and requests nothing keeps the rule where the pure machine's step keeps what is
 -- sound, and what the hands know is so: a store of a callback's word, or a step that changes a view alone.
 use Rattle.std.proofs.Common.{◌≡◌, ℕ, ◌==◌, ◌≤◌, true, cond, set, refl, sym, ap, ◌∙◌, subst, length-set, ◌<◌, ◌∷◌}
-use Rattle.std.specs.Prelude.{Option, slice_index}
+use Rattle.std.specs.Prelude.{slice_index}
 use Rattle.std.proofs.lemmas.Bool.{cond-true, cond-false, eqb-true}
 use mathlib.Core.Option.{some}
 use lib.ListN.{get_elem?}
@@ -16,7 +16,6 @@ use Rattle.stop_kept.proofs.StopFrames.{related}
 use Rattle.table_words.specs.Stamps.{stamp_of}
 use Rattle.table_words.specs.Controls.{callback_read, callback_code}
 use Rattle.table_words.specs.Layouts.{OfCallback, index}
-use Rattle.atomic_table.specs.Table as table
 use Rattle.table_rules.specs.declared.cargo.Cargo.{Ghosts}
 use Rattle.table_rules.specs.declared.frame.Frame.{Frame}
 use Rattle.listed_steps.specs.Lists.{entry}
@@ -26,11 +25,12 @@ use Rattle.table_rules.specs.ShownViews.{shown_view}
 use Rattle.table_rules.specs.Scenes.{Scene, shown, scene}
 use Rattle.table_rules.specs.Notes.{IsKnown}
 use Rattle.table_rules.specs.Running.{Stands, Running}
+use Rattle.table_kept.proofs.Standing.{Standing}
 use Rattle.table_kept.proofs.Stamping.{Lists, looked-risen}
 use Rattle.table_kept.proofs.Counts.{tally, counts-moved}
 use Rattle.table_kept.proofs.ViewMoves.{view-set, views-moved}
 use Rattle.table_kept.proofs.Asides.{owning, homes-aside, starts-aside, items-aside, lots-aside}
-use Rattle.table_kept.proofs.CallbackRuns.{callback-runs}
+use Rattle.table_kept.proofs.CallbackRuns.{ToWriteCallback, callback-runs}
 
 -- the view that stands there stands there
 view-same : (s : State) (h i : ℕ) → cond (i == h) (s.view h) (s.view i) ≡ s.view i
@@ -42,7 +42,22 @@ view-same s h i =
 pub unmoved : (s : State) (h : ℕ) → with_view s h (s.view h) ≡ s
 unmoved s h = λ k. record s { view = λ i. view-same s h i k }
 
-module _ {P E O : Type 0} (cargo : Ghosts P E O) (f : Frame O) (s : table.State (Option P) (View P E)) (id : ℕ) (v : View P E) (r : Running cargo f s) (at : get_elem? s.views id ≡ some v) (mine : View P E) (u : PureView) (shows : shown_view (block_of f.layout s.words) mine ≡ u) (roles : owning ((shown f s).view id) ≡ owning u) (number : mine.number ≡ v.number) (splits : mine.splits ≡ v.splits) (tallied : tally mine ≡ tally v) where
+-- what the hand knows after the step, and that it owns what it owned
+pub record ToStepAside {P E O : Type 0} {cargo : Ghosts P E O} {f : Frame O}
+    (hand : Standing cargo f) : Type 0 where
+  pub mine : View P E
+  pub pure : PureView
+  pub shows : shown_view (block_of f.layout hand.state.words) mine ≡ pure
+  pub roles : owning ((shown f hand.state).view hand.id) ≡ owning pure
+  pub number : mine.number ≡ hand.view.number
+  pub splits : mine.splits ≡ hand.view.splits
+  pub tallied : tally mine ≡ tally hand.view
+
+module _ {P E O : Type 0} (cargo : Ghosts P E O) (f : Frame O) (hand : Standing cargo f)
+    (task : ToStepAside hand) where
+  open hand use {state as s, id, view as v, running as r, at}
+  open task use {mine, pure as u, shows, roles, number, splits, tallied}
+
   abbrev now : State
   now = shown f s
 
@@ -76,6 +91,16 @@ module _ {P E O : Type 0} (cargo : Ghosts P E O) (f : Frame O) (s : table.State 
     abbrev pub written : State
     written = with_view (with_callback now x.block x.node phase) id u
 
+    abbrev writing : ToWriteCallback hand
+    writing = record {
+      value = value;
+      name = x;
+      phase = phase;
+      live = live;
+      stamped = stamped;
+      reads = reads;
+    }
+
     pub callback-keeps : callback_code (phase_at now x) < callback_code phase → Lists f.layout s.words (OfCallback x.block x.node) value v mine → Sound written →
         ((j : ℕ) (z : View P E) → (j ≡ id → ⊥) → get_elem? s.views j ≡ some z → IsKnown here z →
         IsKnown (record here { state = written }) z) → IsKnown (record here { state = written }) mine →
@@ -85,7 +110,7 @@ module _ {P E O : Type 0} (cargo : Ghosts P E O) (f : Frame O) (s : table.State 
           views = set s.views id mine;
         }
     callback-keeps rises lists sound others own =
-        callback-runs cargo f s id value x phase v r at live stamped reads mine u shows rises lists
+        callback-runs cargo f hand writing mine u shows rises lists
         (stands-aside written.callback sound others own)
 
   -- a step that leaves all words as they are

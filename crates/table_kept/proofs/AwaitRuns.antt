@@ -3,8 +3,6 @@ use Rattle.std.proofs.Common.{◌≡◌, ℕ, ◌+◌, ◌*◌, ◌<◌, Bool, t
 use Rattle.std.specs.Prelude.{Option, Some, nat_le}
 use Rattle.std.specs.List.{list_any, list_all}
 use Rattle.std.proofs.lemmas.Bool.{and_parts, and_from, both_ways, cond-true, cond-false, eq-eqb, ne_eqb, false_from_ne_true, le-leb}
-use mathlib.Core.Option.{some}
-use lib.ListN.{get_elem?}
 use Rattle.life_rules.specs.declared.words.ControlWord.{ControlWord}
 use Rattle.life_rules.specs.declared.words.ControlWord.TheVariants.{Busy}
 use Rattle.life_rules.specs.declared.event.Name.{Name}
@@ -26,24 +24,35 @@ use Rattle.life_kept.proofs.Members.{any-passes, any-beside, count-different}
 use Rattle.life_kept.proofs.Trees.{child-within, child-parent}
 use Rattle.life_kept.proofs.Await.{sound-await}
 use Rattle.table_words.specs.Layouts.{place_number}
-use Rattle.atomic_table.specs.Table as table
 use Rattle.table_rules.specs.declared.cargo.Cargo.{Ghosts}
 use Rattle.table_rules.specs.declared.frame.Frame.{Frame}
-use Rattle.table_rules.specs.declared.view.View.{View}
 use Rattle.table_rules.specs.Scenes.{Home, Out, Empty, Full, is_out, is_full, Past, Scene, shown, scene}
 use Rattle.table_rules.specs.Homes.{named_below, seats_of, is_waiting}
-use Rattle.table_rules.specs.Running.{Running}
 use Rattle.table_steps.specs.Slots.{slot_of, IsSeated}
 use Rattle.table_steps.specs.Awaits.{is_named, is_unnamed, CanAwait}
+use Rattle.table_kept.proofs.Standing.{Standing}
 use Rattle.table_kept.proofs.ControlRuns.{place_of, place-live, name-live}
-use Rattle.table_kept.proofs.HeldNow.{idle-so}
+use Rattle.table_kept.proofs.HeldNow.{Holding, idle-so}
 use Rattle.table_kept.proofs.BeginSeats.{or-left, kid-any-number}
 use Rattle.table_kept.proofs.ShedHomes.{not-family}
 use Rattle.table_kept.proofs.Awaiting.{each-any, all-imp, all-named, unnamed-family, unnamed-kid, named-kid}
-use Rattle.table_kept.proofs.Leaving.{is-held, is-below, may-leave, place-n, quiet, home, home-given, kid-given, home-still}
+use Rattle.table_kept.proofs.Leaving.{ToLeave, is-held, is-below, may-leave, place-n, quiet, home, home-given, kid-given, home-still}
 use Rattle.table_kept.proofs.Moving.{Moves, KidMoves, moved, parent-differs, some-seat, no-seat}
 
-module _ {P E O : Type 0} (cargo : Ghosts P E O) (f : Frame O) (s : table.State (Option P) (View P E)) (id : ℕ) (x : Name) (nodes : List ℕ) (v : View P E) (c : List (ℕ × Option P)) (r : Running cargo f s) (at : get_elem? s.views id ≡ some v) (seated : IsSeated f.tree f.layout (v, c)) (can : CanAwait cargo f (v, c) x nodes) where
+-- which node awaits which children
+pub record ToAwait {P E O : Type 0} {cargo : Ghosts P E O} {f : Frame O}
+    (hand : Standing cargo f) : Type 0 where
+  pub name : Name
+  pub nodes : List ℕ
+  pub carried : List (ℕ × Option P)
+  pub seated : IsSeated f.tree f.layout (hand.view, carried)
+  pub can : CanAwait cargo f (hand.view, carried) name nodes
+
+module _ {P E O : Type 0} (cargo : Ghosts P E O) (f : Frame O) (hand : Standing cargo f)
+    (task : ToAwait hand) where
+  open hand use {state as s, id, view as v, running as r, at}
+  open task use {name as x, nodes, carried as c, seated, can}
+
   abbrev now : State
   now = shown f s
 
@@ -53,8 +62,11 @@ module _ {P E O : Type 0} (cargo : Ghosts P E O) (f : Frame O) (s : table.State 
   abbrev pub gone : ℕ → Bool
   gone = is_unnamed f.tree f.layout x nodes
 
+  abbrev leaving : ToLeave hand
+  leaving = record { name = x; carried = c; seated = seated; leave = can.leave }
+
   abbrev pub homes_now : ℕ → ℕ → Home P
-  homes_now = home cargo f s id x v c r at seated can.leave gone
+  homes_now = home cargo f hand leaving gone
 
   abbrev pub w : ControlWord
   w = Busy (length nodes)
@@ -66,10 +78,13 @@ module _ {P E O : Type 0} (cargo : Ghosts P E O) (f : Frame O) (s : table.State 
   is-put =
       record {
         sound = r.stands.sound;
-        hand = is-below cargo f s id x v c r at seated can.leave;
-        live = (is-held cargo f s id x v c r at seated can.leave).live;
+        hand = is-below cargo f hand leaving;
+        live = (is-held cargo f hand leaving).live;
         views = refl;
       }
+
+  abbrev holding : Holding hand
+  holding = record { name = x; entry = can.leave.held; holds = can.leave.holds }
 
   -- each that is named is a child that hasn't begun
   awaitable : list_all (may_be_awaited now x) nodes ≡ true
@@ -79,18 +94,18 @@ module _ {P E O : Type 0} (cargo : Ghosts P E O) (f : Frame O) (s : table.State 
       let parts = and_parts (is_child f.tree x.node n) (list_any (λ q. q == n) can.leave.held.idle) both in
       and_from _ _ parts.0
       (each-any (λ n. is_idle (control_at now (beside x n)) ≡ true) can.leave.held.idle n
-      (idle-so cargo f s id x v r at can.leave.held can.leave.holds) parts.1)) nodes can.idle
+      (idle-so cargo f hand holding) parts.1)) nodes can.idle
 
   pub sound-now : Sound (put now id x w u)
   sound-now =
-      let name = name-live now x (is-held cargo f s id x v c r at seated can.leave).live in
+      let name = name-live now x (is-held cargo f hand leaving).live in
       let of : Name → Type 0 = λ z.
       (may_leave_node (now.view id) z && (nat_le 1 (length nodes) && (are_different nodes && list_all (may_be_awaited now z) nodes))) ≡ true in
       subst (λ z. Sound (put now id z w (record (now.view id) { holds = lose z (now.view id).holds; starts = gain_each z nodes (now.view id).starts }))) name
-      (sound-await now id (place_of x) nodes r.stands.sound (is-below cargo f s id x v c r at seated can.leave)
-      (and_from _ _ (place-live now x (is-held cargo f s id x v c r at seated can.leave).live)
+      (sound-await now id (place_of x) nodes r.stands.sound (is-below cargo f hand leaving)
+      (and_from _ _ (place-live now x (is-held cargo f hand leaving).live)
       (subst of (sym name)
-      (and_from _ _ (may-leave cargo f s id x v c r at seated can.leave)
+      (and_from _ _ (may-leave cargo f hand leaving)
       (and_from _ _ (le-leb 1 (length nodes) can.some_child) (and_from _ _ can.different awaitable))))))
 
   -- what the rule remembers of the await
@@ -115,7 +130,7 @@ module _ {P E O : Type 0} (cargo : Ghosts P E O) (f : Frame O) (s : table.State 
 
   pub own-home : homes_now x.block x.node ≡ Full can.item
   own-home =
-      home-given cargo f s id x v c r at seated can.leave gone x.node (Some can.item) (place-n cargo f s id x v c r at seated can.leave)
+      home-given cargo f hand leaving gone x.node (Some can.item) (place-n cargo f hand leaving)
       (or-left (slot_of f.layout x == slot_of f.layout x) _ (eq-eqb (slot_of f.layout x) (slot_of f.layout x) refl)) can.home
 
   kid-below : (n : ℕ) → is_child f.tree x.node n ≡ true → n < f.layout.nodes
@@ -127,19 +142,19 @@ module _ {P E O : Type 0} (cargo : Ghosts P E O) (f : Frame O) (s : table.State 
   -- a child that isn't named has an empty home at home
   unnamed-home : (n : ℕ) → is_child f.tree x.node n ≡ true → is_named nodes n ≡ false → homes_now x.block n ≡ Empty
   unnamed-home n child unnamed =
-      kid-given cargo f s id x v c r at seated can.leave gone n child
+      kid-given cargo f hand leaving gone n child
       (unnamed-kid f.tree f.layout x nodes n (kid-any-number f.tree x n child) unnamed)
 
   -- one that is named has its home out, as before
   named-home : (n : ℕ) → is_child f.tree x.node n ≡ true → is_named nodes n ≡ true → homes_now x.block n ≡ here.home x.block n
   named-home n child named =
-      home-still cargo f s id x v c r at seated can.leave gone x.block n
-      (λ hn. named-kid f.tree f.layout x nodes n (sym r.frame.nodes) (place-n cargo f s id x v c r at seated can.leave) hn (kid-differs n child) named)
+      home-still cargo f hand leaving gone x.block n
+      (λ hn. named-kid f.tree f.layout x nodes n (sym r.frame.nodes) (place-n cargo f hand leaving) hn (kid-differs n child) named)
 
   -- the homes of all children were out
   kid-out : (n : ℕ) → is_child f.tree x.node n ≡ true → is_out (here.home x.block n) ≡ true
   kid-out n child =
-      let held = is-held cargo f s id x v c r at seated can.leave in
+      let held = is-held cargo f hand leaving in
       let holds : stand now (λ v. v.holds) x ≡ 1 = (r.stands.sound.owned.names x).held ∙ ap (λ w. one (is_held w)) held.word in
       let above : option_map_or (λ p. stand now (λ u. u.holds) (beside (beside x n) p)) (parent_of f.tree n) 0 ≡ stand now (λ u. u.holds) x =
       ap (λ o. option_map_or (λ p. stand now (λ u. u.holds) (beside (beside x n) p)) o 0) (child-parent f.tree x.node n child) in
@@ -154,7 +169,7 @@ module _ {P E O : Type 0} (cargo : Ghosts P E O) (f : Frame O) (s : table.State 
   starts-kid : (n : ℕ) → is_child f.tree x.node n ≡ true → stand (put now id x w u) (λ v. v.starts) (beside x n) ≡ one (is_named nodes n)
   starts-kid n child =
       let m = moves now id x w u is-put (λ v. v.starts) (beside x n) in
-      let none = (quiet cargo f s id x v c r at seated can.leave n child).starts in
+      let none = (quiet cargo f hand leaving n child).starts in
       let more : gain_each x nodes (now.view id).starts (beside x n) ≡ (now.view id).starts (beside x n) + one (is_named nodes n) =
       ap (λ b. (now.view id).starts (beside x n) + one b) (any-beside x n nodes) in
       omega (arith, m, none, more)
@@ -164,7 +179,7 @@ module _ {P E O : Type 0} (cargo : Ghosts P E O) (f : Frame O) (s : table.State 
 
   kid-moves : (n : ℕ) → is_child f.tree x.node n ≡ true → KidMoves here id x w u is-put homes_now past n
   kid-moves n child =
-      let q = quiet cargo f s id x v c r at seated can.leave n child in
+      let q = quiet cargo f hand leaving n child in
       let a = starts-kid n child in
       let b = q.held in
       let z : one (is_held w) ≡ 0 = ap one begun-word in
@@ -223,7 +238,7 @@ module _ {P E O : Type 0} (cargo : Ghosts P E O) (f : Frame O) (s : table.State 
       total-same _ (λ n. one (is_named nodes n)) (size now) (λ n below.
       either (is_child f.tree x.node n)
       (λ child.
-      let q = quiet cargo f s id x v c r at seated can.leave n child in
+      let q = quiet cargo f hand leaving n child in
       let word : control_at (put now id x w u) (beside x n) ≡ control_at now (beside x n) =
       reads-other now id x w u is-put (beside x n) (λ e. kid-differs n child (λ k. (e k).node)) in
       let a : one (is_child f.tree x.node n) ≡ 1 = ap one child in
@@ -249,15 +264,15 @@ module _ {P E O : Type 0} (cargo : Ghosts P E O) (f : Frame O) (s : table.State 
   await-moves =
       record {
         sound = sound-now;
-        under_way = ap is_under_way (is-held cargo f s id x v c r at seated can.leave).word;
+        under_way = ap is_under_way (is-held cargo f hand leaving).word;
         begun = refl;
         owes = owes-far;
         reports = λ y ne. omega arith;
         named_other = named-other;
         far = λ j m own kid.
-            home-still cargo f s id x v c r at seated can.leave gone j m
+            home-still cargo f hand leaving gone j m
             (λ hm. unnamed-family f.tree f.layout x nodes (place_number f.layout j m)
-            (not-family f.tree f.layout x j m (sym r.frame.nodes) (place-n cargo f s id x v c r at seated can.leave) hm own kid));
+            (not-family f.tree f.layout x j m (sym r.frame.nodes) (place-n cargo f hand leaving) hm own kid));
         own = ap is_out own-home ∙ (λ k. sym begun-word k || false);
         waits = λ _. ap is_full own-home;
         settled = λ none. cc;

@@ -13,16 +13,15 @@ use Rattle.common_lemmas.proofs.Bool.{either}
 use Rattle.life_kept.proofs.Trees.{child-within}
 use Rattle.table_words.specs.declared.layout.Layout.{Layout}
 use Rattle.table_words.specs.Layouts.{place_number}
-use Rattle.atomic_table.specs.Table as table
 use Rattle.table_rules.specs.declared.cargo.Cargo.{Ghosts}
 use Rattle.table_rules.specs.declared.frame.Frame.{Frame}
 use Rattle.table_rules.specs.declared.view.View.{View}
 use Rattle.table_rules.specs.Named.{without, Each}
-use Rattle.table_rules.specs.Running.{Running}
 use Rattle.table_steps.specs.Claims.{with_step, logged, owes_root}
 use Rattle.table_steps.specs.Kids.{children_below, empty_slots}
 use Rattle.table_steps.specs.Slots.{slot_of, kids_of, is_of_family, has_slot, AreApart, IsSeated}
 use Rattle.table_steps.specs.Begins.{begins}
+use Rattle.table_kept.proofs.Standing.{Standing}
 use Rattle.table_kept.proofs.Entries.{each-map, any-without}
 use Rattle.table_kept.proofs.KidSlots.{Descends, has-kid}
 use Rattle.table_kept.proofs.SlotsOut.{apart-home}
@@ -144,7 +143,10 @@ given-begun tree l x start told kids i n left v slot h =
     (λ held. or-right a2 ((own || b) || c) (or-left (own || b) c (or-right own b held)))
     (λ finished. or-right a2 ((own || b) || c) (or-right (own || b) c finished)))
 
-module _ {P E O : Type 0} (cargo : Ghosts P E O) (f : Frame O) (s : table.State (Option P) (View P E)) (id : ℕ) (x : Name) (v : View P E) (c : List (ℕ × Option P)) (r : Running cargo f s) (at : get_elem? s.views id ≡ some v) where
+module _ {P E O : Type 0} (cargo : Ghosts P E O) (f : Frame O) (hand : Standing cargo f) (x : Name)
+    (c : List (ℕ × Option P)) where
+  open hand use {state as s, id, view as v, running as r, at}
+
   abbrev kids : List ℕ
   kids = kids_of f.tree x.node
 
@@ -157,7 +159,7 @@ module _ {P E O : Type 0} (cargo : Ghosts P E O) (f : Frame O) (s : table.State 
         apart = apart-slots f.layout x.block kids c down within
             (each-map (λ m. get_elem? s.homes (place_number f.layout x.block m) ≡ some (some None))
             (λ m. Each (λ d. d.0 ≢ place_number f.layout x.block m) c)
-            (λ m home. apart-home cargo f s id v r at (place_number f.layout x.block m) None c home old.given) kids homes)
+            (λ m home. apart-home cargo f hand (place_number f.layout x.block m) None c home old.given) kids homes)
             old.apart;
         given = each-slots (λ d. has_slot f.tree f.layout mine d.0 ≡ true) f.layout x.block kids c
             (each-map (λ m. is_child f.tree x.node m ≡ true)

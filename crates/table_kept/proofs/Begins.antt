@@ -41,6 +41,7 @@ use Rattle.table_steps.specs.Claims.{with_step, Seated}
 use Rattle.table_steps.specs.Lefts.{FindsControl}
 use Rattle.table_steps.specs.Slots.{slot_of, kids_of, kept, IsSeated}
 use Rattle.table_steps.specs.Begins.{begins, CanBegin, HasRenewed, BeginsAt, start_shown}
+use Rattle.table_kept.proofs.Standing.{Standing}
 use Rattle.table_kept.proofs.Entries.{each-map, each-both, found, each-found}
 use Rattle.table_kept.proofs.Seats.{at_within}
 use Rattle.table_kept.proofs.Among.{among}
@@ -48,7 +49,7 @@ use Rattle.table_kept.proofs.Loads.{known-listed}
 use Rattle.table_kept.proofs.Stamping.{newest-risen}
 use Rattle.table_kept.proofs.Counts.{counts-moved}
 use Rattle.table_kept.proofs.ViewMoves.{view-here, views-moved}
-use Rattle.table_kept.proofs.ControlRuns.{place_of, place-live, name-live, control-runs}
+use Rattle.table_kept.proofs.ControlRuns.{ToWriteControl, place_of, place-live, name-live, control-runs}
 use Rattle.table_kept.proofs.FoundNow.{found-control}
 use Rattle.table_kept.proofs.HomeMoves.{home_of_place, empty-home}
 use Rattle.table_kept.proofs.KidSlots.{take_each, each-out, each-valid, deep-after, carries, has-kid, kids-below, kids-descend}
@@ -82,7 +83,22 @@ kids-tested tree p m =
     (λ t. ap (λ b. b && is_child tree p m) (lt-ltb m (length tree) (child-within tree p m t)))
     (λ n. ap (λ b. nat_lt m (length tree) && b) n ∙ none-and (nat_lt m (length tree)) ∙ sym n)
 
-module _ {P E O : Type 0} (cargo : Ghosts P E O) (f : Frame O) (s : table.State (Option P) (View P E)) (id value : ℕ) (x : Name) (v : View P E) (c : List (ℕ × Option P)) (r : Running cargo f s) (at : get_elem? s.views id ≡ some v) (can : CanBegin cargo f (v, c) x) (renewed : HasRenewed (aimed f x) (v, c)) (stamped : stamp_of value ≡ x.generation) (reads : control_read value ≡ Busy 0) where
+-- which node is begun, and by which word
+pub record ToBegin {P E O : Type 0} {cargo : Ghosts P E O} {f : Frame O}
+    (hand : Standing cargo f) : Type 0 where
+  pub value : ℕ
+  pub name : Name
+  pub carried : List (ℕ × Option P)
+  pub can : CanBegin cargo f (hand.view, carried) name
+  pub renewed : HasRenewed (aimed f name) (hand.view, carried)
+  pub stamped : stamp_of value ≡ name.generation
+  pub reads : control_read value ≡ Busy 0
+
+module _ {P E O : Type 0} (cargo : Ghosts P E O) (f : Frame O) (hand : Standing cargo f)
+    (task : ToBegin hand) where
+  open hand use {state as s, id, view as v, running as r, at}
+  open task use {value, name as x, carried as c, can, renewed, stamped, reads}
+
   abbrev now : State
   now = shown f s
 
@@ -145,6 +161,16 @@ module _ {P E O : Type 0} (cargo : Ghosts P E O) (f : Frame O) (s : table.State 
       (and_from _ _ (place-live now x live)
       (le-leb 1 _ (subst (λ z. 1 ≤ (now.view id).starts z) (sym (name-live now x live)) owes))))
 
+  abbrev writing : ToWriteControl hand
+  writing = record {
+    value = value;
+    name = x;
+    word = Busy 0;
+    live = x-live now id x may;
+    stamped = stamped;
+    reads = reads;
+  }
+
   module _ (told told_kids : Bool) (told_so : told ≡ true → nearest_is_requested now x ≡ true) (kids_so : told_kids ≡ true → children_are_requested now x ≡ true) (n : ℕ) where
     abbrev i : ℕ
     i = index f.layout (OfControl x.block x.node)
@@ -195,7 +221,7 @@ module _ {P E O : Type 0} (cargo : Ghosts P E O) (f : Frame O) (s : table.State 
     }
     begin-runs was =
         let old = block_of f.layout s.words in
-        control-runs cargo f s id value x (Busy 0) v r at (x-live now id x may) stamped reads mine
+        control-runs cargo f hand writing mine
         (beginning x (now.view id)) (begins-shown old f.tree x start told told_kids v ∙ ap (beginning x) (sym shows))
         (homes_after s.homes c (take_each f.layout x.block kids)) after.home after.past
         (λ j m. each-out f.layout s.homes c r.sized.homes x.block place-b kids kids-within j m
@@ -237,11 +263,11 @@ module _ {P E O : Type 0} (cargo : Ghosts P E O) (f : Frame O) (s : table.State 
           did = record {
             told = told;
             told_children = told_kids;
-            seen = seen-stands cargo f s id v r at x (x-live now id x may);
-            hears = hears-as cargo f s id v r at x;
+            seen = seen-stands cargo f hand x (x-live now id x may);
+            hears = hears-as cargo f hand x;
             me_is = λ k. (w, is k);
             seated = λ old. subst (λ d. IsSeated f.tree f.layout (w, d)) (sym is)
-                (seated-begun cargo f s id x v c r at start told told_kids i n value (kids-descend f.tree x.node (length f.tree)) kids-within kids-home old);
+                (seated-begun cargo f hand x c start told told_kids i n value (kids-descend f.tree x.node (length f.tree)) kids-within kids-home old);
           };
         },
       )
@@ -253,4 +279,14 @@ pub begins_allowed : {P E O : Type 0} (cargo : Ghosts P E O) (f : Frame O) (slot
     Allows (Running cargo f) slots id m (index f.layout (OfControl x.block x.node)) (λ _. value)
     (λ n. FindsControl (aimed f x) Idle (BeginsAt cargo (aimed f x)) (index f.layout (OfControl x.block x.node)) n value m)
 begins_allowed cargo f slots id value x m can renewed stamped reads s r deep at small =
-    begins-now cargo f s id value x m.0 m.1 r at can renewed stamped reads
+    let hand : Standing cargo f = record { state = s; id = id; view = m.0; running = r; at = at } in
+    let beginning : ToBegin hand = record {
+      value = value;
+      name = x;
+      carried = m.1;
+      can = can;
+      renewed = renewed;
+      stamped = stamped;
+      reads = reads;
+    } in
+    begins-now cargo f hand beginning

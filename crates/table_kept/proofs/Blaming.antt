@@ -1,12 +1,10 @@
 -- A child that failed, and whose report a hand owes, failed without a request where none was made of the
 -- children.
 use Rattle.std.proofs.Common.{◌≡◌, ℕ, suc, ◌<◌, ◌≤◌, true, false, not, List, [], ◌∷◌, length, sym, ap, ◌∙◌, subst, arith}
-use Rattle.std.specs.Prelude.{Option, Some}
+use Rattle.std.specs.Prelude.{Some}
 use Rattle.std.specs.Option.{option_map_or}
 use Rattle.std.proofs.lemmas.Bool.{and_parts, cond-true, not-true}
 use Rattle.std.proofs.lemmas.Option.{same_Some}
-use mathlib.Core.Option.{some}
-use lib.ListN.{get_elem?}
 use Rattle.node_tree.specs.declared.node.TreeNode.{TreeNode}
 use Rattle.life_rules.specs.declared.event.Name.{Name}
 use Rattle.life_rules.specs.declared.event.SourceRef.TheVariants.{Node}
@@ -19,17 +17,15 @@ use Rattle.life_rules.specs.Callbacks.{nearest_is_requested}
 use Rattle.common_lemmas.proofs.Bool.{one-is}
 use Rattle.life_rules.proofs.Readings.{stand-at}
 use Rattle.life_kept.proofs.Trees.{child-parent, child-within}
-use Rattle.atomic_table.specs.Table as table
 use Rattle.table_rules.specs.declared.cargo.Cargo.{Ghosts}
 use Rattle.table_rules.specs.declared.frame.Frame.{Frame}
-use Rattle.table_rules.specs.declared.view.View.{View}
 use Rattle.table_rules.specs.declared.view.Reported.{Reported}
 use Rattle.table_rules.specs.Named.{find_by}
 use Rattle.table_rules.specs.ShownWords.{block_of}
 use Rattle.table_rules.specs.Scenes.{Scene, shown, scene}
 use Rattle.table_rules.specs.Items.{HasFailedChild}
 use Rattle.table_rules.specs.Notes.{IsReportedSo}
-use Rattle.table_rules.specs.Running.{Running}
+use Rattle.table_kept.proofs.Standing.{Standing}
 use Rattle.table_kept.proofs.Entries.{IsFound, found, each-found}
 use Rattle.table_kept.proofs.Seats.{at_within}
 use Rattle.table_kept.proofs.ViewMoves.{view-here}
@@ -46,7 +42,23 @@ pub child-hears : (tree : List TreeNode) (p n : ℕ) → is_child tree p n ≡ t
 child-hears [] p n child has = let l : n < 0 = child-within [] p n child in absurd (omega (arith, l))
 child-hears (a ∷ rest) p n child has = above-of (a ∷ rest) p n (length rest) (child-parent (a ∷ rest) p n child) has
 
-module _ {P E O : Type 0} (cargo : Ghosts P E O) (f : Frame O) (s : table.State (Option P) (View P E)) (id : ℕ) (x : Name) (n : ℕ) (v : View P E) (r : Running cargo f s) (at : get_elem? s.views id ≡ some v) (child : is_child f.tree x.node n ≡ true) (has : has_source f.tree x.node ≡ true) (e : Reported P E) (owes : find_by (λ (e : Reported P E). e.name) v.reported (beside x n) ≡ Some e) (failed : cargo.fits e.item x.node true) (calm : (bits_at (shown f s) (Node x)).requested ≡ false) where
+-- which child failed, without a request, and who owes its report
+pub record ToBlame {P E O : Type 0} {cargo : Ghosts P E O} {f : Frame O}
+    (hand : Standing cargo f) : Type 0 where
+  pub name : Name
+  pub child : ℕ
+  pub is_child : is_child f.tree name.node child ≡ true
+  pub has : has_source f.tree name.node ≡ true
+  pub entry : Reported P E
+  pub owes : find_by (λ (entry : Reported P E). entry.name) hand.view.reported (beside name child) ≡ Some entry
+  pub failed : cargo.fits entry.item name.node true
+  pub calm : (bits_at (shown f hand.state) (Node name)).requested ≡ false
+
+module _ {P E O : Type 0} (cargo : Ghosts P E O) (f : Frame O) (hand : Standing cargo f)
+    (task : ToBlame hand) where
+  open hand use {state as s, id, view as v, running as r, at}
+  open task use {name as x, child as n, is_child as child, has, entry as e, owes, failed, calm}
+
   abbrev now : State
   now = shown f s
 

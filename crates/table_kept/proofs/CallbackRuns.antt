@@ -1,10 +1,7 @@
 -- A step that writes a node's callback word at the node's generation keeps the rule where the scene that
 -- the words and views then show does.
 use Rattle.std.proofs.Common.{◌≡◌, ℕ, ◌^◌, ◌<◌, ◌≤◌, true, false, not, ◌&&◌, ◌==◌, cond, List, set, sym, ap, ◌∙◌, subst, arith, length-set, inl, inr}
-use Rattle.std.specs.Prelude.{Option}
 use Rattle.std.proofs.lemmas.Bool.{and_parts, and_from, both_ways, eqb-true, eq-eqb, cond-true, cases_eq, lt-ltb}
-use mathlib.Core.Option.{some}
-use lib.ListN.{get_elem?}
 use Rattle.life_rules.specs.declared.words.ControlWord.TheVariants.{Idle}
 use Rattle.life_rules.specs.declared.words.CallbackPhase.{CallbackPhase}
 use Rattle.life_rules.specs.declared.words.CallbackPhase.TheVariants.{Never}
@@ -19,7 +16,6 @@ use Rattle.table_words.specs.Stamps.{stamp_of, code_of}
 use Rattle.table_words.specs.Controls.{control_read, callback_read, callback_code, source_read}
 use Rattle.table_words.specs.ScopeNumbers.{scope_read}
 use Rattle.table_words.specs.Layouts.{Spot, TheScope, TheScopeSource, OfControl, OfCallback, OfSource, IsSpot, index}
-use Rattle.atomic_table.specs.Table as table
 use Rattle.table_rules.specs.declared.cargo.Cargo.{Ghosts}
 use Rattle.table_rules.specs.declared.frame.Frame.{Frame}
 use Rattle.table_rules.specs.declared.view.View.{View}
@@ -27,14 +23,29 @@ use Rattle.table_rules.specs.ShownWords.{block_of, word_of, control_of, is_retir
 use Rattle.table_rules.specs.ShownViews.{view_at, shown_view}
 use Rattle.table_rules.specs.Scenes.{Scene, shown, scene}
 use Rattle.table_rules.specs.Running.{Stands, Running}
+use Rattle.table_kept.proofs.Standing.{Standing}
 use Rattle.table_kept.proofs.Stamping.{is_on, Lists, written-risen, unsaid-kept, renewed-kept}
 use Rattle.table_kept.proofs.ViewMoves.{view-set, views-same}
 use Rattle.table_kept.proofs.WordMoves.{word-here}
 use Rattle.table_kept.proofs.Codes.{phase-rises}
 use Rattle.table_kept.proofs.ControlRuns.{open-kept}
-use Rattle.table_kept.proofs.CallbackMoves.{spot-same, blocks-same, others-same, callback-after}
+use Rattle.table_kept.proofs.CallbackMoves.{WritesCallback, spot-same, blocks-same, others-same, callback-after}
 
-module _ {P E O : Type 0} (cargo : Ghosts P E O) (f : Frame O) (s : table.State (Option P) (View P E)) (id value : ℕ) (x : Name) (phase : CallbackPhase) (v : View P E) (r : Running cargo f s) (at : get_elem? s.views id ≡ some v) (live : is_live (shown f s) x ≡ true) (stamped : stamp_of value ≡ x.generation) (reads : callback_read value ≡ phase) where
+-- which node's callback word is written, and what it says then
+pub record ToWriteCallback {P E O : Type 0} {cargo : Ghosts P E O} {f : Frame O}
+    (hand : Standing cargo f) : Type 0 where
+  pub value : ℕ
+  pub name : Name
+  pub phase : CallbackPhase
+  pub live : is_live (shown f hand.state) name ≡ true
+  pub stamped : stamp_of value ≡ name.generation
+  pub reads : callback_read value ≡ phase
+
+module _ {P E O : Type 0} (cargo : Ghosts P E O) (f : Frame O) (hand : Standing cargo f)
+    (task : ToWriteCallback hand) where
+  open hand use {state as s, id, view as v, running as r, at}
+  open task use {value, name as x, phase, live, stamped, reads}
+
   abbrev now : State
   now = shown f s
 
@@ -58,12 +69,26 @@ module _ {P E O : Type 0} (cargo : Ghosts P E O) (f : Frame O) (s : table.State 
   abbrev words : List ℕ
   words = set s.words (index f.layout (OfCallback x.block x.node)) value
 
+  abbrev stored : WritesCallback f.layout s.words
+  stored = record {
+    wide = r.sized.words;
+    block = x.block;
+    node = x.node;
+    value = value;
+    phase = phase;
+    within = place-b;
+    node_within = place-n;
+    kept = kept;
+    stamped = present;
+    reads = reads;
+  }
+
   spot-kept : (y : Spot) → IsSpot f.layout y → (OfCallback x.block x.node ≡ y → ⊥) →
       word_of f.layout words y ≡ word_of f.layout s.words y
-  spot-kept = spot-same f.layout s.words r.sized.words x.block x.node value phase place-b place-n kept present reads
+  spot-kept = spot-same f.layout s.words stored
 
   block-kept : (j : ℕ) → block_of f.layout words j ≡ block_of f.layout s.words j
-  block-kept = blocks-same f.layout s.words r.sized.words x.block x.node value phase place-b place-n kept present reads
+  block-kept = blocks-same f.layout s.words stored
 
   generation-kept : (j n : ℕ) → n ≤ (block_of f.layout s.words j).generation → n ≤ (block_of f.layout words j).generation
   generation-kept j n l = subst (λ b. n ≤ b.generation) (sym (block-kept j)) l
@@ -161,7 +186,7 @@ module _ {P E O : Type 0} (cargo : Ghosts P E O) (f : Frame O) (s : table.State 
       stamp_of (word_of f.layout words (OfSource j m)) ≡ (block_of f.layout words j).generation
   renewed-still j m hj hm has =
       renewed-kept f.layout s.words words j m
-      (others-same f.layout s.words r.sized.words x.block x.node value phase place-b place-n kept present reads
+      (others-same f.layout s.words stored
       Idle control_read OfControl (λ j m a b. (a, b)) (λ j m e. cc) j m)
       (spot-kept (OfSource j m) (hj, hm) (λ e. cc)) (ap (λ b. b.generation) (block-kept j)) (r.stamped.renewed j m hj hm has)
 
@@ -186,10 +211,10 @@ module _ {P E O : Type 0} (cargo : Ghosts P E O) (f : Frame O) (s : table.State 
         λ k. record here {
           state = record now {
             block = λ j. block-kept j k;
-            control = λ j m. others-same f.layout s.words r.sized.words x.block x.node value phase place-b place-n kept present reads
+            control = λ j m. others-same f.layout s.words stored
                 Idle control_read OfControl (λ j m a b. (a, b)) (λ j m e. cc) j m k;
-            callback = λ j m. callback-after f.layout s.words r.sized.words x.block x.node value phase place-b place-n kept present reads j m k;
-            source = λ j m. others-same f.layout s.words r.sized.words x.block x.node value phase place-b place-n kept present reads
+            callback = λ j m. callback-after f.layout s.words stored j m k;
+            source = λ j m. others-same f.layout s.words stored
                 clear source_read OfSource (λ j m a b. (a, b)) (λ j m e. cc) j m k;
             scope_source = source_read (spot-kept TheScopeSource tt (λ e. cc) k);
             scope = scope_read (spot-kept TheScope tt (λ e. cc) k);

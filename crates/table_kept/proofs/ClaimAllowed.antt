@@ -24,11 +24,12 @@ use Rattle.table_rules.specs.Running.{Running}
 use Rattle.table_steps.specs.Slots.{Aim, IsSeated}
 use Rattle.table_steps.specs.Owing.{OwesNoneThere}
 use Rattle.table_steps.specs.Claims.{IsUnnoted, with_step, logged, ListsOne, owes_root, claims}
+use Rattle.table_kept.proofs.Standing.{Standing}
 use Rattle.table_kept.proofs.Listing.{AllowsListed, allows-listed, lists-one}
 use Rattle.table_kept.proofs.Loads.{looks_keep}
 use Rattle.table_kept.proofs.OwedLive.{owes-none_there}
 use Rattle.table_kept.proofs.Unnoted.{unnoted-free}
-use Rattle.table_kept.proofs.Claims.{root-empty, claim-runs, seated-claimed}
+use Rattle.table_kept.proofs.Claims.{ToClaim, root-empty, claim-runs, seated-claimed}
 
 -- the exchange wins
 claim-won : {P E O : Type 0} (cargo : Ghosts P E O) (f : Frame O) (s : table.State (Option P) (View P E)) (slots id b old new : ℕ) (v : View P E) (c : List (ℕ × Option P)) (r : Running cargo f s) (at : get_elem? s.views id ≡ some v) (hb : b < f.layout.blocks) (free : is_free (block_of f.layout s.words b).state ≡ true) (reads : block_read new ≡ record (block_of f.layout s.words b) { state = Open }) (itself : v.hands ≡ 1) (x : Name) →
@@ -39,6 +40,15 @@ claim-won : {P E O : Type 0} (cargo : Ghosts P E O) (f : Frame O) (s : table.Sta
     × claims (record { tree = f.tree; layout = f.layout; name = x }) (step slots (index f.layout (OfBlock b)) old new maybe.none) (v, c)
     (slice_index s.words (index f.layout (OfBlock b))) (w, table.carried_after c a)
 claim-won {P} {E} cargo f s slots id b old new v c r at hb free reads itself x name hit =
+    let hand : Standing cargo f = record { state = s; id = id; view = v; running = r; at = at } in
+    let claiming : ToClaim hand = record {
+      block = b;
+      new = new;
+      within = hb;
+      free = free;
+      reads = reads;
+      itself = itself;
+    } in
     let i = index f.layout (OfBlock b) in
     let n = slice_index s.words i in
     let slot = place_number f.layout b (length f.tree - 1) in
@@ -46,23 +56,23 @@ claim-won {P} {E} cargo f s slots id b old new v c r at hb free reads itself x n
       w,
       takes (place_number f.layout x.block x.node) None,
       subst (λ (y : Name). get_elem? s.homes (place_number f.layout y.block y.node) ≡ some (some None)) name
-          (root-empty cargo f s id b new v r at hb free reads itself),
+          (root-empty cargo f hand claiming),
       subst (λ (m : ℕ). Running cargo f (stepped s i m id c w (takes (place_number f.layout x.block x.node) None)))
           (sym (ap (λ t. either t new n) (eq-eqb n old hit)))
           (subst (λ (y : Name). Running cargo f record {
             words = set s.words i new;
             homes = set s.homes (place_number f.layout y.block y.node) maybe.none;
             views = set s.views id (with_step i n new (owes_root y v));
-          }) name (claim-runs cargo f s id b new v r at hb free reads itself n refl)),
+          }) name (claim-runs cargo f hand claiming n refl)),
       (
         (λ _. (
           refl,
           (λ seated. subst (λ (y : Name). IsSeated f.tree f.layout (with_step i n new (owes_root y v), (place_number f.layout y.block y.node, None) ∷ c)) name
-              (seated-claimed cargo f s id b new v r at hb free reads itself n c seated)),
+              (seated-claimed cargo f hand claiming n c seated)),
           subst (λ (y : Name). OwesNoneThere v y) name
-              (owes-none_there cargo f s id v r at (record { block = b; generation = (block_of f.layout s.words b).generation; node = length f.tree - 1 }) free),
+              (owes-none_there cargo f hand (record { block = b; generation = (block_of f.layout s.words b).generation; node = length f.tree - 1 }) free),
           subst (IsUnnoted v) name
-              (unnoted-free cargo f s id v r at (record { block = b; generation = (block_of f.layout s.words b).generation; node = length f.tree - 1 }) free refl),
+              (unnoted-free cargo f hand (record { block = b; generation = (block_of f.layout s.words b).generation; node = length f.tree - 1 }) free refl),
         )),
         (λ miss. absurd (miss hit)),
       ),

@@ -40,7 +40,19 @@ is-free Free h = refl
 is-free Open h = cc
 is-free Retired h = cc
 
-module _ (P E : Type 0) {O : Type 0} (board : Board O) (block found : ℕ) (old mid new : Seat (Option P) (View P E)) (seen : mid.me ≡ (logged (word_index board block) found old.me.0, old.me.1)) (free : is_free (block_read found).state ≡ true) where
+-- a block's word was read as free, and what the hand knows then
+pub record FoundFree (P E : Type 0) {O : Type 0} (board : Board O) : Type 0 where
+  pub block : ℕ
+  pub found : ℕ
+  pub before : Seat (Option P) (View P E)
+  pub seeing : Seat (Option P) (View P E)
+  pub after : Seat (Option P) (View P E)
+  pub seen : seeing.me ≡ (logged (word_index board block) found before.me.0, before.me.1)
+  pub free : is_free (block_read found).state ≡ true
+
+module _ (P E : Type 0) {O : Type 0} (board : Board O) (task : FoundFree P E board) where
+  open task use {block, found, before as old, seeing as mid, after as new, seen, free}
+
   pub told : (answer : Option Block) →
       MatchOption answer (MissedFrom board block found mid new) (λ b. ClaimedFrom board block found b mid new) →
       MatchOption answer (Missed board block old new) (λ b. Claimed board block b old new)

@@ -20,7 +20,6 @@ use Rattle.table_words.specs.Blocks.{block_read}
 use Rattle.table_words.specs.ScopeNumbers.{scope_read}
 use Rattle.table_words.specs.Layouts.{Spot, TheScope, TheScopeSource, OfBlock, OfControl, OfCallback, OfSource, IsSpot, index, place_number}
 use Rattle.table_words.proofs.Spots.{place-within}
-use Rattle.atomic_table.specs.Table as table
 use Rattle.table_rules.specs.declared.cargo.Cargo.{Ghosts}
 use Rattle.table_rules.specs.declared.frame.Frame.{Frame}
 use Rattle.listed_steps.specs.Lists.{entry}
@@ -32,6 +31,7 @@ use Rattle.table_rules.specs.Counts.{AreCounted}
 use Rattle.table_rules.specs.Running.{Stands, Running}
 use Rattle.table_steps.specs.Slots.{slot_of, has_slot, IsSeated}
 use Rattle.table_steps.specs.Claims.{with_step, owes_root}
+use Rattle.table_kept.proofs.Standing.{Standing}
 use Rattle.table_kept.proofs.Seats.{at_within}
 use Rattle.table_kept.proofs.Codes.{free-code}
 use Rattle.table_kept.proofs.Stamping.{is_on, written-risen, renewed-kept}
@@ -46,7 +46,21 @@ use Rattle.table_kept.proofs.Entries.{each-map}
 use Rattle.table_kept.proofs.SlotsOut.{apart-home}
 use Rattle.table_kept.proofs.BeginSeats.{or-left, given-owed}
 
-module _ {P E O : Type 0} (cargo : Ghosts P E O) (f : Frame O) (s : table.State (Option P) (View P E)) (id b new : ℕ) (v : View P E) (r : Running cargo f s) (at : get_elem? s.views id ≡ some v) (hb : b < f.layout.blocks) (free : is_free (block_of f.layout s.words b).state ≡ true) (reads : block_read new ≡ record (block_of f.layout s.words b) { state = Open }) (itself : v.hands ≡ 1) where
+-- which block is claimed, and by which word
+pub record ToClaim {P E O : Type 0} {cargo : Ghosts P E O} {f : Frame O}
+    (hand : Standing cargo f) : Type 0 where
+  pub block : ℕ
+  pub new : ℕ
+  pub within : block < f.layout.blocks
+  pub free : is_free (block_of f.layout hand.state.words block).state ≡ true
+  pub reads : block_read new ≡ record (block_of f.layout hand.state.words block) { state = Open }
+  pub itself : hand.view.hands ≡ 1
+
+module _ {P E O : Type 0} (cargo : Ghosts P E O) (f : Frame O) (hand : Standing cargo f)
+    (task : ToClaim hand) where
+  open hand use {state as s, id, view as v, running as r, at}
+  open task use {block as b, new, within as hb, free, reads, itself}
+
   abbrev now : State
   now = shown f s
 
@@ -215,7 +229,7 @@ module _ {P E O : Type 0} (cargo : Ghosts P E O) (f : Frame O) (s : table.State 
       let more : (d : ℕ) → has_slot f.tree f.layout v d ≡ true → has_slot f.tree f.layout (with_step i n new owing) d ≡ true =
       λ d h. given-owed f.tree f.layout x i n new v d h in
       record {
-        apart = (apart-home cargo f s id v r at slot None c root-empty old.given, old.apart);
+        apart = (apart-home cargo f hand slot None c root-empty old.given, old.apart);
         given = (
           or-left _ _ (or-left (slot_of f.layout x == slot) _ (eq-eqb (slot_of f.layout x) slot refl)),
           each-map (λ d. has_slot f.tree f.layout v d.0 ≡ true) (λ d. has_slot f.tree f.layout (with_step i n new owing) d.0 ≡ true)

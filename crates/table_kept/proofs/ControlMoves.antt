@@ -13,7 +13,22 @@ use Rattle.table_rules.specs.ShownWords.{is_retired, is_there, word_of, block_of
 use Rattle.table_kept.proofs.WordMoves.{word-here}
 use Rattle.table_kept.proofs.PlaceMoves as places
 
-module _ (l : Layout) (words : List ℕ) (wide : length words ≡ words_in l) (b n value : ℕ) (w : ControlWord) (hb : b < l.blocks) (hn : n < l.nodes) (kept : is_retired (block_of l words b).state ≡ false) (stamped : stamp_of value ≡ (block_of l words b).generation) (reads : control_read value ≡ w) where
+-- a number is written as a node's control word, at the node's generation
+pub record WritesControl (l : Layout) (words : List ℕ) : Type 0 where
+  pub wide : length words ≡ words_in l
+  pub block : ℕ
+  pub node : ℕ
+  pub value : ℕ
+  pub word : ControlWord
+  pub within : block < l.blocks
+  pub node_within : node < l.nodes
+  pub kept : is_retired (block_of l words block).state ≡ false
+  pub stamped : stamp_of value ≡ (block_of l words block).generation
+  pub reads : control_read value ≡ word
+
+module _ (l : Layout) (words : List ℕ) (task : WritesControl l words) where
+  open task use {wide, block as b, node as n, value, word as w, within as hb, node_within as hn, kept, stamped, reads}
+
   abbrev pub control_words : List ℕ
   control_words = set words (index l (OfControl b n)) value
 

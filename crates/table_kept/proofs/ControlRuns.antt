@@ -3,9 +3,7 @@
 use Rattle.std.proofs.Common.{◌≡◌, ℕ, ◌^◌, ◌<◌, ◌≤◌, true, false, not, ◌&&◌, ◌==◌, cond, List, length, set, refl, sym, ap, ◌∙◌, subst, arith, length-set}
 use Rattle.std.specs.Prelude.{Option}
 use Rattle.std.proofs.lemmas.Bool.{and_parts, and_from, both_ways, cond-true, cond-false, eqb-true, eq-eqb, lt-ltb}
-use mathlib.Core.Option.{some}
 use mathlib.Core.Option as maybe
-use lib.ListN.{get_elem?}
 use Rattle.life_rules.specs.declared.words.BlockState.{BlockState}
 use Rattle.life_rules.specs.declared.words.BlockState.TheVariants.{Free, Open, Retired}
 use Rattle.life_rules.specs.declared.words.ControlWord.{ControlWord}
@@ -33,10 +31,11 @@ use Rattle.table_rules.specs.ShownViews.{view_at, shown_view}
 use Rattle.table_rules.specs.Scenes.{Home, Past, Scene, shown, scene}
 use Rattle.table_rules.specs.Grown.{IsLaterControl}
 use Rattle.table_rules.specs.Running.{Stands, Running}
+use Rattle.table_kept.proofs.Standing.{Standing}
 use Rattle.table_kept.proofs.Stamping.{is_on, Lists, written-risen, unsaid-kept, renewed-kept}
 use Rattle.table_kept.proofs.ViewMoves.{view-set, views-same}
 use Rattle.table_kept.proofs.WordMoves.{word-here}
-use Rattle.table_kept.proofs.ControlMoves.{spot-same, blocks-same, others-same, control-after}
+use Rattle.table_kept.proofs.ControlMoves.{WritesControl, spot-same, blocks-same, others-same, control-after}
 use Rattle.table_kept.proofs.HomeMoves.{home_of_place}
 
 pub open-kept : (w : BlockState) → is_open w ≡ true → is_retired w ≡ false
@@ -68,7 +67,21 @@ begun-renewed cargo f s x r live begun has =
     r.stamped.renewed x.block x.node l.block (omega (arith, n, e)) has
     (ap is_idle (sym (cond-true (is_live now x) (now.control x.block x.node) Idle live)) ∙ begun)
 
-module _ {P E O : Type 0} (cargo : Ghosts P E O) (f : Frame O) (s : table.State (Option P) (View P E)) (id value : ℕ) (x : Name) (w : ControlWord) (v : View P E) (r : Running cargo f s) (at : get_elem? s.views id ≡ some v) (live : is_live (shown f s) x ≡ true) (stamped : stamp_of value ≡ x.generation) (reads : control_read value ≡ w) where
+-- which node's control word is written, and what it says then
+pub record ToWriteControl {P E O : Type 0} {cargo : Ghosts P E O} {f : Frame O}
+    (hand : Standing cargo f) : Type 0 where
+  pub value : ℕ
+  pub name : Name
+  pub word : ControlWord
+  pub live : is_live (shown f hand.state) name ≡ true
+  pub stamped : stamp_of value ≡ name.generation
+  pub reads : control_read value ≡ word
+
+module _ {P E O : Type 0} (cargo : Ghosts P E O) (f : Frame O) (hand : Standing cargo f)
+    (task : ToWriteControl hand) where
+  open hand use {state as s, id, view as v, running as r, at}
+  open task use {value, name as x, word as w, live, stamped, reads}
+
   abbrev now : State
   now = shown f s
 
@@ -89,12 +102,26 @@ module _ {P E O : Type 0} (cargo : Ghosts P E O) (f : Frame O) (s : table.State 
   abbrev words : List ℕ
   words = set s.words (index f.layout (OfControl x.block x.node)) value
 
+  abbrev stored : WritesControl f.layout s.words
+  stored = record {
+    wide = r.sized.words;
+    block = x.block;
+    node = x.node;
+    value = value;
+    word = w;
+    within = place-b;
+    node_within = place-n;
+    kept = kept;
+    stamped = present;
+    reads = reads;
+  }
+
   spot-kept : (y : Spot) → IsSpot f.layout y → (OfControl x.block x.node ≡ y → ⊥) →
       word_of f.layout words y ≡ word_of f.layout s.words y
-  spot-kept = spot-same f.layout s.words r.sized.words x.block x.node value w place-b place-n kept present reads
+  spot-kept = spot-same f.layout s.words stored
 
   block-kept : (j : ℕ) → block_of f.layout words j ≡ block_of f.layout s.words j
-  block-kept = blocks-same f.layout s.words r.sized.words x.block x.node value w place-b place-n kept present reads
+  block-kept = blocks-same f.layout s.words stored
 
   generation-kept : (j n : ℕ) → n ≤ (block_of f.layout s.words j).generation → n ≤ (block_of f.layout words j).generation
   generation-kept j n l = subst (λ b. n ≤ b.generation) (sym (block-kept j)) l
@@ -204,7 +231,7 @@ module _ {P E O : Type 0} (cargo : Ghosts P E O) (f : Frame O) (s : table.State 
       ∙ sym generation)
       (λ apart.
       renewed-kept f.layout s.words words j m
-      (control-after f.layout s.words r.sized.words x.block x.node value w place-b place-n kept present reads j m
+      (control-after f.layout s.words stored j m
       ∙ cond-false (j == x.block && m == x.node) w (now.control j m) apart)
       word generation (r.stamped.renewed j m hj hm has))
 
@@ -235,10 +262,10 @@ module _ {P E O : Type 0} (cargo : Ghosts P E O) (f : Frame O) (s : table.State 
               kind = f.kind;
               most = f.most;
               block = λ j. block-kept j k;
-              control = λ j m. control-after f.layout s.words r.sized.words x.block x.node value w place-b place-n kept present reads j m k;
-              callback = λ j m. others-same f.layout s.words r.sized.words x.block x.node value w place-b place-n kept present reads
+              control = λ j m. control-after f.layout s.words stored j m k;
+              callback = λ j m. others-same f.layout s.words stored
                   Never callback_read OfCallback (λ j m a b. (a, b)) (λ j m e. cc) j m k;
-              source = λ j m. others-same f.layout s.words r.sized.words x.block x.node value w place-b place-n kept present reads
+              source = λ j m. others-same f.layout s.words stored
                   clear source_read OfSource (λ j m a b. (a, b)) (λ j m e. cc) j m k;
               scope_source = source_read (spot-kept TheScopeSource tt (λ e. cc) k);
               scope = scope_read (spot-kept TheScope tt (λ e. cc) k);

@@ -1,9 +1,7 @@
 -- The step by which the scope is entered keeps the rule.
 use Rattle.std.proofs.Common.{◌≡◌, ℕ, ◌+◌, ◌-◌, ◌%◌, ◌^◌, ◌<◌, ◌≤◌, cond, List, set, refl, sym, ◌∙◌, subst, arith, ap}
-use Rattle.std.specs.Prelude.{Option, slice_index}
+use Rattle.std.specs.Prelude.{slice_index}
 use Rattle.std.proofs.lemmas.Bool.{cond-true, cond-false, eq-eqb}
-use mathlib.Core.Option.{some}
-use lib.ListN.{get_elem?}
 use Rattle.node_tree.specs.declared.node.TreeNode.{TreeNode}
 use Rattle.life_rules.specs.declared.scope.ScopeWord.{ScopeWord}
 use Rattle.life_rules.specs.Scopes.{is_refused}
@@ -20,7 +18,6 @@ use Rattle.table_words.specs.declared.layout.Layout.{Layout}
 use Rattle.table_words.specs.Stamps.{code_of}
 use Rattle.table_words.specs.ScopeNumbers.{scope_read}
 use Rattle.atomic_table.specs.Table.{Allows, keeps}
-use Rattle.atomic_table.specs.Table as table
 use Rattle.table_rules.specs.declared.cargo.Cargo.{Ghosts}
 use Rattle.table_rules.specs.declared.frame.TheConstants.{MOST_ASSOCIATIONS}
 use Rattle.table_rules.specs.declared.frame.Frame.{Frame}
@@ -34,14 +31,26 @@ use Rattle.table_steps.specs.Lefts.{plus_one}
 use Rattle.table_steps.specs.ScopeMoves.{MovesScopeAt, with_one_more}
 use Rattle.table_steps.specs.Slots.{IsSeated}
 use Rattle.table_steps.specs.ScopeEntries.{MayEnter, enters}
+use Rattle.table_kept.proofs.Standing.{Standing}
 use Rattle.table_kept.proofs.Seats.{at_within}
 use Rattle.table_kept.proofs.Stamping.{bits-counted}
 use Rattle.table_kept.proofs.ViewMoves.{view-here}
 use Rattle.table_kept.proofs.Masks.{reads-more}
 use Rattle.table_kept.proofs.Listing.{AllowsListed, allows-listed, lists-one}
-use Rattle.table_kept.proofs.ScopeRuns.{scope-runs}
+use Rattle.table_kept.proofs.ScopeRuns.{ToWriteScope, scope-runs}
 
-module _ {P E O : Type 0} (cargo : Ghosts P E O) (f : Frame O) (s : table.State (Option P) (View P E)) (id : ℕ) (v : View P E) (r : Running cargo f s) (at : get_elem? s.views id ≡ some v) (few : f.most ≤ MOST_ASSOCIATIONS) (may : MayEnter v) (small : slice_index s.words 0 < 18446744073709551616) where
+-- that the hand may enter the scope, and that the word has room
+pub record ToEnter {P E O : Type 0} {cargo : Ghosts P E O} {f : Frame O}
+    (hand : Standing cargo f) : Type 0 where
+  pub few : f.most ≤ MOST_ASSOCIATIONS
+  pub may : MayEnter hand.view
+  pub small : slice_index hand.state.words 0 < 18446744073709551616
+
+module _ {P E O : Type 0} (cargo : Ghosts P E O) (f : Frame O) (hand : Standing cargo f)
+    (task : ToEnter hand) where
+  open hand use {state as s, id, view as v, running as r, at}
+  open task use {few, may, small}
+
   abbrev now : State
   now = shown f s
 
@@ -57,8 +66,8 @@ module _ {P E O : Type 0} (cargo : Ghosts P E O) (f : Frame O) (s : table.State 
   is-shown : old_view ≡ shown_view (block_of f.layout s.words) v
   is-shown = view-here (block_of f.layout s.words) s.views id v at
 
-  hand : id < f.hands
-  hand = let l = at_within s.views id v at in let m = r.sized.seats in omega (arith, l, m)
+  hand_below : id < f.hands
+  hand_below = let l = at_within s.views id v at in let m = r.sized.seats in omega (arith, l, m)
 
   -- the count is at most the scope's greatest number and the number of hands together
   room : code_of n + 1 ≤ 2 ^ 32 - 1
@@ -84,13 +93,23 @@ module _ {P E O : Type 0} (cargo : Ghosts P E O) (f : Frame O) (s : table.State 
 
   sound-now : Sound (with_view (with_scope now word) id (entered (scope_read n) f.most old_view))
   sound-now =
-      sound-enter now id r.stands.sound hand
+      sound-enter now id r.stands.sound hand_below
       (eq-eqb (old_view.making + old_view.refused) 0 (subst (λ (z : PureView). z.making + z.refused ≡ 0) (sym is-shown) may))
 
   enter-by : (made making refused : ℕ) → entered (scope_read n) f.most old_view ≡ record old_view { made = made; making = making; refused = refused } →
       Running cargo f record { words = set s.words 0 more; homes = s.homes; views = set s.views id (with_step 0 n more (record v { made = made; making = making; refused = refused })) }
   enter-by made making refused is =
-      scope-runs cargo f s id more v r at word counts-more narrow (bits-counted (scope_read n) (code_of n + 1)) made making refused
+      let writing : ToWriteScope hand = record {
+        value = more;
+        word = word;
+        reads = counts-more;
+        narrow = narrow;
+        bits = bits-counted (scope_read n) (code_of n + 1);
+        made = made;
+        making = making;
+        refused = refused;
+      } in
+      scope-runs cargo f hand writing
       (subst (λ (z : PureView). Sound (with_view (with_scope now word) id z)) is sound-now)
 
   abbrev Kept : View P E → Type 0
@@ -156,12 +175,20 @@ enters-at cargo board f slots id most m same most_is few may =
     (λ n m' told. enters-list most 0 n (plus_one n) m m' (ap (λ z. z.0) told.me_is))
     (subst (λ z. Allows (Running cargo z) slots id m 0 plus_one (λ n. MovesScopeAt with_one_more (enters most) 0 n (plus_one n) m)) same
     (subst (λ k. Allows (Running cargo board) slots id m 0 plus_one (λ n. MovesScopeAt with_one_more (enters k) 0 n (plus_one n) m)) (sym most_is)
-    (λ s r deep at small. (
+    (λ s r deep at small.
+    let hand : Standing cargo board = record {
+      state = s;
+      id = id;
+      view = m.0;
+      running = r;
+      at = at;
+    } in
+    let entering : ToEnter hand = record { few = few; may = may; small = small } in (
       with_step 0 (slice_index s.words 0) (plus_one (slice_index s.words 0)) (enters board.most (scope_read (slice_index s.words 0)) m.0),
       keeps,
       tt,
-      enter-runs cargo board s id m.0 r at few may small,
-      record { me_is = refl; left_is = counts-more cargo board s id m.0 r at few may small },
+      enter-runs cargo board hand entering,
+      record { me_is = refl; left_is = counts-more cargo board hand entering },
     ))))
 
 -- the hand still carries each slot once

@@ -89,6 +89,15 @@ each-found P name (d ∷ ds) x e is all =
     (λ t. subst P (found-first (same (name d) x) d e (find_by name ds x) t is) all.0)
     (λ f. each-found P name ds x e (sym (cond-false (same (name d) x) (Some d) (find_by name ds x) f) ∙ is) all.1)
 
+-- an entry that passes the test meets what each entry of the list meets
+pub each-passing : {A : Type 0} (P : A → Type 0) (test : A → Bool) (l : List A) → list_any test l ≡ true → Each P l →
+    (e : A) × (test e ≡ true) × P e
+each-passing P test [] h all = cc
+each-passing P test (e ∷ es) h all =
+    either (test e)
+    (λ t. (e, t, all.0))
+    (λ f. each-passing P test es (ap (λ b. b || list_any test es) (sym f) ∙ h) all.1)
+
 -- an entry of the list passes the test
 pub record Passes {A : Type 0} (name : A → Name) (test : A → Bool) (l : List A) : Type 0 where
   pub entry : A

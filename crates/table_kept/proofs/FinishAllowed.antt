@@ -24,16 +24,17 @@ use Rattle.table_steps.specs.Lefts.{FoundControl, FindsControl, LeavesControl}
 use Rattle.table_steps.specs.Slots.{Aim, slot_of, is_of_family, has_slot, IsSeated}
 use Rattle.table_steps.specs.Sheds.{shed}
 use Rattle.table_steps.specs.Finishes.{is_of_kids, CanFinish, owes_report, has_root, FinishesAt}
+use Rattle.table_kept.proofs.Standing.{Standing}
 use Rattle.table_kept.proofs.Entries.{any-without}
 use Rattle.table_kept.proofs.Listing.{AllowsListed, allows-listed, lists-one}
 use Rattle.table_kept.proofs.BeginSeats.{or-left, or-right, or-cases}
 use Rattle.table_kept.proofs.FoundNow.{found-control}
-use Rattle.table_kept.proofs.HeldNow.{held}
+use Rattle.table_kept.proofs.HeldNow.{Holding, held}
 use Rattle.table_kept.proofs.Shedding.{sheds, carries-shed}
-use Rattle.table_kept.proofs.ShedHomes.{valid-shed}
+use Rattle.table_kept.proofs.ShedHomes.{ToShed, valid-shed}
 use Rattle.table_kept.proofs.ShedSeats.{each-shed, apart-shed, seated-shed}
-use Rattle.table_kept.proofs.FinishRuns.{finish-runs}
-use Rattle.table_kept.proofs.FinishRoot.{root-runs}
+use Rattle.table_kept.proofs.FinishRuns.{ToEnd, ToFinish, finish-runs}
+use Rattle.table_kept.proofs.FinishRoot.{ToFinishRoot, root-runs}
 
 -- a slot that isn't a child's is still given to the hand that has the finished root
 given-rooted : {P E : Type 0} (tree : List TreeNode) (l : Layout) (x : Name) (i n left : ℕ) (v : View P E) (slot : ℕ) →
@@ -80,21 +81,32 @@ pub finishes_allowed : {P E O : Type 0} (cargo : Ghosts P E O) (f : Frame O) (sl
     Allows (Running cargo f) slots id m (index f.layout (OfControl x.block x.node)) (λ _. value)
     (λ n. FindsControl (aimed f x) (Busy 0) (FinishesAt cargo (aimed f x)) (index f.layout (OfControl x.block x.node)) n value m)
 finishes_allowed {P} {E} cargo f slots id value x m seated can stamped reads s r deep at small =
+    let hand : Standing cargo f = record { state = s; id = id; view = m.0; running = r; at = at } in
     let i = index f.layout (OfControl x.block x.node) in
     let n = slice_index s.words i in
     let c = m.1 in
     let leave = can.end.leave in
-    let own = held cargo f s id x m.0 r at leave.held leave.holds in
+    let holding : Holding hand = record { name = x; entry = leave.held; holds = leave.holds } in
+    let own = held cargo f hand holding in
     let found = found-control cargo f s r x own.live (Busy 0) own.word in
     either (is_root f.tree x.node)
     (λ root.
+    let ending : ToEnd hand = record { name = x; carried = c; seated = seated; end = can.end } in
+    let finishing : ToFinishRoot hand = record {
+      ending = ending;
+      value = value;
+      root = root;
+      stamped = stamped;
+      reads = reads;
+    } in
     let gone = is_of_kids f.tree f.layout x in
+    let shedding : ToShed hand = record { carried = c; seated = seated; gone = gone } in
     let mine : View P E = with_step i n value (has_root x m.0) in
     let is = carries-shed gone c in (
       mine,
       sheds gone c,
-      valid-shed cargo f s id m.0 c r at seated gone,
-      root-runs cargo f s id value x m.0 c r at seated can.end root stamped reads n refl,
+      valid-shed cargo f hand shedding,
+      root-runs cargo f hand finishing n refl,
       record {
         found = found;
         did = (
@@ -108,13 +120,23 @@ finishes_allowed {P} {E} cargo f slots id value x m seated can stamped reads s r
     ))
     (λ below.
     let done = can.completes below in
+    let ending : ToEnd hand = record { name = x; carried = c; seated = seated; end = can.end } in
+    let finishing : ToFinish hand = record {
+      ending = ending;
+      value = value;
+      below_root = below;
+      can = done;
+      stamped = stamped;
+      reads = reads;
+    } in
     let gone = is_of_family f.tree f.layout x in
+    let shedding : ToShed hand = record { carried = c; seated = seated; gone = gone } in
     let mine : View P E = with_step i n value (owes_report x (cargo.start done.item) done.item m.0) in
     let is = carries-shed gone c in (
       mine,
       sheds gone c,
-      valid-shed cargo f s id m.0 c r at seated gone,
-      finish-runs cargo f s id value x m.0 c r at seated can.end below done stamped reads n refl,
+      valid-shed cargo f hand shedding,
+      finish-runs cargo f hand finishing n refl,
       record {
         found = found;
         did = (

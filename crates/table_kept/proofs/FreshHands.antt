@@ -20,7 +20,23 @@ seated-none board hand table none itself =
           (record { apart = tt; given = tt; itself = itself });
     }
 
-module _ {P E O : Type 0} (board : Board O) (n : ℕ) (all : List (Seat (Option P) (View P E))) (seat cut next : Seat (Option P) (View P E)) (old : AreFreshHands board n all) (at : get_elem? all 0 ≡ some seat) (cut_table : cut.table_id ≡ seat.table_id) (cut_me : cut.me ≡ (split_once seat.me.0, seat.me.1)) (next_table : next.table_id ≡ seat.table_id) (next_me : next.me ≡ (fresh_after seat.me.0, [])) where
+-- a first hand that splits another hand off, and the hands before it
+pub record Cut (P E : Type 0) {O : Type 0} (board : Board O) : Type 0 where
+  pub hands : ℕ
+  pub all : List (Seat (Option P) (View P E))
+  pub seat : Seat (Option P) (View P E)
+  pub cut : Seat (Option P) (View P E)
+  pub next : Seat (Option P) (View P E)
+  pub fresh : AreFreshHands board hands all
+  pub at : get_elem? all 0 ≡ some seat
+  pub cut_table : cut.table_id ≡ seat.table_id
+  pub cut_me : cut.me ≡ (split_once seat.me.0, seat.me.1)
+  pub next_table : next.table_id ≡ seat.table_id
+  pub next_me : next.me ≡ (fresh_after seat.me.0, [])
+
+module _ {P E O : Type 0} (board : Board O) (task : Cut P E board) where
+  open task use {hands as n, all, seat, cut, next, fresh as old, at, cut_table, cut_me, next_table, next_me}
+
   abbrev IsFresh : ℕ → Seat (Option P) (View P E) → Type 0
   IsFresh h hand = IsHandOf board hand × (hand.me.1 ≡ []) × (knows hand ≡ fresh_with h (knows hand).splits)
 

@@ -1,5 +1,5 @@
 -- What the rule says of stop requests on the source that a node hears, and on the one that its children hear.
-use Rattle.std.proofs.Common.{◌≡◌, ℕ, true, false, List, Option, sym, ap, ◌∙◌, subst}
+use Rattle.std.proofs.Common.{◌≡◌, ℕ, true, false, List, sym, ap, ◌∙◌, subst}
 use Rattle.std.specs.Option.{option_map_or}
 use Rattle.std.proofs.lemmas.Bool.{cond-true, cond-false}
 use mathlib.Core.Option.{some}
@@ -11,15 +11,13 @@ use Rattle.node_tree.specs.Tree.{Nearest, TheNode, Nowhere, nearest, given_by, h
 use Rattle.life_rules.specs.Views.{View as PureView}
 use Rattle.life_rules.specs.States.{State, bits_at, source_for}
 use Rattle.life_rules.specs.Callbacks.{nearest_is_requested}
-use Rattle.atomic_table.specs.Table as table
 use Rattle.table_rules.specs.declared.cargo.Cargo.{Ghosts}
 use Rattle.table_rules.specs.declared.frame.Frame.{Frame}
-use Rattle.table_rules.specs.declared.view.View.{View}
 use Rattle.table_rules.specs.ShownWords.{block_of}
 use Rattle.table_rules.specs.Scenes.{shown}
 use Rattle.table_rules.specs.Notes.{children_are_requested}
-use Rattle.table_rules.specs.Running.{Running}
 use Rattle.table_steps.specs.Hearings.{HearsAs}
+use Rattle.table_kept.proofs.Standing.{Standing}
 use Rattle.table_kept.proofs.ViewMoves.{view-here}
 
 -- the children of a node without a source hear what the node hears, and where it is unstoppable nothing
@@ -44,7 +42,9 @@ module _ (s : State) (x : Name) (none : has_source s.tree x.node ≡ false) wher
       ap (λ near. option_map_or (λ source. (bits_at s source).requested) (source_for x near) false)
       (given-none s.tree x.node (nearest s.tree x.node) none deaf)
 
-module _ {P E O : Type 0} (cargo : Ghosts P E O) (f : Frame O) (s : table.State (Option P) (View P E)) (id : ℕ) (v : View P E) (r : Running cargo f s) (at : get_elem? s.views id ≡ some v) where
+module _ {P E O : Type 0} (cargo : Ghosts P E O) (f : Frame O) (hand : Standing cargo f) where
+  open hand use {state as s, id, view as v, running as r, at}
+
   abbrev now : State
   now = shown f s
 
@@ -61,6 +61,7 @@ module _ {P E O : Type 0} (cargo : Ghosts P E O) (f : Frame O) (s : table.State 
       record {
         scope = λ number near.
             ap (λ o. option_map_or (λ source. (bits_at now source).requested) o false) near ∙ scope-is number;
+        none = λ nowhere. ap (λ o. option_map_or (λ source. (bits_at now source).requested) o false) nowhere;
         passes = children-pass now x;
         shelters = children-sheltered now x;
       }

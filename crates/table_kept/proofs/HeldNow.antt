@@ -30,6 +30,7 @@ use Rattle.table_rules.specs.Scenes.{Scene, shown, scene}
 use Rattle.table_rules.specs.Notes.{is_still, IsHeldSo}
 use Rattle.table_rules.specs.Running.{Running}
 use Rattle.table_steps.specs.Slots.{has_seen}
+use Rattle.table_kept.proofs.Standing.{Standing}
 use Rattle.table_kept.proofs.Entries.{IsFound, found, each-found, each-map}
 use Rattle.table_kept.proofs.Seats.{at_within}
 use Rattle.table_kept.proofs.ViewMoves.{view-here}
@@ -70,7 +71,18 @@ module _ {P E O : Type 0} (cargo : Ghosts P E O) (f : Frame O) (s : table.State 
         held = held-under_way (control_at now (beside x n)) way;
       }
 
-module _ {P E O : Type 0} (cargo : Ghosts P E O) (f : Frame O) (s : table.State (Option P) (View P E)) (id : ℕ) (x : Name) (v : View P E) (r : Running cargo f s) (at : get_elem? s.views id ≡ some v) (e : Held E) (holds : find_by (λ e. e.name) v.held x ≡ Some e) where
+-- a node that the hand holds, and what the hand notes of it
+pub record Holding {P E O : Type 0} {cargo : Ghosts P E O} {f : Frame O}
+    (hand : Standing cargo f) : Type 0 where
+  pub name : Name
+  pub entry : Held E
+  pub holds : find_by (λ entry. entry.name) hand.view.held name ≡ Some entry
+
+module _ {P E O : Type 0} (cargo : Ghosts P E O) (f : Frame O) (hand : Standing cargo f)
+    (task : Holding hand) where
+  open hand use {state as s, id, view as v, running as r, at}
+  open task use {name as x, entry as e, holds}
+
   abbrev here : Scene P E
   here = scene f s r.past
 
@@ -118,7 +130,7 @@ module _ {P E O : Type 0} (cargo : Ghosts P E O) (f : Frame O) (s : table.State 
       either (has_seen f.tree v x || e.told)
       (λ t.
       let asked : nearest_is_requested state x ≡ true =
-      or-cases (has_seen f.tree v x) e.told t (seen-stands cargo f s id v r at x held.live)
+      or-cases (has_seen f.tree v x) e.told t (seen-stands cargo f hand x held.live)
       (λ told. subst (λ z. nearest_is_requested state z ≡ true) is-found.name_is (so.told told)) in
       subst (cargo.fits item x.node) (t ∙ sym asked) fits)
       (λ none.

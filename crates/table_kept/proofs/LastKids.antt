@@ -3,8 +3,6 @@ use Rattle.std.proofs.Common.{◌≡◌, ℕ, ◌*◌, ◌≤◌, Bool, true, fa
 use Rattle.std.specs.Prelude.{nat_le, is_some}
 use Rattle.std.specs.Option.{option_map_or}
 use Rattle.std.proofs.lemmas.Bool.{both_ways, false_from_ne_true, leb-true, leb-false, cases_eq, cond-true}
-use mathlib.Core.Option.{some}
-use lib.ListN.{get_elem?}
 use Rattle.life_rules.specs.declared.words.ControlWord.{ControlWord}
 use Rattle.life_rules.specs.declared.words.ControlWord.TheVariants.{Idle, Busy, ReadyLoop, ReadyPool, Parked, Done}
 use Rattle.life_rules.specs.declared.event.Name.{Name}
@@ -24,15 +22,13 @@ use Rattle.life_kept.proofs.Puts.{times-same}
 use Rattle.life_kept.proofs.Trees.{child-parent, child-within, root-orphan}
 use Rattle.life_kept.proofs.Holding.{weight-most}
 use Rattle.node_tree.proofs.Walk.{nearest-some}
-use Rattle.atomic_table.specs.Table as table
 use Rattle.table_rules.specs.declared.cargo.Cargo.{Ghosts}
 use Rattle.table_rules.specs.declared.frame.Frame.{Frame}
-use Rattle.table_rules.specs.declared.view.View.{View}
 use Rattle.table_rules.specs.Scenes.{Full, is_out, is_full, Scene, shown, scene}
 use Rattle.table_rules.specs.Homes.{is_waiting, seats_of, done_below}
 use Rattle.table_rules.specs.Notes.{children_are_requested}
-use Rattle.table_rules.specs.Running.{Running}
 use Rattle.table_steps.specs.Reports.{CanReport}
+use Rattle.table_kept.proofs.Standing.{Standing}
 use Rattle.table_kept.proofs.Hearing.{children-pass, children-sheltered}
 use Rattle.table_kept.proofs.LaidSlots.{content_of, content-full, content-some}
 use Rattle.table_kept.proofs.DoneBelow.{done-more}
@@ -64,7 +60,18 @@ one-both true full e = refl
 one-both false true e = absurd (both_ways false refl (e refl))
 one-both false false e = refl
 
-module _ {P E O : Type 0} (cargo : Ghosts P E O) (f : Frame O) (s : table.State (Option P) (View P E)) (id : ℕ) (c : Name) (v : View P E) (r : Running cargo f s) (at : get_elem? s.views id ≡ some v) (can : CanReport f.tree v c) (last : pending (control_at (shown f s) (beside c can.parent)) ≡ 1) where
+-- the report of the last child that its parent waits for
+pub record LastReport {P E O : Type 0} {cargo : Ghosts P E O} {f : Frame O}
+    (hand : Standing cargo f) : Type 0 where
+  pub child : Name
+  pub can : CanReport f.tree hand.view child
+  pub last : pending (control_at (shown f hand.state) (beside child can.parent)) ≡ 1
+
+module _ {P E O : Type 0} (cargo : Ghosts P E O) (f : Frame O) (hand : Standing cargo f)
+    (task : LastReport hand) where
+  open hand use {state as s, id, view as v, running as r, at}
+  open task use {child as c, can, last}
+
   abbrev now : State
   now = shown f s
 
@@ -72,7 +79,7 @@ module _ {P E O : Type 0} (cargo : Ghosts P E O) (f : Frame O) (s : table.State 
   here = scene f s r.past
 
   abbrev x : Name
-  x = above cargo f s id c v r at can
+  x = above cargo f hand c can
 
   abbrev term : ℕ → ℕ
   term n = one (is_child f.tree x.node n) * weight now (beside x n)
@@ -82,8 +89,8 @@ module _ {P E O : Type 0} (cargo : Ghosts P E O) (f : Frame O) (s : table.State 
 
   pub reports-c : 1 ≤ stand now (λ v. v.reports) c
   reports-c =
-      let all = stand-at now (λ v. v.reports) id c (below cargo f s id c v r at can) in
-      let owes = owes-now cargo f s id c v r at can in omega (arith, all, owes)
+      let all = stand-at now (λ v. v.reports) id c (below cargo f hand c can) in
+      let owes = owes-now cargo f hand c can in omega (arith, all, owes)
 
   -- what a child of the node counts for, which is nothing but the report of this one
   pub record IsSettledKid (n : ℕ) : Type 0 where
@@ -98,11 +105,11 @@ module _ {P E O : Type 0} (cargo : Ghosts P E O) (f : Frame O) (s : table.State 
       (λ t.
       let heavy = leb-true 1 (weight now (beside x n)) t in
       let here_too = term-of n own in
-      let this = term-of c.node (child cargo f s id c v r at can) in
+      let this = term-of c.node (child cargo f hand c can) in
       let rep = reports-c in
       let counts = r.stands.sound.counted x in
       absurd (ne (total-single term (size now) c.node n (omega (arith, counts, last))
-      (child-within f.tree can.parent c.node (child cargo f s id c v r at can)) (child-within f.tree x.node n own)
+      (child-within f.tree can.parent c.node (child cargo f hand c can)) (child-within f.tree x.node n own)
       (omega (arith, this, rep)) (omega (arith, here_too, heavy)))))
       (λ t. let none = leb-false 1 (weight now (beside x n)) t in omega (arith, none))
 
@@ -116,7 +123,7 @@ module _ {P E O : Type 0} (cargo : Ghosts P E O) (f : Frame O) (s : table.State 
       (λ (e : c.node ≡ n).
       subst IsSettledKid e
       (let most : weight now c ≤ pending (control_at now x) =
-      weight-most now x c.node r.stands.sound (child-within f.tree can.parent c.node (child cargo f s id c v r at can)) (child cargo f s id c v r at can) in
+      weight-most now x c.node r.stands.sound (child-within f.tree can.parent c.node (child cargo f hand c can)) (child cargo f hand c can) in
       let rep = reports-c in
       record {
         starts = omega (arith, most, last, rep);
@@ -136,7 +143,7 @@ module _ {P E O : Type 0} (cargo : Ghosts P E O) (f : Frame O) (s : table.State 
 
   pub kid-live : (n : ℕ) → is_child f.tree x.node n ≡ true → is_live now (beside x n) ≡ true
   kid-live n own =
-      let l = lives now x (above-live cargo f s id c v r at can) in
+      let l = lives now x (above-live cargo f hand c can) in
       is_live-from now (beside x n) (record {
         block = l.block;
         node = child-within f.tree x.node n own;
@@ -145,10 +152,10 @@ module _ {P E O : Type 0} (cargo : Ghosts P E O) (f : Frame O) (s : table.State 
       })
 
   pub unheld-before : one (is_held (control_at now x)) ≡ 0
-  unheld-before = ap (λ w. one (is_held w)) (word-is cargo f s id c v r at can) ∙ ap (λ n. one (n == 0)) last
+  unheld-before = ap (λ w. one (is_held w)) (word-is cargo f hand c can) ∙ ap (λ n. one (n == 0)) last
 
   pub waits-before : is_waiting (control_at now x) ≡ true
-  waits-before = some-seat (pending (control_at now x)) (waits cargo f s id c v r at can)
+  waits-before = some-seat (pending (control_at now x)) (waits cargo f hand c can)
 
   pub kid-root : (n : ℕ) → is_child f.tree x.node n ≡ true → is_root f.tree n ≡ false
   kid-root n own =

@@ -4,7 +4,6 @@ use Rattle.std.proofs.Common.{◌≡◌, ℕ, ◌+◌, ◌<◌, Bool, true, fals
 use Rattle.std.specs.Prelude.{Option, Some, None, is_some}
 use Rattle.std.proofs.lemmas.Bool.{and_from, cond-false, le-leb}
 use mathlib.Core.Option.{some}
-use lib.ListN.{get_elem?}
 use Rattle.life_rules.specs.declared.words.ControlWord.{ControlWord}
 use Rattle.life_rules.specs.declared.event.Name.{Name}
 use Rattle.life_rules.specs.declared.event.SourceRef.TheVariants.{Node}
@@ -20,41 +19,54 @@ use Rattle.life_kept.proofs.Puts.{put, IsPut, stays}
 use Rattle.life_kept.proofs.Holding.{IsHeld}
 use Rattle.life_kept.proofs.Trees.{child-within}
 use Rattle.table_words.specs.Layouts.{place_number}
-use Rattle.atomic_table.specs.Table as table
 use Rattle.table_rules.specs.declared.cargo.Cargo.{Ghosts}
 use Rattle.table_rules.specs.declared.frame.Frame.{Frame}
-use Rattle.table_rules.specs.declared.view.View.{View}
 use Rattle.table_rules.specs.ShownWords.{block_of, is_there}
 use Rattle.table_rules.specs.ShownViews.{shown_view}
 use Rattle.table_rules.specs.Scenes.{Home, Empty, is_out, is_full, home_in, Past, Scene, shown, scene}
-use Rattle.table_rules.specs.Running.{Running}
 use Rattle.table_steps.specs.Slots.{IsSeated, kept}
 use Rattle.table_steps.specs.Rests.{CanLeave}
+use Rattle.table_kept.proofs.Standing.{Standing}
 use Rattle.table_kept.proofs.HomeMoves.{home_of_place}
 use Rattle.table_kept.proofs.WordMoves.{there-place}
-use Rattle.table_kept.proofs.HeldNow.{shows, below, holds-now, held, IsQuietKid, kid-quiet}
-use Rattle.table_kept.proofs.ShedHomes.{shed_homes, shed-far, shed-here}
+use Rattle.table_kept.proofs.HeldNow.{Holding, shows, below, holds-now, held, IsQuietKid, kid-quiet}
+use Rattle.table_kept.proofs.ShedHomes.{ToShed, shed_homes, shed-far, shed-here}
 use Rattle.table_kept.proofs.Moving.{KidMoves, no-seat}
 
-module _ {P E O : Type 0} (cargo : Ghosts P E O) (f : Frame O) (s : table.State (Option P) (View P E)) (id : ℕ) (x : Name) (v : View P E) (c : List (ℕ × Option P)) (r : Running cargo f s) (at : get_elem? s.views id ≡ some v) (seated : IsSeated f.tree f.layout (v, c)) (leave : CanLeave f (v, c) x) where
+-- what a step is about by which a hand leaves a node that it holds
+pub record ToLeave {P E O : Type 0} {cargo : Ghosts P E O} {f : Frame O}
+    (hand : Standing cargo f) : Type 0 where
+  pub name : Name
+  pub carried : List (ℕ × Option P)
+  pub seated : IsSeated f.tree f.layout (hand.view, carried)
+  pub leave : CanLeave f (hand.view, carried) name
+
+module _ {P E O : Type 0} (cargo : Ghosts P E O) (f : Frame O) (hand : Standing cargo f)
+    (task : ToLeave hand) where
+  open hand use {state as s, id, view as v, running as r, at}
+  open task use {name as x, carried as c, seated, leave}
+
   abbrev now : State
   now = shown f s
 
   abbrev here : Scene P E
   here = scene f s r.past
 
+  abbrev holding : Holding hand
+  holding = record { name = x; entry = leave.held; holds = leave.holds }
+
   pub is-held : IsHeld now x
-  is-held = held cargo f s id x v r at leave.held leave.holds
+  is-held = held cargo f hand holding
 
   pub is-below : id < f.hands
-  is-below = below cargo f s id x v r at leave.held leave.holds
+  is-below = below cargo f hand holding
 
   pub shows-old : now.view id ≡ shown_view (block_of f.layout s.words) v
-  shows-old = shows cargo f s id x v r at leave.held leave.holds
+  shows-old = shows cargo f hand holding
 
   pub may-leave : may_leave_node (now.view id) x ≡ true
   may-leave =
-      let holds = holds-now cargo f s id x v r at leave.held leave.holds in
+      let holds = holds-now cargo f hand holding in
       let scans : not (is_scanning (now.view id) (Node x)) ≡ true =
       subst (λ (z : PureView). not (is_scanning z (Node x)) ≡ true) (sym shows-old) (ap (λ o. not (is_some o)) leave.unscanned) in
       and_from _ _ (le-leb 1 ((now.view id).holds x) holds) scans
@@ -70,12 +82,15 @@ module _ {P E O : Type 0} (cargo : Ghosts P E O) (f : Frame O) (s : table.State 
 
   -- the homes that the hand gives back, by this test on slots
   module _ (gone : ℕ → Bool) where
+    abbrev shedding : ToShed hand
+    shedding = record { carried = c; seated = seated; gone = gone }
+
     abbrev pub home : ℕ → ℕ → Home P
-    home = home_of_place f.layout (shed_homes cargo f s id v c r at seated gone)
+    home = home_of_place f.layout (shed_homes cargo f hand shedding)
 
     pub home-given : (n : ℕ) (y : Option P) → n < f.layout.nodes → gone (place_number f.layout x.block n) ≡ true →
         kept (place_number f.layout x.block n) c ≡ Some y → home x.block n ≡ home_in (some (some y))
-    home-given n y hn goes is = shed-here cargo f s id v c r at seated gone x.block n y place-b hn goes is
+    home-given n y hn goes is = shed-here cargo f hand shedding x.block n y place-b hn goes is
 
     pub kid-given : (n : ℕ) → is_child f.tree x.node n ≡ true → gone (place_number f.layout x.block n) ≡ true → home x.block n ≡ Empty
     kid-given n child goes =
@@ -85,7 +100,7 @@ module _ {P E O : Type 0} (cargo : Ghosts P E O) (f : Frame O) (s : table.State 
     pub home-still : (j m : ℕ) → (m < f.layout.nodes → gone (place_number f.layout j m) ≡ false) → home j m ≡ here.home j m
     home-still j m stays =
         either (is_there f.layout j m)
-        (λ t. shed-far cargo f s id v c r at seated gone j m (stays (there-place f.layout j m t).1))
+        (λ t. shed-far cargo f hand shedding j m (stays (there-place f.layout j m t).1))
         (λ none. cond-false (is_there f.layout j m) _ Empty none ∙ sym (cond-false (is_there f.layout j m) _ Empty none))
 
   -- a child whose home is given back empty, by a step after which the node isn't held

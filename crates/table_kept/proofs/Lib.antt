@@ -1,3 +1,4 @@
+pub mod Standing
 pub mod Cases
 pub mod Seats
 pub mod Shapes

@@ -34,6 +34,7 @@ use Rattle.table_rules.specs.Running.{Stands, Running}
 use Rattle.table_steps.specs.Claims.{Seated}
 use Rattle.table_steps.specs.Slots.{IsSeated}
 use Rattle.table_steps.specs.Sights.{spot_of, says_requested, seen_after_now, unlooked_now, looks_at, LooksAt, MayLookAfter, StillAsked, AgreesWithTold, sees}
+use Rattle.table_kept.proofs.Standing.{Standing}
 use Rattle.table_kept.proofs.Listing.{AllowsListed, allows-listed, lists-one}
 use Rattle.table_kept.proofs.Entries.{each-map, each-has, found, each-found}
 use Rattle.table_kept.proofs.Stamping.{looked-risen}
@@ -43,7 +44,19 @@ use Rattle.table_kept.proofs.Sights.{each-but}
 use Rattle.table_kept.proofs.PartsLive.{seen-stays}
 use Rattle.table_kept.proofs.Looking as looking
 
-module _ {P E O : Type 0} (cargo : Ghosts P E O) (f : Frame O) (s : table.State (Option P) (View P E)) (source : SourceRef) (r : Running cargo f s) (spot : IsSpot f.layout (spot_of source)) (id : ℕ) (after : Option Name) (v : View P E) (at : get_elem? s.views id ≡ some v) (may : MayLookAfter f.tree v source after) where
+-- at which source the hand looks, and after which node
+pub record ToLook {P E O : Type 0} {cargo : Ghosts P E O} {f : Frame O}
+    (hand : Standing cargo f) : Type 0 where
+  pub source : SourceRef
+  pub spot : IsSpot f.layout (spot_of source)
+  pub after : Option Name
+  pub may : MayLookAfter f.tree hand.view source after
+
+module _ {P E O : Type 0} (cargo : Ghosts P E O) (f : Frame O) (hand : Standing cargo f)
+    (task : ToLook hand) where
+  open hand use {state as s, id, view as v, running as r, at}
+  open task use {source, spot, after, may}
+
   abbrev before : Scene P E
   before = scene f s r.past
 
@@ -212,7 +225,8 @@ still-asked : {P E O : Type 0} (cargo : Ghosts P E O) (f : Frame O) (s : table.S
     IsSpot f.layout (spot_of source) → (id : ℕ) (v : View P E) → get_elem? s.views id ≡ some v →
     StillAsked v source (says_requested source (slice_index s.words (index f.layout (spot_of source))))
 still-asked cargo f s source r spot id v at seen alive =
-    looking.stands-read cargo f s source r spot (seen-stays cargo f s id v r at source seen alive)
+    let hand : Standing cargo f = record { state = s; id = id; view = v; running = r; at = at } in
+    looking.stands-read cargo f s source r spot (seen-stays cargo f hand source seen alive)
 
 -- and so does one of which it was told when it came to hold a node
 agrees-told : {P E O : Type 0} (cargo : Ghosts P E O) (f : Frame O) (s : table.State (Option P) (View P E)) (source : SourceRef) → Running cargo f s →
@@ -242,13 +256,20 @@ pub look_allowed : {P E O : Type 0} (cargo : Ghosts P E O) (f : Frame O) (slots 
     IsSpot f.layout (spot_of source) → MayLookAfter f.tree m.0 source after →
     Allows (Running cargo f) slots id m (index f.layout (spot_of source)) (λ n. n)
     (λ n m'. LooksAt f.tree source after (index f.layout (spot_of source)) n m m')
-look_allowed cargo f slots id source after m spot may s r deep at small = (
-  looking.mine cargo f s source r spot id after m.0 at may,
-  keeps,
-  tt,
-  look-keeps cargo f s source r spot id after m.0 at may,
-  (refl, still-asked cargo f s source r spot id m.0 at, agrees-told cargo f s source r spot id m.0 at),
-)
+look_allowed cargo f slots id source after m spot may s r deep at small =
+    let hand : Standing cargo f = record { state = s; id = id; view = m.0; running = r; at = at } in
+    let look : ToLook hand = record {
+      source = source;
+      spot = spot;
+      after = after;
+      may = may;
+    } in (
+      looking.mine cargo f s source r spot id after m.0 at may,
+      keeps,
+      tt,
+      look-keeps cargo f hand look,
+      (refl, still-asked cargo f s source r spot id m.0 at, agrees-told cargo f s source r spot id m.0 at),
+    )
 
 -- the same by the frame that the table shows
 pub look-at : {P E O : Type 0} (cargo : Ghosts P E O) (board f : Frame O) (slots id i : ℕ) (tree : List TreeNode) (source t : SourceRef) (after a : Option Name) (m : Seated P E) →

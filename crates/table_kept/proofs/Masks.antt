@@ -10,7 +10,7 @@ use Rattle.common_lemmas.proofs.Bool.{either}
 use Rattle.life_rules.specs.declared.scope.ScopeWord.{ScopeWord}
 use Rattle.table_words.specs.Stamps.{stamp_of, code_of, bit}
 use Rattle.table_words.specs.ScopeNumbers.{scope_read, scope_written}
-use Rattle.table_steps.specs.ScopeMoves.{as_joined}
+use Rattle.table_steps.specs.ScopeMoves.{as_joined, AnswersSeal}
 
 -- the number with its lowest, its second or its third bit set
 pub or-one : (s : ℕ) → bit_or s 1 ≡ s / 2 * 2 + 1
@@ -72,7 +72,7 @@ seal-cause w expected narrow (Err read) is = ((λ same. says-other w expected na
 
 -- and what the exchange left says that the scope is joined, or is what it found
 pub seal-left : (w old new : ℕ) (expected : ScopeWord) → old ≡ scope_written expected → scope_read new ≡ as_joined expected → w < 2 ^ 36 →
-    (answer : Result (Unit {0}) ScopeWord) → MatchResult answer (λ _. w ≡ old) (λ read. (w ≢ old) × (read ≡ scope_read w)) →
+    (answer : Result (Unit {0}) ScopeWord) → AnswersSeal w old answer →
     MatchResult answer (λ _. (w ≡ scope_written expected) × (scope_read (atomic.either (w == old) new w) ≡ as_joined expected))
     (λ read. (read ≢ expected) × (read ≡ scope_read w) × (atomic.either (w == old) new w ≡ w))
 seal-left w old new expected old_is says narrow (Ok done) is = (

@@ -6,7 +6,7 @@ use Rattle.life_rules.specs.declared.words.ControlWord.TheVariants.{Idle, Busy, 
 use Rattle.life_rules.specs.declared.event.Name.{Name}
 use Rattle.node_tree.specs.Tree.{is_root, is_child, parent_of}
 use Rattle.life_rules.specs.Words.{is_open, is_idle, is_done, is_under_way}
-use Rattle.life_rules.specs.Views.{View, beside}
+use Rattle.life_rules.specs.Views.{beside}
 use Rattle.common_lemmas.specs.Sums.{one}
 use Rattle.life_rules.specs.States.{State, size, is_live, control_at, stand}
 use Rattle.common_lemmas.proofs.Bool.{one-is}
@@ -15,13 +15,12 @@ use Rattle.life_rules.proofs.Readings.{lives, is_live-from, begun-live}
 use Rattle.life_kept.proofs.Trees.{parent-child, child-within, root-orphan, parent-same}
 use Rattle.life_rules.proofs.Names.{by_name}
 use Rattle.life_kept.proofs.Fitting.{Fits-busy, under_way-parts, done-word}
-use Rattle.life_kept.proofs.Puts.{IsPut, moves, times-same}
-use Rattle.table_rules.specs.Scenes.{Home, is_full, Past, Scene}
+use Rattle.life_kept.proofs.Puts.{moves, times-same}
+use Rattle.table_rules.specs.Scenes.{is_full, Scene}
 use Rattle.table_rules.specs.Homes.{is_waiting, is_resting, named_below, done_below, HomesStand}
 use Rattle.table_kept.proofs.DoneBelow.{done-more}
 use Rattle.table_kept.proofs.Moving as moving
-use Rattle.table_kept.proofs.Moving.{Moves, KidMoves}
-use Rattle.table_kept.proofs.MovingSeats.{starts-same, starts-none, out-moved}
+use Rattle.table_kept.proofs.MovingSeats.{Move, starts-same, starts-none, out-moved}
 
 pub waiting-busy : (c : ControlWord) → (is_waiting c || is_resting c) ≡ true → is_under_way c ≡ true
 waiting-busy Idle h = cc
@@ -45,7 +44,9 @@ counts-once ReadyPool full begun settled = refl
 counts-once Parked full begun settled = refl
 counts-once Done full begun settled = ap (λ b. 0 + one b) (settled refl)
 
-module _ {P E : Type 0} (s : Scene P E) (h : ℕ) (x : Name) (w : ControlWord) (u : View) (p : IsPut s.state h x w u) (home : ℕ → ℕ → Home P) (past : Past P E) (mv : Moves s h x w u p home past) (homes : HomesStand s) where
+module _ {P E : Type 0} (s : Scene P E) (task : Move s) (homes : HomesStand s) where
+  open task use {hand as h, name as x, word as w, view as u, put as p, home, past, moves as mv}
+
   abbrev base : State
   base = s.state
 
@@ -92,7 +93,7 @@ module _ {P E : Type 0} (s : Scene P E) (h : ℕ) (x : Name) (w : ControlWord) (
       (λ m own is. absurd (ne (parent-same base.tree x y m n own child is)))
       (λ _ far same.
       let c = word-other (beside y n) apart in
-      let b = starts-same s h x w u p home past mv (beside y n) far in
+      let b = starts-same s task (beside y n) far in
       λ k. one (is_under_way (c k)) + b k + one (is_done (c k) && is_full (same k)))
 
   -- and so is this node, at its parent
@@ -112,7 +113,7 @@ module _ {P E : Type 0} (s : Scene P E) (h : ℕ) (x : Name) (w : ControlWord) (
       (root-orphan base.tree p.sound.tree y.node x.node (lives base x p.live).node root)
       (subst (λ m. is_child base.tree y.node m ≡ true) (λ k. (sym e k).node) child)) in
       let old = under_way-parts (control_at base x) mv.under_way in
-      let a = starts-none s h x w u p home past mv in
+      let a = starts-none s task in
       let b = (Fits-busy mv.under_way (p.sound.owned.names x)).starts in
       let c : one (is_under_way (control_at put_state x)) ≡ one (is_under_way w) = ap (λ c. one (is_under_way c)) word-here in
       let d : one (is_done (control_at put_state x) && is_full (home x.block x.node)) ≡ one (is_done w && is_full (home x.block x.node)) =
@@ -226,7 +227,7 @@ module _ {P E : Type 0} (s : Scene P E) (h : ℕ) (x : Name) (w : ControlWord) (
   pub homes-moved : HomesStand moved
   homes-moved =
       record {
-        out = out-moved s h x w u p home past mv homes;
+        out = out-moved s task homes;
         closed = λ i n shut.
             let other : (i == x.block) ≡ false =
             false_from_ne_true (i == x.block) (λ t.

@@ -1,28 +1,28 @@
 -- What is said of starts, items and lots is kept by a step on the control word of a node under way.
 use Rattle.std.proofs.Common.{◌≡◌, ℕ, ◌≤◌, true, false, not, ◌||◌, ◌∷◌, Some, sym, ap, ◌∙◌, subst}
 use Rattle.std.proofs.lemmas.Bool.{both_ways}
-use Rattle.life_rules.specs.declared.words.ControlWord.{ControlWord}
 use Rattle.life_rules.specs.declared.event.Name.{Name}
 use Rattle.node_tree.specs.Tree.{is_root, is_child}
 use Rattle.life_rules.specs.Words.{is_idle, is_done}
-use Rattle.life_rules.specs.Views.{View, beside}
+use Rattle.life_rules.specs.Views.{beside}
 use Rattle.life_rules.specs.States.{State, is_live, control_at}
 use Rattle.life_rules.specs.Callbacks.{nearest_is_requested}
 use Rattle.life_rules.proofs.Readings.{lives, is_live-from, begun-live}
 use Rattle.life_kept.proofs.Trees.{child-within, parent-same}
 use Rattle.life_rules.proofs.Names.{by_name}
 use Rattle.life_kept.proofs.Fitting.{under_way-parts, done-word}
-use Rattle.life_kept.proofs.Puts.{IsPut}
 use Rattle.table_rules.specs.declared.cargo.Cargo.{Ghosts}
-use Rattle.table_rules.specs.Scenes.{Home, Full, is_full, Past, Scene}
+use Rattle.table_rules.specs.Scenes.{Full, is_full, Scene}
 use Rattle.table_rules.specs.Homes.{is_waiting, is_resting}
 use Rattle.table_rules.specs.Starts.{StartsStand}
 use Rattle.table_rules.specs.Items.{HasFailedChild, ItemsStand}
 use Rattle.table_rules.specs.Lots.{LotsStand}
+use Rattle.table_kept.proofs.MovingSeats.{Move}
 use Rattle.table_kept.proofs.Moving as moving
-use Rattle.table_kept.proofs.Moving.{Moves}
 
-module _ {P E O : Type 0} (cargo : Ghosts P E O) (over : O) (s : Scene P E) (h : ℕ) (x : Name) (w : ControlWord) (u : View) (p : IsPut s.state h x w u) (home : ℕ → ℕ → Home P) (past : Past P E) (mv : Moves s h x w u p home past) where
+module _ {P E O : Type 0} (cargo : Ghosts P E O) (over : O) (s : Scene P E) (task : Move s) where
+  open task use {hand as h, name as x, word as w, view as u, put as p, home, past, moves as mv}
+
   abbrev base : State
   base = s.state
 

@@ -24,7 +24,20 @@ or-seat true b n e = sym (some-seat n (omega (arith, e)))
 or-seat false true n e = sym (some-seat n (omega (arith, e)))
 or-seat false false n e = sym (no-seat n e)
 
-module _ {P E : Type 0} (s : Scene P E) (h : ℕ) (x : Name) (w : ControlWord) (u : View) (p : IsPut s.state h x w u) (home : ℕ → ℕ → Home P) (past : Past P E) (mv : Moves s h x w u p home past) where
+-- a step of a hand on a node: the word and the view that it leaves, and the homes and the past after it
+pub record Move {P E : Type 0} (s : Scene P E) : Type 0 where
+  pub hand : ℕ
+  pub name : Name
+  pub word : ControlWord
+  pub view : View
+  pub put : IsPut s.state hand name word view
+  pub home : ℕ → ℕ → Home P
+  pub past : Past P E
+  pub moves : Moves s hand name word view put home past
+
+module _ {P E : Type 0} (s : Scene P E) (task : Move s) where
+  open task use {hand as h, name as x, word as w, view as u, put as p, home, past, moves as mv}
+
   abbrev base : State
   base = s.state
 

@@ -2,18 +2,16 @@
 use Rattle.std.proofs.Common.{◌≡◌, ◌⊎◌, ℕ, ◌-◌, ◌≤◌, true, false, not, List, [], Option, Some, None, refl, sym, ap, ◌∙◌, subst, ⊎_elim, arith}
 use Rattle.std.specs.Prelude.{MatchOption}
 use Rattle.std.proofs.lemmas.Bool.{and_parts, both_ways}
-use Rattle.life_rules.specs.declared.words.ControlWord.{ControlWord}
 use Rattle.life_rules.specs.declared.event.Name.{Name}
 use Rattle.node_tree.specs.Tree.{is_root, is_child, parent_of}
 use Rattle.life_rules.specs.Words.{is_idle, is_done, is_held, pending}
-use Rattle.life_rules.specs.Views.{View as PureView, beside, lose}
+use Rattle.life_rules.specs.Views.{beside, lose}
 use Rattle.life_rules.specs.States.{State, control_at, stand}
 use Rattle.life_rules.specs.Owned.{weight}
 use Rattle.common_lemmas.proofs.Bool.{one-is, one-most}
 use Rattle.life_kept.proofs.Trees.{parent-child, child-within}
 use Rattle.life_rules.proofs.Names.{by_name, lose-here}
 use Rattle.life_kept.proofs.Fitting.{under_way-parts}
-use Rattle.life_kept.proofs.Puts.{IsPut}
 use Rattle.life_kept.proofs.Holding.{weight-most}
 use Rattle.table_rules.specs.declared.view.View.{View}
 use Rattle.table_rules.specs.declared.view.Held.{Held}
@@ -21,14 +19,16 @@ use Rattle.table_rules.specs.declared.view.Owed.{Owed}
 use Rattle.table_rules.specs.declared.view.Reported.{Reported}
 use Rattle.table_rules.specs.declared.view.Rooted.{Rooted}
 use Rattle.table_rules.specs.Named.{count_by, without, Each}
-use Rattle.table_rules.specs.Scenes.{Home, Past, Scene}
+use Rattle.table_rules.specs.Scenes.{Scene}
 use Rattle.table_rules.specs.Notes.{IsHeldSo, IsOwedSo, IsReportedSo, IsRootedSo, IsKnown}
+use Rattle.table_kept.proofs.MovingSeats.{Move}
 use Rattle.table_kept.proofs.Entries.{each-map, each-by, each-without, count-without}
 use Rattle.table_kept.proofs.Among.{IsAmong}
 use Rattle.table_kept.proofs.Moving as moving
-use Rattle.table_kept.proofs.Moving.{Moves}
 
-module _ {P E : Type 0} (s : Scene P E) (h : ℕ) (x : Name) (w : ControlWord) (u : PureView) (p : IsPut s.state h x w u) (home : ℕ → ℕ → Home P) (past : Past P E) (mv : Moves s h x w u p home past) where
+module _ {P E : Type 0} (s : Scene P E) (task : Move s) where
+  open task use {hand as h, name as x, word as w, view as u, put as p, home, past, moves as mv}
+
   abbrev base : State
   base = s.state
 

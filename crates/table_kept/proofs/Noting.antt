@@ -69,7 +69,19 @@ module _ {A : Type 0} (name : A → Name) (change : A → A) (same_name : (e : A
       (λ f. subst (Each Q) (sym (cond-false (same (name e) x) (change e ∷ es) (e ∷ at_entry name change x es) f))
       (all.0, each-at Q keeps es all.1))
 
-module _ {P E O : Type 0} (cargo : Ghosts P E O) (f : Frame O) (s : table.State (Option P) (View P E)) (id i : ℕ) (x : Name) (v : View P E) (change : Held E → Held E) (same_name : (e : Held E) → (change e).name ≡ e.name) where
+-- a hand notes something of a node that it holds
+pub record Notes (P E : Type 0) : Type 0 where
+  pub state : table.State (Option P) (View P E)
+  pub id : ℕ
+  pub cell : ℕ
+  pub name : Name
+  pub view : View P E
+  pub change : Held E → Held E
+  pub same_name : (e : Held E) → (change e).name ≡ e.name
+
+module _ {P E O : Type 0} (cargo : Ghosts P E O) (f : Frame O) (task : Notes P E) where
+  open task use {state as s, id, cell as i, name as x, view as v, change, same_name}
+
   abbrev noted : View P E
   noted = record v { held = at_entry (λ (e : Held E). e.name) change x v.held }
 

@@ -98,7 +98,19 @@ view-blank P E blocks (suc h) = refl
 pub nothing_past : {P E : Type 0} → Past P E
 nothing_past = record { start = λ _. []; named = λ _. 0; lot = λ _. []; delivered = λ _. None }
 
-module _ {P E O : Type 0} (cargo : Ghosts P E O) (over : O) (nodes : List TreeNode) (blocks hands : ℕ) (kind : ScopeKind) (most : ℕ) (tree : IsTree nodes) (some_hand : 0 < hands) where
+-- the tree, the sizes and the kind of scope with which a table is opened
+pub record Opens : Type 0 where
+  pub nodes : List TreeNode
+  pub blocks : ℕ
+  pub hands : ℕ
+  pub kind : ScopeKind
+  pub most : ℕ
+  pub tree : IsTree nodes
+  pub some_hand : 0 < hands
+
+module _ {P E O : Type 0} (cargo : Ghosts P E O) (over : O) (task : Opens) where
+  open task use {nodes, blocks, hands, kind, most, tree, some_hand}
+
   abbrev first_state : State
   first_state = opening nodes blocks hands kind most
 
@@ -182,13 +194,22 @@ pub opens : {P E O : Type 0} (cargo : Ghosts P E O) (f : Frame O) (w n : ℕ) �
     0 < f.hands → w ≡ words_in f.layout → n ≡ places_in f.layout →
     Running cargo f (table.opening (replicate w 0) (replicate n None) (fresh {P = P} {E = E} 0))
 opens {P} {E} cargo f w n frame tree some_hand as_wide as_deep =
+    let given : Opens = record {
+      nodes = f.tree;
+      blocks = f.layout.blocks;
+      hands = f.hands;
+      kind = f.kind;
+      most = f.most;
+      tree = tree;
+      some_hand = some_hand;
+    } in
     let words : List ℕ = replicate w 0 in
     let s : table.State (Option P) (View P E) = table.opening words (replicate n None) (fresh 0) in
     let dull : (i : ℕ) → slice_index words i ≡ 0 = zeros w in
     let home-empty : (b m : ℕ) → (scene f s nothing_past).home b m ≡ Empty =
     λ b m. (λ k. cond (is_there f.layout b m) (all-empty P n (place_number f.layout b m) k) Empty)
     ∙ both-same (is_there f.layout b m) Empty in
-    let at : scene f s nothing_past ≡ first_scene {P = P} {E = E} {O = _} cargo f.over.value f.tree f.layout.blocks f.hands f.kind f.most tree some_hand =
+    let at : scene f s nothing_past ≡ first_scene {P = P} {E = E} {O = _} cargo f.over.value given =
     λ k. record {
       state = record {
         tree = f.tree;
@@ -228,7 +249,7 @@ opens {P} {E} cargo f w n frame tree some_hand as_wide as_deep =
       };
       past = nothing_past;
       stands = subst (λ z. Stands cargo f.over.value z (fresh 0 ∷ [])) (sym at)
-          (stands-first cargo f.over.value f.tree f.layout.blocks f.hands f.kind f.most tree some_hand);
+          (stands-first cargo f.over.value given);
     }
 
 -- the frame of a table that is opened over a tree

@@ -1,9 +1,6 @@
 -- What the rule says of the nodes whose start a hand owes.
-use Rattle.std.proofs.Common.{◌≡◌, ℕ, true, List, [], ◌∷◌, sym, ap, ◌∙◌, subst, arith}
-use Rattle.std.specs.Prelude.{Option}
+use Rattle.std.proofs.Common.{◌≡◌, true, List, [], ◌∷◌, sym, ap, ◌∙◌, subst, arith}
 use Rattle.std.proofs.lemmas.Bool.{and_parts}
-use mathlib.Core.Option.{some}
-use lib.ListN.{get_elem?}
 use Rattle.life_rules.specs.declared.words.BlockState.{BlockState}
 use Rattle.life_rules.specs.declared.words.BlockState.TheVariants.{Free, Open, Retired}
 use Rattle.life_rules.specs.declared.event.Name.{Name}
@@ -11,15 +8,13 @@ use Rattle.life_rules.specs.Words.{is_free, is_open, is_idle}
 use Rattle.life_rules.specs.States.{State, is_live, control_at, stand}
 use Rattle.common_lemmas.proofs.Bool.{one-is}
 use Rattle.life_rules.proofs.Readings.{lives}
-use Rattle.atomic_table.specs.Table as table
 use Rattle.table_rules.specs.declared.cargo.Cargo.{Ghosts}
 use Rattle.table_rules.specs.declared.frame.Frame.{Frame}
-use Rattle.table_rules.specs.declared.view.View.{View}
 use Rattle.table_rules.specs.Named.{Each}
 use Rattle.table_rules.specs.ShownWords.{block_of}
 use Rattle.table_rules.specs.Scenes.{shown}
-use Rattle.table_rules.specs.Running.{Running}
 use Rattle.table_steps.specs.Owing.{owing, OwesNoneThere, AreOfItsBlock}
+use Rattle.table_kept.proofs.Standing.{Standing}
 use Rattle.table_kept.proofs.Entries.{each-map, each-by}
 use Rattle.table_kept.proofs.Among.{among}
 
@@ -32,7 +27,9 @@ pub each-trivial : {A : Type 0} (l : List A) → Each (λ _. Unit {0}) l
 each-trivial [] = tt
 each-trivial (a ∷ rest) = (tt, each-trivial rest)
 
-module _ {P E O : Type 0} (cargo : Ghosts P E O) (f : Frame O) (s : table.State (Option P) (View P E)) (id : ℕ) (v : View P E) (r : Running cargo f s) (at : get_elem? s.views id ≡ some v) where
+module _ {P E O : Type 0} (cargo : Ghosts P E O) (f : Frame O) (hand : Standing cargo f) where
+  open hand use {state as s, id, view as v, running as r, at}
+
   abbrev now : State
   now = shown f s
 

@@ -1,9 +1,6 @@
 -- A source of an operation in which a hand has a part is there still: a request that was seen on it stands.
 use Rattle.std.proofs.Common.{◌≡◌, ℕ, ◌≤◌, true, false, not, refl, arith}
-use Rattle.std.specs.Prelude.{Option}
 use Rattle.std.proofs.lemmas.Bool.{and_parts}
-use mathlib.Core.Option.{some}
-use lib.ListN.{get_elem?}
 use Rattle.life_rules.specs.declared.words.ControlWord.{ControlWord}
 use Rattle.life_rules.specs.declared.words.ControlWord.TheVariants.{Idle, Busy, ReadyLoop, ReadyPool, Parked, Done}
 use Rattle.life_rules.specs.declared.event.Name.{Name}
@@ -15,18 +12,16 @@ use Rattle.life_rules.specs.Views.{beside}
 use Rattle.life_rules.specs.States.{State, is_live, control_at, bits_at}
 use Rattle.life_rules.proofs.Readings.{begun-live}
 use Rattle.common_lemmas.proofs.Bool.{one-is}
-use Rattle.atomic_table.specs.Table as table
 use Rattle.table_rules.specs.declared.cargo.Cargo.{Ghosts}
 use Rattle.table_rules.specs.declared.frame.Frame.{Frame}
-use Rattle.table_rules.specs.declared.view.View.{View}
 use Rattle.table_rules.specs.Named.{count_by}
 use Rattle.table_rules.specs.ShownViews.{has_source_ref}
 use Rattle.table_rules.specs.Scenes.{shown}
-use Rattle.table_rules.specs.Running.{Running}
 use Rattle.table_steps.specs.Sights.{HasPartIn, ByNode, ByStart, ByReport, ByRun, ByRoot, KeepsAlive}
+use Rattle.table_kept.proofs.Standing.{Standing}
 use Rattle.table_kept.proofs.Entries.{found}
 use Rattle.table_kept.proofs.Among.{among}
-use Rattle.table_kept.proofs.HeldNow.{held}
+use Rattle.table_kept.proofs.HeldNow.{Holding, held}
 use Rattle.table_kept.proofs.RunsLive.{run-live}
 use Rattle.table_kept.proofs.SeenStands.{seen-anywhere, seen-at, beside-present}
 
@@ -38,7 +33,9 @@ done-begun ReadyPool d = refl
 done-begun Parked d = refl
 done-begun Done d = refl
 
-module _ {P E O : Type 0} (cargo : Ghosts P E O) (f : Frame O) (s : table.State (Option P) (View P E)) (id : ℕ) (v : View P E) (r : Running cargo f s) (at : get_elem? s.views id ≡ some v) where
+module _ {P E O : Type 0} (cargo : Ghosts P E O) (f : Frame O) (hand : Standing cargo f) where
+  open hand use {state as s, id, view as v, running as r, at}
+
   abbrev now : State
   now = shown f s
 
@@ -67,12 +64,14 @@ module _ {P E O : Type 0} (cargo : Ghosts P E O) (f : Frame O) (s : table.State 
 
   -- a node of the operation is live
   part-live : (x : Name) → HasPartIn v x → (node : ℕ) × (is_live now (beside x node) ≡ true)
-  part-live x (ByNode node e is) = (node, (held cargo f s id (beside x node) v r at e is).live)
+  part-live x (ByNode node e is) =
+      let holding : Holding hand = record { name = beside x node; entry = e; holds = is } in
+      (node, (held cargo f hand holding).live)
   part-live x (ByStart node e is) =
       (node, start-live (beside x node) (found (λ e. e.name) v.owed (beside x node) e is).counts)
   part-live x (ByReport node e is) =
       (node, report-live (beside x node) (found (λ e. e.name) v.reported (beside x node) e is).counts)
-  part-live x (ByRun node runs) = (node, run-live cargo f s id v r at (beside x node) runs)
+  part-live x (ByRun node runs) = (node, run-live cargo f hand (beside x node) runs)
   part-live x (ByRoot node counts) = (node, root-live (beside x node) counts)
 
   pub seen-stays : (source : SourceRef) → has_source_ref v.seen source ≡ true → KeepsAlive v source →
@@ -80,5 +79,5 @@ module _ {P E O : Type 0} (cargo : Ghosts P E O) (f : Frame O) (s : table.State 
   seen-stays Scope seen alive = seen-anywhere cargo f s id v r at seen
   seen-stays (Node x) seen alive =
       let part = part-live x alive in
-      seen-at cargo f s id v r at (beside x part.0) part.1 (Node x)
-      (beside-present cargo f s id v r at (beside x part.0) part.1 x.node) seen
+      seen-at cargo f hand (beside x part.0) part.1 (Node x)
+      (beside-present cargo f hand (beside x part.0) part.1 x.node) seen

@@ -2,7 +2,7 @@
 use Rattle.std.proofs.Common.{◌≡◌, ℕ, Bool, true, false, not, ◌&&◌, ◌==◌, cond, List, ◌∷◌, set, Option, Some, refl, sym, ap, ◌∙◌, subst}
 use Rattle.std.specs.Prelude.{slice_index}
 use Rattle.std.specs.Option.{option_map_or}
-use Rattle.std.proofs.lemmas.Bool.{both_ways, cond-true, cond-false}
+use Rattle.std.proofs.lemmas.Bool.{both_ways, cond-true, cond-false, eqb-true}
 use Rattle.life_rules.specs.declared.words.ControlWord.TheVariants.{Idle}
 use Rattle.life_rules.specs.declared.words.CallbackPhase.{CallbackPhase}
 use Rattle.life_rules.specs.declared.words.CallbackPhase.TheVariants.{Never, Armed, Running as Runs, Ran, Removed}
@@ -31,12 +31,14 @@ use Rattle.table_rules.specs.Notes.{is_still}
 use Rattle.table_rules.specs.Running.{Running}
 use Rattle.table_steps.specs.Claims.{logged, Seated, ListsOne}
 use Rattle.table_steps.specs.Slots.{IsSeated}
-use Rattle.table_steps.specs.Readings.{notes_phase, above_it, says_begun, says_phase, notes_idle, reads_child, reads_phase, HoldsAbove, Holds}
+use Rattle.table_steps.specs.Readings.{notes_phase, above_it, says_at, says_begun, says_phase, notes_idle, reads_child, reads_phase, KnowsIdle, ChildReads, HoldsAbove, Holds}
+use Rattle.table_kept.proofs.Standing.{Standing}
 use Rattle.table_kept.proofs.Listing.{AllowsListed, allows-listed, lists-one}
+use Rattle.table_kept.proofs.Entries.{each-passing}
 use Rattle.table_kept.proofs.FoundNow.{phase-said, control-said}
 use Rattle.table_kept.proofs.Loads.{looks_keep}
 use Rattle.table_kept.proofs.BeginSeats.{seated-logged}
-use Rattle.table_kept.proofs.HeldNow.{held}
+use Rattle.table_kept.proofs.HeldNow.{Holding, held, idle-so}
 use Rattle.table_kept.proofs.Noting.{noting-keeps, seated-noted}
 
 pub still-refl : (p : CallbackPhase) → is_still p p
@@ -60,20 +62,37 @@ module _ {P E O : Type 0} (cargo : Ghosts P E O) (f : Frame O) (s : table.State 
   abbrev now : State
   now = shown f s
 
-  -- a child that isn't said to have begun is idle
-  pub idle-said : (n : ℕ) → is_live now x ≡ true → is_child f.tree x.node n ≡ true →
-      says_begun x.generation (word_of f.layout s.words (OfControl x.block n)) ≡ false → is_idle (control_at now (beside x n)) ≡ true
-  idle-said n live child unsaid =
+  -- what the word of a child of a live node says
+  child-said : (n : ℕ) → is_live now x ≡ true → is_child f.tree x.node n ≡ true →
+      control_at now (beside x n) ≡ says_at Idle control_read x.generation (word_of f.layout s.words (OfControl x.block n))
+  child-said n live child =
       let l = lives now x live in
       let y = beside x n in
-      let y_live : is_live now y ≡ true = is_live-from now y (record {
+      control-said cargo f s r y (is_live-from now y (record {
         block = l.block;
         node = child-within f.tree x.node n child;
         is_opened = l.is_opened;
         generation = l.generation;
-      }) in
+      }))
+
+  -- a child that is idle isn't said to have begun
+  pub idle-unsaid : (n : ℕ) → is_live now x ≡ true → is_child f.tree x.node n ≡ true → is_idle (control_at now (beside x n)) ≡ true →
+      says_begun x.generation (word_of f.layout s.words (OfControl x.block n)) ≡ false
+  idle-unsaid n live child idle =
       let w = word_of f.layout s.words (OfControl x.block n) in
-      ap is_idle (control-said cargo f s r y y_live)
+      either (stamp_of w == x.generation)
+      (λ t.
+      let read : is_idle (control_read w) ≡ true =
+      ap (λ b. is_idle (cond b (control_read w) Idle)) (sym t) ∙ ap is_idle (sym (child-said n live child)) ∙ idle in
+      ap (λ b. b && not (is_idle (control_read w))) t ∙ ap not read)
+      (λ no. ap (λ b. b && not (is_idle (control_read w))) no)
+
+  -- a child that isn't said to have begun is idle
+  pub idle-said : (n : ℕ) → is_live now x ≡ true → is_child f.tree x.node n ≡ true →
+      says_begun x.generation (word_of f.layout s.words (OfControl x.block n)) ≡ false → is_idle (control_at now (beside x n)) ≡ true
+  idle-said n live child unsaid =
+      let w = word_of f.layout s.words (OfControl x.block n) in
+      ap is_idle (child-said n live child)
       ∙ either (stamp_of w == x.generation)
       (λ t. ap (λ b. is_idle (cond b (control_read w) Idle)) t ∙ idle-either (stamp_of w == x.generation) (is_idle (control_read w)) unsaid t)
       (λ no. ap (λ b. is_idle (cond b (control_read w) Idle)) no)
@@ -83,14 +102,24 @@ pub phase_allowed : {P E O : Type 0} (cargo : Ghosts P E O) (f : Frame O) (slots
     Allows (Running cargo f) slots id m (index f.layout (OfCallback x.block x.node)) (λ n. n)
     (λ n m'. m' ≡ reads_phase x (index f.layout (OfCallback x.block x.node)) n m)
 phase_allowed cargo f slots id x m h s r deep at small =
+    let hand : Standing cargo f = record { state = s; id = id; view = m.0; running = r; at = at } in
+    let holding : Holding hand = record { name = x; entry = h.held; holds = h.holds } in
     let i = index f.layout (OfCallback x.block x.node) in
     let n = slice_index s.words i in
-    let live = (held cargo f s id x m.0 r at h.held h.holds).live in
+    let live = (held cargo f hand holding).live in
     let phase = says_phase x.generation n in (
       (reads_phase x i n m).0,
       keeps,
       tt,
-      noting-keeps cargo f s id i x m.0 (λ e. record e { phase = Some phase }) (λ e. refl) r at
+      noting-keeps cargo f (record {
+        state = s;
+        id = id;
+        cell = i;
+        name = x;
+        view = m.0;
+        change = (λ e. record e { phase = Some phase });
+        same_name = (λ e. refl);
+      }) r at
           (λ e name so. record {
             start = so.start;
             named = so.named;
@@ -108,11 +137,20 @@ phase_allowed cargo f slots id x m h s r deep at small =
 pub child_allowed : {P E O : Type 0} (cargo : Ghosts P E O) (f : Frame O) (slots id : ℕ) (x : Name) (n : ℕ) (m : Seated P E) → Holds m.0 x →
     is_child f.tree x.node n ≡ true →
     Allows (Running cargo f) slots id m (index f.layout (OfControl x.block n)) (λ w. w)
-    (λ w m'. m' ≡ reads_child x (beside x n) (index f.layout (OfControl x.block n)) w m)
+    (λ w m'. ChildReads x (beside x n) (index f.layout (OfControl x.block n)) w m m')
 child_allowed {P} {E} cargo f slots id x n m h child s r deep at small =
+    let hand : Standing cargo f = record { state = s; id = id; view = m.0; running = r; at = at } in
+    let holding : Holding hand = record { name = x; entry = h.held; holds = h.holds } in
     let i = index f.layout (OfControl x.block n) in
     let w = slice_index s.words i in
-    let live = (held cargo f s id x m.0 r at h.held h.holds).live in
+    let live = (held cargo f hand holding).live in
+    let idle-again : KnowsIdle x n m → says_begun x.generation w ≡ false =
+    λ known.
+    let noted : Holding hand = record { name = x; entry = known.held; holds = known.holds } in
+    let kid = each-passing (λ q. is_idle (control_at (shown f s) (beside x q)) ≡ true) (λ q. q == n) known.held.idle known.idle
+    (idle-so cargo f hand noted) in
+    idle-unsaid cargo f s r x n live child
+    (subst (λ q. is_idle (control_at (shown f s) (beside x q)) ≡ true) (eqb-true kid.0 n kid.1) kid.2) in
     let told : View P E → View P E = λ z. logged i w z in (
       (reads_child x (beside x n) i w m).0,
       keeps,
@@ -124,7 +162,15 @@ child_allowed {P} {E} cargo f slots id x n m h child s r deep at small =
           (λ idle.
           subst (λ z. Running cargo f record { words = set s.words i w; homes = s.homes; views = set s.views id (told z) })
           (sym (cond-false (says_begun x.generation w) m.0 (notes_idle x n m.0) idle))
-          (noting-keeps cargo f s id i x m.0 (λ (e : Held E). record e { idle = n ∷ e.idle }) (λ e. refl) r at
+          (noting-keeps cargo f (record {
+            state = s;
+            id = id;
+            cell = i;
+            name = x;
+            view = m.0;
+            change = (λ (e : Held E). record e { idle = n ∷ e.idle });
+            same_name = (λ e. refl);
+          }) r at
           (λ e name so. record {
             start = so.start;
             named = so.named;
@@ -138,7 +184,7 @@ child_allowed {P} {E} cargo f slots id x n m h child s r deep at small =
               so.idle,
             );
           }))),
-      refl,
+      (refl, idle-again),
     )
 
 -- the load is listed, whatever it tells
@@ -164,12 +210,12 @@ module _ {P E O : Type 0} (cargo : Ghosts P E O) where
 
   pub child-at : (board f : Frame O) (slots id i : ℕ) (child x c : Name) (m : Seated P E) → board ≡ f →
       i ≡ index board.layout (OfControl child.block child.node) → x ≡ above_it board.tree child → c ≡ child → HoldsAbove board.tree m.0 child →
-      AllowsListed cargo f slots id m i (λ n. n) (λ n m'. m' ≡ reads_child x c i n m)
+      AllowsListed cargo f slots id m i (λ n. n) (λ n m'. ChildReads x c i n m m')
   child-at board f slots id i child x c m same i_is name child_is holds =
-      allows-listed cargo f slots id m i (λ n. n) (λ n m'. m' ≡ reads_child x c i n m)
-      (λ n m' told. subst (ListsOne i n n m) (sym told) (child-lists x c i n m))
-      (subst (λ z. Allows (Running cargo z) slots id m i (λ n. n) (λ n m'. m' ≡ reads_child x c i n m)) same
-      (subst (λ (z : ℕ × (Name × Name)). Allows (Running cargo board) slots id m z.0 (λ n. n) (λ n m'. m' ≡ reads_child z.1.0 z.1.1 z.0 n m))
+      allows-listed cargo f slots id m i (λ n. n) (λ n m'. ChildReads x c i n m m')
+      (λ n m' told. subst (ListsOne i n n m) (sym told.0) (child-lists x c i n m))
+      (subst (λ z. Allows (Running cargo z) slots id m i (λ n. n) (λ n m'. ChildReads x c i n m m')) same
+      (subst (λ (z : ℕ × (Name × Name)). Allows (Running cargo board) slots id m z.0 (λ n. n) (λ n m'. ChildReads z.1.0 z.1.1 z.0 n m m'))
       (λ k. (sym i_is k, (sym (name ∙ above-is board.tree m.0 child holds) k, sym child_is k)))
       (child_allowed cargo board slots id (beside child holds.parent) child.node m (record { held = holds.held; holds = holds.holds })
       (parent-child board.tree holds.parent child.node holds.parent_is))))

@@ -3,7 +3,6 @@ use Rattle.std.specs.Prelude.{slice_index}
 use Rattle.std.proofs.Common.{◌≡◌, inl, inr, ℕ, ◌-◌, ◌<◌, true, false, ◌||◌, ◌==◌, List, [], ◌∷◌, length, set, Option, arith, refl, sym, ap, ◌∙◌, subst}
 use Rattle.std.specs.List.{list_any}
 use Rattle.std.proofs.lemmas.Bool.{both_ways, and_from, cond-true, eq-eqb, lt-ltb}
-use mathlib.Core.Option.{some}
 use mathlib.Core.Option as maybe
 use lib.ListN.{get_elem?}
 use Rattle.life_rules.specs.declared.words.BlockWord.{BlockWord}
@@ -14,7 +13,6 @@ use Rattle.table_words.specs.declared.layout.Layout.{Layout}
 use Rattle.table_words.specs.Blocks.{block_read}
 use Rattle.table_words.specs.Layouts.{OfBlock, index, place_number}
 use Rattle.table_words.proofs.Spots.{place-within}
-use Rattle.atomic_table.specs.Table as table
 use Rattle.atomic_table.specs.Table.{Allows}
 use Rattle.atomic_table.proofs.Lists.{set_here}
 use Rattle.table_rules.specs.declared.cargo.Cargo.{Ghosts}
@@ -29,17 +27,18 @@ use Rattle.table_steps.specs.Claims.{with_step, Seated}
 use Rattle.table_steps.specs.Slots.{Aim, slot_of, is_of_family, has_slot, IsSeated}
 use Rattle.table_steps.specs.Sheds.{shed}
 use Rattle.table_steps.specs.Releases.{releases, is_own_slot, CanRelease, ReleasesAt, open_at, word_after, LeftEmpty, StayEmpty, TellsRelease, LeavesBlock}
+use Rattle.table_kept.proofs.Standing.{Standing}
 use Rattle.table_kept.proofs.Listing.{AllowsListed, allows-listed, lists-one}
 use Rattle.table_kept.proofs.Entries.{any-without}
 use Rattle.table_kept.proofs.BeginSeats.{or-left, or-right, or-cases}
 use Rattle.table_kept.proofs.Shedding.{sheds, carries-shed}
-use Rattle.table_kept.proofs.ShedHomes.{valid-shed}
+use Rattle.table_kept.proofs.ShedHomes.{ToShed, valid-shed}
 use Rattle.table_kept.proofs.ShedSeats.{each-shed, apart-shed}
 use Rattle.table_kept.proofs.HomeMoves.{empty-home}
 use Rattle.table_kept.proofs.Seats.{at_within}
 use Rattle.table_kept.proofs.OpenBlocks.{next-closed}
 use Rattle.table_kept.proofs.ReleaseMoves.{block-released}
-use Rattle.table_kept.proofs.ReleaseRuns.{hb, word-next, release-runs, found-open}
+use Rattle.table_kept.proofs.ReleaseRuns.{ToRelease, hb, word-next, release-runs, found-open}
 
 -- another slot is still given to the hand
 given-released : {P E : Type 0} (tree : List TreeNode) (l : Layout) (x : Name) (i n left : ℕ) (v : View P E) (slot : ℕ) →
@@ -86,11 +85,18 @@ stay-empty cargo f b below s r shut n hn =
     (sym (cond-true (is_there f.layout b n) home Empty there) ∙ r.stands.homes.closed b n shut)
 
 -- the table that the store leaves has all homes of the block empty
-module _ {P E O : Type 0} (cargo : Ghosts P E O) (f : Frame O) (s : table.State (Option P) (View P E)) (id value b g : ℕ) (m : Seated P E) (r : Running cargo f s) (at : get_elem? s.views id ≡ some m.0) (seated : IsSeated f.tree f.layout m) (can : CanRelease f.layout m (root_at f b g)) (reads : block_read value ≡ word_after g) where
+module _ {P E O : Type 0} (cargo : Ghosts P E O) (f : Frame O) (hand : Standing cargo f)
+    (task : ToRelease hand) where
+  open hand use {state as s, id, view as v, running as r, at}
+  open task use {value, block as b, generation as g, carried as c, seated, can, reads}
+
+  abbrev m : Seated P E
+  m = (v, c)
+
   now-reads : block_of f.layout (set s.words (index f.layout (OfBlock b)) value) b ≡ word_after g
   now-reads =
-      let below = hb cargo f s id value b g m.0 m.1 r at seated can reads in
-      let next = word-next cargo f s id value b g m.0 m.1 r at seated can reads in
+      let below = hb cargo f hand task in
+      let next = word-next cargo f hand task in
       block-released f.layout s.words r.sized.words b value below next b
       ∙ cond-true (b == b) _ (block_of f.layout s.words b) (eq-eqb b b refl) ∙ sym next ∙ reads
 
@@ -98,7 +104,7 @@ module _ {P E O : Type 0} (cargo : Ghosts P E O) (f : Frame O) (s : table.State 
       Running cargo f record { words = set s.words (index f.layout (OfBlock b)) value; homes = homes; views = set s.views id mine } →
       LeftEmpty cargo f id b (word_after g) (mine, c)
   left-empty mine homes c runs =
-      let below = hb cargo f s id value b g m.0 m.1 r at seated can reads in
+      let below = hb cargo f hand task in
       record {
         left = _;
         runs = runs;
@@ -113,24 +119,35 @@ pub releases_allowed : {P E O : Type 0} (cargo : Ghosts P E O) (f : Frame O) (sl
     Allows (Running cargo f) slots id m (index f.layout (OfBlock b)) (λ _. value)
     (λ n. TellsRelease cargo (f ∷ []) id (aimed f (root_at f b g)) (index f.layout (OfBlock b)) n value m)
 releases_allowed {P} {E} cargo f slots id value b g m seated can reads s r deep at small =
+    let hand : Standing cargo f = record { state = s; id = id; view = m.0; running = r; at = at } in
+    let releasing : ToRelease hand = record {
+      value = value;
+      block = b;
+      generation = g;
+      carried = m.1;
+      seated = seated;
+      can = can;
+      reads = reads;
+    } in
     let i = index f.layout (OfBlock b) in
     let x = root_at f b g in
     let gone = is_own_slot f.layout x in
+    let shedding : ToShed hand = record { carried = m.1; seated = seated; gone = gone } in
     let n = slice_index s.words i in
     let mine : View P E = with_step i n value (releases x m.0) in
     let is = carries-shed gone m.1 in
-    let runs = release-runs cargo f s id value b g m.0 m.1 r at seated can reads n refl in (
+    let runs = release-runs cargo f hand releasing n refl in (
       mine,
       sheds gone m.1,
-      valid-shed cargo f s id m.0 m.1 r at seated gone,
+      valid-shed cargo f hand shedding,
       runs,
       record {
-        found = found-open cargo f s id value b g m.0 m.1 r at seated can reads;
+        found = found-open cargo f hand releasing;
         did = record {
           me_is = λ k. (mine, is k);
           seated = subst (λ d. IsSeated f.tree f.layout (mine, d)) (sym is) (seated-released f.tree f.layout x i n value m.0 m.1 seated);
         };
-        empty = (left-empty cargo f s id value b g m r at seated can reads mine _ _ runs, tt);
+        empty = (left-empty cargo f hand releasing mine _ _ runs, tt);
       },
     )
 

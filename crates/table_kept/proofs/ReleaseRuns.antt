@@ -28,7 +28,6 @@ use Rattle.table_words.specs.Blocks.{block_read}
 use Rattle.table_words.specs.Controls.{control_read, callback_read, source_read}
 use Rattle.table_words.specs.ScopeNumbers.{scope_read}
 use Rattle.table_words.specs.Layouts.{Spot, TheScope, TheScopeSource, OfBlock, OfControl, OfCallback, OfSource, IsSpot, index, place_number}
-use Rattle.atomic_table.specs.Table as table
 use Rattle.listed_steps.specs.Lists.{entry}
 use Rattle.table_rules.specs.declared.cargo.Cargo.{Ghosts}
 use Rattle.table_rules.specs.declared.frame.Frame.{Frame}
@@ -42,6 +41,7 @@ use Rattle.table_rules.specs.Running.{Stands, Running}
 use Rattle.table_steps.specs.Claims.{with_step}
 use Rattle.table_steps.specs.Slots.{slot_of, IsSeated}
 use Rattle.table_steps.specs.Releases.{releases, is_own_slot, CanRelease}
+use Rattle.table_kept.proofs.Standing.{Standing}
 use Rattle.table_kept.proofs.Entries.{count-without, each-without, has-counts}
 use Rattle.table_kept.proofs.Seats.{at_within}
 use Rattle.table_kept.proofs.Among.{among}
@@ -53,19 +53,34 @@ use Rattle.table_kept.proofs.ViewMoves.{view-here, view-set, views-moved}
 use Rattle.table_kept.proofs.WordMoves.{there-place}
 use Rattle.table_kept.proofs.HomeMoves.{home_of_place}
 use Rattle.table_kept.proofs.Shedding.{deep-shed}
-use Rattle.table_kept.proofs.ShedHomes.{shed_homes, shed-far, shed-here}
+use Rattle.table_kept.proofs.ShedHomes.{ToShed, shed_homes, shed-far, shed-here}
 use Rattle.table_kept.proofs.Releasing.{released_scene, homes-released, starts-released, items-released, lots-released}
 use Rattle.table_kept.proofs.ReleasingViews.{known-released}
 use Rattle.table_kept.proofs.ReleaseMoves.{released_words, place-kept, block-released, stamp-later, said-released}
 use Rattle.table_kept.proofs.Forgetting.{views-forget}
-use Rattle.table_kept.proofs.ReleaseStamps.{settled-after, quiet-after, renewed-after, number-more}
+use Rattle.table_kept.proofs.ReleaseStamps.{Releases, settled-after, quiet-after, renewed-after, number-more}
 
 open-is : (w : BlockState) → is_open w ≡ true → w ≡ Open
 open-is Free o = cc
 open-is Open o = refl
 open-is Retired o = cc
 
-module _ {P E O : Type 0} (cargo : Ghosts P E O) (f : Frame O) (s : table.State (Option P) (View P E)) (id value b g : ℕ) (v : View P E) (c : List (ℕ × Option P)) (r : Running cargo f s) (at : get_elem? s.views id ≡ some v) (seated : IsSeated f.tree f.layout (v, c)) (can : CanRelease f.layout (v, c) (record { block = b; generation = g; node = length f.tree - 1 })) (reads : block_read value ≡ next_word (record { generation = g; state = Open })) where
+-- which block is given back, and by which word
+pub record ToRelease {P E O : Type 0} {cargo : Ghosts P E O} {f : Frame O}
+    (hand : Standing cargo f) : Type 0 where
+  pub value : ℕ
+  pub block : ℕ
+  pub generation : ℕ
+  pub carried : List (ℕ × Option P)
+  pub seated : IsSeated f.tree f.layout (hand.view, carried)
+  pub can : CanRelease f.layout (hand.view, carried) (record { block = block; generation = generation; node = length f.tree - 1 })
+  pub reads : block_read value ≡ next_word (record { generation = generation; state = Open })
+
+module _ {P E O : Type 0} (cargo : Ghosts P E O) (f : Frame O) (hand : Standing cargo f)
+    (task : ToRelease hand) where
+  open hand use {state as s, id, view as v, running as r, at}
+  open task use {value, block as b, generation as g, carried as c, seated, can, reads}
+
   abbrev now : State
   now = shown f s
 
@@ -123,8 +138,11 @@ module _ {P E O : Type 0} (cargo : Ghosts P E O) (f : Frame O) (s : table.State 
   abbrev gone : ℕ → Bool
   gone = is_own_slot f.layout x
 
+  abbrev shedding : ToShed hand
+  shedding = record { carried = c; seated = seated; gone = gone }
+
   abbrev homes_now : List (maybe.Option (Option P))
-  homes_now = shed_homes cargo f s id v c r at seated gone
+  homes_now = shed_homes cargo f hand shedding
 
   abbrev after : Scene P E
   after = released_scene here id b needs later r.stands.homes far
@@ -138,12 +156,12 @@ module _ {P E O : Type 0} (cargo : Ghosts P E O) (f : Frame O) (s : table.State 
       (λ t.
       let parts = and_parts (i == b) (m == size now - 1) t in
       (λ k. home_of_place f.layout homes_now (eqb-true i b parts.0 k) (eqb-true m (size now - 1) parts.1 k))
-      ∙ shed-here cargo f s id v c r at seated gone b (size now - 1) None hb hn (eq-eqb (slot_of f.layout x) (slot_of f.layout x) refl) can.home
+      ∙ shed-here cargo f hand shedding b (size now - 1) None hb hn (eq-eqb (slot_of f.layout x) (slot_of f.layout x) refl) can.home
       ∙ sym (cond-true (i == b && m == size now - 1) Empty (here.home i m) t))
       (λ apart.
       either (is_there f.layout i m)
       (λ there.
-      shed-far cargo f s id v c r at seated gone i m
+      shed-far cargo f hand shedding i m
       (false_from_ne_true (gone (place_number f.layout i m)) (λ t.
       let is = same_from_place b (size now - 1) i m f.layout.nodes hn (there-place f.layout i m there).1 (eqb-true (slot_of f.layout x) (place_number f.layout i m) t) in
       both_ways (i == b && m == size now - 1) apart (and_from _ _ (eq-eqb i b (sym is.0)) (eq-eqb m (size now - 1) (sym is.1))))))
@@ -171,6 +189,19 @@ module _ {P E O : Type 0} (cargo : Ghosts P E O) (f : Frame O) (s : table.State 
       let read = block_read (word_of f.layout s.words (OfBlock b)) in
       sym (cond-true (nat_lt b f.layout.blocks) read (record { generation = 0; state = Free }) (lt-ltb b f.layout.blocks hb))
       ∙ (λ k. record { generation = sym (lives now x live).generation k; state = open-is (old_blocks b).state opened k })
+
+  abbrev given_back : Releases cargo f
+  given_back = record {
+    state = s;
+    id = id;
+    value = value;
+    block = b;
+    running = r;
+    within = hb;
+    opened = opened;
+    needs = needs;
+    next = word-next;
+  }
 
   module _ (n : ℕ) where
     abbrev i : ℕ
@@ -259,10 +290,10 @@ module _ {P E O : Type 0} (cargo : Ghosts P E O) (f : Frame O) (s : table.State 
             control = λ j m hj hm. stamp-place (OfControl j m) j m (hj, hm) (λ e. cc) (r.stamped.control j m hj hm);
             callback = λ j m hj hm. stamp-place (OfCallback j m) j m (hj, hm) (λ e. cc) (r.stamped.callback j m hj hm);
             source = λ j m hj hm. stamp-place (OfSource j m) j m (hj, hm) (λ e. cc) (r.stamped.source j m hj hm);
-            settled = settled-after cargo f s id value b r hb opened needs word-next;
-            quiet = quiet-after cargo f s id value b r hb opened needs word-next;
-            renewed = renewed-after cargo f s id value b r hb opened needs word-next;
-            rises = written-risen f.layout s.views id v mine at s.words value (OfBlock b) r.sized.words hb (number-more cargo f s id value b r hb opened needs word-next)
+            settled = settled-after cargo f given_back;
+            quiet = quiet-after cargo f given_back;
+            renewed = renewed-after cargo f given_back;
+            rises = written-risen f.layout s.views id v mine at s.words value (OfBlock b) r.sized.words hb (number-more cargo f given_back)
                 (ap (λ k. entry i k value ∷ v.steps) was) r.stamped.rises;
             scope = subst (λ w. w < 2 ^ 36) (sym (place-kept f.layout s.words r.sized.words b value hb word-next TheScope tt (λ e. cc))) r.stamped.scope;
           };

@@ -28,7 +28,21 @@ use Rattle.table_kept.proofs.Stamping.{is_on, unsaid-kept, renewed-kept}
 use Rattle.table_kept.proofs.WordsLive.{quiet-way}
 use Rattle.table_kept.proofs.ReleaseMoves.{released_words, place-kept, block-there, said-released}
 
-module _ {P E O : Type 0} (cargo : Ghosts P E O) (f : Frame O) (s : table.State (Option P) (View P E)) (id value b : ℕ) (r : Running cargo f s) (hb : b < f.layout.blocks) (opened : is_open (block_of f.layout s.words b).state ≡ true) (needs : MayRelease (shown f s) id b) (word-next : block_read value ≡ next_word (block_of f.layout s.words b)) where
+-- a block is given back: its word says the next generation
+pub record Releases {P E O : Type 0} (cargo : Ghosts P E O) (f : Frame O) : Type 0 where
+  pub state : table.State (Option P) (View P E)
+  pub id : ℕ
+  pub value : ℕ
+  pub block : ℕ
+  pub running : Running cargo f state
+  pub within : block < f.layout.blocks
+  pub opened : is_open (block_of f.layout state.words block).state ≡ true
+  pub needs : MayRelease (shown f state) id block
+  pub next : block_read value ≡ next_word (block_of f.layout state.words block)
+
+module _ {P E O : Type 0} (cargo : Ghosts P E O) (f : Frame O) (task : Releases cargo f) where
+  open task use {state as s, id, value, block as b, running as r, within as hb, opened, needs, next as word-next}
+
   abbrev now : State
   now = shown f s
 

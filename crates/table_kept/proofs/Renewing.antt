@@ -1,10 +1,8 @@
 -- The store by which the source of a node that hasn't begun is written as clear keeps the rule: it read
 -- as clear before.
 use Rattle.std.proofs.Common.{◌≡◌, ℕ, ◌^◌, ◌<◌, ◌≤◌, true, false, not, ◌&&◌, ◌==◌, List, set, refl, sym, ap, ◌∙◌, subst, arith, length-set}
-use Rattle.std.specs.Prelude.{Option, Some, slice_index}
+use Rattle.std.specs.Prelude.{Some, slice_index}
 use Rattle.std.proofs.lemmas.Bool.{and_parts, and_from, both_ways, cond-true, eqb-true, eq-eqb, lt-ltb}
-use mathlib.Core.Option.{some}
-use lib.ListN.{get_elem?}
 use Rattle.life_rules.specs.declared.words.ControlWord.TheVariants.{Idle}
 use Rattle.life_rules.specs.declared.words.CallbackPhase.TheVariants.{Never}
 use Rattle.life_rules.specs.declared.event.Name.{Name}
@@ -21,7 +19,6 @@ use Rattle.table_words.specs.Controls.{control_read, callback_read, source_read}
 use Rattle.table_words.specs.ScopeNumbers.{scope_read}
 use Rattle.table_words.specs.Layouts.{Spot, TheScope, TheScopeSource, OfControl, OfCallback, OfSource, IsSpot, index}
 use Rattle.atomic_table.specs.Table.{Allows, keeps}
-use Rattle.atomic_table.specs.Table as table
 use Rattle.table_rules.specs.declared.cargo.Cargo.{Ghosts}
 use Rattle.table_rules.specs.declared.frame.Frame.{Frame}
 use Rattle.table_rules.specs.declared.view.View.{View}
@@ -35,6 +32,7 @@ use Rattle.table_rules.specs.Running.{Stands, Running}
 use Rattle.table_steps.specs.Claims.{with_step, Seated}
 use Rattle.table_steps.specs.Lefts.{FoundSource}
 use Rattle.table_steps.specs.Begins.{Renews}
+use Rattle.table_kept.proofs.Standing.{Standing}
 use Rattle.table_kept.proofs.Entries.{found}
 use Rattle.table_kept.proofs.Seats.{at_within}
 use Rattle.table_kept.proofs.Loads.{known-listed}
@@ -46,7 +44,21 @@ use Rattle.table_kept.proofs.PlaceMoves as places
 use Rattle.table_kept.proofs.ControlRuns.{open-kept}
 use Rattle.table_kept.proofs.FoundNow.{found-as}
 
-module _ {P E O : Type 0} (cargo : Ghosts P E O) (f : Frame O) (s : table.State (Option P) (View P E)) (id value : ℕ) (x : Name) (owed : Owed E) (v : View P E) (r : Running cargo f s) (at : get_elem? s.views id ≡ some v) (owes : find_by (λ e. e.name) v.owed x ≡ Some owed) (stamped : stamp_of value ≡ x.generation) (reads : source_read value ≡ clear) where
+-- which node's source is written as clear
+pub record ToRenew {P E O : Type 0} {cargo : Ghosts P E O} {f : Frame O}
+    (hand : Standing cargo f) : Type 0 where
+  pub value : ℕ
+  pub name : Name
+  pub owed : Owed E
+  pub owes : find_by (λ e. e.name) hand.view.owed name ≡ Some owed
+  pub stamped : stamp_of value ≡ name.generation
+  pub reads : source_read value ≡ clear
+
+module _ {P E O : Type 0} (cargo : Ghosts P E O) (f : Frame O) (hand : Standing cargo f)
+    (task : ToRenew hand) where
+  open hand use {state as s, id, view as v, running as r, at}
+  open task use {value, name as x, owed, owes, stamped, reads}
+
   abbrev now : State
   now = shown f s
 
@@ -267,10 +279,19 @@ pub renews_allowed : {P E O : Type 0} (cargo : Ghosts P E O) (f : Frame O) (slot
     Allows (Running cargo f) slots id m (index f.layout (OfSource x.block x.node)) (λ _. value)
     (λ n. Renews x (index f.layout (OfSource x.block x.node)) n value m)
 renews_allowed cargo f slots id value x owed m owes stamped reads s r deep at small =
+    let hand : Standing cargo f = record { state = s; id = id; view = m.0; running = r; at = at } in
+    let renewing : ToRenew hand = record {
+      value = value;
+      name = x;
+      owed = owed;
+      owes = owes;
+      stamped = stamped;
+      reads = reads;
+    } in
     let i = index f.layout (OfSource x.block x.node) in (
       with_step i (slice_index s.words i) value m.0,
       keeps,
       tt,
-      renewal-runs cargo f s id value x owed m.0 r at owes stamped reads,
-      record { found = found-clear cargo f s id value x owed m.0 r at owes stamped reads; me_is = refl },
+      renewal-runs cargo f hand renewing,
+      record { found = found-clear cargo f hand renewing; me_is = refl },
     )

@@ -35,6 +35,7 @@ use Rattle.table_steps.specs.Lefts.{less_one}
 use Rattle.table_steps.specs.Claims.{with_step, Seated}
 use Rattle.table_steps.specs.Slots.{Aim, slot_of, kids_of, is_of_family, has_slot, IsSeated}
 use Rattle.table_steps.specs.Reports.{CanReport, reports_off, holds_last, laid, LastAt, ReportsAt, CountsDown}
+use Rattle.table_kept.proofs.Standing.{Standing}
 use Rattle.table_kept.proofs.Listing.{AllowsListed, allows-listed, lists-one}
 use Rattle.table_kept.proofs.Entries.{each-map, each-both}
 use Rattle.table_kept.proofs.KidSlots.{kids-descend}
@@ -46,18 +47,30 @@ use Rattle.table_kept.proofs.Hearing.{hears-as}
 use Rattle.table_kept.proofs.LaidSlots.{take_with, carries-laid, each-laid, apart-laid}
 use Rattle.table_kept.proofs.ReportWords.{IsExact, less-stamp, less-read}
 use Rattle.table_kept.proofs.Reporting.{above, waits, word-is, above-live}
-use Rattle.table_kept.proofs.ReportOn.{report-runs}
-use Rattle.table_kept.proofs.LastKids.{waits-before, counts-named, kid-ends, kid-fits, kid-below, kid-draws, kid-failed}
+use Rattle.table_kept.proofs.ReportOn.{ToReportOn, report-runs}
+use Rattle.table_kept.proofs.LastKids.{LastReport, waits-before, counts-named, kid-ends, kid-fits, kid-below, kid-draws, kid-failed}
 use Rattle.table_kept.proofs.LastReported.{last-keeps, last-descends}
-use Rattle.table_kept.proofs.ReportLast.{place-b, place-n, lies, inside, kids-within, kids-lie, last-valid, last-runs}
+use Rattle.table_kept.proofs.ReportLast.{ToReportLast, place-b, place-n, lies, inside, kids-within, kids-lie, last-valid, last-runs}
 use Rattle.table_kept.proofs.Moving.{parent-differs}
 
-module _ {P E O : Type 0} (cargo : Ghosts P E O) (f : Frame O) (s : table.State (Option P) (View P E)) (id : ℕ) (c : Name) (v : View P E) (carried : List (ℕ × Option P)) (r : Running cargo f s) (at : get_elem? s.views id ≡ some v) (can : CanReport f.tree v c) (exact : IsExact) where
+-- which child is reported, and what the hand carries
+pub record ToReport {P E O : Type 0} {cargo : Ghosts P E O} {f : Frame O}
+    (hand : Standing cargo f) : Type 0 where
+  pub child : Name
+  pub carried : List (ℕ × Option P)
+  pub can : CanReport f.tree hand.view child
+  pub exact : IsExact
+
+module _ {P E O : Type 0} (cargo : Ghosts P E O) (f : Frame O) (hand : Standing cargo f)
+    (task : ToReport hand) where
+  open hand use {state as s, id, view as v, running as r, at}
+  open task use {child as c, carried, can, exact}
+
   abbrev now : State
   now = shown f s
 
   abbrev x : Name
-  x = above cargo f s id c v r at can
+  x = above cargo f hand c can
 
   abbrev k : ℕ
   k = pending (control_at now x)
@@ -73,7 +86,7 @@ module _ {P E O : Type 0} (cargo : Ghosts P E O) (f : Frame O) (s : table.State 
   not-idle false e = cc
 
   live-now : is_live now x ≡ true
-  live-now = above-live cargo f s id c v r at can
+  live-now = above-live cargo f hand c can
 
   said-now : cond (is_said (now.block x.block) n) (control_read n) Idle ≡ Busy k
   said-now =
@@ -82,7 +95,7 @@ module _ {P E O : Type 0} (cargo : Ghosts P E O) (f : Frame O) (s : table.State 
       let e = r.frame.nodes in
       sym (cond-true (is_there f.layout x.block x.node) (said_at (now.block x.block) Idle control_read n) Idle
       (and_from _ _ (lt-ltb x.block f.layout.blocks l.block) (lt-ltb x.node f.layout.nodes (omega (arith, node, e)))))
-      ∙ sym (cond-true (is_live now x) (now.control x.block x.node) Idle live-now) ∙ word-is cargo f s id c v r at can
+      ∙ sym (cond-true (is_live now x) (now.control x.block x.node) Idle live-now) ∙ word-is cargo f hand c can
 
   is-said : is_said (now.block x.block) n ≡ true
   is-said = not-idle (is_said (now.block x.block) n) said-now
@@ -98,15 +111,15 @@ module _ {P E O : Type 0} (cargo : Ghosts P E O) (f : Frame O) (s : table.State 
 
   module _ (small : n < 18446744073709551616) where
     stamp-less : stamp_of (less_one n) ≡ c.generation
-    stamp-less = less-stamp exact n k small reads-now (waits cargo f s id c v r at can) ∙ stamp-now
+    stamp-less = less-stamp exact n k small reads-now (waits cargo f hand c can) ∙ stamp-now
 
     read-less : control_read (less_one n) ≡ Busy (k - 1)
-    read-less = less-read exact n k small reads-now (waits cargo f s id c v r at can)
+    read-less = less-read exact n k small reads-now (waits cargo f hand c can)
 
     -- it says one less then
     pub counts-now : CountsDown x n (less_one n)
     counts-now =
-        let waits = waits cargo f s id c v r at can in
+        let waits = waits cargo f hand c can in
         record {
           fewer = k - 1;
           was = record { stamp_is = stamp-now; reads = reads-now ∙ ap Busy (omega (arith, waits)) };
@@ -114,7 +127,16 @@ module _ {P E O : Type 0} (cargo : Ghosts P E O) (f : Frame O) (s : table.State 
         }
 
     pub on-now : k ≢ 1 → Running cargo f (stepped s i (less_one n) id carried (with_step i n (less_one n) (reports_off c v)) keeps)
-    on-now more = report-runs cargo f s id (less_one n) c v r at can more stamp-less read-less n refl
+    on-now more =
+        let reporting : ToReportOn hand = record {
+          value = less_one n;
+          child = c;
+          can = can;
+          more = more;
+          stamped = stamp-less;
+          reads = read-less;
+        } in
+        report-runs cargo f hand reporting n refl
 
     module _ (last : k ≡ 1) where
       read-last : control_read (less_one n) ≡ Busy 0
@@ -135,23 +157,35 @@ module _ {P E O : Type 0} (cargo : Ghosts P E O) (f : Frame O) (s : table.State 
       abbrev slot : ℕ
       slot = place_number f.layout x.block x.node
 
+      abbrev last_report : LastReport hand
+      last_report = record { child = c; can = can; last = last }
+
+      abbrev reporting : ToReportLast hand
+      reporting = record {
+        report = last_report;
+        value = less_one n;
+        carried = carried;
+        stamped = stamp-less;
+        reads = read-last;
+      }
+
       abbrev lying : (item : P) × ((scene f s r.past).home x.block x.node ≡ Full item)
-      lying = lies cargo f s id (less_one n) c v carried r at can last stamp-less read-last
+      lying = lies cargo f hand reporting
 
       abbrev content : ℕ → Option P
-      content = inside cargo f s id (less_one n) c v carried r at can last stamp-less read-last
+      content = inside cargo f hand reporting
 
       hb : x.block < f.layout.blocks
-      hb = place-b cargo f s id (less_one n) c v carried r at can last stamp-less read-last
+      hb = place-b cargo f hand reporting
 
       hn : x.node < f.layout.nodes
-      hn = place-n cargo f s id (less_one n) c v carried r at can last stamp-less read-last
+      hn = place-n cargo f hand reporting
 
       within : Each (λ n. n < f.layout.nodes) kids
-      within = kids-within cargo f s id (less_one n) c v carried r at can last stamp-less read-last
+      within = kids-within cargo f hand reporting
 
       lie : Each (λ n. get_elem? s.homes (place_number f.layout x.block n) ≡ some (some (content n))) kids
-      lie = kids-lie cargo f s id (less_one n) c v carried r at can last stamp-less read-last
+      lie = kids-lie cargo f hand reporting
 
       own-home : get_elem? s.homes slot ≡ some (some (Some lying.0))
       own-home =
@@ -185,11 +219,11 @@ module _ {P E O : Type 0} (cargo : Ghosts P E O) (f : Frame O) (s : table.State 
                   parent-differs f.tree r.stands.sound.tree x.node m both.1
                   (sym (same_from_place x.block m x.block x.node f.layout.nodes both.0 hn e).1)) kids
                   (each-both (λ m. m < f.layout.nodes) (λ m. is_child f.tree x.node m ≡ true) kids within (kids-are f.tree x.node (length f.tree))))
-                  (apart-home cargo f s id v r at slot (Some lying.0) carried own-home old.given),
+                  (apart-home cargo f hand slot (Some lying.0) carried own-home old.given),
               apart-laid f.layout x.block kids content carried (kids-descend f.tree x.node (length f.tree)) within
                   (each-map (λ m. get_elem? s.homes (place_number f.layout x.block m) ≡ some (some (content m)))
                   (λ m. Each (λ d. d.0 ≢ place_number f.layout x.block m) carried)
-                  (λ m home. apart-home cargo f s id v r at (place_number f.layout x.block m) (content m) carried home old.given) kids lie)
+                  (λ m home. apart-home cargo f hand (place_number f.layout x.block m) (content m) carried home old.given) kids lie)
                   old.apart,
             );
             given = (
@@ -210,11 +244,11 @@ module _ {P E O : Type 0} (cargo : Ghosts P E O) (f : Frame O) (s : table.State 
           × LastAt cargo (aimed f x) c (f.over.value ∷ []) i n (less_one n) (v, carried) (w, table.carried_after carried a)
       last-now =
           let is = carries-laid f.layout s.homes carried r.sized.homes x.block hb content kids in
-          let waiting = waits-before cargo f s id c v r at can last in (
+          let waiting = waits-before cargo f hand last_report in (
             mine,
             chain (take_with f.layout x.block content kids) (takes slot (Some lying.0)),
-            last-valid cargo f s id (less_one n) c v carried r at can last stamp-less read-last,
-            last-runs cargo f s id (less_one n) c v carried r at can last stamp-less read-last n refl,
+            last-valid cargo f hand reporting,
+            last-runs cargo f hand reporting n refl,
             record {
               start = r.past.start x;
               named = r.past.named x;
@@ -226,20 +260,20 @@ module _ {P E O : Type 0} (cargo : Ghosts P E O) (f : Frame O) (s : table.State 
               me_is = λ j. (mine, (slot, Some lying.0) ∷ is j);
               shows = r.stands.starts.shows x lying.0 live-now lying.1;
               fit = r.stands.items.fit x lying.0 live-now lying.1;
-              goes_on = r.stands.items.goes_on x lying.0 live-now lying.1 (ap is_done (word-is cargo f s id c v r at can));
+              goes_on = r.stands.items.goes_on x lying.0 live-now lying.1 (ap is_done (word-is cargo f hand c can));
               bound = r.stands.items.bound x lying.0 live-now lying.1;
               lot_is = r.stands.lots.own x lying.0 waiting lying.1;
-              key = (r.stands.starts.key x (ap is_idle (word-is cargo f s id c v r at can)), tt);
-              noted = noted-start cargo f s id v r at x live-now;
-              count = counts-named cargo f s id c v r at can last;
-              ends = kid-ends cargo f s id c v r at can last;
-              fits_child = kid-fits cargo f s id c v r at can last;
-              below = kid-below cargo f s id c v r at can last;
-              draws = kid-draws cargo f s id c v r at can last;
-              keeps = last-keeps cargo f s id c v r at can last;
-              descends = last-descends cargo f s id c v r at can last;
-              failure = kid-failed cargo f s id c v r at can last;
-              hears = hears-as cargo f s id v r at x;
+              key = (r.stands.starts.key x (ap is_idle (word-is cargo f hand c can)), tt);
+              noted = noted-start cargo f hand x live-now;
+              count = counts-named cargo f hand last_report;
+              ends = kid-ends cargo f hand last_report;
+              fits_child = kid-fits cargo f hand last_report;
+              below = kid-below cargo f hand last_report;
+              draws = kid-draws cargo f hand last_report;
+              keeps = last-keeps cargo f hand last_report;
+              descends = last-descends cargo f hand last_report;
+              failure = kid-failed cargo f hand last_report;
+              hears = hears-as cargo f hand x;
               seated = λ old. subst (λ d. IsSeated f.tree f.layout (mine, (slot, Some lying.0) ∷ d)) (sym is) (seated-last old);
             },
           )
@@ -250,25 +284,27 @@ pub reports_allowed : {P E O : Type 0} (cargo : Ghosts P E O) (f : Frame O) (slo
     Allows (Running cargo f) slots id m (index f.layout (OfControl c.block can.parent)) less_one
     (ReportsAt cargo (aimed f (beside c can.parent)) c (f.over.value ∷ []) (step slots (index f.layout (OfControl c.block can.parent)) 1 0 maybe.none) m)
 reports_allowed {P} {E} cargo f slots id c m can exact s r deep at small =
+    let hand : Standing cargo f = record { state = s; id = id; view = m.0; running = r; at = at } in
+    let reporting : ToReport hand = record { child = c; carried = m.1; can = can; exact = exact } in
     let i = index f.layout (OfControl c.block can.parent) in
     let n = slice_index s.words i in
     let is_k : pending (control_read n) ≡ pending (control_at (shown f s) (beside c can.parent)) =
-    ap pending (reads-now cargo f s id c m.0 m.1 r at can exact) in
+    ap pending (reads-now cargo f hand reporting) in
     dite (ℕ_discrete (pending (control_read n)) 1)
     (λ hit.
-    let won = last-now cargo f s id c m.0 m.1 r at can exact small (sym is_k ∙ hit) in (
+    let won = last-now cargo f hand reporting small (sym is_k ∙ hit) in (
       won.0,
       won.1,
       won.2,
       won.3,
-      (counts-now cargo f s id c m.0 m.1 r at can exact small, (λ _. won.4), (λ miss. absurd (miss hit))),
+      (counts-now cargo f hand reporting small, (λ _. won.4), (λ miss. absurd (miss hit))),
     ))
     (λ miss. (
       with_step i n (less_one n) (reports_off c m.0),
       keeps,
       tt,
-      on-now cargo f s id c m.0 m.1 r at can exact small (λ one_left. miss (is_k ∙ one_left)),
-      (counts-now cargo f s id c m.0 m.1 r at can exact small, (λ hit. absurd (miss hit)), (λ _. refl)),
+      on-now cargo f hand reporting small (λ one_left. miss (is_k ∙ one_left)),
+      (counts-now cargo f hand reporting small, (λ hit. absurd (miss hit)), (λ _. refl)),
     ))
 
 module _ {P E O : Type 0} (cargo : Ghosts P E O) where

@@ -39,7 +39,9 @@ use Rattle.table_rules.specs.Notes.{IsReportedSo, children_are_requested}
 use Rattle.table_rules.specs.Running.{Stands, Running}
 use Rattle.table_steps.specs.Claims.{with_step}
 use Rattle.table_steps.specs.Slots.{kids_of}
-use Rattle.table_steps.specs.Reports.{CanReport, reports_off, holds_last}
+use Rattle.table_steps.specs.Reports.{reports_off, holds_last}
+use Rattle.table_kept.proofs.MovingSeats.{Move}
+use Rattle.table_kept.proofs.Standing.{Standing}
 use Rattle.table_kept.proofs.Entries.{each-map, each-without, count-without}
 use Rattle.table_kept.proofs.Among.{among}
 use Rattle.table_kept.proofs.Loads.{known-listed}
@@ -47,7 +49,7 @@ use Rattle.table_kept.proofs.Counts.{counts-moved}
 use Rattle.table_kept.proofs.ViewMoves.{views-moved}
 use Rattle.table_kept.proofs.WordMoves.{place-there}
 use Rattle.table_kept.proofs.HomeMoves.{home_of_place, taken}
-use Rattle.table_kept.proofs.ControlRuns.{begun-renewed, control-runs}
+use Rattle.table_kept.proofs.ControlRuns.{ToWriteControl, begun-renewed, control-runs}
 use Rattle.table_kept.proofs.KidSlots.{kids-below, kids-descend}
 use Rattle.table_kept.proofs.BeginSeats.{kids-are}
 use Rattle.table_kept.proofs.Begins.{kids-tested}
@@ -55,13 +57,26 @@ use Rattle.table_kept.proofs.TakeRuns.{full-item}
 use Rattle.table_kept.proofs.TakeSeats.{full-home}
 use Rattle.table_kept.proofs.LaidSlots.{content_of, take_with, lies-home, deep-laid, laid-out, laid-valid}
 use Rattle.table_kept.proofs.Reporting.{above, shows, below, child, owes-now, word-is, above-live, reporting, reporting_last, sound-after}
-use Rattle.table_kept.proofs.LastKids.{kid-settled, unheld-before, waits-before, kid-in, content, counts-named, full-kids-done}
+use Rattle.table_kept.proofs.LastKids.{LastReport, kid-settled, unheld-before, waits-before, kid-in, content, counts-named, full-kids-done}
 use Rattle.table_kept.proofs.Moving.{Moves, KidMoves, moved, parent-differs, some-seat}
 use Rattle.table_kept.proofs.MovingHomes.{homes-moved}
 use Rattle.table_kept.proofs.MovingItems.{Remembers, Leaves, starts-moved, items-moved, lots-moved}
 use Rattle.table_kept.proofs.MovingViews.{known-moved}
 
-module _ {P E O : Type 0} (cargo : Ghosts P E O) (f : Frame O) (s : table.State (Option P) (View P E)) (id value : ℕ) (c : Name) (v : View P E) (carried : List (ℕ × Option P)) (r : Running cargo f s) (at : get_elem? s.views id ≡ some v) (can : CanReport f.tree v c) (last : pending (control_at (shown f s) (beside c can.parent)) ≡ 1) (stamped : stamp_of value ≡ c.generation) (reads : control_read value ≡ Busy 0) where
+-- the word that the last report leaves, and what the hand carries
+pub record ToReportLast {P E O : Type 0} {cargo : Ghosts P E O} {f : Frame O}
+    (hand : Standing cargo f) : Type 0 where
+  pub report : LastReport hand
+  pub value : ℕ
+  pub carried : List (ℕ × Option P)
+  pub stamped : stamp_of value ≡ report.child.generation
+  pub reads : control_read value ≡ Busy 0
+
+module _ {P E O : Type 0} (cargo : Ghosts P E O) (f : Frame O) (hand : Standing cargo f)
+    (task : ToReportLast hand) where
+  open hand use {state as s, id, view as v, running as r, at}
+  open task use {report.{child as c, can, last}, value, carried, stamped, reads}
+
   abbrev now : State
   now = shown f s
 
@@ -69,26 +84,26 @@ module _ {P E O : Type 0} (cargo : Ghosts P E O) (f : Frame O) (s : table.State 
   here = scene f s r.past
 
   abbrev x : Name
-  x = above cargo f s id c v r at can
+  x = above cargo f hand c can
 
   abbrev u : PureView
-  u = reporting_last cargo f s id c v r at can
+  u = reporting_last cargo f hand c can
 
   live-now : is_live now x ≡ true
-  live-now = above-live cargo f s id c v r at can
+  live-now = above-live cargo f hand c can
 
   word-now : control_at now x ≡ Busy 1
-  word-now = word-is cargo f s id c v r at can ∙ ap Busy last
+  word-now = word-is cargo f hand c can ∙ ap Busy last
 
   is-put : IsPut now id x (Busy 0) u
-  is-put = record { sound = r.stands.sound; hand = below cargo f s id c v r at can; live = live-now; views = refl }
+  is-put = record { sound = r.stands.sound; hand = below cargo f hand c can; live = live-now; views = refl }
 
   sound-now : Sound (put now id x (Busy 0) u)
   sound-now =
       let less : one_less (control_at now x) ≡ Busy 0 = ap one_less word-now in
       subst (λ (z : ControlWord × PureView). Sound (put now id x z.0 z.1))
-      (λ j. (less j, cond-true (pending (control_at now x) == 1) u (reporting cargo f s id c v r at can) (eq-eqb _ _ last) j))
-      (sound-after cargo f s id c v r at can)
+      (λ j. (less j, cond-true (pending (control_at now x) == 1) u (reporting cargo f hand c can) (eq-eqb _ _ last) j))
+      (sound-after cargo f hand c can)
 
   pub place-b : x.block < f.layout.blocks
   place-b = (lives now x live-now).block
@@ -100,7 +115,7 @@ module _ {P E O : Type 0} (cargo : Ghosts P E O) (f : Frame O) (s : table.State 
   pub lies : (item : P) × (here.home x.block x.node ≡ Full item)
   lies =
       full-item (here.home x.block x.node)
-      (r.stands.homes.waiting x (ap (λ b. b || is_resting (control_at now x)) (waits-before cargo f s id c v r at can last)))
+      (r.stands.homes.waiting x (ap (λ b. b || is_resting (control_at now x)) (waits-before cargo f hand task.report)))
 
   abbrev pub kids : List ℕ
   kids = kids_of f.tree x.node
@@ -109,7 +124,7 @@ module _ {P E O : Type 0} (cargo : Ghosts P E O) (f : Frame O) (s : table.State 
   slot = place_number f.layout x.block x.node
 
   abbrev pub inside : ℕ → Option P
-  inside = content cargo f s id c v r at can last
+  inside = content cargo f hand task.report
 
   pub kids-within : Each (λ n. n < f.layout.nodes) kids
   kids-within = subst (λ m. Each (λ n. n < m) kids) (sym r.frame.nodes) (kids-below f.tree x.node (length f.tree))
@@ -125,7 +140,7 @@ module _ {P E O : Type 0} (cargo : Ghosts P E O) (f : Frame O) (s : table.State 
       let home : here.home x.block n ≡ home_in (get_elem? s.homes (place_number f.layout x.block n)) =
       cond-true (is_there f.layout x.block n) (home_in (get_elem? s.homes (place_number f.layout x.block n))) Empty (place-there f.layout x.block n place-b hn) in
       lies-home s.homes (place_number f.layout x.block n) (omega (arith, w, deep))
-      (ap is_out (sym home) ∙ kid-in cargo f s id c v r at can last n own)
+      (ap is_out (sym home) ∙ kid-in cargo f hand task.report n own)
       ∙ ap (λ h. some (some (content_of h))) (sym home))
       kids (kids-are f.tree x.node (length f.tree))
 
@@ -161,15 +176,15 @@ module _ {P E O : Type 0} (cargo : Ghosts P E O) (f : Frame O) (s : table.State 
 
   reports-kid : (n : ℕ) → is_child f.tree x.node n ≡ true → stand (put now id x (Busy 0) u) (λ v. v.reports) (beside x n) ≡ 0
   reports-kid n own =
-      let kid = kid-settled cargo f s id c v r at can last n own in
+      let kid = kid-settled cargo f hand task.report n own in
       let m = put-moves now id x (Busy 0) u is-put (λ v. v.reports) (beside x n) in
       ⊎_elim
       (λ (e : c.node ≡ n).
       subst (λ k. stand (put now id x (Busy 0) u) (λ v. v.reports) (beside x k) ≡ 0) e
-      (let own_kid = kid-settled cargo f s id c v r at can last c.node (child cargo f s id c v r at can) in
+      (let own_kid = kid-settled cargo f hand task.report c.node (child cargo f hand c can) in
       let most = own_kid.most in
       let less = lose-here c (now.view id).reports in
-      let owes = owes-now cargo f s id c v r at can in
+      let owes = owes-now cargo f hand c can in
       let moved_by = put-moves now id x (Busy 0) u is-put (λ v. v.reports) c in
       omega (arith, most, less, owes, moved_by)))
       (λ ne.
@@ -180,7 +195,7 @@ module _ {P E O : Type 0} (cargo : Ghosts P E O) (f : Frame O) (s : table.State 
 
   kid-moves : (n : ℕ) → is_child f.tree x.node n ≡ true → KidMoves here id x (Busy 0) u is-put home r.past n
   kid-moves n own =
-      let kid = kid-settled cargo f s id c v r at can last n own in
+      let kid = kid-settled cargo f hand task.report n own in
       record {
         out = ap is_out (kid-out n own)
             ∙ sym (some-seat (stand (put now id x (Busy 0) u) (λ v. v.starts) (beside x n) + one (is_held (control_at now (beside x n))) + 1) (omega arith));
@@ -206,17 +221,29 @@ module _ {P E O : Type 0} (cargo : Ghosts P E O) (f : Frame O) (s : table.State 
         kids = kid-moves;
         named = λ none. cc;
         met = λ _.
-            let count = counts-named cargo f s id c v r at can last in
-            let done = full-kids-done cargo f s id c v r at can last in omega (arith, count, done);
+            let count = counts-named cargo f hand task.report in
+            let done = full-kids-done cargo f hand task.report in omega (arith, count, done);
       }
 
-  remembers : Remembers cargo f.over.value here id x (Busy 0) u is-put home r.past moves
+  abbrev moving : Move here
+  moving = record {
+    hand = id;
+    name = x;
+    word = Busy 0;
+    view = u;
+    put = is-put;
+    home = home;
+    past = r.past;
+    moves = moves;
+  }
+
+  remembers : Remembers cargo f.over.value here moving
   remembers = record { start = λ y. refl; lot = λ y ne. refl; delivered = λ y ne. refl }
 
   none-left : {G : Type 0} (item : P) → home x.block x.node ≡ Full item → G
   none-left item is = let e : Out ≡ Full item = sym own-out ∙ is in cc
 
-  leaves : Leaves cargo f.over.value here id x (Busy 0) u is-put home r.past moves
+  leaves : Leaves cargo f.over.value here moving
   leaves =
       record {
         start = λ item is. none-left item is;
@@ -245,6 +272,16 @@ module _ {P E O : Type 0} (cargo : Ghosts P E O) (f : Frame O) (s : table.State 
             (sym (cond-true (is_there f.layout x.block x.node) (home_in (get_elem? after_kids slot)) Empty (place-there f.layout x.block x.node place-b place-n)) ∙ still),
       )
 
+  abbrev writing : ToWriteControl hand
+  writing = record {
+    value = value;
+    name = x;
+    word = Busy 0;
+    live = live-now;
+    stamped = stamped;
+    reads = reads;
+  }
+
   module _ (n : ℕ) where
     abbrev i : ℕ
     i = index f.layout (OfControl x.block x.node)
@@ -264,27 +301,27 @@ module _ {P E O : Type 0} (cargo : Ghosts P E O) (f : Frame O) (s : table.State 
     held-none z j there =
         let most = (among f s j z r.sized.seats there).held x in
         let fit = (r.stands.sound.owned.names x).held in
-        let none = unheld-before cargo f s id c v r at can last in omega (arith, most, fit, none)
+        let none = unheld-before cargo f hand task.report in omega (arith, most, fit, none)
 
     shows-mine : shown_view (block_of f.layout s.words) mine ≡ u
     shows-mine =
         let old = shown_view (block_of f.layout s.words) v in
         (λ j. record old { reports = λ y. count-without (λ e. e.name) v.reported c y j; holds = gain x old.holds })
-        ∙ ap (λ (z : PureView). record z { reports = lose c z.reports; holds = gain x z.holds }) (sym (shows cargo f s id c v r at can))
+        ∙ ap (λ (z : PureView). record z { reports = lose c z.reports; holds = gain x z.holds }) (sym (shows cargo f hand c can))
 
     stands-last : Stands cargo f.over.value after (set s.views id mine)
     stands-last =
-        let known = known-moved here id x (Busy 0) u is-put home r.past moves (λ y. refl) (λ y _. refl) (λ y _. refl) (inl refl) v
+        let known = known-moved here moving (λ y. refl) (λ y _. refl) (λ y _. refl) (inl refl) v
         (among f s id v r.sized.seats at) (held-none v id at) (r.stands.views.each id v at) in
         record {
           sound = sound-now;
-          homes = homes-moved here id x (Busy 0) u is-put home r.past moves r.stands.homes;
-          starts = starts-moved cargo f.over.value here id x (Busy 0) u is-put home r.past moves remembers leaves r.stands.starts;
-          items = items-moved cargo f.over.value here id x (Busy 0) u is-put home r.past moves remembers leaves r.stands.items;
-          lots = lots-moved cargo f.over.value here id x (Busy 0) u is-put home r.past moves remembers leaves r.stands.lots;
+          homes = homes-moved here moving r.stands.homes;
+          starts = starts-moved cargo f.over.value here moving remembers leaves r.stands.starts;
+          items = items-moved cargo f.over.value here moving remembers leaves r.stands.items;
+          lots = lots-moved cargo f.over.value here moving remembers leaves r.stands.lots;
           views = views-moved here after s.views id v mine at
               (λ j z ne there.
-              known-moved here id x (Busy 0) u is-put home r.past moves (λ y. refl) (λ y _. refl) (λ y _. refl) (inl refl) z
+              known-moved here moving (λ y. refl) (λ y _. refl) (λ y _. refl) (inl refl) z
               (among f s j z r.sized.seats there) (held-none z j there))
               (known-listed after i n value holding (record {
                 held = (record { start = refl; named = refl; told = λ t. t; told_children = λ t. t; lot = refl; phase = tt; idle = tt }, known.held);
@@ -301,7 +338,7 @@ module _ {P E O : Type 0} (cargo : Ghosts P E O) (f : Frame O) (s : table.State 
 
     pub last-runs : n ≡ slice_index s.words i → Running cargo f record { words = set s.words i value; homes = taken_homes; views = set s.views id mine }
     last-runs was =
-        control-runs cargo f s id value x (Busy 0) v r at live-now stamped reads mine u shows-mine taken_homes home r.past (λ j m. refl)
+        control-runs cargo f hand writing mine u shows-mine taken_homes home r.past (λ j m. refl)
         (ap is_done word-now) (begun-renewed cargo f s x r live-now (ap is_idle word-now)) (ap (λ k. entry i k value ∷ v.steps) was)
         (length-set after_kids slot maybe.none ∙ deep-laid f.layout s.homes carried r.sized.homes x.block place-b inside kids ∙ sym r.sized.homes)
         stands-last

@@ -1,6 +1,6 @@
 -- The subtraction by which a child that isn't the last is reported keeps the rule.
 use Rattle.std.proofs.Common.{◌≡◌, ◌≢◌, ℕ, ◌+◌, ◌-◌, Bool, true, false, ◌&&◌, ◌||◌, ◌==◌, set, refl, sym, ap, ◌∙◌, subst, inl, arith, ◌∷◌}
-use Rattle.std.specs.Prelude.{Option, nat_le, slice_index}
+use Rattle.std.specs.Prelude.{nat_le, slice_index}
 use Rattle.std.specs.Option.{option_map_or}
 use Rattle.std.proofs.lemmas.Bool.{both_ways, cond-false, ne_eqb, false_from_ne_true, leb-false}
 use mathlib.Core.Option.{some}
@@ -21,7 +21,6 @@ use Rattle.life_kept.proofs.Trees.{child-within, child-parent, root-orphan}
 use Rattle.table_words.specs.Stamps.{stamp_of}
 use Rattle.table_words.specs.Controls.{control_read}
 use Rattle.table_words.specs.Layouts.{OfControl, index}
-use Rattle.atomic_table.specs.Table as table
 use Rattle.listed_steps.specs.Lists.{entry}
 use Rattle.table_rules.specs.declared.cargo.Cargo.{Ghosts}
 use Rattle.table_rules.specs.declared.frame.Frame.{Frame}
@@ -35,12 +34,14 @@ use Rattle.table_rules.specs.Notes.{IsReportedSo}
 use Rattle.table_rules.specs.Running.{Stands, Running}
 use Rattle.table_steps.specs.Claims.{with_step}
 use Rattle.table_steps.specs.Reports.{CanReport, reports_off}
+use Rattle.table_kept.proofs.MovingSeats.{Move}
+use Rattle.table_kept.proofs.Standing.{Standing}
 use Rattle.table_kept.proofs.Entries.{count-without, each-without}
 use Rattle.table_kept.proofs.Among.{among}
 use Rattle.table_kept.proofs.Loads.{known-listed}
 use Rattle.table_kept.proofs.Counts.{counts-moved}
 use Rattle.table_kept.proofs.ViewMoves.{views-moved}
-use Rattle.table_kept.proofs.ControlRuns.{begun-renewed, control-runs}
+use Rattle.table_kept.proofs.ControlRuns.{ToWriteControl, begun-renewed, control-runs}
 use Rattle.table_kept.proofs.Reporting.{above, shows, below, waits, word-is, above-live, reporting, reporting_last, sound-after}
 use Rattle.table_kept.proofs.Moving.{Moves, KidMoves, moved, parent-differs, some-seat}
 use Rattle.table_kept.proofs.MovingHomes.{homes-moved}
@@ -56,7 +57,21 @@ no-one : (b : Bool) → one (b && false) ≡ 0
 no-one true = refl
 no-one false = refl
 
-module _ {P E O : Type 0} (cargo : Ghosts P E O) (f : Frame O) (s : table.State (Option P) (View P E)) (id value : ℕ) (c : Name) (v : View P E) (r : Running cargo f s) (at : get_elem? s.views id ≡ some v) (can : CanReport f.tree v c) (more : pending (control_at (shown f s) (beside c can.parent)) ≢ 1) (stamped : stamp_of value ≡ c.generation) (reads : control_read value ≡ Busy (pending (control_at (shown f s) (beside c can.parent)) - 1)) where
+-- the report of a child after which its parent waits on, and the word that it leaves
+pub record ToReportOn {P E O : Type 0} {cargo : Ghosts P E O} {f : Frame O}
+    (hand : Standing cargo f) : Type 0 where
+  pub value : ℕ
+  pub child : Name
+  pub can : CanReport f.tree hand.view child
+  pub more : pending (control_at (shown f hand.state) (beside child can.parent)) ≢ 1
+  pub stamped : stamp_of value ≡ child.generation
+  pub reads : control_read value ≡ Busy (pending (control_at (shown f hand.state) (beside child can.parent)) - 1)
+
+module _ {P E O : Type 0} (cargo : Ghosts P E O) (f : Frame O) (hand : Standing cargo f)
+    (task : ToReportOn hand) where
+  open hand use {state as s, id, view as v, running as r, at}
+  open task use {value, child as c, can, more, stamped, reads}
+
   abbrev now : State
   now = shown f s
 
@@ -64,7 +79,7 @@ module _ {P E O : Type 0} (cargo : Ghosts P E O) (f : Frame O) (s : table.State 
   here = scene f s r.past
 
   abbrev x : Name
-  x = above cargo f s id c v r at can
+  x = above cargo f hand c can
 
   abbrev k : ℕ
   k = pending (control_at now x)
@@ -73,34 +88,34 @@ module _ {P E O : Type 0} (cargo : Ghosts P E O) (f : Frame O) (s : table.State 
   w = Busy (k - 1)
 
   abbrev u : PureView
-  u = reporting cargo f s id c v r at can
+  u = reporting cargo f hand c can
 
   live-now : is_live now x ≡ true
-  live-now = above-live cargo f s id c v r at can
+  live-now = above-live cargo f hand c can
 
   word-now : control_at now x ≡ Busy k
-  word-now = word-is cargo f s id c v r at can
+  word-now = word-is cargo f hand c can
 
   is-put : IsPut now id x w u
-  is-put = record { sound = r.stands.sound; hand = below cargo f s id c v r at can; live = live-now; views = refl }
+  is-put = record { sound = r.stands.sound; hand = below cargo f hand c can; live = live-now; views = refl }
 
   sound-now : Sound (put now id x w u)
   sound-now =
       let less : one_less (control_at now x) ≡ w = ap one_less word-now in
       subst (λ (z : ControlWord × PureView). Sound (put now id x z.0 z.1))
-      (λ j. (less j, cond-false (k == 1) (reporting_last cargo f s id c v r at can) u (ne_eqb k 1 more) j))
-      (sound-after cargo f s id c v r at can)
+      (λ j. (less j, cond-false (k == 1) (reporting_last cargo f hand c can) u (ne_eqb k 1 more) j))
+      (sound-after cargo f hand c can)
 
   unheld : is_held w ≡ false
-  unheld = ne_eqb (k - 1) 0 (λ e. more (let l = waits cargo f s id c v r at can in omega (arith, l, e)))
+  unheld = ne_eqb (k - 1) 0 (λ e. more (let l = waits cargo f hand c can in omega (arith, l, e)))
 
   unheld-before : one (is_held (control_at now x)) ≡ 0
   unheld-before =
       ap (λ c. one (is_held c)) word-now
-      ∙ ap one (ne_eqb k 0 (λ e. let l = waits cargo f s id c v r at can in absurd (omega (arith, l, e))))
+      ∙ ap one (ne_eqb k 0 (λ e. let l = waits cargo f hand c can in absurd (omega (arith, l, e))))
 
   waits-before : is_waiting (control_at now x) ≡ true
-  waits-before = some-seat k (waits cargo f s id c v r at can)
+  waits-before = some-seat k (waits cargo f hand c can)
 
   full-own : is_full (here.home x.block x.node) ≡ true
   full-own = r.stands.homes.waiting x (ap (λ b. b || is_resting (control_at now x)) waits-before)
@@ -155,13 +170,25 @@ module _ {P E O : Type 0} (cargo : Ghosts P E O) (f : Frame O) (s : table.State 
         kids = kid-moves;
         named = λ _. names-same ∙ r.stands.homes.named x waits-before;
         met = λ none.
-            absurd (more (let g = leb-false 1 (k - 1) none in let l = waits cargo f s id c v r at can in omega (arith, g, l)));
+            absurd (more (let g = leb-false 1 (k - 1) none in let l = waits cargo f hand c can in omega (arith, g, l)));
       }
 
-  remembers : Remembers cargo f.over.value here id x w u is-put here.home r.past moves
+  abbrev moving : Move here
+  moving = record {
+    hand = id;
+    name = x;
+    word = w;
+    view = u;
+    put = is-put;
+    home = here.home;
+    past = r.past;
+    moves = moves;
+  }
+
+  remembers : Remembers cargo f.over.value here moving
   remembers = record { start = λ y. refl; lot = λ y ne. refl; delivered = λ y ne. refl }
 
-  leaves : Leaves cargo f.over.value here id x w u is-put here.home r.past moves
+  leaves : Leaves cargo f.over.value here moving
   leaves =
       record {
         start = λ item is. r.stands.starts.shows x item live-now is;
@@ -175,6 +202,16 @@ module _ {P E O : Type 0} (cargo : Ghosts P E O) (f : Frame O) (s : table.State 
         lot = λ item _ is. r.stands.lots.own x item waits-before is;
         drawn = λ n _ own begun so. r.stands.lots.below x n waits-before own begun so;
       }
+
+  abbrev writing : ToWriteControl hand
+  writing = record {
+    value = value;
+    name = x;
+    word = w;
+    live = live-now;
+    stamped = stamped;
+    reads = reads;
+  }
 
   module _ (n : ℕ) where
     abbrev i : ℕ
@@ -196,21 +233,21 @@ module _ {P E O : Type 0} (cargo : Ghosts P E O) (f : Frame O) (s : table.State 
     shows-mine =
         let old = shown_view (block_of f.layout s.words) v in
         (λ j. record old { reports = λ y. count-without (λ e. e.name) v.reported c y j })
-        ∙ ap (λ (z : PureView). record z { reports = lose c z.reports }) (sym (shows cargo f s id c v r at can))
+        ∙ ap (λ (z : PureView). record z { reports = lose c z.reports }) (sym (shows cargo f hand c can))
 
     stands-on : Stands cargo f.over.value after (set s.views id mine)
     stands-on =
-        let known = known-moved here id x w u is-put here.home r.past moves (λ y. refl) (λ y _. refl) (λ y _. refl) (inl refl) v
+        let known = known-moved here moving (λ y. refl) (λ y _. refl) (λ y _. refl) (inl refl) v
         (among f s id v r.sized.seats at) (held-none v id at) (r.stands.views.each id v at) in
         record {
           sound = sound-now;
-          homes = homes-moved here id x w u is-put here.home r.past moves r.stands.homes;
-          starts = starts-moved cargo f.over.value here id x w u is-put here.home r.past moves remembers leaves r.stands.starts;
-          items = items-moved cargo f.over.value here id x w u is-put here.home r.past moves remembers leaves r.stands.items;
-          lots = lots-moved cargo f.over.value here id x w u is-put here.home r.past moves remembers leaves r.stands.lots;
+          homes = homes-moved here moving r.stands.homes;
+          starts = starts-moved cargo f.over.value here moving remembers leaves r.stands.starts;
+          items = items-moved cargo f.over.value here moving remembers leaves r.stands.items;
+          lots = lots-moved cargo f.over.value here moving remembers leaves r.stands.lots;
           views = views-moved here after s.views id v mine at
               (λ j z ne there.
-              known-moved here id x w u is-put here.home r.past moves (λ y. refl) (λ y _. refl) (λ y _. refl) (inl refl) z
+              known-moved here moving (λ y. refl) (λ y _. refl) (λ y _. refl) (inl refl) z
               (among f s j z r.sized.seats there) (held-none z j there))
               (known-listed after i n value (reports_off c v) (record {
                 held = known.held;
@@ -227,6 +264,6 @@ module _ {P E O : Type 0} (cargo : Ghosts P E O) (f : Frame O) (s : table.State 
 
     pub report-runs : n ≡ slice_index s.words i → Running cargo f record { words = set s.words i value; homes = s.homes; views = set s.views id mine }
     report-runs was =
-        control-runs cargo f s id value x w v r at live-now stamped reads mine u shows-mine
+        control-runs cargo f hand writing mine u shows-mine
         s.homes here.home r.past (λ j m. refl)
         (ap is_done word-now) (begun-renewed cargo f s x r live-now (ap is_idle word-now)) (ap (λ k. entry i k value ∷ v.steps) was) refl stands-on

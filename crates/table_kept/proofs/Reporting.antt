@@ -1,10 +1,8 @@
 -- What the rule says at a step by which a hand reports a child: the child's parent waits for it.
-use Rattle.std.proofs.Common.{◌≡◌, ℕ, ◌<◌, ◌≤◌, true, false, not, ◌==◌, cond, sym, ap, ◌∙◌, subst, arith}
-use Rattle.std.specs.Prelude.{Option, is_some}
+use Rattle.std.proofs.Common.{◌≡◌, ◌<◌, ◌≤◌, true, false, not, ◌==◌, cond, sym, ap, ◌∙◌, subst, arith}
+use Rattle.std.specs.Prelude.{is_some}
 use Rattle.std.specs.Option.{option_map_or}
 use Rattle.std.proofs.lemmas.Bool.{and_parts, and_from, le-leb}
-use mathlib.Core.Option.{some}
-use lib.ListN.{get_elem?}
 use Rattle.life_rules.specs.declared.words.ControlWord.TheVariants.{Busy}
 use Rattle.life_rules.specs.declared.event.Name.{Name}
 use Rattle.life_rules.specs.declared.event.SourceRef.TheVariants.{Node}
@@ -22,21 +20,22 @@ use Rattle.life_kept.proofs.Trees.{parent-child, child-within}
 use Rattle.life_kept.proofs.Fitting.{done-word, pending-word}
 use Rattle.life_kept.proofs.Holding.{weight-most}
 use Rattle.life_kept.proofs.Report.{sound-report}
-use Rattle.atomic_table.specs.Table as table
 use Rattle.table_rules.specs.declared.cargo.Cargo.{Ghosts}
 use Rattle.table_rules.specs.declared.frame.Frame.{Frame}
-use Rattle.table_rules.specs.declared.view.View.{View}
 use Rattle.table_rules.specs.ShownWords.{block_of}
 use Rattle.table_rules.specs.ShownViews.{shown_view}
 use Rattle.table_rules.specs.Scenes.{shown}
-use Rattle.table_rules.specs.Running.{Running}
 use Rattle.table_steps.specs.Reports.{CanReport}
+use Rattle.table_kept.proofs.Standing.{Standing}
 use Rattle.table_kept.proofs.Entries.{found}
 use Rattle.table_kept.proofs.Seats.{at_within}
 use Rattle.table_kept.proofs.ViewMoves.{view-here}
 use Rattle.table_kept.proofs.ControlRuns.{place_of, place-live, name-live}
 
-module _ {P E O : Type 0} (cargo : Ghosts P E O) (f : Frame O) (s : table.State (Option P) (View P E)) (id : ℕ) (c : Name) (v : View P E) (r : Running cargo f s) (at : get_elem? s.views id ≡ some v) (can : CanReport f.tree v c) where
+module _ {P E O : Type 0} (cargo : Ghosts P E O) (f : Frame O) (hand : Standing cargo f) (c : Name)
+    (can : CanReport f.tree hand.view c) where
+  open hand use {state as s, id, view as v, running as r, at}
+
   abbrev now : State
   now = shown f s
 

@@ -1,10 +1,8 @@
 -- What the step by which a stop is requested owes: on what it rests, what the word says that it finds, and
 -- which child failed where nothing was requested above.
 use Rattle.std.proofs.Common.{◌≡◌, inl, inr, ℕ, ◌<◌, ◌≤◌, Bool, true, false, not, ◌&&◌, ◌||◌, List, length, refl, sym, ap, ◌∙◌, subst, arith}
-use Rattle.std.specs.Prelude.{Option, bit_or, nat_le, slice_index}
+use Rattle.std.specs.Prelude.{bit_or, nat_le, slice_index}
 use Rattle.std.proofs.lemmas.Bool.{and_from, or_left, or_right, or_cases, both_ways, not-true, cond-true, eq-eqb, le-leb, lt-ltb}
-use mathlib.Core.Option.{some}
-use lib.ListN.{get_elem?}
 use Rattle.node_tree.specs.declared.node.TreeNode.{TreeNode}
 use Rattle.life_rules.specs.declared.words.Bits.{Bits}
 use Rattle.life_rules.specs.declared.words.ControlWord.TheVariants.{Idle}
@@ -28,10 +26,8 @@ use Rattle.table_words.specs.Stamps.{stamp_of}
 use Rattle.table_words.specs.Controls.{source_read}
 use Rattle.table_words.specs.Layouts.{OfSource, IsSpot, index}
 use Rattle.atomic_table.specs.Table.{Allows, keeps, stepped}
-use Rattle.atomic_table.specs.Table as table
 use Rattle.table_rules.specs.declared.cargo.Cargo.{Ghosts}
 use Rattle.table_rules.specs.declared.frame.Frame.{Frame}
-use Rattle.table_rules.specs.declared.view.View.{View}
 use Rattle.table_rules.specs.declared.view.Reported.{Reported}
 use Rattle.table_rules.specs.ShownWords.{block_of, is_there, is_said, word_of, said_at}
 use Rattle.table_rules.specs.ShownViews.{shown_view}
@@ -42,6 +38,7 @@ use Rattle.table_steps.specs.Claims.{with_step, Seated}
 use Rattle.table_steps.specs.Slots.{IsSeated}
 use Rattle.table_steps.specs.Sights.{spot_of, has_one}
 use Rattle.table_steps.specs.Requests.{mask, asks, asks_at, AsksAt, IsWordOf, OwesFailed, MayAskScope, MayForward, HasAsked, MayRequest}
+use Rattle.table_kept.proofs.Standing.{Standing}
 use Rattle.table_kept.proofs.Listing.{AllowsListed, allows-listed, lists-one}
 use Rattle.table_kept.proofs.Seats.{at_within}
 use Rattle.table_kept.proofs.Entries.{found}
@@ -63,7 +60,9 @@ word-of : (word : ℕ) (bits : Bits) (t : SourceRef) → SaysOf word bits t → 
 word-of word bits Scope says = tt
 word-of word bits (Node y) says = says.1
 
-module _ {P E O : Type 0} (cargo : Ghosts P E O) (f : Frame O) (s : table.State (Option P) (View P E)) (id : ℕ) (v : View P E) (r : Running cargo f s) (at : get_elem? s.views id ≡ some v) where
+module _ {P E O : Type 0} (cargo : Ghosts P E O) (f : Frame O) (hand : Standing cargo f) where
+  open hand use {state as s, id, view as v, running as r, at}
+
   abbrev now : State
   now = shown f s
 
@@ -73,8 +72,8 @@ module _ {P E O : Type 0} (cargo : Ghosts P E O) (f : Frame O) (s : table.State 
   is-shown : now.view id ≡ shown_view (block_of f.layout s.words) v
   is-shown = view-here (block_of f.layout s.words) s.views id v at
 
-  hand : id < f.hands
-  hand = let l = at_within s.views id v at in let m = r.sized.seats in omega (arith, l, m)
+  hand_below : id < f.hands
+  hand_below = let l = at_within s.views id v at in let m = r.sized.seats in omega (arith, l, m)
 
   -- the word of a source that has begun says its bits now
   says-now : (t : SourceRef) → IsSpot f.layout (spot_of t) → has_one f.tree t → has_begun now t ≡ true →
@@ -117,7 +116,7 @@ module _ {P E O : Type 0} (cargo : Ghosts P E O) (f : Frame O) (s : table.State 
       let y = beside x may.child in
       let counts = (found (λ (e : Reported P E). e.name) v.reported y may.entry may.owes).counts in
       let owed : 1 ≤ (now.view id).reports y = subst (λ (u : PureView). 1 ≤ u.reports y) (sym is-shown) counts in
-      first-grounds now id x true r.stands.sound hand
+      first-grounds now id x true r.stands.sound hand_below
       (some_below-from (λ n. is_child f.tree x.node n && nat_le 1 ((now.view id).reports (beside x n))) (length f.tree) may.child
       (child-within f.tree x.node may.child may.is_below) (and_from _ _ may.is_below (le-leb 1 ((now.view id).reports y) owed)))
 
@@ -129,9 +128,13 @@ module _ {P E O : Type 0} (cargo : Ghosts P E O) (f : Frame O) (s : table.State 
           | inl runs ↦
               let run : 1 ≤ (now.view id).runs x = subst (λ (u : PureView). 1 ≤ u.runs x) (sym is-shown) runs in
               r.stands.sound.runs.cause x
-              (or_left (is_running (phase_at now x)) (has_run (phase_at now x)) (runs-running now id x r.stands.sound.runs hand run))
+              (or_left (is_running (phase_at now x)) (has_run (phase_at now x)) (runs-running now id x r.stands.sound.runs hand_below run))
           | inr holds ↦
-              seen-stands cargo f s id v r at x (held cargo f s id x v r at holds.held holds.holds).live holds.seen
+              seen-stands cargo f hand x (held cargo f hand (record {
+                name = x;
+                entry = holds.held;
+                holds = holds.holds;
+              })).live holds.seen
         ]
 
     forward-grounds : Grounds now id (Node x) false
@@ -139,10 +142,18 @@ module _ {P E O : Type 0} (cargo : Ghosts P E O) (f : Frame O) (s : table.State 
         elim may [
           | inl runs ↦
               let run : 1 ≤ (now.view id).runs x = subst (λ (u : PureView). 1 ≤ u.runs x) (sym is-shown) runs in
-              first-grounds now id x false r.stands.sound hand (or_left (nat_le 1 ((now.view id).runs x)) _ (le-leb 1 ((now.view id).runs x) run))
+              first-grounds now id x false r.stands.sound hand_below (or_left (nat_le 1 ((now.view id).runs x)) _ (le-leb 1 ((now.view id).runs x) run))
           | inr holds ↦
-              let held_now = held cargo f s id x v r at holds.held holds.holds in
-              let hold : 1 ≤ (now.view id).holds x = holds-now cargo f s id x v r at holds.held holds.holds in
+              let held_now = held cargo f hand (record {
+                name = x;
+                entry = holds.held;
+                holds = holds.holds;
+              }) in
+              let hold : 1 ≤ (now.view id).holds x = holds-now cargo f hand (record {
+                name = x;
+                entry = holds.held;
+                holds = holds.holds;
+              }) in
               let bits = bits_at now (Node x) in
               record {
                 begun = ap not (ap is_idle held_now.word);
@@ -160,7 +171,7 @@ module _ {P E O : Type 0} (cargo : Ghosts P E O) (f : Frame O) (s : table.State 
 
   -- a request that the hand has seen, and whose source can't go away, stands
   still-asked : (t : SourceRef) → HasAsked v t → (bits_at now t).requested ≡ true
-  still-asked t again = seen-stays cargo f s id v r at t again.0 again.1
+  still-asked t again = seen-stays cargo f hand t again.0 again.1
 
   again-grounds : (t : SourceRef) → HasAsked v t → Grounds now id t false
   again-grounds Scope again =
@@ -199,8 +210,16 @@ module _ {P E O : Type 0} (cargo : Ghosts P E O) (f : Frame O) (s : table.State 
   blame (Node x) true one may new y is calm above =
       let same : x ≡ y = cc in
       subst (HasFailedChild cargo here) same
-      (blamed cargo f s id x may.child v r at may.is_below one may.entry may.owes may.failed
-      (subst (λ z. (bits_at now (Node z)).requested ≡ false) (sym same) calm))
+      (blamed cargo f hand (record {
+        name = x;
+        child = may.child;
+        is_child = may.is_below;
+        has = one;
+        entry = may.entry;
+        owes = may.owes;
+        failed = may.failed;
+        calm = (subst (λ z. (bits_at now (Node z)).requested ≡ false) (sym same) calm);
+      }))
   blame (Node x) false one may new y is calm above =
       let same : x ≡ y = cc in
       elim may [
@@ -220,11 +239,12 @@ asks_allowed : {P E O : Type 0} (cargo : Ghosts P E O) (f : Frame O) (slots id :
     Allows (Running cargo f) slots id m (index f.layout (spot_of source)) (λ n. bit_or n (mask failure))
     (λ n m'. AsksAt source (index f.layout (spot_of source)) n (bit_or n (mask failure)) m m')
 asks_allowed {P} {E} cargo f slots id source failure m spot one may s r deep at small =
+    let hand : Standing cargo f = record { state = s; id = id; view = m.0; running = r; at = at } in
     let now : State = shown f s in
     let i = index f.layout (spot_of source) in
     let n = slice_index s.words i in
-    let g : Grounds now id source failure = grounds cargo f s id m.0 r at source failure may in
-    let says : SaysOf n (bits_at now source) source = says-now cargo f s id m.0 r at source spot one g.begun in
+    let g : Grounds now id source failure = grounds cargo f hand source failure may in
+    let says : SaysOf n (bits_at now source) source = says-now cargo f hand source spot one g.begun in
     let read : source_read n ≡ bits_at now source = read-of n (bits_at now source) source says in
     let new : Bool = not (bits_at now source).requested in
     let after : State = after_asking now id source failure new in (
@@ -232,17 +252,24 @@ asks_allowed {P} {E} cargo f slots id source failure m spot one may s r deep at 
       keeps,
       tt,
       subst (λ (b : Bits). Running cargo f (stepped s i (bit_or n (mask failure)) id m.1 (with_step i n (bit_or n (mask failure)) (asks source (not b.requested) m.0)) keeps)) (sym read)
-          (request-runs cargo f s id source failure m.0 r at spot (live-now cargo f s id m.0 r at source g.begun) says g
+          (request-runs cargo f hand (record {
+            source = source;
+            failure = failure;
+            spot = spot;
+            live = live-now cargo f hand source g.begun;
+            says = says;
+            grounds = g;
+          })
           (λ y asked calm above.
           source_cases (Node y) source
-          (λ is. blame cargo f s id m.0 r at source failure one may new y is calm above)
+          (λ is. blame cargo f hand source failure one may new y is calm above)
           (λ other.
           absurd (both_ways ((bits_at now (Node y)).requested) calm
           (ap (λ b. b.requested) (sym ((reads-asking now id source failure new g.begun).there (Node y) other)) ∙ asked))))),
       record {
         me_is = refl;
         is_of = word-of n (bits_at now source) source says;
-        stands = λ seen alive. ap (λ b. b.requested) read ∙ seen-stays cargo f s id m.0 r at source seen alive;
+        stands = λ seen alive. ap (λ b. b.requested) read ∙ seen-stays cargo f hand source seen alive;
       },
     )
 

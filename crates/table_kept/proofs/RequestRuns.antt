@@ -1,13 +1,11 @@
 -- The step by which a stop is requested keeps the rule, where the source's word is of its generation, and a
 -- child failed where nothing was requested above.
 use Rattle.std.proofs.Common.{◌≡◌, ℕ, ◌+◌, ◌*◌, ◌/◌, ◌%◌, ◌^◌, ◌<◌, Bool, true, false, not, ◌&&◌, ◌||◌, ◌==◌, cond, ◌∷◌, set, refl, sym, ap, ◌∙◌, arith, max}
-use Rattle.std.specs.Prelude.{Option, Some, bit_or, slice_index}
+use Rattle.std.specs.Prelude.{Some, bit_or, slice_index}
 use Rattle.std.specs.Int.Bits.{or_zero_r}
 use Rattle.std.proofs.lemmas.Nat.{or_mod, or_shr}
 use Rattle.std.proofs.lemmas.Bool.{and_from, eq-eqb, or_left}
 use lib.Bits.{or_step}
-use mathlib.Core.Option.{some}
-use lib.ListN.{get_elem?}
 use Rattle.life_rules.specs.declared.words.Bits.{Bits}
 use Rattle.life_rules.specs.declared.event.Name.{Name}
 use Rattle.life_rules.specs.declared.event.SourceRef.{SourceRef}
@@ -24,7 +22,6 @@ use Rattle.stop_kept.proofs.Request.{sound-asking}
 use Rattle.table_words.specs.Stamps.{stamp_of, code_of}
 use Rattle.table_words.specs.Controls.{source_read}
 use Rattle.table_words.specs.Layouts.{IsSpot, index}
-use Rattle.atomic_table.specs.Table as table
 use Rattle.table_rules.specs.declared.cargo.Cargo.{Ghosts}
 use Rattle.table_rules.specs.declared.frame.Frame.{Frame}
 use Rattle.table_rules.specs.declared.view.View.{View}
@@ -38,6 +35,7 @@ use Rattle.table_rules.specs.Running.{Running}
 use Rattle.table_steps.specs.Claims.{with_step}
 use Rattle.table_steps.specs.Sights.{spot_of}
 use Rattle.table_steps.specs.Requests.{asks, mask}
+use Rattle.table_kept.proofs.Standing.{Standing}
 use Rattle.table_kept.proofs.Seats.{at_within}
 use Rattle.table_kept.proofs.Masks.{or-one}
 use Rattle.table_kept.proofs.Loads.{known-listed}
@@ -47,7 +45,7 @@ use Rattle.table_kept.proofs.ControlRuns.{open-kept}
 use Rattle.table_kept.proofs.Learning.{one-more}
 use Rattle.table_kept.proofs.Asides.{owning, homes-aside, starts-aside, lots-aside, known-aside}
 use Rattle.table_kept.proofs.AskedItems.{items-asked}
-use Rattle.table_kept.proofs.SourceRuns.{SaysOf, IsLiveSource, source-runs}
+use Rattle.table_kept.proofs.SourceRuns.{ToWriteSource, SaysOf, IsLiveSource, source-runs}
 
 module _ (w : ℕ) where
   stamp-kept : (m : ℕ) → m / 2 ^ 32 ≡ 0 → stamp_of (bit_or w m) ≡ stamp_of w
@@ -102,7 +100,21 @@ not-twice : (b : Bool) → b ≡ not (not b)
 not-twice true = refl
 not-twice false = refl
 
-module _ {P E O : Type 0} (cargo : Ghosts P E O) (f : Frame O) (s : table.State (Option P) (View P E)) (id : ℕ) (source : SourceRef) (failure : Bool) (v : View P E) (r : Running cargo f s) (at : get_elem? s.views id ≡ some v) (spot : IsSpot f.layout (spot_of source)) (live : IsLiveSource (shown f s) source) (says : SaysOf (slice_index s.words (index f.layout (spot_of source))) (bits_at (shown f s) source) source) (grounds : Grounds (shown f s) id source failure) where
+-- of which source a stop is requested, and on which grounds
+pub record ToRequest {P E O : Type 0} {cargo : Ghosts P E O} {f : Frame O}
+    (hand : Standing cargo f) : Type 0 where
+  pub source : SourceRef
+  pub failure : Bool
+  pub spot : IsSpot f.layout (spot_of source)
+  pub live : IsLiveSource (shown f hand.state) source
+  pub says : SaysOf (slice_index hand.state.words (index f.layout (spot_of source))) (bits_at (shown f hand.state) source) source
+  pub grounds : Grounds (shown f hand.state) hand.id source failure
+
+module _ {P E O : Type 0} (cargo : Ghosts P E O) (f : Frame O) (hand : Standing cargo f)
+    (task : ToRequest hand) where
+  open hand use {state as s, id, view as v, running as r, at}
+  open task use {source, failure, spot, live, says, grounds}
+
   abbrev now : State
   now = shown f s
 
@@ -124,8 +136,8 @@ module _ {P E O : Type 0} (cargo : Ghosts P E O) (f : Frame O) (s : table.State 
   is-shown : old_view ≡ shown_view (block_of f.layout s.words) v
   is-shown = view-here (block_of f.layout s.words) s.views id v at
 
-  hand : id < f.hands
-  hand = let l = at_within s.views id v at in let m = r.sized.seats in omega (arith, l, m)
+  hand_below : id < f.hands
+  hand_below = let l = at_within s.views id v at in let m = r.sized.seats in omega (arith, l, m)
 
   abbrev new : Bool
   new = not (bits_at now source).requested
@@ -188,6 +200,16 @@ module _ {P E O : Type 0} (cargo : Ghosts P E O) (f : Frame O) (s : table.State 
   more-bits =
       record { requested = λ _. refl; failed = λ t. or_left (bits_at now source).failed failure t; scanned = λ t. t }
 
+  abbrev writing : ToWriteSource hand
+  writing = record {
+    value = value;
+    source = source;
+    bits = bits;
+    spot = spot;
+    says = says-after source says;
+    live = live;
+  }
+
   pub request-runs : ((y : Name) → (bits_at after_state (Node y)).requested ≡ true → (bits_at now (Node y)).requested ≡ false →
       nearest_is_requested after_state y ≡ false → HasFailedChild cargo here y) →
       Running cargo f record { words = set s.words i value; homes = s.homes; views = set s.views id mine }
@@ -196,9 +218,9 @@ module _ {P E O : Type 0} (cargo : Ghosts P E O) (f : Frame O) (s : table.State 
       let z = scope_with now source bits in
       let w = (with_view now id u).view in
       let k = known-still v (r.stands.views.each id v at) in
-      source-runs cargo f s id value source bits v r at spot (says-after source says) live mine u shows-mine more-bits refl
+      source-runs cargo f hand writing mine u shows-mine more-bits refl
       (record {
-        sound = sound-asking now id source failure new r.stands.sound hand grounds (not-twice (bits_at now source).requested);
+        sound = sound-asking now id source failure new r.stands.sound hand_below grounds (not-twice (bits_at now source).requested);
         homes = homes-aside here now.callback q z now.scope w (related now id u (λ a b. owning a ≡ owning b) (λ _. refl) refl) r.stands.homes;
         starts = starts-aside here now.callback q z now.scope w cargo f.over.value r.stands.starts;
         items = items-asked cargo here now.callback q z now.scope w more blame r.stands.items;

@@ -1,6 +1,6 @@
 -- The exchange by which a parked node is woken keeps the rule.
 use Rattle.std.proofs.Common.{◌≡◌, ℕ, ◌+◌, ◌<◌, Bool, true, false, ◌&&◌, ◌||◌, ◌==◌, cond, set, refl, sym, ap, ◌∙◌, subst, inl, arith, eq-eqb, ne_eqb, ◌∷◌}
-use Rattle.std.specs.Prelude.{Option, nat_le, slice_index}
+use Rattle.std.specs.Prelude.{nat_le, slice_index}
 use Rattle.std.specs.Option.{option_map_or}
 use Rattle.std.proofs.lemmas.Bool.{and_from, both_ways, cond-true, cond-false, eqb-true, false_from_ne_true}
 use mathlib.Core.Option.{some}
@@ -28,7 +28,6 @@ use Rattle.table_words.specs.Stamps.{stamp_of}
 use Rattle.table_words.specs.Controls.{control_read}
 use Rattle.table_words.specs.Layouts.{OfControl, index}
 use Rattle.atomic_table.specs.Table.{Allows, step, keeps, stepped}
-use Rattle.atomic_table.specs.Table as table
 use Rattle.table_rules.specs.declared.cargo.Cargo.{Ghosts}
 use Rattle.table_rules.specs.declared.frame.Frame.{Frame}
 use Rattle.table_rules.specs.declared.view.View.{View}
@@ -40,15 +39,17 @@ use Rattle.table_rules.specs.Homes.{is_waiting, is_resting, seats_of}
 use Rattle.table_rules.specs.Running.{Stands, Running}
 use Rattle.table_steps.specs.Claims.{Seated, with_step}
 use Rattle.table_steps.specs.Rouses.{MayRouse, rouses}
+use Rattle.table_kept.proofs.MovingSeats.{Move}
+use Rattle.table_kept.proofs.Standing.{Standing}
 use Rattle.table_kept.proofs.Listing.{AllowsListed, allows-listed, lists-one}
 use Rattle.table_kept.proofs.Seats.{at_within}
 use Rattle.table_kept.proofs.Among.{among}
 use Rattle.table_kept.proofs.Loads.{known-listed, looks_keep}
 use Rattle.table_kept.proofs.Counts.{counts-moved}
 use Rattle.table_kept.proofs.ViewMoves.{view-here, views-moved}
-use Rattle.table_kept.proofs.ControlRuns.{place_of, place-live, name-live, begun-renewed, control-runs}
+use Rattle.table_kept.proofs.ControlRuns.{ToWriteControl, place_of, place-live, name-live, begun-renewed, control-runs}
 use Rattle.table_kept.proofs.HeldNow.{IsQuietKid, kid-quiet}
-use Rattle.table_kept.proofs.WordsLive.{SaysLive, says-live}
+use Rattle.table_kept.proofs.WordsLive.{LiveWord, SaysLive, says-live}
 use Rattle.table_kept.proofs.Moving.{Moves, KidMoves, moved, no-seat}
 use Rattle.table_kept.proofs.MovingHomes.{homes-moved}
 use Rattle.table_kept.proofs.MovingItems.{Remembers, Leaves, starts-moved, items-moved, lots-moved}
@@ -63,7 +64,22 @@ and-none : (a : Bool) → (a && false) ≡ false
 and-none true = refl
 and-none false = refl
 
-module _ {P E O : Type 0} (cargo : Ghosts P E O) (f : Frame O) (s : table.State (Option P) (View P E)) (id value : ℕ) (x : Name) (v : View P E) (r : Running cargo f s) (at : get_elem? s.views id ≡ some v) (live : is_live (shown f s) x ≡ true) (parked : control_at (shown f s) x ≡ Parked) (may : MayRouse v x) (stamped : stamp_of value ≡ x.generation) (reads : control_read value ≡ ReadyLoop) where
+-- which parked node is woken, and by which word
+pub record ToRouse {P E O : Type 0} {cargo : Ghosts P E O} {f : Frame O}
+    (hand : Standing cargo f) : Type 0 where
+  pub value : ℕ
+  pub name : Name
+  pub live : is_live (shown f hand.state) name ≡ true
+  pub parked : control_at (shown f hand.state) name ≡ Parked
+  pub may : MayRouse hand.view name
+  pub stamped : stamp_of value ≡ name.generation
+  pub reads : control_read value ≡ ReadyLoop
+
+module _ {P E O : Type 0} (cargo : Ghosts P E O) (f : Frame O) (hand : Standing cargo f)
+    (task : ToRouse hand) where
+  open hand use {state as s, id, view as v, running as r, at}
+  open task use {value, name as x, live, parked, may, stamped, reads}
+
   abbrev now : State
   now = shown f s
 
@@ -170,10 +186,22 @@ module _ {P E O : Type 0} (cargo : Ghosts P E O) (f : Frame O) (s : table.State 
         met = λ _. r.stands.homes.met x (ap is_idle parked) (ap is_waiting parked);
       }
 
-  remembers : Remembers cargo f.over.value here id x ReadyLoop u is-put here.home r.past moves
+  abbrev moving : Move here
+  moving = record {
+    hand = id;
+    name = x;
+    word = ReadyLoop;
+    view = u;
+    put = is-put;
+    home = here.home;
+    past = r.past;
+    moves = moves;
+  }
+
+  remembers : Remembers cargo f.over.value here moving
   remembers = record { start = λ y. refl; lot = λ y ne. refl; delivered = λ y ne. refl }
 
-  leaves : Leaves cargo f.over.value here id x ReadyLoop u is-put here.home r.past moves
+  leaves : Leaves cargo f.over.value here moving
   leaves =
       record {
         start = λ item is. r.stands.starts.shows x item live is;
@@ -187,6 +215,16 @@ module _ {P E O : Type 0} (cargo : Ghosts P E O) (f : Frame O) (s : table.State 
         lot = λ item waits _. cc;
         drawn = λ n waits _ _ _. cc;
       }
+
+  abbrev writing : ToWriteControl hand
+  writing = record {
+    value = value;
+    name = x;
+    word = ReadyLoop;
+    live = live;
+    stamped = stamped;
+    reads = reads;
+  }
 
   module _ (n : ℕ) where
     abbrev i : ℕ
@@ -209,16 +247,16 @@ module _ {P E O : Type 0} (cargo : Ghosts P E O) (f : Frame O) (s : table.State 
     stands-roused =
         record {
           sound = sound-now;
-          homes = homes-moved here id x ReadyLoop u is-put here.home r.past moves r.stands.homes;
-          starts = starts-moved cargo f.over.value here id x ReadyLoop u is-put here.home r.past moves remembers leaves r.stands.starts;
-          items = items-moved cargo f.over.value here id x ReadyLoop u is-put here.home r.past moves remembers leaves r.stands.items;
-          lots = lots-moved cargo f.over.value here id x ReadyLoop u is-put here.home r.past moves remembers leaves r.stands.lots;
+          homes = homes-moved here moving r.stands.homes;
+          starts = starts-moved cargo f.over.value here moving remembers leaves r.stands.starts;
+          items = items-moved cargo f.over.value here moving remembers leaves r.stands.items;
+          lots = lots-moved cargo f.over.value here moving remembers leaves r.stands.lots;
           views = views-moved here after s.views id v mine at
               (λ j z ne there.
-              known-moved here id x ReadyLoop u is-put here.home r.past moves (λ y. refl) (λ y _. refl) (λ y _. refl) (inl refl) z
+              known-moved here moving (λ y. refl) (λ y _. refl) (λ y _. refl) (inl refl) z
               (among f s j z r.sized.seats there) (held-none z j there))
               (known-listed after i n value v
-              (known-moved here id x ReadyLoop u is-put here.home r.past moves (λ y. refl) (λ y _. refl) (λ y _. refl) (inl refl) v
+              (known-moved here moving (λ y. refl) (λ y _. refl) (λ y _. refl) (inl refl) v
               (among f s id v r.sized.seats at) (held-none v id at) (r.stands.views.each id v at)))
               refl refl r.stands.views;
           counts = counts-moved here.state after.state s.views id v mine at refl refl r.stands.counts;
@@ -230,7 +268,7 @@ module _ {P E O : Type 0} (cargo : Ghosts P E O) (f : Frame O) (s : table.State 
       views = set s.views id mine;
     }
     rouse-runs was =
-        control-runs cargo f s id value x ReadyLoop v r at live stamped reads mine u (sym shows)
+        control-runs cargo f hand writing mine u (sym shows)
         s.homes here.home r.past (λ j m. refl)
         (ap is_done parked) (begun-renewed cargo f s x r live (ap is_idle parked)) (ap (λ k. entry i k value ∷ v.steps) was) refl stands-roused
 
@@ -241,17 +279,38 @@ pub rouses_allowed : {P E O : Type 0} (cargo : Ghosts P E O) (f : Frame O) (slot
     Allows (Running cargo f) slots id m (index f.layout (OfControl x.block x.node)) (λ n. either (n == old) new n)
     (rouses (step slots (index f.layout (OfControl x.block x.node)) old new maybe.none) m)
 rouses_allowed {P} {E} cargo f slots id old new x m hb hn may stamp_old reads_old stamp_new reads_new s r deep at small =
+    let hand : Standing cargo f = record { state = s; id = id; view = m.0; running = r; at = at } in
     let i = index f.layout (OfControl x.block x.node) in
     let n = slice_index s.words i in
     dite (ℕ_discrete n old)
     (λ hit.
-    let says : SaysLive (shown f s) x Parked = says-live cargo f s x Parked r hb hn (ap stamp_of hit ∙ stamp_old) (ap control_read hit ∙ reads_old) refl in
+    let live_word : LiveWord cargo f = record {
+      state = s;
+      name = x;
+      word = Parked;
+      running = r;
+      within = hb;
+      node_within = hn;
+      stamped = ap stamp_of hit ∙ stamp_old;
+      reads = ap control_read hit ∙ reads_old;
+      under_way = refl;
+    } in
+    let says : SaysLive (shown f s) x Parked = says-live cargo f live_word in
+    let rousing : ToRouse hand = record {
+      value = new;
+      name = x;
+      live = says.live;
+      parked = says.word;
+      may = may;
+      stamped = stamp_new;
+      reads = reads_new;
+    } in
     let left : new ≡ either (n == old) new n = sym (ap (λ t. either t new n) (eq-eqb n old hit)) in (
       with_step i n (either (n == old) new n) m.0,
       keeps,
       tt,
       subst (λ (k : ℕ). Running cargo f (stepped s i k id m.1 (with_step i n k m.0) keeps)) left
-          (rouse-runs cargo f s id new x m.0 r at says.live says.word may stamp_new reads_new n refl),
+          (rouse-runs cargo f hand rousing n refl),
       refl,
     ))
     (λ miss. (

@@ -3,13 +3,11 @@ use Rattle.std.proofs.Common.{◌≡◌, ℕ, ◌<◌, ◌≤◌, true, false, �
 use Rattle.std.specs.Prelude.{Option, Some, None, slice_index}
 use Rattle.std.specs.Option.{option_map_or}
 use Rattle.std.proofs.lemmas.Bool.{and_parts, cond-true, cond-false}
-use mathlib.Core.Option.{some}
 use mathlib.Core.Option as maybe
 use mathlib.Core.Logic.{dite}
 use Rattle.listed_steps.specs.Lists.{entry}
 use native.Mathlib.Decide.{ℕ_discrete}
 use prog.Atomic.{either}
-use lib.ListN.{get_elem?}
 use Rattle.node_tree.specs.declared.node.TreeNode.{TreeNode}
 use Rattle.life_rules.specs.declared.words.CallbackPhase.TheVariants.{Running as Runs}
 use Rattle.life_rules.specs.declared.event.Name.{Name}
@@ -23,7 +21,6 @@ use Rattle.table_words.specs.Stamps.{stamp_of}
 use Rattle.table_words.specs.Controls.{callback_read}
 use Rattle.table_words.specs.Layouts.{OfCallback, index}
 use Rattle.atomic_table.specs.Table.{Allows, step, keeps, stepped}
-use Rattle.atomic_table.specs.Table as table
 use Rattle.table_rules.specs.declared.cargo.Cargo.{Ghosts}
 use Rattle.table_rules.specs.declared.frame.Frame.{Frame}
 use Rattle.table_rules.specs.declared.view.View.{View}
@@ -34,6 +31,7 @@ use Rattle.table_steps.specs.Claims.{with_step, logged, ListsOne, Seated}
 use Rattle.table_steps.specs.Slots.{Aim, IsSeated}
 use Rattle.table_steps.specs.ScanOrders.{hears}
 use Rattle.table_steps.specs.Runs.{says_armed, place_named, node_named, runs_place, passes_place, meets_at, RunsAt, CanRun, IsOfScan, IsNewest}
+use Rattle.table_kept.proofs.Standing.{Standing}
 use Rattle.table_kept.proofs.Listing.{AllowsListed, allows-listed, lists-one}
 use Rattle.table_kept.proofs.BeginSeats.{seated-logged}
 use Rattle.table_kept.proofs.Stamping.{newest-risen}
@@ -41,13 +39,31 @@ use Rattle.table_kept.proofs.Loads.{looks_keep}
 use Rattle.table_kept.proofs.ScanOrders.{heard}
 use Rattle.table_kept.proofs.ArmedWords.{armed-later, armed-live, armed-phase, armed-stamp, unarmed-phase}
 use Rattle.table_kept.proofs.RunsLive.{runs-beside}
-use Rattle.table_kept.proofs.RunRuns.{present, scannable, run-runs, pass-runs}
+use Rattle.table_kept.proofs.RunRuns.{ToRun, present, scannable, run-runs, pass-runs}
 
 some-same : (source : SourceRef) (o : Option SourceRef) → option_map_or (same_source source) o false ≡ true → o ≡ Some source
 some-same source None h = cc
 some-same source (Some t) h = ap Some (sym (same_source-true source t h))
 
-module _ {P E O : Type 0} (cargo : Ghosts P E O) (f : Frame O) (s : table.State (Option P) (View P E)) (id slots : ℕ) (source : SourceRef) (b m : ℕ) (me : Seated P E) (r : Running cargo f s) (at : get_elem? s.views id ≡ some me.0) (can : CanRun f.tree me.0 source b m) (hb : b < f.layout.blocks) where
+-- at which place a scan of a source goes on, and what the hand carries
+pub record ToMeet {P E O : Type 0} {cargo : Ghosts P E O} {f : Frame O}
+    (hand : Standing cargo f) : Type 0 where
+  pub slots : ℕ
+  pub source : SourceRef
+  pub block : ℕ
+  pub place : ℕ
+  pub carried : List (ℕ × Option P)
+  pub can : CanRun f.tree hand.view source block place
+  pub within : block < f.layout.blocks
+
+module _ {P E O : Type 0} (cargo : Ghosts P E O) (f : Frame O) (hand : Standing cargo f)
+    (task : ToMeet hand) where
+  open hand use {state as s, id, view as v, running as r, at}
+  open task use {slots, source, block as b, place as m, carried as c, can, within as hb}
+
+  abbrev me : Seated P E
+  me = (v, c)
+
   abbrev now : State
   now = shown f s
 
@@ -69,6 +85,17 @@ module _ {P E O : Type 0} (cargo : Ghosts P E O) (f : Frame O) (s : table.State 
       (newest-risen f.layout s.words s.views id me.0 (entry i word word) newest.earlier at newest.steps_are r.stamped.rises
       (OfCallback b m) (hb, hm) refl).1
 
+  abbrev running_next : ToRun hand
+  running_next = record {
+    source = source;
+    block = b;
+    place = m;
+    can = can;
+    within = hb;
+    cell = i;
+    number = n;
+  }
+
   -- a word that isn't armed passes the place
   pub met-runs : Running cargo f (stepped s i n id me.1 (meets_at (aimed f (place_named b m)) source i n me).0 keeps)
   met-runs =
@@ -80,7 +107,7 @@ module _ {P E O : Type 0} (cargo : Ghosts P E O) (f : Frame O) (s : table.State 
       (looks_keep cargo f s id i me.0 r at))
       (λ unarmed.
       subst (λ (z : View P E). Running cargo f (stepped s i n id me.1 (to z) keeps)) (sym (cond-false (says_armed n) me.0 passed unarmed))
-      (pass-runs cargo f s id source b m me.0 r at can hb i n (unarmed-phase cargo f s b m r hb hm unarmed) refl))
+      (pass-runs cargo f hand running_next (unarmed-phase cargo f s b m r hb hm unarmed) refl))
 
   -- it is armed
   module _ (armed : says_armed n ≡ true) where
@@ -92,65 +119,110 @@ module _ {P E O : Type 0} (cargo : Ghosts P E O) (f : Frame O) (s : table.State 
 
     registered : nearest_of now x ≡ Some source
     registered =
-        let there = present cargo f s id source b m me.0 r at can hb i n source
-        (scannable cargo f s id source b m me.0 r at can hb i n).requested in
+        let there = present cargo f hand running_next source
+        (scannable cargo f hand running_next).requested in
         some-same source (nearest_of now x) (heard now source there b m ∙ (and_parts (hears f.tree source b m) _ can.next).0)
 
     pub of-scan : IsOfScan f.tree me.0 source (node_named b m n)
     of-scan =
         subst (IsOfScan f.tree me.0 source) named
-        (record { nearest_is = registered; beside_it = runs-beside cargo f s id me.0 r at x live })
+        (record { nearest_is = registered; beside_it = runs-beside cargo f hand x live })
 
     pub won-runs : (new : ℕ) → stamp_of new ≡ stamp_of n → callback_read new ≡ Runs →
         Running cargo f (stepped s i new id me.1 (with_step i n new (runs_place (node_named b m n) me.0)) keeps)
     won-runs new stamped reads =
         subst (λ y. Running cargo f (stepped s i new id me.1 (with_step i n new (runs_place y me.0)) keeps)) named
-        (run-runs cargo f s id source b m me.0 r at can hb i n new live (armed-phase cargo f s b m r hb hm armed)
+        (run-runs cargo f hand running_next new live (armed-phase cargo f s b m r hb hm armed)
         (stamped ∙ armed-stamp cargo f s b m r hb hm armed) reads refl refl)
 
-module _ {P E O : Type 0} (cargo : Ghosts P E O) (f : Frame O) (slots id : ℕ) (source : SourceRef) (b m : ℕ) (me : Seated P E) (can : CanRun f.tree me.0 source b m) (hb : b < f.layout.blocks) where
+-- the place at which a scan of a source goes on, for the hand that makes the scan
+pub record NextPlace (P E : Type 0) {O : Type 0} (f : Frame O) : Type 0 where
+  pub slots : ℕ
+  pub id : ℕ
+  pub source : SourceRef
+  pub block : ℕ
+  pub place : ℕ
+  pub seated : Seated P E
+  pub can : CanRun f.tree seated.0 source block place
+  pub within : block < f.layout.blocks
+
+module _ {P E O : Type 0} (cargo : Ghosts P E O) (f : Frame O) (task : NextPlace P E f) where
+  open task use {slots, id, source, block as b, place as m, seated, can, within as hb}
+
   abbrev place : ℕ
   place = index f.layout (OfCallback b m)
 
   -- what the load owes
-  meets_allowed : Allows (Running cargo f) slots id me place (λ n. n) (λ n m'. m' ≡ meets_at (aimed f (place_named b m)) source place n me)
-  meets_allowed s r deep at small = (
-    (meets_at (aimed f (place_named b m)) source place (slice_index s.words place) me).0,
-    keeps,
-    tt,
-    met-runs cargo f s id slots source b m me r at can hb,
-    refl,
-  )
+  meets_allowed : Allows (Running cargo f) slots id seated place (λ n. n) (λ n m'. m' ≡ meets_at (aimed f (place_named b m)) source place n seated)
+  meets_allowed s r deep at small =
+      let hand : Standing cargo f = record {
+        state = s;
+        id = id;
+        view = seated.0;
+        running = r;
+        at = at;
+      } in
+      let meeting : ToMeet hand = record {
+        slots = slots;
+        source = source;
+        block = b;
+        place = m;
+        carried = seated.1;
+        can = can;
+        within = hb;
+      } in (
+        (meets_at (aimed f (place_named b m)) source place (slice_index s.words place) seated).0,
+        keeps,
+        tt,
+        met-runs cargo f hand meeting,
+        refl,
+      )
 
   -- what the exchange owes, of a word that was read as armed
-  runs_allowed : (old new : ℕ) → says_armed old ≡ true → IsNewest place old me.0 → stamp_of new ≡ stamp_of old → callback_read new ≡ Runs →
-      Allows (Running cargo f) slots id me place (λ n. either (n == old) new n)
-      (RunsAt (aimed f (place_named b m)) source (step slots place old new maybe.none) me)
+  runs_allowed : (old new : ℕ) → says_armed old ≡ true → IsNewest place old seated.0 → stamp_of new ≡ stamp_of old → callback_read new ≡ Runs →
+      Allows (Running cargo f) slots id seated place (λ n. either (n == old) new n)
+      (RunsAt (aimed f (place_named b m)) source (step slots place old new maybe.none) seated)
   runs_allowed old new armed newest stamped reads s r deep at small =
+      let hand : Standing cargo f = record {
+        state = s;
+        id = id;
+        view = seated.0;
+        running = r;
+        at = at;
+      } in
+      let meeting : ToMeet hand = record {
+        slots = slots;
+        source = source;
+        block = b;
+        place = m;
+        carried = seated.1;
+        can = can;
+        within = hb;
+      } in
       let n = slice_index s.words place in
       dite (ℕ_discrete n old)
       (λ hit.
       let here : says_armed n ≡ true = ap says_armed hit ∙ armed in
-      let ran : View P E = with_step place n new (runs_place (node_named b m n) me.0) in (
+      let ran : View P E = with_step place n new (runs_place (node_named b m n) seated.0) in (
         ran,
         keeps,
         tt,
-        subst (λ k. Running cargo f (stepped s place k id me.1 ran keeps)) (sym (ap (λ t. either t new n) (eq-eqb n old hit)))
-            (won-runs cargo f s id slots source b m me r at can hb here new (stamped ∙ ap stamp_of (sym hit)) reads),
-        ((λ _. (refl, of-scan cargo f s id slots source b m me r at can hb here)), (λ miss. absurd (miss hit))),
+        subst (λ k. Running cargo f (stepped s place k id seated.1 ran keeps)) (sym (ap (λ t. either t new n) (eq-eqb n old hit)))
+            (won-runs cargo f hand meeting here new (stamped ∙ ap stamp_of (sym hit)) reads),
+        ((λ _. (refl, of-scan cargo f hand meeting here)), (λ miss. absurd (miss hit))),
       ))
       (λ miss.
-      let met : View P E = (meets_at (aimed f (place_named b m)) source place n me).0 in (
+      let met : View P E = (meets_at (aimed f (place_named b m)) source place n seated).0 in (
         met,
         keeps,
         tt,
-        subst (λ k. Running cargo f (stepped s place k id me.1 met keeps)) (sym (ap (λ t. either t new n) (ne_eqb n old miss)))
-            (met-runs cargo f s id slots source b m me r at can hb),
+        subst (λ k. Running cargo f (stepped s place k id seated.1 met keeps)) (sym (ap (λ t. either t new n) (ne_eqb n old miss)))
+            (met-runs cargo f hand meeting),
         (
           (λ hit. absurd (miss hit)),
           (λ _. (
             refl,
-            λ again. armed-later old n armed again (entry-rises cargo f s id slots source b m me r at can hb old newest) miss,
+            λ again. armed-later old n armed again (entry-rises cargo f hand meeting old newest) miss,
           )),
         ),
       ))
@@ -164,33 +236,66 @@ met-lists {P} {E} aim source i n me =
     (λ unarmed. lists-one i n n me _ passed (ap (logged i n) (cond-false (says_armed n) me.0 passed unarmed)) refl refl refl refl)
 
 -- the same by the frame that the table shows
-module _ {P E O : Type 0} (cargo : Ghosts P E O) (board f : Frame O) (slots id i : ℕ) (source t : SourceRef) (b m : ℕ) (aim : Aim) (me : Seated P E) (same : board ≡ f) (i_is : i ≡ index board.layout (OfCallback b m)) (aim_is : aim ≡ aimed board (place_named b m)) (t_is : t ≡ source) (can : CanRun board.tree me.0 source b m) (hb : b < board.layout.blocks) where
-  pub meets-at : AllowsListed cargo f slots id me i (λ n. n) (λ n m'. m' ≡ meets_at aim t i n me)
-  meets-at =
-      allows-listed cargo f slots id me i (λ n. n) (λ n m'. m' ≡ meets_at aim t i n me)
-      (λ n m' told. subst (ListsOne i n n me) (sym told) (met-lists aim t i n me))
-      (subst (λ z. Allows (Running cargo z) slots id me i (λ n. n) (λ n m'. m' ≡ meets_at aim t i n me)) same
-      (subst (λ (z : ℕ × Aim × SourceRef). Allows (Running cargo board) slots id me z.0 (λ n. n) (λ n m'. m' ≡ meets_at z.1 z.2 z.0 n me))
-      (λ k. (sym i_is k, sym aim_is k, sym t_is k))
-      (meets_allowed cargo board slots id source b m me can hb)))
+-- the same by the frame that the table shows
+pub record NextPlaceAt (P E : Type 0) {O : Type 0} (board f : Frame O) : Type 0 where
+  pub slots : ℕ
+  pub id : ℕ
+  pub cell : ℕ
+  pub source : SourceRef
+  pub other_source : SourceRef
+  pub block : ℕ
+  pub place : ℕ
+  pub aim : Aim
+  pub seated : Seated P E
+  pub same : board ≡ f
+  pub i_is : cell ≡ index board.layout (OfCallback block place)
+  pub aim_is : aim ≡ aimed board (place_named block place)
+  pub t_is : other_source ≡ source
+  pub can : CanRun board.tree seated.0 source block place
+  pub within : block < board.layout.blocks
 
-  pub runs-at : (old new : ℕ) → says_armed old ≡ true → IsNewest (index board.layout (OfCallback b m)) old me.0 →
+module _ {P E O : Type 0} (cargo : Ghosts P E O) (board f : Frame O)
+    (task : NextPlaceAt P E board f) where
+  open task use {slots, id, cell, source, other_source as t, block as b, place as m, aim, seated, same, i_is, aim_is, t_is, can, within as hb}
+
+  abbrev next_place : NextPlace P E board
+  next_place = record {
+    slots = slots;
+    id = id;
+    source = source;
+    block = b;
+    place = m;
+    seated = seated;
+    can = can;
+    within = hb;
+  }
+
+  pub meets-at : AllowsListed cargo f slots id seated cell (λ n. n) (λ n m'. m' ≡ meets_at aim t cell n seated)
+  meets-at =
+      allows-listed cargo f slots id seated cell (λ n. n) (λ n m'. m' ≡ meets_at aim t cell n seated)
+      (λ n m' told. subst (ListsOne cell n n seated) (sym told) (met-lists aim t cell n seated))
+      (subst (λ z. Allows (Running cargo z) slots id seated cell (λ n. n) (λ n m'. m' ≡ meets_at aim t cell n seated)) same
+      (subst (λ (z : ℕ × Aim × SourceRef). Allows (Running cargo board) slots id seated z.0 (λ n. n) (λ n m'. m' ≡ meets_at z.1 z.2 z.0 n seated))
+      (λ k. (sym i_is k, sym aim_is k, sym t_is k))
+      (meets_allowed cargo board next_place)))
+
+  pub runs-at : (old new : ℕ) → says_armed old ≡ true → IsNewest (index board.layout (OfCallback b m)) old seated.0 →
       stamp_of new ≡ stamp_of old → callback_read new ≡ Runs →
-      AllowsListed cargo f slots id me i (λ n. either (n == old) new n) (RunsAt aim t (step slots i old new maybe.none) me)
+      AllowsListed cargo f slots id seated cell (λ n. either (n == old) new n) (RunsAt aim t (step slots cell old new maybe.none) seated)
   runs-at old new armed newest stamped reads =
-      allows-listed cargo f slots id me i (λ n. either (n == old) new n) (RunsAt aim t (step slots i old new maybe.none) me)
+      allows-listed cargo f slots id seated cell (λ n. either (n == old) new n) (RunsAt aim t (step slots cell old new maybe.none) seated)
       (λ n m' told.
       dite (ℕ_discrete n old)
       (λ hit.
-      subst (λ k. ListsOne i n k me m') (sym (ap (λ b. either b new n) (eq-eqb n old hit)))
-      (lists-one i n new me m' _ (ap (λ z. z.0) (told.0 hit).0) refl refl refl refl))
+      subst (λ k. ListsOne cell n k seated m') (sym (ap (λ b. either b new n) (eq-eqb n old hit)))
+      (lists-one cell n new seated m' _ (ap (λ z. z.0) (told.0 hit).0) refl refl refl refl))
       (λ miss.
-      subst (λ k. ListsOne i n k me m') (sym (ap (λ b. either b new n) (ne_eqb n old miss)))
-      (subst (ListsOne i n n me) (sym (told.1 miss).0) (met-lists aim t i n me))))
-      (subst (λ z. Allows (Running cargo z) slots id me i (λ n. either (n == old) new n) (RunsAt aim t (step slots i old new maybe.none) me)) same
-      (subst (λ (z : ℕ × Aim × SourceRef). Allows (Running cargo board) slots id me z.0 (λ n. either (n == old) new n) (RunsAt z.1 z.2 (step slots z.0 old new maybe.none) me))
+      subst (λ k. ListsOne cell n k seated m') (sym (ap (λ b. either b new n) (ne_eqb n old miss)))
+      (subst (ListsOne cell n n seated) (sym (told.1 miss).0) (met-lists aim t cell n seated))))
+      (subst (λ z. Allows (Running cargo z) slots id seated cell (λ n. either (n == old) new n) (RunsAt aim t (step slots cell old new maybe.none) seated)) same
+      (subst (λ (z : ℕ × Aim × SourceRef). Allows (Running cargo board) slots id seated z.0 (λ n. either (n == old) new n) (RunsAt z.1 z.2 (step slots z.0 old new maybe.none) seated))
       (λ k. (sym i_is k, sym aim_is k, sym t_is k))
-      (runs_allowed cargo board slots id source b m me can hb old new armed newest stamped reads)))
+      (runs_allowed cargo board next_place old new armed newest stamped reads)))
 
 -- the hand still carries each slot once
 module _ {P E : Type 0} (tree : List TreeNode) (l : Layout) (i n : ℕ) (me : Seated P E) (old : IsSeated tree l me) where

@@ -18,9 +18,10 @@ use Rattle.table_steps.specs.Claims.{with_step, Seated}
 use Rattle.table_steps.specs.Slots.{Aim, IsSeated}
 use Rattle.table_steps.specs.Callbacks.{FindsCallback}
 use Rattle.table_steps.specs.RunEnds.{CanEndRun, CanWithdrawOwn, ends_run, removes_own}
+use Rattle.table_kept.proofs.Standing.{Standing}
 use Rattle.table_kept.proofs.Listing.{AllowsListed, allows-listed, lists-one}
 use Rattle.table_kept.proofs.Noting.{seated-noted}
-use Rattle.table_kept.proofs.RunEndRuns.{found-running, end-runs, remove-runs}
+use Rattle.table_kept.proofs.RunEndRuns.{ToRemoveOwn, found-running, end-runs, remove-runs}
 
 module _ {P E O : Type 0} (cargo : Ghosts P E O) where
   -- what the stores owe, by the frame that the table shows
@@ -34,12 +35,19 @@ module _ {P E O : Type 0} (cargo : Ghosts P E O) where
       (subst (λ (z : ℕ × Aim). Allows (holds.Running cargo board) slots id m z.0 (λ _. value)
       (λ n. FindsCallback z.1.name Running (ends_run z.1.tree z.1.name) z.0 n value m))
       (λ k. (sym i_is k, sym aim_is k))
-      (λ s r deep at small. (
+      (λ s r deep at small.
+      let hand : Standing cargo board = record {
+        state = s;
+        id = id;
+        view = m.0;
+        running = r;
+        at = at;
+      } in (
         with_step (index board.layout (OfCallback x.block x.node)) (slice_index s.words (index board.layout (OfCallback x.block x.node))) value (ends_run board.tree x m.0),
         keeps,
         tt,
-        end-runs cargo board s id x m.0 r at can (index board.layout (OfCallback x.block x.node)) (slice_index s.words (index board.layout (OfCallback x.block x.node))) value stamped reads refl refl,
-        record { found = found-running cargo board s id x m.0 r at can; me_is = refl },
+        end-runs cargo board hand x can (index board.layout (OfCallback x.block x.node)) (slice_index s.words (index board.layout (OfCallback x.block x.node))) value stamped reads refl refl,
+        record { found = found-running cargo board hand x can; me_is = refl },
       ))))
 
   pub removes-at : (board f : Frame O) (slots id i value : ℕ) (x : Name) (aim : Aim) (m : Seated P E) → board ≡ f →
@@ -52,12 +60,28 @@ module _ {P E O : Type 0} (cargo : Ghosts P E O) where
       (subst (λ (z : ℕ × Aim). Allows (holds.Running cargo board) slots id m z.0 (λ _. value)
       (λ n. FindsCallback z.1.name Running (removes_own z.1.tree z.1.name) z.0 n value m))
       (λ k. (sym i_is k, sym aim_is k))
-      (λ s r deep at small. (
+      (λ s r deep at small.
+      let hand : Standing cargo board = record {
+        state = s;
+        id = id;
+        view = m.0;
+        running = r;
+        at = at;
+      } in
+      let removing : ToRemoveOwn hand = record {
+        name = x;
+        can = can;
+        cell = index board.layout (OfCallback x.block x.node);
+        number = slice_index s.words (index board.layout (OfCallback x.block x.node));
+        value = value;
+        stamped = stamped;
+        reads = reads;
+      } in (
         with_step (index board.layout (OfCallback x.block x.node)) (slice_index s.words (index board.layout (OfCallback x.block x.node))) value (removes_own board.tree x m.0),
         keeps,
         tt,
-        remove-runs cargo board s id x m.0 r at can (index board.layout (OfCallback x.block x.node)) (slice_index s.words (index board.layout (OfCallback x.block x.node))) value stamped reads refl refl,
-        record { found = found-running cargo board s id x m.0 r at can.run; me_is = refl },
+        remove-runs cargo board hand removing refl refl,
+        record { found = found-running cargo board hand x can.run; me_is = refl },
       ))))
 
 -- the hand still carries each slot once

@@ -1,6 +1,6 @@
 -- The store by which a callback's run ends keeps the rule, also where it removes the callback.
 use Rattle.std.proofs.Common.{◌≡◌, ℕ, ◌+◌, ◌<◌, ◌≤◌, true, not, ◌&&◌, List, set, refl, sym, ap, ◌∙◌, subst, arith, ◌∷◌}
-use Rattle.std.specs.Prelude.{Option, Some, is_some, nat_le}
+use Rattle.std.specs.Prelude.{Some, is_some, nat_le}
 use Rattle.std.specs.Option.{option_map_or}
 use Rattle.std.proofs.lemmas.Bool.{and_from, or_right, le-leb}
 use mathlib.Core.Option.{some}
@@ -26,7 +26,6 @@ use Rattle.stop_kept.proofs.EndRun.{sound-end_run, sound-withdraw_own}
 use Rattle.table_words.specs.Stamps.{stamp_of}
 use Rattle.table_words.specs.Controls.{callback_read, callback_code}
 use Rattle.table_words.specs.Layouts.{OfCallback, index}
-use Rattle.atomic_table.specs.Table as table
 use Rattle.listed_steps.specs.Lists.{entry}
 use Rattle.table_rules.specs.declared.cargo.Cargo.{Ghosts}
 use Rattle.table_rules.specs.declared.frame.Frame.{Frame}
@@ -42,6 +41,7 @@ use Rattle.table_steps.specs.Claims.{with_step}
 use Rattle.table_steps.specs.Lefts.{FoundCallback}
 use Rattle.table_steps.specs.Readings.{at_entry}
 use Rattle.table_steps.specs.RunEnds.{CanEndRun, CanWithdrawOwn, passes_to, number_of, ends_run, removes_own}
+use Rattle.table_kept.proofs.Standing.{Standing}
 use Rattle.table_kept.proofs.Seats.{at_within}
 use Rattle.table_kept.proofs.Entries.{count-without}
 use Rattle.table_kept.proofs.Among.{among}
@@ -51,10 +51,10 @@ use Rattle.table_kept.proofs.HeldNotes.{each-changed}
 use Rattle.table_kept.proofs.ViewMoves.{view-here}
 use Rattle.table_kept.proofs.ControlRuns.{place_of, place-live, name-live}
 use Rattle.table_kept.proofs.FoundNow.{found-callback}
-use Rattle.table_kept.proofs.HeldNow.{holds-now, others-none}
+use Rattle.table_kept.proofs.HeldNow.{Holding, holds-now, others-none}
 use Rattle.table_kept.proofs.Scans.{scan-passed}
 use Rattle.table_kept.proofs.Asides.{held-aside, known-aside}
-use Rattle.table_kept.proofs.AsideSteps.{callback-keeps}
+use Rattle.table_kept.proofs.AsideSteps.{ToStepAside, callback-keeps}
 
 -- what a hand noted of a callback that runs is so after its run
 still-ran : (known : CallbackPhase) → is_still known Runs → is_still known Ran
@@ -64,7 +64,10 @@ still-ran Runs h = refl
 still-ran Ran h = cc
 still-ran Removed h = cc
 
-module _ {P E O : Type 0} (cargo : Ghosts P E O) (f : Frame O) (s : table.State (Option P) (View P E)) (id : ℕ) (x : Name) (v : View P E) (r : Running cargo f s) (at : get_elem? s.views id ≡ some v) (can : CanEndRun v x) where
+module _ {P E O : Type 0} (cargo : Ghosts P E O) (f : Frame O) (hand : Standing cargo f) (x : Name)
+    (can : CanEndRun hand.view x) where
+  open hand use {state as s, id, view as v, running as r, at}
+
   abbrev now : State
   now = shown f s
 
@@ -80,14 +83,14 @@ module _ {P E O : Type 0} (cargo : Ghosts P E O) (f : Frame O) (s : table.State 
   is-shown : old_view ≡ shown_view blocks v
   is-shown = view-here blocks s.views id v at
 
-  hand : id < f.hands
-  hand = let l = at_within s.views id v at in let m = r.sized.seats in omega (arith, l, m)
+  hand_below : id < f.hands
+  hand_below = let l = at_within s.views id v at in let m = r.sized.seats in omega (arith, l, m)
 
   runs-now : 1 ≤ old_view.runs x
   runs-now = subst (λ (z : PureView). 1 ≤ z.runs x) (sym is-shown) can.runs
 
   running : is_running (phase_at now x) ≡ true
-  running = runs-running now id x r.stands.sound.runs hand runs-now
+  running = runs-running now id x r.stands.sound.runs hand_below runs-now
 
   pub live : is_live now x ≡ true
   live = running-live now x running
@@ -104,7 +107,7 @@ module _ {P E O : Type 0} (cargo : Ghosts P E O) (f : Frame O) (s : table.State 
 
   -- the hand scans the source that the node hears
   near : (t : SourceRef) × (nearest_of now x ≡ Some t) × (is_next_in now old_view t x ≡ true)
-  near = map_or-some (λ t. is_next_in now old_view t x) (nearest_of now x) (r.stands.sound.runs.next id x hand runs-now)
+  near = map_or-some (λ t. is_next_in now old_view t x) (nearest_of now x) (r.stands.sound.runs.next id x hand_below runs-now)
 
   abbrev source : SourceRef
   source = near.0
@@ -145,6 +148,17 @@ module _ {P E O : Type 0} (cargo : Ghosts P E O) (f : Frame O) (s : table.State 
         })
         ∙ ap (λ (z : PureView). record z { runs = lose x z.runs; scan = scan_at source (Some next) z.scan }) (sym is-shown)
 
+    abbrev aside : ToStepAside hand
+    aside = record {
+      mine = mine;
+      pure = u;
+      shows = shows-mine;
+      roles = refl;
+      number = refl;
+      splits = refl;
+      tallied = refl;
+    }
+
     module _ (phase : CallbackPhase) (stamped : stamp_of left ≡ x.generation) (reads : callback_read left ≡ phase) where
       abbrev written : State
       written = with_view (with_callback now x.block x.node phase) id u
@@ -165,7 +179,7 @@ module _ {P E O : Type 0} (cargo : Ghosts P E O) (f : Frame O) (s : table.State 
           }
       ended-runs rises is was sound others own =
           let old = r.stands.views.each id v at in
-          callback-keeps cargo f s id v r at mine u shows-mine refl refl refl refl left x phase live stamped reads
+          callback-keeps cargo f hand aside left x phase live stamped reads
           (subst (λ p. callback_code p < callback_code phase) (sym runs-still) rises)
           (λ k. entry (is k) (was k) left ∷ v.steps)
           (subst (λ (z : PureView). Sound (with_view (with_callback now x.block x.node phase) id z)) over-is sound) others
@@ -208,13 +222,28 @@ module _ {P E O : Type 0} (cargo : Ghosts P E O) (f : Frame O) (s : table.State 
         let name = name-live now x live in
         ended-runs v.held (λ y. refl) i n value Ran stamped reads (omega arith) is was
         (subst (λ y. Sound (with_view (with_callback now x.block x.node Ran) id (run_over now y old_view))) name
-        (sound-end_run now id (place_of x) r.stands.sound hand
+        (sound-end_run now id (place_of x) r.stands.sound hand_below
         (and_from _ _ (place-live now x live)
         (subst (λ y. (nat_le 1 (old_view.runs y) && not (is_scanning old_view (Node y))) ≡ true) (sym name) may-end))))
         (λ j z ne there old. known-still z old) (known-still v (r.stands.views.each id v at)).held
 
 -- the callback is removed from inside it
-module _ {P E O : Type 0} (cargo : Ghosts P E O) (f : Frame O) (s : table.State (Option P) (View P E)) (id : ℕ) (x : Name) (v : View P E) (r : Running cargo f s) (at : get_elem? s.views id ≡ some v) (can : CanWithdrawOwn v x) (i n value : ℕ) (stamped : stamp_of value ≡ x.generation) (reads : callback_read value ≡ Removed) where
+-- which callback is removed as its run ends, and by which word
+pub record ToRemoveOwn {P E O : Type 0} {cargo : Ghosts P E O} {f : Frame O}
+    (hand : Standing cargo f) : Type 0 where
+  pub name : Name
+  pub can : CanWithdrawOwn hand.view name
+  pub cell : ℕ
+  pub number : ℕ
+  pub value : ℕ
+  pub stamped : stamp_of value ≡ name.generation
+  pub reads : callback_read value ≡ Removed
+
+module _ {P E O : Type 0} (cargo : Ghosts P E O) (f : Frame O) (hand : Standing cargo f)
+    (task : ToRemoveOwn hand) where
+  open hand use {state as s, id, view as v, running as r, at}
+  open task use {name as x, can, cell as i, number as n, value, stamped, reads}
+
   abbrev state : State
   state = shown f s
 
@@ -231,10 +260,10 @@ module _ {P E O : Type 0} (cargo : Ghosts P E O) (f : Frame O) (s : table.State 
   noted-counts = count-at (λ (e : Held E). e.name) noted (λ e. refl) x v.held
 
   abbrev removed : State
-  removed = written cargo f s id x v r at can.run notes noted-counts i n value Removed stamped reads
+  removed = written cargo f hand x can.run notes noted-counts i n value Removed stamped reads
 
   wrote-removed : Writes state removed x Removed
-  wrote-removed = wrote cargo f s id x v r at can.run notes noted-counts i n value Removed stamped reads
+  wrote-removed = wrote cargo f hand x can.run notes noted-counts i n value Removed stamped reads
 
   other-still : (y : Name) → (x ≡ y → ⊥) → (known : CallbackPhase) → is_still known (phase_at state y) → is_still known (phase_at removed y)
   other-still y ne known so = subst (is_still known) (sym (wrote-removed.there y (λ e. ne (sym e)))) so
@@ -263,27 +292,30 @@ module _ {P E O : Type 0} (cargo : Ghosts P E O) (f : Frame O) (s : table.State 
       (other-still e.name (λ is. ne (sym is))) so)
       v.held few (r.stands.views.each id v at).held
 
+  abbrev holding : Holding hand
+  holding = record { name = x; entry = can.held; holds = can.holds }
+
   pub remove-runs : i ≡ index f.layout (OfCallback x.block x.node) → n ≡ word_of f.layout s.words (OfCallback x.block x.node) → Running cargo f record {
     words = set s.words (index f.layout (OfCallback x.block x.node)) value;
     homes = s.homes;
     views = set s.views id (with_step i n value (removes_own f.tree x v));
   }
   remove-runs is was =
-      let alive = live cargo f s id x v r at can.run in
+      let alive = live cargo f hand x can.run in
       let name = name-live state x alive in
       let w = state.view id in
-      ended-runs cargo f s id x v r at can.run notes noted-counts i n value Removed stamped reads (omega arith) is was
+      ended-runs cargo f hand x can.run notes noted-counts i n value Removed stamped reads (omega arith) is was
       (subst (λ y. Sound (with_view (with_callback state x.block x.node Removed) id (run_over state y w))) name
-      (sound-withdraw_own state id (place_of x) r.stands.sound (hand cargo f s id x v r at can.run)
+      (sound-withdraw_own state id (place_of x) r.stands.sound (hand_below cargo f hand x can.run)
       (and_from _ _
       (and_from _ _ (place-live state x alive)
-      (subst (λ y. (nat_le 1 (w.runs y) && not (is_scanning w (Node y))) ≡ true) (sym name) (may-end cargo f s id x v r at can.run)))
-      (subst (λ y. nat_le 1 (w.holds y) ≡ true) (sym name) (le-leb 1 (w.holds x) (holds-now cargo f s id x v r at can.held can.holds))))))
+      (subst (λ y. (nat_le 1 (w.runs y) && not (is_scanning w (Node y))) ≡ true) (sym name) (may-end cargo f hand x can.run)))
+      (subst (λ y. nat_le 1 (w.holds y) ≡ true) (sym name) (le-leb 1 (w.holds x) (holds-now cargo f hand holding))))))
       (λ j z ne there old.
       known-aside base removed.callback state.source state.scope_source state.scope removed.view (λ t h. h) z
       (λ y counts known so.
       other-still y (λ is. absurd
-      (let none = others-none cargo f s id x v r at can.held can.holds j z ne there in
+      (let none = others-none cargo f hand holding j z ne there in
       let c : 1 ≤ count_by (λ (e : Held E). e.name) z.held x = subst (λ y. 1 ≤ count_by (λ (e : Held E). e.name) z.held y) (sym is) counts in
       omega (arith, none, c))) known so) old)
       notes-so

@@ -1,12 +1,10 @@
 -- The steps by which a scan runs its next place, or passes it, keep the rule: where the place is armed, and
 -- where it isn't.
 use Rattle.std.proofs.Common.{◌≡◌, ℕ, ◌+◌, ◌*◌, ◌<◌, true, false, ◌&&◌, ◌||◌, ◌==◌, List, [], ◌∷◌, length, set, refl, sym, ap, ◌∙◌, subst, arith}
-use Rattle.std.specs.Prelude.{Option, Some, is_some, slice_index}
+use Rattle.std.specs.Prelude.{Some, is_some, slice_index}
 use Rattle.std.specs.Option.{option_map_or}
 use Rattle.std.specs.List.{list_any}
 use Rattle.std.proofs.lemmas.Bool.{and_from, both_ways, cond-true, cond-false, eq-eqb, lt-ltb, or_left, or_right}
-use mathlib.Core.Option.{some}
-use lib.ListN.{get_elem?}
 use Rattle.life_rules.specs.declared.words.CallbackPhase.{CallbackPhase}
 use Rattle.life_rules.specs.declared.words.CallbackPhase.TheVariants.{Never, Armed, Running as Runs, Ran, Removed}
 use Rattle.life_rules.specs.declared.event.Name.{Name}
@@ -30,7 +28,6 @@ use Rattle.stop_kept.proofs.Run.{sound-run}
 use Rattle.table_words.specs.Stamps.{stamp_of}
 use Rattle.table_words.specs.Controls.{callback_read, callback_code}
 use Rattle.table_words.specs.Layouts.{OfCallback, index}
-use Rattle.atomic_table.specs.Table as table
 use Rattle.listed_steps.specs.Lists.{entry}
 use Rattle.table_rules.specs.declared.cargo.Cargo.{Ghosts}
 use Rattle.table_rules.specs.declared.frame.Frame.{Frame}
@@ -43,6 +40,7 @@ use Rattle.table_rules.specs.Notes.{is_still, IsKnown}
 use Rattle.table_rules.specs.Running.{Running}
 use Rattle.table_steps.specs.Claims.{with_step, logged}
 use Rattle.table_steps.specs.Runs.{CanRun, runs_place, passes_place}
+use Rattle.table_kept.proofs.Standing.{Standing}
 use Rattle.table_kept.proofs.Seats.{at_within}
 use Rattle.table_kept.proofs.Loads.{known-listed, known-logged}
 use Rattle.table_kept.proofs.ViewMoves.{view-here}
@@ -50,7 +48,7 @@ use Rattle.table_kept.proofs.ControlRuns.{name-live}
 use Rattle.table_kept.proofs.Scans.{scan-passed}
 use Rattle.table_kept.proofs.ScanOrders.{IsPresentIn, next-place}
 use Rattle.table_kept.proofs.Asides.{known-aside}
-use Rattle.table_kept.proofs.AsideSteps.{callback-keeps, view-keeps}
+use Rattle.table_kept.proofs.AsideSteps.{ToStepAside, callback-keeps, view-keeps}
 use Rattle.table_kept.proofs.ScanSealRuns.{requested-live}
 
 -- what a hand noted of an armed callback is so while it runs
@@ -82,7 +80,22 @@ abbrev at_of : SourceRef → SourceAt
 at_of Scope = AtScope
 at_of (Node y) = At (record { block = y.block; node = y.node })
 
-module _ {P E O : Type 0} (cargo : Ghosts P E O) (f : Frame O) (s : table.State (Option P) (View P E)) (id : ℕ) (source : SourceRef) (b m : ℕ) (v : View P E) (r : Running cargo f s) (at : get_elem? s.views id ≡ some v) (can : CanRun f.tree v source b m) (hb : b < f.layout.blocks) (i n : ℕ) where
+-- at which place a scan of a source goes on, and the cell and the number of the place's word
+pub record ToRun {P E O : Type 0} {cargo : Ghosts P E O} {f : Frame O}
+    (hand : Standing cargo f) : Type 0 where
+  pub source : SourceRef
+  pub block : ℕ
+  pub place : ℕ
+  pub can : CanRun f.tree hand.view source block place
+  pub within : block < f.layout.blocks
+  pub cell : ℕ
+  pub number : ℕ
+
+module _ {P E O : Type 0} (cargo : Ghosts P E O) (f : Frame O) (hand : Standing cargo f)
+    (task : ToRun hand) where
+  open hand use {state as s, id, view as v, running as r, at}
+  open task use {source, block as b, place as m, can, within as hb, cell as i, number as n}
+
   abbrev now : State
   now = shown f s
 
@@ -98,14 +111,14 @@ module _ {P E O : Type 0} (cargo : Ghosts P E O) (f : Frame O) (s : table.State 
   is-shown : old_view ≡ shown_view (block_of f.layout s.words) v
   is-shown = view-here (block_of f.layout s.words) s.views id v at
 
-  hand : id < f.hands
-  hand = let l = at_within s.views id v at in let k = r.sized.seats in omega (arith, l, k)
+  hand_below : id < f.hands
+  hand_below = let l = at_within s.views id v at in let k = r.sized.seats in omega (arith, l, k)
 
   scans-now : old_view.scan source ≡ Some can.from
   scans-now = ap (λ (z : PureView). z.scan source) is-shown ∙ can.scans
 
   pub scannable : IsScannable now source
-  scannable = r.stands.sound.scans.cause id source hand (ap is_some scans-now)
+  scannable = r.stands.sound.scans.cause id source hand_below (ap is_some scans-now)
 
   pub present : (t : SourceRef) → (bits_at now t).requested ≡ true → IsPresentIn now t
   present Scope asks = tt
@@ -125,7 +138,7 @@ module _ {P E O : Type 0} (cargo : Ghosts P E O) (f : Frame O) (s : table.State 
 
   sound-after : Sound (after_run now id (at_of source) (record { block = b; node = m }))
   sound-after =
-      sound-run now id (at_of source) (record { block = b; node = m }) r.stands.sound hand
+      sound-run now id (at_of source) (record { block = b; node = m }) r.stands.sound hand_below
       (and_from _ _ (and_from _ _ (lt-ltb b f.layout.blocks hb) (lt-ltb m (length f.tree) can.within))
       (and_from _ _ (subst (λ t. is_next_in now old_view t x ≡ true) (sym (source-is source scannable.requested)) next-now) unrun))
 
@@ -164,8 +177,15 @@ module _ {P E O : Type 0} (cargo : Ghosts P E O) (f : Frame O) (s : table.State 
     }
     run-runs is was =
         let k = known-still v (r.stands.views.each id v at) in
-        callback-keeps cargo f s id v r at (with_step i n value (runs_place x v)) u_runs
-        (ap (λ (z : PureView). record z { runs = gain x z.runs }) (sym is-shown)) refl refl refl refl value x Runs live stamped reads
+        callback-keeps cargo f hand (record {
+          mine = with_step i n value (runs_place x v);
+          pure = u_runs;
+          shows = ap (λ (z : PureView). record z { runs = gain x z.runs }) (sym is-shown);
+          roles = refl;
+          number = refl;
+          splits = refl;
+          tallied = refl;
+        }) value x Runs live stamped reads
         (subst (λ p. callback_code p < callback_code Runs) (sym armed) (omega arith))
         (λ k. entry (is k) (was k) value ∷ v.steps)
         (subst Sound (cond-true (is_armed (phase_at now x)) written (with_view now id (passed now (source_of now (at_of source)) x old_view)) (ap is_armed armed)) sound-after)
@@ -193,6 +213,17 @@ module _ {P E O : Type 0} (cargo : Ghosts P E O) (f : Frame O) (s : table.State 
     known-passed z old =
         known-aside here now.callback now.source now.scope_source now.scope (with_view now id u_passes).view (λ t h. h) z (λ y counts known so. so) old
 
+    abbrev aside : ToStepAside hand
+    aside = record {
+      mine = logged i n (passes_place f.tree source b m v);
+      pure = u_passes;
+      shows = shows-passed;
+      roles = refl;
+      number = refl;
+      splits = refl;
+      tallied = refl;
+    }
+
     pub pass-runs : n ≡ slice_index s.words i → Running cargo f record {
       words = set s.words i (slice_index s.words i);
       homes = s.homes;
@@ -200,7 +231,7 @@ module _ {P E O : Type 0} (cargo : Ghosts P E O) (f : Frame O) (s : table.State 
     }
     pass-runs is =
         let k = known-passed v (r.stands.views.each id v at) in
-        view-keeps cargo f s id v r at (logged i n (passes_place f.tree source b m v)) u_passes shows-passed refl refl refl refl i
+        view-keeps cargo f hand aside i
         (λ k. entry i (is k) (is k) ∷ v.steps)
         (subst (λ t. Sound (with_view now id (passed now t x old_view))) (source-is source scannable.requested)
         (subst Sound (cond-false (is_armed (phase_at now x)) (with_view (with_callback now b m Runs) id u_runs)

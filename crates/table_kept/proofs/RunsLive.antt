@@ -1,8 +1,5 @@
 -- What the rule says of the callbacks that a hand runs: their nodes are live.
-use Rattle.std.proofs.Common.{◌≡◌, ℕ, ◌≤◌, true, false, refl, sym, ap, ◌∙◌, arith}
-use Rattle.std.specs.Prelude.{Option}
-use mathlib.Core.Option.{some}
-use lib.ListN.{get_elem?}
+use Rattle.std.proofs.Common.{◌≡◌, ◌≤◌, true, false, refl, sym, ap, ◌∙◌, arith}
 use Rattle.life_rules.specs.declared.event.Name.{Name}
 use Rattle.life_rules.specs.Views.{View as PureView}
 use Rattle.life_rules.specs.States.{State, is_live, phase_at}
@@ -11,14 +8,12 @@ use Rattle.life_rules.specs.declared.words.CallbackPhase.TheVariants.{Never, Arm
 use Rattle.life_rules.specs.Words.{is_never, is_running}
 use Rattle.life_rules.proofs.Readings.{lives}
 use Rattle.stop_kept.proofs.Standing.{phase-live, runs-running}
-use Rattle.atomic_table.specs.Table as table
 use Rattle.table_rules.specs.declared.cargo.Cargo.{Ghosts}
 use Rattle.table_rules.specs.declared.frame.Frame.{Frame}
-use Rattle.table_rules.specs.declared.view.View.{View}
 use Rattle.table_rules.specs.Named.{count_by, Each}
 use Rattle.table_rules.specs.ShownWords.{block_of}
 use Rattle.table_rules.specs.Scenes.{shown}
-use Rattle.table_rules.specs.Running.{Running}
+use Rattle.table_kept.proofs.Standing.{Standing}
 use Rattle.table_kept.proofs.Seats.{at_within}
 use Rattle.table_kept.proofs.Entries.{each-map, each-by}
 use Rattle.table_kept.proofs.OwedLive.{each-trivial}
@@ -31,7 +26,9 @@ runs-once Runs e = refl
 runs-once Ran e = refl
 runs-once Removed e = refl
 
-module _ {P E O : Type 0} (cargo : Ghosts P E O) (f : Frame O) (s : table.State (Option P) (View P E)) (id : ℕ) (v : View P E) (r : Running cargo f s) (at : get_elem? s.views id ≡ some v) where
+module _ {P E O : Type 0} (cargo : Ghosts P E O) (f : Frame O) (hand : Standing cargo f) where
+  open hand use {state as s, id, view as v, running as r, at}
+
   abbrev now : State
   now = shown f s
 

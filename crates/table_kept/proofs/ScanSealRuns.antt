@@ -1,12 +1,10 @@
 -- The step by which a scan is sealed keeps the rule.
 use Rattle.std.proofs.Common.{◌≡◌, ℕ, ◌-◌, ◌*◌, ◌/◌, ◌%◌, ◌^◌, ◌<◌, true, false, not, ◌==◌, List, length, set, refl, sym, ap, ◌∙◌, subst, arith}
-use Rattle.std.specs.Prelude.{Option, Some, None, is_some, bit_or, slice_index}
+use Rattle.std.specs.Prelude.{Some, None, is_some, bit_or, slice_index}
 use Rattle.std.specs.Option.{option_map_or}
 use Rattle.std.specs.Int.Bits.{or_zero_r}
 use Rattle.std.proofs.lemmas.Nat.{or_mod, or_shr}
 use Rattle.std.proofs.lemmas.Bool.{and_parts, and_from, both_ways, cond-true, cond-false, eqb-true, eq-eqb, lt-ltb}
-use mathlib.Core.Option.{some}
-use lib.ListN.{get_elem?}
 use Rattle.node_tree.specs.declared.node.TreeNode.{TreeNode}
 use Rattle.life_rules.specs.declared.words.Bits.{Bits}
 use Rattle.life_rules.specs.declared.event.Name.{Name}
@@ -28,7 +26,6 @@ use Rattle.table_words.specs.Stamps.{stamp_of, code_of}
 use Rattle.table_words.specs.Controls.{source_read}
 use Rattle.table_words.specs.Layouts.{OfSource, IsSpot, index}
 use Rattle.atomic_table.specs.Table.{Allows, keeps}
-use Rattle.atomic_table.specs.Table as table
 use Rattle.table_rules.specs.declared.cargo.Cargo.{Ghosts}
 use Rattle.table_rules.specs.declared.frame.Frame.{Frame}
 use Rattle.table_rules.specs.declared.view.View.{View}
@@ -41,6 +38,7 @@ use Rattle.table_steps.specs.Claims.{with_step, Seated}
 use Rattle.table_steps.specs.Slots.{IsSeated}
 use Rattle.table_steps.specs.Sights.{spot_of, says_requested, has_one}
 use Rattle.table_steps.specs.ScanSeals.{CanSealScan, seals_scan, SaysUnscanned, SealsScanAt}
+use Rattle.table_kept.proofs.Standing.{Standing}
 use Rattle.table_kept.proofs.Listing.{AllowsListed, allows-listed, lists-one}
 use Rattle.table_kept.proofs.Seats.{at_within}
 use Rattle.table_kept.proofs.Masks.{or-four}
@@ -51,7 +49,7 @@ use Rattle.table_kept.proofs.Scans.{scan-dropped}
 use Rattle.table_kept.proofs.ScanOrders.{IsPresentIn, none-heard}
 use Rattle.table_kept.proofs.Looking as looking
 use Rattle.table_kept.proofs.Asides.{known-aside}
-use Rattle.table_kept.proofs.SourceRuns.{SaysOf, IsLiveSource, source-runs, stands-calm}
+use Rattle.table_kept.proofs.SourceRuns.{ToWriteSource, SaysOf, IsLiveSource, source-runs, stands-calm}
 
 -- the word with the scanned bit set
 module _ (w : ℕ) where
@@ -84,7 +82,19 @@ says-unscanned w Scope bits so asks calm =
 says-unscanned w (Node y) bits so asks calm =
     record { is_of = so.1; requested = ap (λ b. b.requested) so.0 ∙ asks; unscanned = ap (λ b. b.scanned) so.0 ∙ calm }
 
-module _ {P E O : Type 0} (cargo : Ghosts P E O) (f : Frame O) (s : table.State (Option P) (View P E)) (id : ℕ) (source : SourceRef) (v : View P E) (r : Running cargo f s) (at : get_elem? s.views id ≡ some v) (spot : IsSpot f.layout (spot_of source)) (one : has_one f.tree source) (can : CanSealScan f v source) where
+-- which source's scan is sealed
+pub record ToSealScan {P E O : Type 0} {cargo : Ghosts P E O} {f : Frame O}
+    (hand : Standing cargo f) : Type 0 where
+  pub source : SourceRef
+  pub spot : IsSpot f.layout (spot_of source)
+  pub one : has_one f.tree source
+  pub can : CanSealScan f hand.view source
+
+module _ {P E O : Type 0} (cargo : Ghosts P E O) (f : Frame O) (hand : Standing cargo f)
+    (task : ToSealScan hand) where
+  open hand use {state as s, id, view as v, running as r, at}
+  open task use {source, spot, one, can}
+
   abbrev now : State
   now = shown f s
 
@@ -103,14 +113,14 @@ module _ {P E O : Type 0} (cargo : Ghosts P E O) (f : Frame O) (s : table.State 
   is-shown : old_view ≡ shown_view (block_of f.layout s.words) v
   is-shown = view-here (block_of f.layout s.words) s.views id v at
 
-  hand : id < f.hands
-  hand = let l = at_within s.views id v at in let m = r.sized.seats in omega (arith, l, m)
+  hand_below : id < f.hands
+  hand_below = let l = at_within s.views id v at in let m = r.sized.seats in omega (arith, l, m)
 
   scans-now : old_view.scan source ≡ Some can.from
   scans-now = ap (λ (z : PureView). z.scan source) is-shown ∙ can.scans
 
   scannable : IsScannable now source
-  scannable = r.stands.sound.scans.cause id source hand (ap is_some scans-now)
+  scannable = r.stands.sound.scans.cause id source hand_below (ap is_some scans-now)
 
   live : (t : SourceRef) → (bits_at now t).requested ≡ true → IsLiveSource now t
   live Scope asks = tt
@@ -161,14 +171,14 @@ module _ {P E O : Type 0} (cargo : Ghosts P E O) (f : Frame O) (s : table.State 
 
   sound-by : (t : SourceRef) → source ≡ t → Sound (asked now t (record (bits_at now t) { scanned = true }) (with_view now id (record old_view { scan = scan_at t None old_view.scan })).view)
   sound-by Scope is =
-      sound-seal_scan now id AtScope r.stands.sound hand
+      sound-seal_scan now id AtScope r.stands.sound hand_below
       (subst (λ z. option_map_or (λ j. is_past_all now z j) (old_view.scan z) false ≡ true) is past-now)
   sound-by (Node y) is =
       let asks : (bits_at now (Node y)).requested ≡ true = subst (λ z. (bits_at now z).requested ≡ true) is scannable.requested in
       let alive = requested-live now y asks in
       let name = name-live now y alive in
       subst (λ z. Sound (asked now (Node z) (record (bits_at now (Node z)) { scanned = true }) (with_view now id (record old_view { scan = scan_at (Node z) None old_view.scan })).view)) name
-      (sound-seal_scan now id (At (place_of y)) r.stands.sound hand
+      (sound-seal_scan now id (At (place_of y)) r.stands.sound hand_below
       (and_from _ _ (and_from _ _ (place-live now y alive) (subst (has_one f.tree) is one))
       (subst (λ z. option_map_or (λ j. is_past_all now (Node z) j) (old_view.scan (Node z)) false ≡ true) (sym name)
       (subst (λ z. option_map_or (λ j. is_past_all now z j) (old_view.scan z) false ≡ true) is past-now))))
@@ -202,10 +212,18 @@ module _ {P E O : Type 0} (cargo : Ghosts P E O) (f : Frame O) (s : table.State 
   seal-runs =
       let says = says-sealed source (says-now source refl) in
       let alive = live source scannable.requested in
+      let writing : ToWriteSource hand = record {
+        value = bit_or n 4;
+        source = source;
+        bits = bits;
+        spot = spot;
+        says = says;
+        live = alive;
+      } in
       let k = known-still v (r.stands.views.each id v at) in
-      source-runs cargo f s id (bit_or n 4) source bits v r at spot says alive mine u shows-mine
+      source-runs cargo f hand writing mine u shows-mine
       (record { requested = λ t. t; failed = λ t. t; scanned = λ _. refl }) refl
-      (stands-calm cargo f s id (bit_or n 4) source bits v r at spot says alive mine u shows-mine (sound-by source refl) same-requests refl refl refl refl
+      (stands-calm cargo f hand writing mine u shows-mine (sound-by source refl) same-requests refl refl refl refl
       (λ j z ne there old. known-still z old)
       (known-listed (record here { state = after_state }) i n (bit_or n 4) (seals_scan source v) (record {
         held = k.held;
@@ -235,13 +253,26 @@ seals-at cargo board f slots id i source t m same i_is t_is spot one can =
     (subst (λ z. Allows (Running cargo z) slots id m i (λ n. bit_or n 4) (λ n. SealsScanAt t i n (bit_or n 4) m)) same
     (subst (λ (z : ℕ × SourceRef). Allows (Running cargo board) slots id m z.0 (λ n. bit_or n 4) (λ n. SealsScanAt z.1 z.0 n (bit_or n 4) m))
     (λ k. (sym i_is k, sym t_is k))
-    (λ s r deep at small. (
+    (λ s r deep at small.
+    let hand : Standing cargo board = record {
+      state = s;
+      id = id;
+      view = m.0;
+      running = r;
+      at = at;
+    } in
+    let sealing : ToSealScan hand = record {
+      source = source;
+      spot = spot;
+      one = one;
+      can = can;
+    } in (
       with_step (index board.layout (spot_of source)) (slice_index s.words (index board.layout (spot_of source)))
           (bit_or (slice_index s.words (index board.layout (spot_of source))) 4) (seals_scan source m.0),
       keeps,
       tt,
-      seal-runs cargo board s id source m.0 r at spot one can,
-      record { found = found-unscanned cargo board s id source m.0 r at spot one can; me_is = refl },
+      seal-runs cargo board hand sealing,
+      record { found = found-unscanned cargo board hand sealing; me_is = refl },
     ))))
 
 -- the hand still carries each slot once

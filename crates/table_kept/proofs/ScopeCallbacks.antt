@@ -1,10 +1,8 @@
 -- Hand 0 alone makes the scope's scan: a callback that is registered there runs nowhere, where hand 0 doesn't
 -- run it.
-use Rattle.std.proofs.Common.{◌≡◌, ℕ, ◌≤◌, Bool, true, false, Some, None, refl, sym, ap, ◌∙◌, subst, arith}
+use Rattle.std.proofs.Common.{◌≡◌, ◌≤◌, Bool, true, false, Some, None, refl, sym, ap, ◌∙◌, subst, arith}
 use Rattle.std.specs.Prelude.{Option, is_some}
 use Rattle.std.specs.Option.{option_map_or}
-use mathlib.Core.Option.{some}
-use lib.ListN.{get_elem?}
 use Rattle.life_rules.specs.declared.words.CallbackPhase.TheVariants.{Running as Runs}
 use Rattle.life_rules.specs.declared.event.Name.{Name}
 use Rattle.life_rules.specs.declared.event.SourceRef.TheVariants.{Scope}
@@ -15,21 +13,22 @@ use Rattle.life_rules.specs.Views.{View as PureView, is_scanning}
 use Rattle.life_rules.specs.States.{State, phase_at, source_for}
 use Rattle.life_rules.specs.Scans.{is_next, is_next_in}
 use Rattle.common_lemmas.proofs.Totals.{total-some}
-use Rattle.atomic_table.specs.Table as table
 use Rattle.table_rules.specs.declared.cargo.Cargo.{Ghosts}
 use Rattle.table_rules.specs.declared.frame.Frame.{Frame}
-use Rattle.table_rules.specs.declared.view.View.{View}
 use Rattle.table_rules.specs.Named.{count_by}
 use Rattle.table_rules.specs.ShownWords.{block_of}
 use Rattle.table_rules.specs.Scenes.{shown}
-use Rattle.table_rules.specs.Running.{Running}
+use Rattle.table_kept.proofs.Standing.{Standing}
 use Rattle.table_kept.proofs.ViewMoves.{view-here}
 
 is-given : {A : Type 0} (test : A → Bool) (o : Option A) → option_map_or test o false ≡ true → is_some o ≡ true
 is-given test None h = cc
 is-given test (Some a) h = refl
 
-module _ {P E O : Type 0} (cargo : Ghosts P E O) (f : Frame O) (s : table.State (Option P) (View P E)) (id : ℕ) (x : Name) (v : View P E) (r : Running cargo f s) (at : get_elem? s.views id ≡ some v) (unrun : count_by (λ y. y) v.runs x ≡ 0) where
+module _ {P E O : Type 0} (cargo : Ghosts P E O) (f : Frame O) (hand : Standing cargo f) (x : Name)
+    (unrun : count_by (λ y. y) hand.view.runs x ≡ 0) where
+  open hand use {state as s, id, view as v, running as r, at}
+
   abbrev now : State
   now = shown f s
 

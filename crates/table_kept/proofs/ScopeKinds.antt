@@ -21,7 +21,7 @@ use Rattle.scope_kept.proofs.Steps.{sound-mark_used, sound-leave, sound-seal, ke
 use Rattle.table_words.specs.declared.layout.Layout.{Layout}
 use Rattle.table_words.specs.Stamps.{code_of}
 use Rattle.table_words.specs.ScopeNumbers.{scope_read}
-use Rattle.atomic_table.specs.Table.{Allows, keeps, stepped}
+use Rattle.atomic_table.specs.Table.{keeps, stepped}
 use Rattle.atomic_table.specs.Table as table
 use Rattle.table_rules.specs.declared.cargo.Cargo.{Ghosts}
 use Rattle.table_rules.specs.declared.frame.Frame.{Frame}
@@ -35,6 +35,7 @@ use Rattle.table_steps.specs.Lefts.{less_one}
 use Rattle.table_steps.specs.Claims.{Seated, with_step, ListsOne}
 use Rattle.table_steps.specs.Slots.{IsSeated}
 use Rattle.table_steps.specs.ScopeMoves.{IsMaking, MayLeaveScope, makes, leaves_scope, SealsAt, MovesScopeAt, with_one_less, as_used}
+use Rattle.table_kept.proofs.Standing.{Standing}
 use Rattle.table_kept.proofs.Listing.{AllowsListed, allows-listed, lists-one}
 use Rattle.table_kept.proofs.Seats.{at_within}
 use Rattle.table_kept.proofs.Loads.{looks_keep}
@@ -42,7 +43,7 @@ use Rattle.table_kept.proofs.ViewMoves.{view-here}
 use Rattle.table_kept.proofs.AsideSteps.{unmoved}
 use Rattle.table_kept.proofs.Masks.{narrow-used, narrow-closed, narrow-joining, reads-used, reads-closed, reads-joining, reads-less}
 use Rattle.table_kept.proofs.Stamping.{bits-counted, kept-bits}
-use Rattle.table_kept.proofs.ScopeRuns.{scope-runs}
+use Rattle.table_kept.proofs.ScopeRuns.{ToWriteScope, scope-runs}
 
 agree-refl : (b : Bool) → agree b b ≡ true
 agree-refl true = refl
@@ -54,7 +55,9 @@ same-refl w =
     (and_from _ _ (agree-refl w.closed)
     (and_from _ _ (agree-refl w.joining) (and_from _ _ (agree-refl w.joined) (eq-eqb w.count w.count refl))))
 
-module _ {P E O : Type 0} (cargo : Ghosts P E O) (f : Frame O) (s : table.State (Option P) (View P E)) (id : ℕ) (v : View P E) (r : Running cargo f s) (at : get_elem? s.views id ≡ some v) where
+module _ {P E O : Type 0} (cargo : Ghosts P E O) (f : Frame O) (hand : Standing cargo f) where
+  open hand use {state as s, id, view as v, running as r, at}
+
   abbrev now : State
   now = shown f s
 
@@ -67,17 +70,25 @@ module _ {P E O : Type 0} (cargo : Ghosts P E O) (f : Frame O) (s : table.State 
   is-shown : old_view ≡ shown_view (block_of f.layout s.words) v
   is-shown = view-here (block_of f.layout s.words) s.views id v at
 
-  hand : id < f.hands
-  hand = let l = at_within s.views id v at in let m = r.sized.seats in omega (arith, l, m)
+  hand_below : id < f.hands
+  hand_below = let l = at_within s.views id v at in let m = r.sized.seats in omega (arith, l, m)
 
   -- an association is made
   pub makes-runs : IsMaking v → Running cargo f record { words = set s.words 0 (bit_or n (2 ^ 32)); homes = s.homes; views = set s.views id (with_step 0 n (bit_or n (2 ^ 32)) (makes v)) }
   makes-runs making =
-      scope-runs cargo f s id (bit_or n (2 ^ 32)) v r at (record (scope_read n) { used = true }) (reads-used n)
-      (narrow-used n r.stamped.scope) (record { used = λ _. refl; closed = λ t. t; joining = λ t. t; joined = λ t. t }) (v.made + 1) (v.making - 1) v.refused
+      scope-runs cargo f hand (record {
+        value = bit_or n (2 ^ 32);
+        word = record (scope_read n) { used = true };
+        reads = reads-used n;
+        narrow = narrow-used n r.stamped.scope;
+        bits = record { used = λ _. refl; closed = λ t. t; joining = λ t. t; joined = λ t. t };
+        made = v.made + 1;
+        making = v.making - 1;
+        refused = v.refused;
+      })
       (subst (λ (z : PureView). Sound (with_view (with_scope now (record now.scope { used = true })) id z))
       (λ k. record old_view { made = (is-shown k).made + 1; making = (is-shown k).making - 1; refused = (is-shown k).refused })
-      (sound-mark_used now id r.stands.sound hand
+      (sound-mark_used now id r.stands.sound hand_below
       (le-leb 1 old_view.making (subst (λ (z : PureView). 1 ≤ z.making) (sym is-shown) making))))
 
   -- one is left
@@ -91,7 +102,7 @@ module _ {P E O : Type 0} (cargo : Ghosts P E O) (f : Frame O) (s : table.State 
     counted : 1 ≤ code_of n
     counted =
         let count = r.stands.sound.associations.count in
-        let own = total-at (λ i. kept (now.view i) + (now.view i).refused) f.hands id hand in
+        let own = total-at (λ i. kept (now.view i) + (now.view i).refused) f.hands id hand_below in
         let one = has-one in
         omega (arith, count, own, one)
 
@@ -106,12 +117,22 @@ module _ {P E O : Type 0} (cargo : Ghosts P E O) (f : Frame O) (s : table.State 
     word = record (scope_read n) { count = code_of n - 1 }
 
     sound-left : Sound (with_view (with_scope now word) id (left old_view))
-    sound-left = sound-leave now id r.stands.sound hand (le-leb 1 (old_view.made + old_view.refused) has-one)
+    sound-left = sound-leave now id r.stands.sound hand_below (le-leb 1 (old_view.made + old_view.refused) has-one)
 
     left-runs : (made refused : ℕ) → left old_view ≡ record old_view { made = made; making = v.making; refused = refused } →
         Running cargo f record { words = set s.words 0 less; homes = s.homes; views = set s.views id (with_step 0 n less (record v { made = made; refused = refused })) }
     left-runs made refused is =
-        scope-runs cargo f s id less v r at word counts-less narrow (bits-counted (scope_read n) (code_of n - 1)) made v.making refused
+        let writing : ToWriteScope hand = record {
+          value = less;
+          word = word;
+          reads = counts-less;
+          narrow = narrow;
+          bits = bits-counted (scope_read n) (code_of n - 1);
+          made = made;
+          making = v.making;
+          refused = refused;
+        } in
+        scope-runs cargo f hand writing
         (subst (λ (z : PureView). Sound (with_view (with_scope now word) id z)) is sound-left)
 
     pub leaves-runs : Running cargo f record { words = set s.words 0 less; homes = s.homes; views = set s.views id (with_step 0 n less (leaves_scope v)) }
@@ -136,7 +157,17 @@ module _ {P E O : Type 0} (cargo : Ghosts P E O) (f : Frame O) (s : table.State 
   word-runs : (value : ℕ) (word : ScopeWord) → scope_read value ≡ word → value < 2 ^ 36 → HasBitsOf (scope_read n) word → Sound (with_scope now word) →
       Running cargo f record { words = set s.words 0 value; homes = s.homes; views = set s.views id (with_step 0 n value v) }
   word-runs value word reads narrow bits sound =
-      scope-runs cargo f s id value v r at word reads narrow bits v.made v.making v.refused
+      let writing : ToWriteScope hand = record {
+        value = value;
+        word = word;
+        reads = reads;
+        narrow = narrow;
+        bits = bits;
+        made = v.made;
+        making = v.making;
+        refused = v.refused;
+      } in
+      scope-runs cargo f hand writing
       (subst (λ (z : PureView). Sound (with_view (with_scope now word) id z))
       (λ k. record old_view { made = (is-shown k).made; making = (is-shown k).making; refused = (is-shown k).refused })
       (subst Sound (sym (unmoved (with_scope now word) id)) sound))
@@ -144,12 +175,12 @@ module _ {P E O : Type 0} (cargo : Ghosts P E O) (f : Frame O) (s : table.State 
   pub closes-runs : Running cargo f record { words = set s.words 0 (bit_or n (2 ^ 33)); homes = s.homes; views = set s.views id (with_step 0 n (bit_or n (2 ^ 33)) v) }
   closes-runs =
       word-runs (bit_or n (2 ^ 33)) (record (scope_read n) { closed = true }) (reads-closed n) (narrow-closed n r.stamped.scope)
-      (record { used = λ t. t; closed = λ _. refl; joining = λ t. t; joined = λ t. t }) (keeps-close now id r.stands.sound hand refl)
+      (record { used = λ t. t; closed = λ _. refl; joining = λ t. t; joined = λ t. t }) (keeps-close now id r.stands.sound hand_below refl)
 
   pub joins-runs : Running cargo f record { words = set s.words 0 (bit_or n (2 ^ 34)); homes = s.homes; views = set s.views id (with_step 0 n (bit_or n (2 ^ 34)) v) }
   joins-runs =
       word-runs (bit_or n (2 ^ 34)) (record (scope_read n) { joining = true }) (reads-joining n) (narrow-joining n r.stamped.scope)
-      (record { used = λ t. t; closed = λ t. t; joining = λ _. refl; joined = λ t. t }) (keeps-join now id r.stands.sound hand refl)
+      (record { used = λ t. t; closed = λ t. t; joining = λ _. refl; joined = λ t. t }) (keeps-join now id r.stands.sound hand_below refl)
 
   pub seals-runs : (expected : ScopeWord) (new : ℕ) → may_seal expected ≡ true → scope_read n ≡ expected → scope_read new ≡ record expected { joined = true } →
       new < 2 ^ 36 → Running cargo f record { words = set s.words 0 new; homes = s.homes; views = set s.views id (with_step 0 n new v) }
@@ -181,11 +212,18 @@ module _ {P E O : Type 0} (cargo : Ghosts P E O) (f : Frame O) (slots id : ℕ) 
   makes_allowed making =
       allows-listed cargo f slots id m 0 (λ n. bit_or n (2 ^ 32)) (λ n. MovesScopeAt as_used (λ _. makes) 0 n (bit_or n (2 ^ 32)) m)
       (λ n m' told. lists-one 0 n (bit_or n (2 ^ 32)) m m' (makes m.0) (ap (λ z. z.0) told.me_is) refl refl refl refl)
-      (λ s r deep at small. (
+      (λ s r deep at small.
+      let hand : Standing cargo f = record {
+        state = s;
+        id = id;
+        view = m.0;
+        running = r;
+        at = at;
+      } in (
         with_step 0 (slice_index s.words 0) (bit_or (slice_index s.words 0) (2 ^ 32)) (makes m.0),
         keeps,
         tt,
-        makes-runs cargo f s id m.0 r at making,
+        makes-runs cargo f hand making,
         record { me_is = refl; left_is = reads-used (slice_index s.words 0) },
       ))
 
@@ -194,12 +232,19 @@ module _ {P E O : Type 0} (cargo : Ghosts P E O) (f : Frame O) (slots id : ℕ) 
   leaves_allowed may =
       allows-listed cargo f slots id m 0 less_one (λ n. MovesScopeAt with_one_less (λ _. leaves_scope) 0 n (less_one n) m)
       (λ n m' told. leaves-list 0 n (less_one n) m m' (ap (λ z. z.0) told.me_is))
-      (λ s r deep at small. (
+      (λ s r deep at small.
+      let hand : Standing cargo f = record {
+        state = s;
+        id = id;
+        view = m.0;
+        running = r;
+        at = at;
+      } in (
         with_step 0 (slice_index s.words 0) (less_one (slice_index s.words 0)) (leaves_scope m.0),
         keeps,
         tt,
-        leaves-runs cargo f s id m.0 r at may small,
-        record { me_is = refl; left_is = counts-less cargo f s id m.0 r at may small },
+        leaves-runs cargo f hand may small,
+        record { me_is = refl; left_is = counts-less cargo f hand may small },
       ))
 
   pub seals_allowed : (expected : ScopeWord) (old new : ℕ) → may_seal expected ≡ true → scope_read old ≡ expected → scope_read new ≡ record expected { joined = true } →
@@ -231,7 +276,13 @@ module _ {P E O : Type 0} (cargo : Ghosts P E O) (f : Frame O) (slots id : ℕ) 
             keeps,
             tt,
             subst Kept (sym (ap (λ t. either t new n) (eq-eqb n old hit)))
-                (seals-runs cargo f s id m.0 r at expected new may (ap scope_read hit ∙ reads_old) reads_new narrow),
+                (seals-runs cargo f (record {
+                  state = s;
+                  id = id;
+                  view = m.0;
+                  running = r;
+                  at = at;
+                }) expected new may (ap scope_read hit ∙ reads_old) reads_new narrow),
             told,
           ))
           (λ miss. (

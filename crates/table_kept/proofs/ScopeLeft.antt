@@ -6,6 +6,7 @@ use Rattle.table_rules.specs.declared.cargo.Cargo.{Ghosts}
 use Rattle.table_rules.specs.declared.frame.Frame.{Frame}
 use Rattle.table_rules.specs.Running.{Running}
 use Rattle.table_steps.specs.Claims.{Seated, with_step}
+use Rattle.table_kept.proofs.Standing.{Standing}
 use Rattle.table_kept.proofs.Listing.{AllowsListed, allows-listed, lists-one}
 use Rattle.table_kept.proofs.ScopeKinds.{closes-runs, joins-runs}
 
@@ -22,20 +23,34 @@ module _ {P E O : Type 0} (cargo : Ghosts P E O) (f : Frame O) (slots id : ℕ) 
 
   pub sets-closed : Sets (2 ^ 33)
   sets-closed =
-      sets-listed (2 ^ 33) (λ s r deep at small. (
+      sets-listed (2 ^ 33) (λ s r deep at small.
+      let hand : Standing cargo f = record {
+        state = s;
+        id = id;
+        view = m.0;
+        running = r;
+        at = at;
+      } in (
         with_step 0 (slice_index s.words 0) (bit_or (slice_index s.words 0) (2 ^ 33)) m.0,
         keeps,
         tt,
-        closes-runs cargo f s id m.0 r at,
+        closes-runs cargo f hand,
         refl,
       ))
 
   pub sets-joining : Sets (2 ^ 34)
   sets-joining =
-      sets-listed (2 ^ 34) (λ s r deep at small. (
+      sets-listed (2 ^ 34) (λ s r deep at small.
+      let hand : Standing cargo f = record {
+        state = s;
+        id = id;
+        view = m.0;
+        running = r;
+        at = at;
+      } in (
         with_step 0 (slice_index s.words 0) (bit_or (slice_index s.words 0) (2 ^ 34)) m.0,
         keeps,
         tt,
-        joins-runs cargo f s id m.0 r at,
+        joins-runs cargo f hand,
         refl,
       ))

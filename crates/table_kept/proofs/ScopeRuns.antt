@@ -1,9 +1,7 @@
 -- A step that writes the scope's word, and changes the associations of one hand, keeps the rule where the
 -- pure machine's step keeps what is sound.
 use Rattle.std.proofs.Common.{◌≡◌, ℕ, ◌^◌, ◌<◌, ◌==◌, ◌≤◌, false, not, ◌&&◌, cond, List, set, refl, sym, ap, ◌∙◌, subst, length-set}
-use Rattle.std.specs.Prelude.{Option, slice_index}
-use mathlib.Core.Option.{some}
-use lib.ListN.{get_elem?}
+use Rattle.std.specs.Prelude.{slice_index}
 use Rattle.life_rules.specs.declared.words.ControlWord.TheVariants.{Idle}
 use Rattle.life_rules.specs.declared.words.CallbackPhase.TheVariants.{Never}
 use Rattle.life_rules.specs.declared.scope.ScopeWord.{ScopeWord}
@@ -16,7 +14,6 @@ use Rattle.table_words.specs.Stamps.{stamp_of}
 use Rattle.table_words.specs.Controls.{control_read, callback_read, source_read}
 use Rattle.table_words.specs.ScopeNumbers.{scope_read}
 use Rattle.table_words.specs.Layouts.{Spot, TheScope, TheScopeSource, OfControl, OfCallback, OfSource, IsSpot}
-use Rattle.atomic_table.specs.Table as table
 use Rattle.table_rules.specs.declared.cargo.Cargo.{Ghosts}
 use Rattle.table_rules.specs.declared.frame.Frame.{Frame}
 use Rattle.table_rules.specs.declared.view.View.{View}
@@ -26,6 +23,7 @@ use Rattle.table_rules.specs.Scenes.{Scene, shown, scene}
 use Rattle.table_rules.specs.Grown.{HasBitsOf}
 use Rattle.table_rules.specs.Running.{Stands, Running}
 use Rattle.table_steps.specs.Claims.{with_step}
+use Rattle.table_kept.proofs.Standing.{Standing}
 use Rattle.table_kept.proofs.WordMoves.{word-here}
 use Rattle.table_kept.proofs.PlaceMoves as places
 use Rattle.table_kept.proofs.Loads.{known-listed}
@@ -34,7 +32,23 @@ use Rattle.table_kept.proofs.Counts.{counts-moved}
 use Rattle.table_kept.proofs.ViewMoves.{view-here, view-set, views-same, views-moved}
 use Rattle.table_kept.proofs.Asides.{owning, homes-aside, starts-aside, items-aside, lots-aside, known-aside}
 
-module _ {P E O : Type 0} (cargo : Ghosts P E O) (f : Frame O) (s : table.State (Option P) (View P E)) (id value : ℕ) (v : View P E) (r : Running cargo f s) (at : get_elem? s.views id ≡ some v) (word : ScopeWord) (reads : scope_read value ≡ word) (narrow : value < 2 ^ 36) (bits : HasBitsOf (shown f s).scope word) (made making refused : ℕ) where
+-- what the scope's word says then, and which associations the hand has
+pub record ToWriteScope {P E O : Type 0} {cargo : Ghosts P E O} {f : Frame O}
+    (hand : Standing cargo f) : Type 0 where
+  pub value : ℕ
+  pub word : ScopeWord
+  pub reads : scope_read value ≡ word
+  pub narrow : value < 2 ^ 36
+  pub bits : HasBitsOf (shown f hand.state).scope word
+  pub made : ℕ
+  pub making : ℕ
+  pub refused : ℕ
+
+module _ {P E O : Type 0} (cargo : Ghosts P E O) (f : Frame O) (hand : Standing cargo f)
+    (task : ToWriteScope hand) where
+  open hand use {state as s, id, view as v, running as r, at}
+  open task use {value, word, reads, narrow, bits, made, making, refused}
+
   abbrev n : ℕ
   n = slice_index s.words 0
 

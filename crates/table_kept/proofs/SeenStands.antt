@@ -26,6 +26,7 @@ use Rattle.table_rules.specs.ShownViews.{has_source_ref}
 use Rattle.table_rules.specs.Scenes.{shown, scene}
 use Rattle.table_rules.specs.Running.{Running}
 use Rattle.table_steps.specs.Slots.{has_seen}
+use Rattle.table_kept.proofs.Standing.{Standing}
 use Rattle.table_kept.proofs.Entries.{found, each-found}
 use Rattle.table_kept.proofs.Seats.{at_within}
 use Rattle.table_kept.proofs.ViewMoves.{view-here}
@@ -41,7 +42,10 @@ seen-anywhere cargo f s id v r at seen =
     (subst (λ (u : PureView). u.seen Scope ≡ true) (sym (view-here (block_of f.layout s.words) s.views id v at))
     (and_from _ _ seen refl))
 
-module _ {P E O : Type 0} (cargo : Ghosts P E O) (f : Frame O) (s : table.State (Option P) (View P E)) (id : ℕ) (v : View P E) (r : Running cargo f s) (at : get_elem? s.views id ≡ some v) (x : Name) (live : is_live (shown f s) x ≡ true) where
+module _ {P E O : Type 0} (cargo : Ghosts P E O) (f : Frame O) (hand : Standing cargo f) (x : Name)
+    (live : is_live (shown f hand.state) x ≡ true) where
+  open hand use {state as s, id, view as v, running as r, at}
+
   abbrev now : State
   now = shown f s
 

@@ -18,12 +18,11 @@ use Rattle.atomic_table.specs.Table.{homes_after}
 use Rattle.atomic_table.specs.Table as table
 use Rattle.table_rules.specs.declared.cargo.Cargo.{Ghosts}
 use Rattle.table_rules.specs.declared.frame.Frame.{Frame}
-use Rattle.table_rules.specs.declared.view.View.{View}
 use Rattle.table_rules.specs.Named.{Each}
 use Rattle.table_rules.specs.ShownWords.{is_there}
 use Rattle.table_rules.specs.Scenes.{Home, Out, Empty, Full, is_out, home_in}
-use Rattle.table_rules.specs.Running.{Running}
 use Rattle.table_steps.specs.Slots.{slot_of, kids_of, is_of_family, has_slot, kept, IsSeated}
+use Rattle.table_kept.proofs.Standing.{Standing}
 use Rattle.table_kept.proofs.Entries.{each-map}
 use Rattle.table_kept.proofs.HomeMoves.{home_of_place}
 use Rattle.table_kept.proofs.KidSlots.{has-kid}
@@ -64,7 +63,18 @@ out-is Out e = refl
 out-is Empty e = cc
 out-is (Full item) e = cc
 
-module _ {P E O : Type 0} (cargo : Ghosts P E O) (f : Frame O) (s : table.State (Option P) (View P E)) (id : ℕ) (v : View P E) (c : List (ℕ × Option P)) (r : Running cargo f s) (at : get_elem? s.views id ≡ some v) (seated : IsSeated f.tree f.layout (v, c)) (gone : ℕ → Bool) where
+-- what a hand carries, and which slots of it are given back
+pub record ToShed {P E O : Type 0} {cargo : Ghosts P E O} {f : Frame O}
+    (hand : Standing cargo f) : Type 0 where
+  pub carried : List (ℕ × Option P)
+  pub seated : IsSeated f.tree f.layout (hand.view, carried)
+  pub gone : ℕ → Bool
+
+module _ {P E O : Type 0} (cargo : Ghosts P E O) (f : Frame O) (hand : Standing cargo f)
+    (task : ToShed hand) where
+  open hand use {state as s, id, view as v, running as r, at}
+  open task use {carried as c, seated, gone}
+
   abbrev pub shed_homes : List (maybe.Option (Option P))
   shed_homes = homes_after s.homes c (sheds gone c)
 
@@ -72,7 +82,7 @@ module _ {P E O : Type 0} (cargo : Ghosts P E O) (f : Frame O) (s : table.State 
   carried-within =
       let deep = r.sized.homes in
       each-map (λ d. has_slot f.tree f.layout v d.0 ≡ true) (λ d. d.0 < length s.homes)
-      (λ d has. let l = slot-within cargo f s id v r at d.0 has in omega (arith, l, deep)) c seated.given
+      (λ d has. let l = slot-within cargo f hand d.0 has in omega (arith, l, deep)) c seated.given
 
   pub valid-shed : table.Valid s.homes c (sheds gone c)
   valid-shed = shed-valid gone s.homes c seated.apart carried-within
@@ -93,7 +103,7 @@ module _ {P E O : Type 0} (cargo : Ghosts P E O) (f : Frame O) (s : table.State 
       far-by k None is = refl
       far-by k (Some y) is =
           sym (out-is (home_in (get_elem? s.homes k))
-          (slot-out cargo f s id v r at k (kept-each (λ slot. has_slot f.tree f.layout v slot ≡ true) k y c seated.given is)))
+          (slot-out cargo f hand k (kept-each (λ slot. has_slot f.tree f.layout v slot ≡ true) k y c seated.given is)))
 
   -- and one that is given back has what the hand carried
   pub shed-here : (j m : ℕ) (y : Option P) → j < f.layout.blocks → m < f.layout.nodes → gone (place_number f.layout j m) ≡ true →

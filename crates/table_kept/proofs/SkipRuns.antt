@@ -1,10 +1,8 @@
 -- The load by which a scan passes a free block keeps the rule.
 use Rattle.std.proofs.Common.{◌≡◌, inl, inr, ℕ, zero, suc, ◌+◌, ◌*◌, ◌<◌, Bool, true, false, ◌&&◌, ◌==◌, List, length, set, refl, sym, ap, ◌∙◌, subst, arith}
-use Rattle.std.specs.Prelude.{Option, Some, nat_lt, slice_index}
+use Rattle.std.specs.Prelude.{Some, nat_lt, slice_index}
 use Rattle.std.specs.Option.{option_map_or}
 use Rattle.std.proofs.lemmas.Bool.{and_from, or_left, or_right, both_ways, cases_eq, cond-true, cond-false, eq-eqb, lt-ltb, false_from_ne_true}
-use mathlib.Core.Option.{some}
-use lib.ListN.{get_elem?}
 use Rattle.node_tree.specs.declared.node.TreeNode.{TreeNode}
 use Rattle.life_rules.specs.declared.words.BlockWord.{BlockWord}
 use Rattle.life_rules.specs.declared.words.BlockState.{BlockState}
@@ -26,7 +24,6 @@ use Rattle.table_words.specs.declared.layout.Layout.{Layout}
 use Rattle.table_words.specs.Blocks.{block_read}
 use Rattle.table_words.specs.Layouts.{OfBlock, index}
 use Rattle.atomic_table.specs.Table.{Allows, keeps, stepped}
-use Rattle.atomic_table.specs.Table as table
 use Rattle.table_rules.specs.declared.cargo.Cargo.{Ghosts}
 use Rattle.table_rules.specs.declared.frame.Frame.{Frame}
 use Rattle.table_rules.specs.declared.view.View.{View}
@@ -39,6 +36,7 @@ use Rattle.table_steps.specs.Views.{aimed}
 use Rattle.table_steps.specs.Claims.{logged, Seated, ListsOne}
 use Rattle.table_steps.specs.Slots.{Aim, IsSeated}
 use Rattle.table_steps.specs.Skips.{CanSkip, skips, says_free, skips_at}
+use Rattle.table_kept.proofs.Standing.{Standing}
 use Rattle.table_kept.proofs.Listing.{AllowsListed, allows-listed, lists-one}
 use Rattle.table_kept.proofs.BeginSeats.{seated-logged}
 use Rattle.table_kept.proofs.Seats.{at_within}
@@ -47,7 +45,7 @@ use Rattle.table_kept.proofs.ViewMoves.{view-here}
 use Rattle.table_kept.proofs.Scans.{scan-passed}
 use Rattle.table_kept.proofs.ScanOrders.{next-place}
 use Rattle.table_kept.proofs.Asides.{known-aside}
-use Rattle.table_kept.proofs.AsideSteps.{view-keeps}
+use Rattle.table_kept.proofs.AsideSteps.{ToStepAside, view-keeps}
 
 free-shut : (b : BlockState) → is_free b ≡ true → is_open b ≡ false
 free-shut Free e = refl
@@ -62,7 +60,19 @@ some_below-from test (suc n) m below e =
       | inr other ↦ or_left (some_below test n) (test n) (some_below-from test n m (omega arith) e)
     ]
 
-module _ {P E O : Type 0} (cargo : Ghosts P E O) (f : Frame O) (s : table.State (Option P) (View P E)) (id b : ℕ) (v : View P E) (r : Running cargo f s) (at : get_elem? s.views id ≡ some v) (can : CanSkip f.tree v b) (hb : b < f.layout.blocks) (free : says_free (slice_index s.words (index f.layout (OfBlock b))) ≡ true) where
+-- which free block a scan passes
+pub record ToSkip {P E O : Type 0} {cargo : Ghosts P E O} {f : Frame O}
+    (hand : Standing cargo f) : Type 0 where
+  pub block : ℕ
+  pub can : CanSkip f.tree hand.view block
+  pub within : block < f.layout.blocks
+  pub free : says_free (slice_index hand.state.words (index f.layout (OfBlock block))) ≡ true
+
+module _ {P E O : Type 0} (cargo : Ghosts P E O) (f : Frame O) (hand : Standing cargo f)
+    (task : ToSkip hand) where
+  open hand use {state as s, id, view as v, running as r, at}
+  open task use {block as b, can, within as hb, free}
+
   abbrev now : State
   now = shown f s
 
@@ -81,8 +91,8 @@ module _ {P E O : Type 0} (cargo : Ghosts P E O) (f : Frame O) (s : table.State 
   is-shown : old_view ≡ shown_view (block_of f.layout s.words) v
   is-shown = view-here (block_of f.layout s.words) s.views id v at
 
-  hand : id < f.hands
-  hand = let l = at_within s.views id v at in let m = r.sized.seats in omega (arith, l, m)
+  hand_below : id < f.hands
+  hand_below = let l = at_within s.views id v at in let m = r.sized.seats in omega (arith, l, m)
 
   is-block : now.block b ≡ block_read n
   is-block = cond-true (nat_lt b f.layout.blocks) (block_read n) (record { generation = 0; state = Free }) (lt-ltb b f.layout.blocks hb)
@@ -100,7 +110,7 @@ module _ {P E O : Type 0} (cargo : Ghosts P E O) (f : Frame O) (s : table.State 
       false_from_ne_true (is_live now x) (λ live.
       both_ways (is_open (now.block b).state) (free-shut (now.block b).state is-free) (lives now x live).is_opened) in
       let never : phase_at now x ≡ Never = cond-false (is_live now x) (now.callback b can.node) Never dead in
-      let part = stand-at now (λ w. w.runs) id x hand in
+      let part = stand-at now (λ w. w.runs) id x hand_below in
       let all = r.stands.sound.runs.runs x in
       let none : one (is_running (phase_at now x)) ≡ 0 = ap (λ p. one (is_running p)) never in
       eq-eqb (old_view.runs x) 0 (omega (arith, part, all, none))
@@ -118,7 +128,7 @@ module _ {P E O : Type 0} (cargo : Ghosts P E O) (f : Frame O) (s : table.State 
 
   sound-now : Sound (with_view now id u)
   sound-now =
-      sound-skip now id b r.stands.sound hand
+      sound-skip now id b r.stands.sound hand_below
       (and_from _ _ (lt-ltb b f.layout.blocks hb)
       (and_from _ _ is-free
       (some_below-from (λ m. is_next_in now old_view Scope (name_of now b m) && old_view.runs (name_of now b m) == 0) (length f.tree) can.node can.within
@@ -138,9 +148,20 @@ module _ {P E O : Type 0} (cargo : Ghosts P E O) (f : Frame O) (s : table.State 
   known-still z old =
       known-aside here now.callback now.source now.scope_source now.scope (with_view now id u).view (λ t h. h) z (λ y counts known so. so) old
 
+  abbrev aside : ToStepAside hand
+  aside = record {
+    mine = mine;
+    pure = u;
+    shows = shows-mine;
+    roles = refl;
+    number = refl;
+    splits = refl;
+    tallied = refl;
+  }
+
   pub skip-runs : Running cargo f record { words = set s.words i n; homes = s.homes; views = set s.views id mine }
   skip-runs =
-      view-keeps cargo f s id v r at mine u shows-mine refl refl refl refl i
+      view-keeps cargo f hand aside i
       refl sound-now (λ j z ne there old. known-still z old)
       (let k = known-still v (r.stands.views.each id v at) in
       known-logged (record here { state = with_view now id u }) i n (skips f.tree b v) (record {
@@ -158,6 +179,7 @@ skips_allowed : {P E O : Type 0} (cargo : Ghosts P E O) (f : Frame O) (slots id 
     Allows (Running cargo f) slots id m (index f.layout (OfBlock b)) (λ n. n)
     (λ n m'. m' ≡ skips_at f.tree b (index f.layout (OfBlock b)) n m)
 skips_allowed {P} {E} cargo f slots id b m can hb s r deep at small =
+    let hand : Standing cargo f = record { state = s; id = id; view = m.0; running = r; at = at } in
     let i = index f.layout (OfBlock b) in
     let n = slice_index s.words i in
     let to : View P E → View P E = λ z. logged i n z in (
@@ -166,8 +188,9 @@ skips_allowed {P} {E} cargo f slots id b m can hb s r deep at small =
       tt,
       either (says_free n)
           (λ free.
+          let skipping : ToSkip hand = record { block = b; can = can; within = hb; free = free } in
           subst (λ (z : View P E). Running cargo f (stepped s i n id m.1 (to z) keeps)) (sym (cond-true (says_free n) (skips f.tree b m.0) m.0 free))
-          (skip-runs cargo f s id b m.0 r at can hb free))
+          (skip-runs cargo f hand skipping))
           (λ shut.
           subst (λ (z : View P E). Running cargo f (stepped s i n id m.1 (to z) keeps)) (sym (cond-false (says_free n) (skips f.tree b m.0) m.0 shut))
           (looks_keep cargo f s id i m.0 r at)),

@@ -19,16 +19,14 @@ use Rattle.life_kept.proofs.Trees.{child-parent, child-within}
 use Rattle.life_kept.proofs.Fitting.{held-word, done-word}
 use Rattle.table_words.specs.Layouts.{place_number, places_in}
 use Rattle.table_words.proofs.Spots.{place-within}
-use Rattle.atomic_table.specs.Table as table
 use Rattle.table_rules.specs.declared.cargo.Cargo.{Ghosts}
 use Rattle.table_rules.specs.declared.frame.Frame.{Frame}
-use Rattle.table_rules.specs.declared.view.View.{View}
 use Rattle.table_rules.specs.Named.{Each}
 use Rattle.table_rules.specs.ShownWords.{is_there}
 use Rattle.table_rules.specs.Scenes.{Empty, is_out, home_in, Scene, shown, scene}
 use Rattle.table_rules.specs.Homes.{seats_of}
-use Rattle.table_rules.specs.Running.{Running}
 use Rattle.table_steps.specs.Slots.{slot_of, kids_of, is_of_family, has_slot}
+use Rattle.table_kept.proofs.Standing.{Standing}
 use Rattle.table_kept.proofs.Entries.{each-map, any-some}
 use Rattle.table_kept.proofs.Among.{IsAmong, among}
 use Rattle.table_kept.proofs.KidSlots.{has-kid}
@@ -51,7 +49,9 @@ home-at : {P : Type 0} (h : Option P) → is_out (home_in (maybe.some (maybe.som
 home-at None = refl
 home-at (Some item) = refl
 
-module _ {P E O : Type 0} (cargo : Ghosts P E O) (f : Frame O) (s : table.State (Option P) (View P E)) (id : ℕ) (v : View P E) (r : Running cargo f s) (at : get_elem? s.views id ≡ some v) where
+module _ {P E O : Type 0} (cargo : Ghosts P E O) (f : Frame O) (hand : Standing cargo f) where
+  open hand use {state as s, id, view as v, running as r, at}
+
   abbrev now : State
   now = shown f s
 

@@ -1,7 +1,6 @@
 -- A step that writes a source's word keeps the rule where the pure machine's step keeps what is sound, and
 -- requests nothing.
 use Rattle.std.proofs.Common.{◌≡◌, ℕ, ◌^◌, ◌<◌, ◌≤◌, true, false, not, ◌&&◌, ◌==◌, cond, List, set, refl, sym, ap, ◌∙◌, subst, arith, length-set}
-use Rattle.std.specs.Prelude.{Option}
 use Rattle.std.proofs.lemmas.Bool.{and_parts, and_from, both_ways, cond-true, cond-false, eqb-true, eq-eqb, lt-ltb}
 use mathlib.Core.Option.{some}
 use lib.ListN.{get_elem?}
@@ -23,7 +22,6 @@ use Rattle.table_words.specs.Stamps.{stamp_of}
 use Rattle.table_words.specs.Controls.{control_read, callback_read, source_read}
 use Rattle.table_words.specs.ScopeNumbers.{scope_read}
 use Rattle.table_words.specs.Layouts.{Spot, TheScope, TheScopeSource, OfBlock, OfControl, OfCallback, OfSource, IsSpot, index}
-use Rattle.atomic_table.specs.Table as table
 use Rattle.table_rules.specs.declared.cargo.Cargo.{Ghosts}
 use Rattle.table_rules.specs.declared.frame.Frame.{Frame}
 use Rattle.table_rules.specs.declared.view.View.{View}
@@ -34,6 +32,7 @@ use Rattle.table_rules.specs.Notes.{IsKnown}
 use Rattle.table_rules.specs.Grown.{HasBitsOfSource, IsLater}
 use Rattle.table_rules.specs.Running.{Stands, Running}
 use Rattle.table_steps.specs.Sights.{spot_of}
+use Rattle.table_kept.proofs.Standing.{Standing}
 use Rattle.table_kept.proofs.WordMoves.{word-here}
 use Rattle.table_kept.proofs.PlaceMoves as places
 use Rattle.table_kept.proofs.Stamping.{is_on, Lists, written-risen, unsaid-kept, renewed-kept}
@@ -68,7 +67,21 @@ no-scope : (source : SourceRef) → spot_of source ≡ TheScope → ⊥
 no-scope Scope e = cc
 no-scope (Node y) e = cc
 
-module _ {P E O : Type 0} (cargo : Ghosts P E O) (f : Frame O) (s : table.State (Option P) (View P E)) (id value : ℕ) (source : SourceRef) (bits : Bits) (v : View P E) (r : Running cargo f s) (at : get_elem? s.views id ≡ some v) (spot : IsSpot f.layout (spot_of source)) (says : SaysOf value bits source) (live : IsLiveSource (shown f s) source) where
+-- which source's word is written, and what it says then
+pub record ToWriteSource {P E O : Type 0} {cargo : Ghosts P E O} {f : Frame O}
+    (hand : Standing cargo f) : Type 0 where
+  pub value : ℕ
+  pub source : SourceRef
+  pub bits : Bits
+  pub spot : IsSpot f.layout (spot_of source)
+  pub says : SaysOf value bits source
+  pub live : IsLiveSource (shown f hand.state) source
+
+module _ {P E O : Type 0} (cargo : Ghosts P E O) (f : Frame O) (hand : Standing cargo f)
+    (task : ToWriteSource hand) where
+  open hand use {state as s, id, view as v, running as r, at}
+  open task use {value, source, bits, spot, says, live}
+
   abbrev now : State
   now = shown f s
 

@@ -22,7 +22,28 @@ first : {S : Type 0} → S → List (ℕ × S) → S
 first none [] = none
 first none (c ∷ cs) = c.1
 
-module _ {P E O : Type 0} (board : Frame O) (i slot word : ℕ) (x : Name) (aim : Aim) (new old : Option P) (m m1 m2 : Seated P E) (i_is : i ≡ index board.layout (OfControl x.block x.node)) (slot_is : slot ≡ slot_of board.layout x) (aim_is : aim ≡ aimed board x) (turned : TurnsTo aim i word m m1) (was : m1.1 ≡ (slot, old) ∷ rest m1.1) (now : m2 ≡ (m1.0, (slot, new) ∷ rest m1.1)) where
+-- what lies in a home is exchanged: the load that turns the slots, and what is carried after it
+pub record Swap (P E : Type 0) {O : Type 0} (board : Frame O) : Type 0 where
+  pub cell : ℕ
+  pub slot : ℕ
+  pub word : ℕ
+  pub name : Name
+  pub aim : Aim
+  pub new : Option P
+  pub old : Option P
+  pub first : Seated P E
+  pub turned_to : Seated P E
+  pub last : Seated P E
+  pub i_is : cell ≡ index board.layout (OfControl name.block name.node)
+  pub slot_is : slot ≡ slot_of board.layout name
+  pub aim_is : aim ≡ aimed board name
+  pub turned : TurnsTo aim cell word first turned_to
+  pub was : turned_to.1 ≡ (slot, old) ∷ rest turned_to.1
+  pub now : last ≡ (turned_to.0, (slot, new) ∷ rest turned_to.1)
+
+module _ {P E O : Type 0} (board : Frame O) (task : Swap P E board) where
+  open task use {cell as i, slot, word, name as x, aim, new, old, first as m, turned_to as m1, last as m2, i_is, slot_is, aim_is, turned, was, now}
+
   told : TurnsTo (aimed board x) (index board.layout (OfControl x.block x.node)) word m m1
   told = subst (λ (z : ℕ × Aim). TurnsTo z.1 z.0 word m m1) (λ k. (i_is k, aim_is k)) turned
 

@@ -1,12 +1,10 @@
 -- What the exchange by which a node is taken owes, and what it tells.
 use Rattle.std.proofs.Common.{◌≡◌, ℕ, ◌<◌, true, ◌==◌, List, [], ◌∷◌, length, Option, Some, refl, sym, ap, ◌∙◌, subst, eq-eqb, ne_eqb, arith}
 use Rattle.std.specs.Prelude.{nat_le, slice_index}
-use mathlib.Core.Option.{some}
 use mathlib.Core.Option as maybe
 use mathlib.Core.Logic.{dite}
 use native.Mathlib.Decide.{ℕ_discrete}
 use prog.Atomic.{either}
-use lib.ListN.{get_elem?}
 use Rattle.life_rules.specs.declared.words.ControlWord.{ControlWord}
 use Rattle.life_rules.specs.declared.words.ControlWord.TheVariants.{Busy}
 use Rattle.life_rules.specs.declared.event.Name.{Name}
@@ -30,16 +28,33 @@ use Rattle.table_rules.specs.Running.{Running}
 use Rattle.table_steps.specs.Claims.{with_step, logged, Seated}
 use Rattle.table_steps.specs.Slots.{kids_of, IsSeated}
 use Rattle.table_steps.specs.Takes.{takes_node, TakenAt, TakesAt}
+use Rattle.table_kept.proofs.Standing.{Standing}
 use Rattle.table_kept.proofs.DoneBelow.{below-most}
 use Rattle.table_kept.proofs.Loads.{looks_keep}
 use Rattle.table_kept.proofs.SeenStands.{noted-start}
 use Rattle.table_kept.proofs.Hearing.{hears-as}
 use Rattle.table_kept.proofs.KidSlots.{take_each, carries}
-use Rattle.table_kept.proofs.WordsLive.{SaysLive, says-live}
+use Rattle.table_kept.proofs.WordsLive.{LiveWord, SaysLive, says-live}
 use Rattle.table_kept.proofs.TakeSeats.{seated-taken, take-valid}
-use Rattle.table_kept.proofs.TakeRuns.{IsTakeable, takeable, lies, place-b, take-runs}
+use Rattle.table_kept.proofs.TakeRuns.{ToTake, IsTakeable, takeable, lies, place-b, take-runs}
 
-module _ {P E O : Type 0} (cargo : Ghosts P E O) (f : Frame O) (s : table.State (Option P) (View P E)) (id value : ℕ) (x : Name) (v : View P E) (c : List (ℕ × Option P)) (r : Running cargo f s) (at : get_elem? s.views id ≡ some v) (w : ControlWord) (says : SaysLive (shown f s) x w) (may : may_be_taken w id ≡ true) (stamped : stamp_of value ≡ x.generation) (reads : control_read value ≡ Busy 0) where
+-- which node is taken, what its word says, and the word that says it is taken
+pub record ToTakeFrom {P E O : Type 0} {cargo : Ghosts P E O} {f : Frame O}
+    (hand : Standing cargo f) : Type 0 where
+  pub value : ℕ
+  pub name : Name
+  pub carried : List (ℕ × Option P)
+  pub word : ControlWord
+  pub says : SaysLive (shown f hand.state) name word
+  pub may : may_be_taken word hand.id ≡ true
+  pub stamped : stamp_of value ≡ name.generation
+  pub reads : control_read value ≡ Busy 0
+
+module _ {P E O : Type 0} (cargo : Ghosts P E O) (f : Frame O) (hand : Standing cargo f)
+    (task : ToTakeFrom hand) where
+  open hand use {state as s, id, view as v, running as r, at}
+  open task use {value, name as x, carried as c, word as w, says, may, stamped, reads}
+
   abbrev now : State
   now = shown f s
 
@@ -49,8 +64,19 @@ module _ {P E O : Type 0} (cargo : Ghosts P E O) (f : Frame O) (s : table.State 
   rests : IsTakeable (control_at now x)
   rests = takeable (control_at now x) id may-now
 
+  abbrev taking : ToTake hand
+  taking = record {
+    value = value;
+    name = x;
+    carried = c;
+    live = says.live;
+    may = may-now;
+    stamped = stamped;
+    reads = reads;
+  }
+
   lying : (item : P) × ((scene f s r.past).home x.block x.node ≡ Full item)
-  lying = lies cargo f s id value x v c r at says.live may-now stamped reads
+  lying = lies cargo f hand taking
 
   abbrev i : ℕ
   i = index f.layout (OfControl x.block x.node)
@@ -64,11 +90,11 @@ module _ {P E O : Type 0} (cargo : Ghosts P E O) (f : Frame O) (s : table.State 
       let slot = place_number f.layout x.block x.node in
       let kids = kids_of f.tree x.node in
       let mine : View P E = with_step i n value (takes_node x (r.past.start x) (r.past.named x) told told_kids v) in
-      let is = carries f.layout s.homes c r.sized.homes x.block (place-b cargo f s id value x v c r at says.live may-now stamped reads) kids in (
+      let is = carries f.layout s.homes c r.sized.homes x.block (place-b cargo f hand taking) kids in (
         mine,
         chain (take_each f.layout x.block kids) (takes slot (Some lying.0)),
-        take-valid cargo f s id value x v c r at says.live may-now stamped reads lying.0 lying.1,
-        take-runs cargo f s id value x v c r at says.live may-now stamped reads n was,
+        take-valid cargo f hand taking lying.0 lying.1,
+        take-runs cargo f hand taking n was,
         record {
           start = r.past.start x;
           named = r.past.named x;
@@ -84,10 +110,10 @@ module _ {P E O : Type 0} (cargo : Ghosts P E O) (f : Frame O) (s : table.State 
               let all = below-most f.tree x.node (λ n. is_done (control_at now (beside x n))) (length f.tree) in
               omega (arith, met, all));
           key = (r.stands.starts.key x rests.begun, tt);
-          noted = noted-start cargo f s id v r at x says.live;
-          hears = hears-as cargo f s id v r at x;
+          noted = noted-start cargo f hand x says.live;
+          hears = hears-as cargo f hand x;
           seated = λ old. subst (λ d. IsSeated f.tree f.layout (mine, (slot, Some lying.0) ∷ d)) (sym is)
-              (seated-taken cargo f s id value x v c r at says.live may-now stamped reads lying.0 lying.1
+              (seated-taken cargo f hand taking lying.0 lying.1
               (r.past.start x) (r.past.named x) told told_kids i n value old);
           rests = r.stands.items.rests x lying.0 says.live lying.1 rests.rests;
         },
@@ -107,13 +133,35 @@ pub takes_allowed : {P E O : Type 0} (cargo : Ghosts P E O) (f : Frame O) (slots
     (TakesAt cargo (record { tree = f.tree; layout = f.layout; name = x }) (f.over.value ∷ [])
     (step slots (index f.layout (OfControl x.block x.node)) old new maybe.none) m)
 takes_allowed {P} {E} cargo f slots id old new x from m hb hn may stamp_old reads_old stamp_new reads_new s r deep at small =
+    let hand : Standing cargo f = record { state = s; id = id; view = m.0; running = r; at = at } in
     let i = index f.layout (OfControl x.block x.node) in
     let n = slice_index s.words i in
     dite (ℕ_discrete n old)
     (λ hit.
-    let says = says-live cargo f s x (resting_at from) r hb hn (ap stamp_of hit ∙ stamp_old) (ap control_read hit ∙ reads_old) (resting-busy from) in
+    let live_word : LiveWord cargo f = record {
+      state = s;
+      name = x;
+      word = resting_at from;
+      running = r;
+      within = hb;
+      node_within = hn;
+      stamped = ap stamp_of hit ∙ stamp_old;
+      reads = ap control_read hit ∙ reads_old;
+      under_way = resting-busy from;
+    } in
+    let says = says-live cargo f live_word in
     let mine : may_be_taken (resting_at from) id ≡ true = subst (λ h. may_be_taken (resting_at from) h ≡ true) (r.stands.views.number id m.0 at) may in
-    let won = taken-now cargo f s id new x m.0 m.1 r at (resting_at from) says mine stamp_new reads_new n refl in (
+    let taking : ToTakeFrom hand = record {
+      value = new;
+      name = x;
+      carried = m.1;
+      word = resting_at from;
+      says = says;
+      may = mine;
+      stamped = stamp_new;
+      reads = reads_new;
+    } in
+    let won = taken-now cargo f hand taking n refl in (
       won.0,
       won.1,
       won.2,

@@ -39,13 +39,15 @@ use Rattle.table_rules.specs.Running.{Stands, Running}
 use Rattle.table_steps.specs.Claims.{with_step}
 use Rattle.table_steps.specs.Slots.{kids_of}
 use Rattle.table_steps.specs.Takes.{takes_node}
+use Rattle.table_kept.proofs.MovingSeats.{Move}
+use Rattle.table_kept.proofs.Standing.{Standing}
 use Rattle.table_kept.proofs.Seats.{at_within}
 use Rattle.table_kept.proofs.Among.{among}
 use Rattle.table_kept.proofs.Loads.{known-listed}
 use Rattle.table_kept.proofs.Counts.{counts-moved}
 use Rattle.table_kept.proofs.ViewMoves.{view-here, views-moved}
 use Rattle.table_kept.proofs.HomeMoves.{home_of_place, taken}
-use Rattle.table_kept.proofs.ControlRuns.{place_of, place-live, name-live, begun-renewed, control-runs}
+use Rattle.table_kept.proofs.ControlRuns.{ToWriteControl, place_of, place-live, name-live, begun-renewed, control-runs}
 use Rattle.table_kept.proofs.KidSlots.{take_each, each-out, deep-after, kids-below}
 use Rattle.table_kept.proofs.BeginState.{empty-from}
 use Rattle.table_kept.proofs.Begins.{kids-tested}
@@ -77,7 +79,22 @@ full-item Out e = cc
 full-item Empty e = cc
 full-item (Full item) e = (item, refl)
 
-module _ {P E O : Type 0} (cargo : Ghosts P E O) (f : Frame O) (s : table.State (Option P) (View P E)) (id value : ℕ) (x : Name) (v : View P E) (c : List (ℕ × Option P)) (r : Running cargo f s) (at : get_elem? s.views id ≡ some v) (live : is_live (shown f s) x ≡ true) (may : may_be_taken (control_at (shown f s) x) id ≡ true) (stamped : stamp_of value ≡ x.generation) (reads : control_read value ≡ Busy 0) where
+-- which node at rest is taken, and by which word
+pub record ToTake {P E O : Type 0} {cargo : Ghosts P E O} {f : Frame O}
+    (hand : Standing cargo f) : Type 0 where
+  pub value : ℕ
+  pub name : Name
+  pub carried : List (ℕ × Option P)
+  pub live : is_live (shown f hand.state) name ≡ true
+  pub may : may_be_taken (control_at (shown f hand.state) name) hand.id ≡ true
+  pub stamped : stamp_of value ≡ name.generation
+  pub reads : control_read value ≡ Busy 0
+
+module _ {P E O : Type 0} (cargo : Ghosts P E O) (f : Frame O) (hand : Standing cargo f)
+    (task : ToTake hand) where
+  open hand use {state as s, id, view as v, running as r, at}
+  open task use {value, name as x, carried as c, live, may, stamped, reads}
+
   abbrev now : State
   now = shown f s
 
@@ -219,13 +236,25 @@ module _ {P E O : Type 0} (cargo : Ghosts P E O) (f : Frame O) (s : table.State 
         met = λ _. r.stands.homes.met x word.begun (ap (nat_le 1) word.none);
       }
 
-  remembers : Remembers cargo f.over.value here id x (Busy 0) u is-put home r.past moves
+  abbrev moving : Move here
+  moving = record {
+    hand = id;
+    name = x;
+    word = Busy 0;
+    view = u;
+    put = is-put;
+    home = home;
+    past = r.past;
+    moves = moves;
+  }
+
+  remembers : Remembers cargo f.over.value here moving
   remembers = record { start = λ y. refl; lot = λ y ne. refl; delivered = λ y ne. refl }
 
   none-left : {G : Type 0} (item : P) → home x.block x.node ≡ Full item → G
   none-left item is = let e : Out ≡ Full item = sym own-out ∙ is in cc
 
-  leaves : Leaves cargo f.over.value here id x (Busy 0) u is-put home r.past moves
+  leaves : Leaves cargo f.over.value here moving
   leaves =
       record {
         start = λ item is. none-left item is;
@@ -239,6 +268,16 @@ module _ {P E O : Type 0} (cargo : Ghosts P E O) (f : Frame O) (s : table.State 
         lot = λ item _ is. none-left item is;
         drawn = λ n waits _ _ _. cc;
       }
+
+  abbrev writing : ToWriteControl hand
+  writing = record {
+    value = value;
+    name = x;
+    word = Busy 0;
+    live = live;
+    stamped = stamped;
+    reads = reads;
+  }
 
   module _ (n : ℕ) where
     abbrev i : ℕ
@@ -264,17 +303,17 @@ module _ {P E O : Type 0} (cargo : Ghosts P E O) (f : Frame O) (s : table.State 
 
     stands-taken : Stands cargo f.over.value after (set s.views id mine)
     stands-taken =
-        let known = known-moved here id x (Busy 0) u is-put home r.past moves (λ y. refl) (λ y _. refl) (λ y _. refl) (inl refl) v
+        let known = known-moved here moving (λ y. refl) (λ y _. refl) (λ y _. refl) (inl refl) v
         (among f s id v r.sized.seats at) (held-none v id at) (r.stands.views.each id v at) in
         record {
           sound = sound-now;
-          homes = homes-moved here id x (Busy 0) u is-put home r.past moves r.stands.homes;
-          starts = starts-moved cargo f.over.value here id x (Busy 0) u is-put home r.past moves remembers leaves r.stands.starts;
-          items = items-moved cargo f.over.value here id x (Busy 0) u is-put home r.past moves remembers leaves r.stands.items;
-          lots = lots-moved cargo f.over.value here id x (Busy 0) u is-put home r.past moves remembers leaves r.stands.lots;
+          homes = homes-moved here moving r.stands.homes;
+          starts = starts-moved cargo f.over.value here moving remembers leaves r.stands.starts;
+          items = items-moved cargo f.over.value here moving remembers leaves r.stands.items;
+          lots = lots-moved cargo f.over.value here moving remembers leaves r.stands.lots;
           views = views-moved here after s.views id v mine at
               (λ j z ne there.
-              known-moved here id x (Busy 0) u is-put home r.past moves (λ y. refl) (λ y _. refl) (λ y _. refl) (inl refl) z
+              known-moved here moving (λ y. refl) (λ y _. refl) (λ y _. refl) (inl refl) z
               (among f s j z r.sized.seats there) (held-none z j there))
               (known-listed after i n value (takes_node x (r.past.start x) (r.past.named x) told told_kids v) (record {
                 held = (record { start = refl; named = refl; told = λ t. t; told_children = λ t. t; lot = tt; phase = tt; idle = tt }, known.held);
@@ -295,7 +334,7 @@ module _ {P E O : Type 0} (cargo : Ghosts P E O) (f : Frame O) (s : table.State 
       views = set s.views id mine;
     }
     take-runs was =
-        control-runs cargo f s id value x (Busy 0) v r at live stamped reads mine u
+        control-runs cargo f hand writing mine u
         (ap (λ (z : PureView). record z { holds = gain x z.holds }) (sym shows))
         taken_homes home r.past (λ j m. refl)
         word.done (begun-renewed cargo f s x r live word.begun) (ap (λ k. entry i k value ∷ v.steps) was)

@@ -5,13 +5,7 @@ use Rattle.std.proofs.lemmas.Bool.{and_from, and_parts, both_ways, cond-true, co
 use mathlib.Core.Option.{some}
 use mathlib.Core.Option as maybe
 use lib.ListN.{get_elem?}
-use Rattle.life_rules.specs.declared.words.ControlWord.TheVariants.{Busy}
-use Rattle.life_rules.specs.declared.event.Name.{Name}
 use Rattle.node_tree.specs.Tree.{is_child}
-use Rattle.life_rules.specs.Words.{may_be_taken}
-use Rattle.life_rules.specs.States.{is_live, control_at}
-use Rattle.table_words.specs.Stamps.{stamp_of}
-use Rattle.table_words.specs.Controls.{control_read}
 use Rattle.table_words.specs.Layouts.{place_number}
 use Rattle.table_words.proofs.Spots.{place-within}
 use Rattle.atomic_table.specs.Table.{takes, chain}
@@ -21,19 +15,19 @@ use Rattle.table_rules.specs.declared.frame.Frame.{Frame}
 use Rattle.table_rules.specs.declared.view.View.{View}
 use Rattle.table_rules.specs.Named.{Each}
 use Rattle.table_rules.specs.ShownWords.{is_there}
-use Rattle.table_rules.specs.Scenes.{Out, Empty, Full, is_full, home_in, Scene, shown, scene}
-use Rattle.table_rules.specs.Running.{Running}
+use Rattle.table_rules.specs.Scenes.{Out, Empty, Full, is_full, home_in, Scene, scene}
 use Rattle.table_steps.specs.Claims.{with_step}
 use Rattle.table_steps.specs.Kids.{empty_slots}
 use Rattle.table_steps.specs.Slots.{slot_of, kids_of, is_of_family, has_slot, IsSeated}
 use Rattle.table_steps.specs.Takes.{takes_node}
+use Rattle.table_kept.proofs.Standing.{Standing}
 use Rattle.table_kept.proofs.Entries.{each-map, each-both}
 use Rattle.table_kept.proofs.HomeMoves.{home_of_place, empty-home}
 use Rattle.table_kept.proofs.KidSlots.{take_each, each-out, each-valid, kids-descend}
 use Rattle.table_kept.proofs.SlotsOut.{apart-home}
 use Rattle.table_kept.proofs.BeginSeats.{or-left, or-right, or-cases, kids-are, kid-of-family, each-slots, apart-slots}
 use Rattle.table_kept.proofs.Begins.{kids-tested}
-use Rattle.table_kept.proofs.TakeRuns.{place-b, place-n, kid-empty, kids-within}
+use Rattle.table_kept.proofs.TakeRuns.{ToTake, place-b, place-n, kid-empty, kids-within}
 
 -- a home that is full is at home
 pub full-home : {P : Type 0} (homes : List (maybe.Option (Option P))) (i : ℕ) (item : P) → home_in (get_elem? homes i) ≡ Full item →
@@ -46,15 +40,20 @@ full-home {P} homes i item e = of (get_elem? homes i) e
     of (maybe.some (maybe.some None)) e = absurd (both_ways true (ap is_full (sym e)) refl)
     of (maybe.some (maybe.some (Some other))) e = let same : other ≡ item = cc in ap (λ y. some (some (Some y))) same
 
-module _ {P E O : Type 0} (cargo : Ghosts P E O) (f : Frame O) (s : table.State (Option P) (View P E)) (id value : ℕ) (x : Name) (v : View P E) (c : List (ℕ × Option P)) (r : Running cargo f s) (at : get_elem? s.views id ≡ some v) (live : is_live (shown f s) x ≡ true) (may : may_be_taken (control_at (shown f s) x) id ≡ true) (stamped : stamp_of value ≡ x.generation) (reads : control_read value ≡ Busy 0) (item : P) (lies : (scene f s r.past).home x.block x.node ≡ Full item) where
+module _ {P E O : Type 0} (cargo : Ghosts P E O) (f : Frame O) (hand : Standing cargo f)
+    (task : ToTake hand) (item : P)
+    (lies : (scene f hand.state hand.running.past).home task.name.block task.name.node ≡ Full item) where
+  open hand use {state as s, id, view as v, running as r, at}
+  open task use {value, name as x, carried as c, live, may, stamped, reads}
+
   abbrev here : Scene P E
   here = scene f s r.past
 
   hb : x.block < f.layout.blocks
-  hb = place-b cargo f s id value x v c r at live may stamped reads
+  hb = place-b cargo f hand task
 
   hn : x.node < f.layout.nodes
-  hn = place-n cargo f s id value x v c r at live may stamped reads
+  hn = place-n cargo f hand task
 
   abbrev kids : List ℕ
   kids = kids_of f.tree x.node
@@ -63,7 +62,7 @@ module _ {P E O : Type 0} (cargo : Ghosts P E O) (f : Frame O) (s : table.State 
   slot = place_number f.layout x.block x.node
 
   within : Each (λ n. n < f.layout.nodes) kids
-  within = kids-within cargo f s id value x v c r at live may stamped reads
+  within = kids-within cargo f hand task
 
   there : (n : ℕ) → n < f.layout.nodes → is_there f.layout x.block n ≡ true
   there n l = and_from _ _ (lt-ltb x.block f.layout.blocks hb) (lt-ltb n f.layout.nodes l)
@@ -74,7 +73,7 @@ module _ {P E O : Type 0} (cargo : Ghosts P E O) (f : Frame O) (s : table.State 
   kids-empty : Each (λ n. home_of_place f.layout s.homes x.block n ≡ Empty) kids
   kids-empty =
       each-map (λ n. is_child f.tree x.node n ≡ true) (λ n. home_of_place f.layout s.homes x.block n ≡ Empty)
-      (λ n child. kid-empty cargo f s id value x v c r at live may stamped reads n child) kids (kids-are f.tree x.node (length f.tree))
+      (λ n child. kid-empty cargo f hand task n child) kids (kids-are f.tree x.node (length f.tree))
 
   kids-home : Each (λ n. get_elem? s.homes (place_number f.layout x.block n) ≡ some (some None)) kids
   kids-home =
@@ -95,7 +94,7 @@ module _ {P E O : Type 0} (cargo : Ghosts P E O) (f : Frame O) (s : table.State 
       ∙ cond-false (x.block == x.block && is_child f.tree x.node x.node) Out (here.home x.block x.node)
       (false_from_ne_true (x.block == x.block && is_child f.tree x.node x.node) (λ t.
       let child = (and_parts (x.block == x.block) (is_child f.tree x.node x.node) t).1 in
-      let empty = kid-empty cargo f s id value x v c r at live may stamped reads x.node child in
+      let empty = kid-empty cargo f hand task x.node child in
       both_ways (is_full (here.home x.block x.node)) (ap is_full empty) (ap is_full lies)))
       ∙ lies
 
@@ -136,11 +135,11 @@ module _ {P E O : Type 0} (cargo : Ghosts P E O) (f : Frame O) (s : table.State 
                 (λ m. place_number f.layout x.block m ≢ slot)
                 (λ m both e. apart-items (place_number f.layout x.block m) both.1 e) kids
                 (each-both (λ m. m < f.layout.nodes) (λ m. get_elem? s.homes (place_number f.layout x.block m) ≡ some (some None)) kids within none))
-                (apart-home cargo f s id v r at slot (Some item) c own-home old.given),
+                (apart-home cargo f hand slot (Some item) c own-home old.given),
             apart-slots f.layout x.block kids c (kids-descend f.tree x.node (length f.tree)) within
                 (each-map (λ m. get_elem? s.homes (place_number f.layout x.block m) ≡ some (some None))
                 (λ m. Each (λ d. d.0 ≢ place_number f.layout x.block m) c)
-                (λ m home. apart-home cargo f s id v r at (place_number f.layout x.block m) None c home old.given) kids none)
+                (λ m home. apart-home cargo f hand (place_number f.layout x.block m) None c home old.given) kids none)
                 old.apart,
           );
           given = (

@@ -76,7 +76,21 @@ traced-splits cargo f id v first room s old at = record {
 }
 
 -- a hand is joined to another
-module _ {P E : Type 0} (vs : List (View P E)) (id other : ℕ) (v w : View P E) (at : get_elem? vs id ≡ some v) (apart : (other ≡ id) → ⊥) (there : get_elem? (set vs id (gathered v w)) other ≡ some w) (itself : 1 ≤ v.hands) where
+-- a hand that takes over what another hand knows
+pub record Gathers (P E : Type 0) : Type 0 where
+  pub views : List (View P E)
+  pub id : ℕ
+  pub other : ℕ
+  pub view : View P E
+  pub other_view : View P E
+  pub at : get_elem? views id ≡ some view
+  pub apart : (other ≡ id) → ⊥
+  pub there : get_elem? (set views id (gathered view other_view)) other ≡ some other_view
+  pub itself : 1 ≤ view.hands
+
+module _ {P E : Type 0} (task : Gathers P E) where
+  open task use {views as vs, id, other, view as v, other_view as w, at, apart, there, itself}
+
   abbrev once : List (View P E)
   once = set vs id (gathered v w)
 
@@ -156,9 +170,39 @@ pub traced-joins : {P E O : Type 0} (cargo : Ghosts P E O) (f : Frame O) (id oth
 traced-joins cargo f id other v w itself s old at apart there = record {
   runs = joins cargo f id other v w itself s old.runs at apart there;
   words = λ j below.
-      ⊎_elim (λ z. inl z) (λ h. inr (carries-both s.views id other v w at apart there itself (LeavesThere j (slice_index s.words j)) h))
+      ⊎_elim (λ z. inl z) (λ h. inr (carries-both (record {
+        views = s.views;
+        id = id;
+        other = other;
+        view = v;
+        other_view = w;
+        at = at;
+        apart = apart;
+        there = there;
+        itself = itself;
+      }) (LeavesThere j (slice_index s.words j)) h))
       (old.words j below);
   homes = λ j.
-      ⊎_elim (λ z. inl z) (λ h. inr (has-both s.views id other v w at apart there itself (λ _. Unit {0}) h)) (old.homes j);
-  joined = joined-both s.views id other v w at apart there itself old.joined;
+      ⊎_elim (λ z. inl z) (λ h. inr (has-both (record {
+        views = s.views;
+        id = id;
+        other = other;
+        view = v;
+        other_view = w;
+        at = at;
+        apart = apart;
+        there = there;
+        itself = itself;
+      }) (λ _. Unit {0}) h)) (old.homes j);
+  joined = joined-both (record {
+    views = s.views;
+    id = id;
+    other = other;
+    view = v;
+    other_view = w;
+    at = at;
+    apart = apart;
+    there = there;
+    itself = itself;
+  }) old.joined;
 }

@@ -2,7 +2,6 @@
 use Rattle.std.proofs.Common.{◌≡◌, ◌≢◌, ℕ, ◌<◌, Bool, true, false, ◌==◌, cond, List, [], ◌∷◌, length, set, Option, Some, None, refl, sym, ap, ◌∙◌, subst, arith, length-set}
 use Rattle.std.specs.Prelude.{slice_index}
 use Rattle.std.proofs.lemmas.Bool.{both_ways, cond-true, cond-false, eqb-true, eq-eqb}
-use mathlib.Core.Option.{some}
 use mathlib.Core.Option as maybe
 use lib.ListN.{get_elem?}
 use Rattle.life_rules.specs.declared.event.Name.{Name}
@@ -24,11 +23,12 @@ use Rattle.table_steps.specs.Slots.{Aim, slot_of, has_slot, kept, IsSeated}
 use Rattle.table_steps.specs.Sheds.{shed}
 use Rattle.table_steps.specs.Releases.{is_own_slot}
 use Rattle.table_steps.specs.Swaps.{HasHome, TurnsTo}
+use Rattle.table_kept.proofs.Standing.{Standing}
 use Rattle.table_kept.proofs.Listing.{AllowsListed, allows-listed, lists-one}
 use Rattle.table_kept.proofs.Loads.{looks_keep}
 use Rattle.table_kept.proofs.SlotsOut.{slot-out, slot-within}
 use Rattle.table_kept.proofs.Shedding.{sheds, shed_home, carries-shed, deep-shed, shed-at}
-use Rattle.table_kept.proofs.ShedHomes.{shed_homes, carried-within, valid-shed, kept-each, out-is}
+use Rattle.table_kept.proofs.ShedHomes.{ToShed, shed_homes, carried-within, valid-shed, kept-each, out-is}
 use Rattle.table_kept.proofs.ShedSeats.{each-shed, apart-shed}
 
 -- what stays of the slots is apart from the one that went
@@ -40,15 +40,32 @@ apart-gone {S} slot (d ∷ ds) =
     (λ f. subst (Each (λ (e : ℕ × S). e.0 ≢ slot)) (sym (cond-false (slot == d.0) (shed (λ k. slot == k) ds) (d ∷ shed (λ k. slot == k) ds) f))
     ((λ e. both_ways (slot == d.0) f (eq-eqb slot d.0 (sym e))), apart-gone slot ds))
 
-module _ {P E O : Type 0} (cargo : Ghosts P E O) (f : Frame O) (s : table.State (Option P) (View P E)) (id i : ℕ) (x : Name) (v : View P E) (c : List (ℕ × Option P)) (r : Running cargo f s) (at : get_elem? s.views id ≡ some v) (seated : IsSeated f.tree f.layout (v, c)) (inside : Option P) (has : kept (slot_of f.layout x) c ≡ Some inside) where
+-- which slot the hand gives back and takes again
+pub record ToTurn {P E O : Type 0} {cargo : Ghosts P E O} {f : Frame O}
+    (hand : Standing cargo f) : Type 0 where
+  pub cell : ℕ
+  pub name : Name
+  pub carried : List (ℕ × Option P)
+  pub seated : IsSeated f.tree f.layout (hand.view, carried)
+  pub inside : Option P
+  pub has : kept (slot_of f.layout name) carried ≡ Some inside
+
+module _ {P E O : Type 0} (cargo : Ghosts P E O) (f : Frame O) (hand : Standing cargo f)
+    (task : ToTurn hand) where
+  open hand use {state as s, id, view as v, running as r, at}
+  open task use {cell as i, name as x, carried as c, seated, inside, has}
+
   abbrev slot : ℕ
   slot = slot_of f.layout x
 
   abbrev gone : ℕ → Bool
   gone = is_own_slot f.layout x
 
+  abbrev shedding : ToShed hand
+  shedding = record { carried = c; seated = seated; gone = gone }
+
   abbrev given : List (maybe.Option (Option P))
-  given = shed_homes cargo f s id v c r at seated gone
+  given = shed_homes cargo f hand shedding
 
   abbrev turned : List (maybe.Option (Option P))
   turned = set given slot maybe.none
@@ -61,16 +78,16 @@ module _ {P E O : Type 0} (cargo : Ghosts P E O) (f : Frame O) (s : table.State 
 
   within : slot < length given
   within =
-      let l = slot-within cargo f s id v r at slot mine in
+      let l = slot-within cargo f hand slot mine in
       let h = r.sized.homes in
       let d = deep in omega (arith, l, h, d)
 
   at-slot : (k : ℕ) → get_elem? given k ≡ shed_home (gone k) (kept k c) (get_elem? s.homes k)
-  at-slot = shed-at gone s.homes c seated.apart (carried-within cargo f s id v c r at seated gone)
+  at-slot = shed-at gone s.homes c seated.apart (carried-within cargo f hand shedding)
 
   pub turn-valid : table.Valid s.homes c (chain (sheds gone c) (takes slot inside))
   turn-valid = (
-    valid-shed cargo f s id v c r at seated gone,
+    valid-shed cargo f hand shedding,
     at-slot slot ∙ (λ k. shed_home (eq-eqb slot slot refl k) (has k) (get_elem? s.homes slot)),
   )
 
@@ -81,7 +98,7 @@ module _ {P E O : Type 0} (cargo : Ghosts P E O) (f : Frame O) (s : table.State 
       (λ t.
       subst (λ j. home_in (get_elem? turned j) ≡ home_in (get_elem? s.homes j)) (eqb-true slot k t)
       (ap home_in (set_here given slot maybe.none within)
-      ∙ sym (out-is (home_in (get_elem? s.homes slot)) (slot-out cargo f s id v r at slot mine))))
+      ∙ sym (out-is (home_in (get_elem? s.homes slot)) (slot-out cargo f hand slot mine))))
       (λ ne.
       ap home_in (set_else given slot k maybe.none (λ e. both_ways (slot == k) ne (eq-eqb slot k (sym e))) ∙ at-slot k)
       ∙ ap (λ b. home_in (shed_home b (kept k c) (get_elem? s.homes k))) ne ∙ other k (kept k c) refl)
@@ -90,7 +107,7 @@ module _ {P E O : Type 0} (cargo : Ghosts P E O) (f : Frame O) (s : table.State 
       other k None is = refl
       other k (Some y) is =
           sym (out-is (home_in (get_elem? s.homes k))
-          (slot-out cargo f s id v r at k (kept-each (λ j. has_slot f.tree f.layout v j ≡ true) k y c seated.given is)))
+          (slot-out cargo f hand k (kept-each (λ j. has_slot f.tree f.layout v j ≡ true) k y c seated.given is)))
 
   pub turn-runs : Running cargo f record {
     words = set s.words i (slice_index s.words i);
@@ -146,22 +163,31 @@ turns_allowed : {P E O : Type 0} (cargo : Ghosts P E O) (f : Frame O) (slots id 
     IsSeated f.tree f.layout m → HasHome f.layout m x →
     Allows (Running cargo f) slots id m i (λ n. n) (λ n. TurnsTo (aimed f x) i n m)
 turns_allowed {P} {E} cargo f slots id i x m seated has s r _ at _ =
+    let hand : Standing cargo f = record { state = s; id = id; view = m.0; running = r; at = at } in
     let n = slice_index s.words i in
     let gone = is_own_slot f.layout x in
     let slot = slot_of f.layout x in
     let inside = has.inside in
+    let turning : ToTurn hand = record {
+      cell = i;
+      name = x;
+      carried = m.1;
+      seated = seated;
+      inside = inside;
+      has = has.home;
+    } in
     let mine : View P E = logged i n m.0 in
     let is = carries-shed gone m.1 in (
       mine,
       chain (sheds gone m.1) (takes slot inside),
-      turn-valid cargo f s id i x m.0 m.1 r at seated inside has.home,
-      turn-runs cargo f s id i x m.0 m.1 r at seated inside has.home,
+      turn-valid cargo f hand turning,
+      turn-runs cargo f hand turning,
       record {
         inside = inside;
         home = has.home;
         me_is = λ k. (mine, (slot, inside) ∷ is k);
         seated = subst (λ d. IsSeated f.tree f.layout (mine, (slot, inside) ∷ d)) (sym is)
-            (turn-seated cargo f s id i x m.0 m.1 r at seated inside has.home n);
+            (turn-seated cargo f hand turning n);
       },
     )
 

@@ -1,29 +1,26 @@
 -- The root of a block that is free isn't noted: what a hand notes of the present generation has begun.
-use Rattle.std.proofs.Common.{◌≡◌, ℕ, true, not, sym, ap, subst}
-use Rattle.std.specs.Prelude.{Option}
+use Rattle.std.proofs.Common.{◌≡◌, true, not, sym, ap, subst}
 use Rattle.std.proofs.lemmas.Bool.{and_from, both_ways, eq-eqb}
-use mathlib.Core.Option.{some}
-use lib.ListN.{get_elem?}
 use Rattle.life_rules.specs.declared.event.Name.{Name}
 use Rattle.life_rules.specs.Words.{is_free, is_open}
 use Rattle.life_rules.specs.States.{State}
 use Rattle.common_lemmas.proofs.Options.{known}
 use Rattle.life_rules.proofs.Readings.{lives, begun-live}
 use Rattle.life_kept.proofs.Claim.{free-closed}
-use Rattle.atomic_table.specs.Table as table
 use Rattle.table_rules.specs.declared.cargo.Cargo.{Ghosts}
 use Rattle.table_rules.specs.declared.frame.Frame.{Frame}
-use Rattle.table_rules.specs.declared.view.View.{View}
 use Rattle.table_rules.specs.Named.{find_by}
 use Rattle.table_rules.specs.Notes.{IsRootedSo}
 use Rattle.table_rules.specs.ShownWords.{is_present}
 use Rattle.table_rules.specs.Scenes.{shown, scene}
-use Rattle.table_rules.specs.Running.{Running}
 use Rattle.table_steps.specs.Claims.{IsUnnoted}
+use Rattle.table_kept.proofs.Standing.{Standing}
 use Rattle.table_kept.proofs.Entries.{found, each-found}
 use Rattle.table_kept.proofs.ClaimingViews.{free-kept}
 
-module _ {P E O : Type 0} (cargo : Ghosts P E O) (f : Frame O) (s : table.State (Option P) (View P E)) (id : ℕ) (v : View P E) (r : Running cargo f s) (at : get_elem? s.views id ≡ some v) where
+module _ {P E O : Type 0} (cargo : Ghosts P E O) (f : Frame O) (hand : Standing cargo f) where
+  open hand use {state as s, id, view as v, running as r, at}
+
   abbrev now : State
   now = shown f s
 

@@ -30,13 +30,14 @@ use Rattle.table_steps.specs.Slots.{Aim, IsSeated}
 use Rattle.table_steps.specs.Hearings.{UnderScope}
 use Rattle.table_steps.specs.Readings.{says_phase, notes_phase}
 use Rattle.table_steps.specs.Callbacks.{is_registered, learns, withdraws, left_by, WithdrawsAt, CanWithdraw}
+use Rattle.table_kept.proofs.Standing.{Standing}
 use Rattle.table_kept.proofs.Listing.{AllowsListed, allows-listed, lists-one}
 use Rattle.table_kept.proofs.Noting.{seated-noted}
 use Rattle.table_kept.proofs.FoundNow.{phase-said}
-use Rattle.table_kept.proofs.HeldNow.{held}
+use Rattle.table_kept.proofs.HeldNow.{Holding, held}
 use Rattle.table_kept.proofs.Codes.{armed-code}
 use Rattle.table_kept.proofs.ScopeCallbacks.{none-runs}
-use Rattle.table_kept.proofs.WithdrawRuns.{registered, removed-runs, told-runs}
+use Rattle.table_kept.proofs.WithdrawRuns.{ToWithdraw, registered, removed-runs, told-runs}
 
 -- a word that says armed at this generation is the one that is written for it
 pub armed-word : (g w : ℕ) → is_armed (says_phase g w) ≡ true → w ≡ callback_written g Armed
@@ -83,13 +84,16 @@ withdraws_allowed : {P E O : Type 0} (cargo : Ghosts P E O) (f : Frame O) (slots
     Allows (Running cargo f) slots id m (index f.layout (OfCallback x.block x.node)) (λ n. either (n == old) new n)
     (WithdrawsAt (aimed f x) (step slots (index f.layout (OfCallback x.block x.node)) old new maybe.none) m)
 withdraws_allowed {P} {E} cargo f slots id old new x m can old_is stamp_old reads_old new_is stamp_new reads_new s r deep at small =
+    let hand : Standing cargo f = record { state = s; id = id; view = m.0; running = r; at = at } in
+    let holding : Holding hand = record { name = x; entry = can.held; holds = can.holds } in
     let i = index f.layout (OfCallback x.block x.node) in
     let n = slice_index s.words i in
-    let live = (held cargo f s id x m.0 r at can.held can.holds).live in
+    let withdrawing : ToWithdraw hand = record { name = x; can = can; cell = i; number = n } in
+    let live = (held cargo f hand holding).live in
     let said : phase_at (shown f s) x ≡ says_phase x.generation n = phase-said cargo f s r x live in
-    let known : is_registered (says_phase x.generation n) ≡ true = ap is_registered (sym said) ∙ registered cargo f s id x m.0 r at can i n in
+    let known : is_registered (says_phase x.generation n) ≡ true = ap is_registered (sym said) ∙ registered cargo f hand withdrawing in
     let unrun : UnderScope f.tree m.0 x (says_phase x.generation n ≢ Runs) =
-    λ number near runs. none-runs cargo f s id x m.0 r at can.unrun number near (said ∙ runs) in
+    λ number near runs. none-runs cargo f hand x can.unrun number near (said ∙ runs) in
     let removes : View P E = notes_phase x Removed m.0 in
     let mine : View P E = with_step i n (left_by x.generation n) (withdraws f.tree x (says_phase x.generation n) m.0) in
     dite (ℕ_discrete n old)
@@ -106,7 +110,7 @@ withdraws_allowed {P} {E} cargo f slots id old new x m can old_is stamp_old read
             (new_is ∙ sym (cond-true (is_armed (says_phase x.generation n)) (callback_written x.generation Removed) n (ap is_armed armed))) k,
             sym (cond-true (is_armed (says_phase x.generation n)) removes tells (ap is_armed armed)) k,
           ))
-          (removed-runs cargo f s id x m.0 r at can i n new (said ∙ armed) stamp_new reads_new refl refl),
+          (removed-runs cargo f hand withdrawing new (said ∙ armed) stamp_new reads_new refl refl),
       (refl, known, unrun),
     ))
     (λ miss.
@@ -122,7 +126,7 @@ withdraws_allowed {P} {E} cargo f slots id old new x m can old_is stamp_old read
             sym (cond-false (is_armed (says_phase x.generation n)) (callback_written x.generation Removed) n unarmed) k,
             (ap (λ p. learns f.tree x (notes_phase x p m.0)) said ∙ sym (cond-false (is_armed (says_phase x.generation n)) removes tells unarmed)) k,
           ))
-          (told-runs cargo f s id x m.0 r at can i n (ap is_armed said ∙ unarmed) refl),
+          (told-runs cargo f hand withdrawing (ap is_armed said ∙ unarmed) refl),
       (refl, known, unrun),
     ))
 

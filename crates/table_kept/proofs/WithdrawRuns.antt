@@ -3,8 +3,6 @@ use Rattle.std.proofs.Common.{◌≡◌, ℕ, ◌<◌, ◌≤◌, true, false, �
 use Rattle.std.specs.Prelude.{Option, Some, MatchOption, nat_le, slice_index}
 use Rattle.std.specs.Option.{option_map_or}
 use Rattle.std.proofs.lemmas.Bool.{and_from, cond-true, cond-false, le-leb}
-use mathlib.Core.Option.{some}
-use lib.ListN.{get_elem?}
 use Rattle.life_rules.specs.declared.words.BlockWord.{BlockWord}
 use Rattle.life_rules.specs.declared.words.CallbackPhase.{CallbackPhase}
 use Rattle.life_rules.specs.declared.words.CallbackPhase.TheVariants.{Never, Armed, Running as Runs, Ran, Removed}
@@ -21,7 +19,6 @@ use Rattle.stop_kept.proofs.Withdraw.{sound-withdraw}
 use Rattle.table_words.specs.Stamps.{stamp_of}
 use Rattle.table_words.specs.Controls.{callback_read, callback_code}
 use Rattle.table_words.specs.Layouts.{OfCallback, index}
-use Rattle.atomic_table.specs.Table as table
 use Rattle.listed_steps.specs.Lists.{entry}
 use Rattle.table_rules.specs.declared.cargo.Cargo.{Ghosts}
 use Rattle.table_rules.specs.declared.frame.Frame.{Frame}
@@ -36,6 +33,7 @@ use Rattle.table_rules.specs.Running.{Running}
 use Rattle.table_steps.specs.Claims.{with_step, logged}
 use Rattle.table_steps.specs.Readings.{notes_phase}
 use Rattle.table_steps.specs.Callbacks.{is_registered, learns, CanWithdraw}
+use Rattle.table_kept.proofs.Standing.{Standing}
 use Rattle.table_kept.proofs.Entries.{each-map}
 use Rattle.table_kept.proofs.Among.{among}
 use Rattle.table_kept.proofs.Loads.{known-listed, known-logged}
@@ -43,10 +41,10 @@ use Rattle.table_kept.proofs.Noting.{count-at, each-at}
 use Rattle.table_kept.proofs.HeldNotes.{each-changed}
 use Rattle.table_kept.proofs.ReadAllowed.{still-refl}
 use Rattle.table_kept.proofs.ControlRuns.{place_of, place-live, name-live}
-use Rattle.table_kept.proofs.HeldNow.{shows, below, holds-now, held, phase-so, others-none}
+use Rattle.table_kept.proofs.HeldNow.{Holding, shows, below, holds-now, held, phase-so, others-none}
 use Rattle.table_kept.proofs.Learning.{shows-learned, learned-past}
 use Rattle.table_kept.proofs.Asides.{held-aside, known-aside}
-use Rattle.table_kept.proofs.AsideSteps.{unmoved, callback-keeps, view-keeps}
+use Rattle.table_kept.proofs.AsideSteps.{ToStepAside, unmoved, callback-keeps, view-keeps}
 
 -- what the hand last read of a callback that was registered, and what it is now
 registered-of : (known phase : CallbackPhase) → is_registered known ≡ true → is_still known phase → is_registered phase ≡ true
@@ -60,7 +58,19 @@ known-of : (o : Option CallbackPhase) (known phase : CallbackPhase) → o ≡ So
     MatchOption o (Unit {0}) (λ k. is_still k phase) → is_still known phase
 known-of o known phase is so = subst (λ p. MatchOption p (Unit {0}) (λ k. is_still k phase)) is so
 
-module _ {P E O : Type 0} (cargo : Ghosts P E O) (f : Frame O) (s : table.State (Option P) (View P E)) (id : ℕ) (x : Name) (v : View P E) (r : Running cargo f s) (at : get_elem? s.views id ≡ some v) (can : CanWithdraw v x) (i n : ℕ) where
+-- which callback is removed
+pub record ToWithdraw {P E O : Type 0} {cargo : Ghosts P E O} {f : Frame O}
+    (hand : Standing cargo f) : Type 0 where
+  pub name : Name
+  pub can : CanWithdraw hand.view name
+  pub cell : ℕ
+  pub number : ℕ
+
+module _ {P E O : Type 0} (cargo : Ghosts P E O) (f : Frame O) (hand : Standing cargo f)
+    (task : ToWithdraw hand) where
+  open hand use {state as s, id, view as v, running as r, at}
+  open task use {name as x, can, cell as i, number as n}
+
   abbrev now : State
   now = shown f s
 
@@ -70,22 +80,25 @@ module _ {P E O : Type 0} (cargo : Ghosts P E O) (f : Frame O) (s : table.State 
   abbrev blocks : ℕ → BlockWord
   blocks = block_of f.layout s.words
 
-  held-now : IsHeld now x
-  held-now = held cargo f s id x v r at can.held can.holds
+  abbrev holding : Holding hand
+  holding = record { name = x; entry = can.held; holds = can.holds }
 
-  hand : id < f.hands
-  hand = below cargo f s id x v r at can.held can.holds
+  held-now : IsHeld now x
+  held-now = held cargo f hand holding
+
+  hand_below : id < f.hands
+  hand_below = below cargo f hand holding
 
   pub registered : is_registered (phase_at now x) ≡ true
   registered =
       registered-of can.known (phase_at now x) can.registered
-      (known-of can.held.phase can.known (phase_at now x) can.known_is (phase-so cargo f s id x v r at can.held can.holds))
+      (known-of can.held.phase can.known (phase_at now x) can.known_is (phase-so cargo f hand holding))
 
   abbrev old_view : PureView
   old_view = now.view id
 
   is-shown : old_view ≡ shown_view blocks v
-  is-shown = shows cargo f s id x v r at can.held can.holds
+  is-shown = shows cargo f hand holding
 
   unrun : (old_view.runs x == 0) ≡ true
   unrun = (λ k. (is-shown k).runs x == 0) ∙ eq-eqb _ 0 can.unrun
@@ -93,10 +106,10 @@ module _ {P E O : Type 0} (cargo : Ghosts P E O) (f : Frame O) (s : table.State 
   sound-now : Sound (after_withdraw now id (place_of x))
   sound-now =
       let name = name-live now x held-now.live in
-      sound-withdraw now id (place_of x) r.stands.sound hand
+      sound-withdraw now id (place_of x) r.stands.sound hand_below
       (and_from _ _ (place-live now x held-now.live)
       (subst (λ y. (nat_le 1 (old_view.holds y) && (old_view.runs y == 0 && is_registered (phase_at now y))) ≡ true) (sym name)
-      (and_from _ _ (le-leb 1 (old_view.holds x) (holds-now cargo f s id x v r at can.held can.holds))
+      (and_from _ _ (le-leb 1 (old_view.holds x) (holds-now cargo f hand holding))
       (and_from _ _ unrun registered))))
 
   -- what the hand notes is shown as before
@@ -164,13 +177,24 @@ module _ {P E O : Type 0} (cargo : Ghosts P E O) (f : Frame O) (s : table.State 
           seen = old.seen;
         })
 
+    abbrev aside : ToStepAside hand
+    aside = record {
+      mine = mine;
+      pure = old_view;
+      shows = shows-noted Removed v ∙ sym is-shown;
+      roles = refl;
+      number = refl;
+      splits = refl;
+      tallied = refl;
+    }
+
     pub removed-runs : i ≡ index f.layout (OfCallback x.block x.node) → n ≡ word_of f.layout s.words (OfCallback x.block x.node) → Running cargo f record {
       words = set s.words (index f.layout (OfCallback x.block x.node)) value;
       homes = s.homes;
       views = set s.views id mine;
     }
     removed-runs is was =
-        callback-keeps cargo f s id v r at mine old_view (shows-noted Removed v ∙ sym is-shown) refl refl refl refl
+        callback-keeps cargo f hand aside
         value x Removed held-now.live stamped reads
         (subst (λ p. callback_code p < callback_code Removed) (sym armed) (omega arith))
         (λ k. entry (is k) (was k) value ∷ v.steps) sound-removed
@@ -178,7 +202,7 @@ module _ {P E O : Type 0} (cargo : Ghosts P E O) (f : Frame O) (s : table.State 
         known-aside here written.callback now.source now.scope_source now.scope written.view (λ t h. h) z
         (λ y counts known so.
         still y (λ is. absurd
-        (let none = others-none cargo f s id x v r at can.held can.holds j z ne there in
+        (let none = others-none cargo f hand holding j z ne there in
         let c : 1 ≤ count_by (λ (e : Held E). e.name) z.held x = subst (λ y. 1 ≤ count_by (λ (e : Held E). e.name) z.held y) (sym is) counts in
         omega (arith, none, c))) known so) old)
         (mine-known (r.stands.views.each id v at))
@@ -237,13 +261,24 @@ module _ {P E O : Type 0} (cargo : Ghosts P E O) (f : Frame O) (s : table.State 
           seen = learned-past now x held-now.live (notes_phase x phase v) old.seen;
         })
 
+    abbrev aside_told : ToStepAside hand
+    aside_told = record {
+      mine = logged i n told;
+      pure = u;
+      shows = shows-told;
+      roles = refl;
+      number = refl;
+      splits = refl;
+      tallied = refl;
+    }
+
     pub told-runs : n ≡ slice_index s.words i → Running cargo f record {
       words = set s.words i (slice_index s.words i);
       homes = s.homes;
       views = set s.views id (logged i n told);
     }
     told-runs is =
-        view-keeps cargo f s id v r at (logged i n told) u shows-told refl refl refl refl i
+        view-keeps cargo f hand aside_told i
         (λ k. entry i (is k) (is k) ∷ v.steps) sound-told
         (λ j z ne there old.
         known-aside here now.callback now.source now.scope_source now.scope (with_view now id u).view (λ t h. h) z (λ y counts known so. so) old)

@@ -34,7 +34,21 @@ pub record SaysLive (s : State) (x : Name) (w : ControlWord) : Type 0 where
   pub live : is_live s x ≡ true
   pub word : control_at s x ≡ w
 
-module _ {P E O : Type 0} (cargo : Ghosts P E O) (f : Frame O) (s : table.State (Option P) (View P E)) (x : Name) (w : ControlWord) (r : Running cargo f s) (hb : x.block < f.layout.blocks) (hn : x.node < f.layout.nodes) (stamped : stamp_of (word_of f.layout s.words (OfControl x.block x.node)) ≡ x.generation) (reads : control_read (word_of f.layout s.words (OfControl x.block x.node)) ≡ w) (under_way : is_under_way w ≡ true) where
+-- a control word of a state in which the rule holds says that its node is under way
+pub record LiveWord {P E O : Type 0} (cargo : Ghosts P E O) (f : Frame O) : Type 0 where
+  pub state : table.State (Option P) (View P E)
+  pub name : Name
+  pub word : ControlWord
+  pub running : Running cargo f state
+  pub within : name.block < f.layout.blocks
+  pub node_within : name.node < f.layout.nodes
+  pub stamped : stamp_of (word_of f.layout state.words (OfControl name.block name.node)) ≡ name.generation
+  pub reads : control_read (word_of f.layout state.words (OfControl name.block name.node)) ≡ word
+  pub under_way : is_under_way word ≡ true
+
+module _ {P E O : Type 0} (cargo : Ghosts P E O) (f : Frame O) (task : LiveWord cargo f) where
+  open task use {state as s, name as x, word as w, running as r, within as hb, node_within as hn, stamped, reads, under_way}
+
   abbrev now : State
   now = shown f s
 

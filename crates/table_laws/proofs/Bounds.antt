@@ -26,8 +26,9 @@ use Rattle.table_rules.specs.Scenes.{Empty, Full, home_in, Scene, shown, scene}
 use Rattle.table_rules.specs.Homes.{is_waiting, is_resting, done_below}
 use Rattle.table_rules.specs.Notes.{IsReportedSo}
 use Rattle.table_rules.specs.Running.{Running}
+use Rattle.table_kept.proofs.Standing.{Standing}
 use Rattle.table_kept.proofs.Entries.{found, each-found}
-use Rattle.table_kept.proofs.HeldNow.{held, named-so}
+use Rattle.table_kept.proofs.HeldNow.{Holding, held, named-so}
 use Rattle.table_laws.specs.Laws.{Has}
 use Rattle.table_laws.specs.Bounds.{LiesAtHome, EndedWithAll, EndWithAll, FinishWithAll, HoldWithAll, RestWithAll}
 
@@ -64,8 +65,10 @@ module _ {P E O : Type 0} (cargo : Ghosts P E O) (f : Frame O) (s : table.State 
   held-with : (h : ℕ) (v : View P E) (x : Name) (e : Held E) → Has s h v → find_by (λ e. e.name) v.held x ≡ Some e →
       e.named ≤ done_below now x
   held-with h v x e at holds =
-      let own = held cargo f s h x v r at e holds in
-      let named = named-so cargo f s h x v r at e holds in
+      let hand : Standing cargo f = record { state = s; id = h; view = v; running = r; at = at } in
+      let holding : Holding hand = record { name = x; entry = e; holds = holds } in
+      let own = held cargo f hand holding in
+      let named = named-so cargo f hand holding in
       let met = r.stands.homes.met x (ap is_idle own.word) (ap is_waiting own.word) in
       omega (arith, named, met)
 

@@ -37,8 +37,9 @@ use Rattle.table_steps.specs.Takes.{rest_word}
 use Rattle.table_steps.specs.Reports.{CanReport}
 use Rattle.table_steps.specs.Finishes.{CanEnd}
 use Rattle.table_steps.specs.Releases.{CanReleaseBlock}
+use Rattle.table_kept.proofs.Standing.{Standing}
 use Rattle.table_kept.proofs.Entries.{found, has-counts}
-use Rattle.table_kept.proofs.HeldNow.{held, kid-quiet}
+use Rattle.table_kept.proofs.HeldNow.{Holding, held, kid-quiet}
 use Rattle.table_laws.specs.Laws.{Has, IsOver, DoneIsOver, ParentsWait, ReleasesQuiet}
 use Rattle.table_laws.proofs.Standing.{below, shows, among}
 
@@ -137,8 +138,20 @@ module _ {P E O : Type 0} (cargo : Ghosts P E O) (f : Frame O) (s : table.State 
       (is_done (control_at now (beside x n)) ≡ true)
       × ((j : ℕ) (u : View P E) → Has s j u → count_by (λ e. e.name) u.reported (beside x n) ≡ 0)
   ended-kid h m x n at can child begun =
+      let hand : Standing cargo f = record {
+        state = s;
+        id = h;
+        view = m.0;
+        running = r;
+        at = at;
+      } in
+      let holding : Holding hand = record {
+        name = x;
+        entry = can.leave.held;
+        holds = can.leave.holds;
+      } in
       let kid = control_at now (beside x n) in
-      let own = held cargo f s h x m.0 r at can.leave.held can.leave.holds in
+      let own = held cargo f hand holding in
       let quiet = kid-quiet cargo f s r x n (ap pending own.word) child in
       let ended : (is_idle kid || is_done kid) ≡ true = not-false (is_idle kid || is_done kid) quiet.under_way in (
         ap (λ b. b || is_done kid) (sym begun) ∙ ended,

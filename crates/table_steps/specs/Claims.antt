@@ -13,7 +13,7 @@ use Rattle.atomic_table.specs.declared.shared.Seat.{Seat}
 use Rattle.table_steps.specs.declared.block.Block.{Block}
 use Rattle.table_steps.specs.Slots.{Aim, slot_of, IsSeated, noted_at}
 use Rattle.table_steps.specs.Owing.{OwesNoneThere}
-use Rattle.table_steps.specs.Views.{Board}
+use Rattle.table_steps.specs.Views.{Board, aim_at}
 
 -- the view has noted no start of x
 abbrev pub IsUnnoted : {P E : Type 0} → View P E → Name → Type 0
@@ -65,6 +65,10 @@ module _ {P E : Type 0} where
 abbrev pub root_name : {O : Type 0} → Board O → ℕ → ℕ → Name
 root_name board block generation =
     record { block = block; generation = generation; node = length board.frame.tree - 1 }
+
+-- as what a step is about
+abbrev pub root_aim : {O : Type 0} → Board O → ℕ → ℕ → Aim
+root_aim board block generation = aim_at board (root_name board block generation)
 
 -- the view owes no start in this block
 abbrev pub OwesNoneIn : {P E O : Type 0} → Board O → View P E → Block → Type 0

@@ -1,5 +1,6 @@
 -- What a hand notes of a node that it holds, by loads of words.
-use Rattle.std.specs.Prelude.{◌≡◌, ℕ, Bool, not, ◌&&◌, ◌==◌, if◌then◌else◌, List, [], ◌∷◌, Some}
+use Rattle.std.specs.Prelude.{◌≡◌, ℕ, Bool, true, false, not, ◌&&◌, ◌==◌, if◌then◌else◌, List, [], ◌∷◌, Some}
+use Rattle.std.specs.List.{list_any}
 use Rattle.std.specs.Option.{option_map_or}
 use Rattle.node_tree.specs.declared.node.TreeNode.{TreeNode}
 use Rattle.life_rules.specs.declared.words.CallbackPhase.{CallbackPhase}
@@ -54,6 +55,18 @@ abbrev pub reads_child : {P E : Type 0} → Name → Name → ℕ → ℕ → Se
 reads_child x child i word m =
     (logged i word (if says_begun child.generation word then m.0 else notes_idle x child.node m.0), m.1)
 
+-- the hand holds x, and has read that this child of it hasn't begun
+pub record KnowsIdle {P E : Type 0} (x : Name) (n : ℕ) (m : Seated P E) : Type 0 where
+  pub held : Held E
+  pub holds : held_at m.0 x ≡ Some held
+  pub idle : list_any (λ q. q == n) held.idle ≡ true
+
+-- and a child that it had read as not begun still hasn't
+abbrev pub ChildReads : {P E : Type 0} → Name → Name → ℕ → ℕ → Seated P E → Seated P E → Type 0
+ChildReads x child i word m m' =
+    (m' ≡ reads_child x child i word m)
+    × (KnowsIdle x child.node m → says_begun child.generation word ≡ false)
+
 -- what a load of the node's callback word tells the hand that holds it
 abbrev pub reads_phase : {P E : Type 0} → Name → ℕ → ℕ → Seated P E → Seated P E
 reads_phase x i word m = (logged i word (notes_phase x (says_phase x.generation word) m.0), m.1)
@@ -75,6 +88,10 @@ abbrev pub IsBegunAs : {P E O : Type 0} → Frame O → Name → Bool → Seated
 IsBegunAs f child answer m m' =
     (word : ℕ) × (answer ≡ says_begun child.generation word)
     × (m' ≡ reads_child (above_it f.tree child) child (index f.layout (OfControl child.block child.node)) word m)
+
+-- a child that the hand had read as not begun still hasn't
+abbrev pub IsIdleStill : {P E O : Type 0} → Frame O → Name → Bool → Seated P E → Type 0
+IsIdleStill f child answer m = KnowsIdle (above_it f.tree child) child.node m → answer ≡ false
 
 abbrev pub IsPhaseAs : {P E O : Type 0} → Frame O → Name → CallbackPhase → Seated P E → Seated P E → Type 0
 IsPhaseAs f x answer m m' =

@@ -21,6 +21,11 @@ with_one_more w = record w { count = w.count + 1 }
 abbrev pub with_one_less : ScopeWord → ScopeWord
 with_one_less w = record w { count = w.count - 1 }
 
+-- the exchange won, where the word that was read is the old one; else the answer is what was read
+abbrev pub AnswersSeal : ℕ → ℕ → Result (Unit {0}) ScopeWord → Type 0
+AnswersSeal word old answer =
+    MatchResult answer (λ _. word ≡ old) (λ read. (word ≢ old) × (read ≡ scope_read word))
+
 module _ {P E : Type 0} where
   -- the hand has an association in the making
   abbrev pub IsMaking : View P E → Type 0

@@ -96,3 +96,7 @@ IsTaken cargo f x from answer m m' =
     (index f.layout (OfControl x.block x.node)) (rest_word x from) left m m')
     × (answer ≡ false →
     (found : ℕ) × (found ≢ rest_word x from) × (m' ≡ (logged (index f.layout (OfControl x.block x.node)) found m.0, m.1)))
+
+-- and so of a node that is ready in the context
+abbrev pub IsTakenOn : {P E O : Type 0} → Ghosts P E O → Frame O → Name → Context → Bool → Seated P E → Seated P E → Type 0
+IsTakenOn cargo f x on answer m m' = IsTaken cargo f x (resting_in on) answer m m'

@@ -56,6 +56,11 @@ pub record IsOpenedOver {O : Type 0} (board : Board O) (tree : List TreeNode) (o
   pub kind_is : board.frame.kind ≡ kind
   pub most_is : board.frame.most ≡ most
 
+-- the table of the pair was opened with these
+abbrev pub OpensWith : {O H : Type 0} → List TreeNode → O → ℕ → ℕ → ScopeKind → ℕ → Board O × H → Type 0
+OpensWith tree over blocks hands kind most =
+    λ opened. IsOpenedOver opened.0 tree over blocks hands kind most
+
 -- the view of the hand with this number, which has done nothing, and from which so many were split
 abbrev pub fresh_with : {P E : Type 0} → ℕ → ℕ → View P E
 fresh_with number splits =

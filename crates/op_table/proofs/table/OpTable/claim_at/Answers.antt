@@ -19,11 +19,15 @@ load-found-requires g c =
 
 pub returns-in-Free-clause-claimed : goal.returns-in-Free-clause-claimed
 returns-in-Free-clause-claimed g c =
-    told g.row.P.Denot g.row.P-Entry.Denot c.args.self.now c.args.block c.load-found.result c.args.seat.now
-    c.load-found.new.hand c.claim_from.new.seat
-    (seen_at c.args.self.now c.args.block c.block-index.result c.load-found.result c.args.seat.now
-    c.load-found.new.hand (c.block-index.ensures.value ∙ ap (λ b. index b.frame.layout (OfBlock c.args.block)) c.self.view_is) c.load-found.ensures.2.rest)
-    (ap (λ w. is_free w.state) (sym c.read_block.ensures) ∙ ap is_free c.in-Free.is) c.claim_from.result
+    told g.row.P.Denot g.row.P-Entry.Denot c.args.self.now (record {
+      block = c.args.block;
+      found = c.load-found.result;
+      before = c.args.seat.now;
+      seeing = c.load-found.new.hand;
+      after = c.claim_from.new.seat;
+      seen = seen_at c.args.self.now c.args.block c.block-index.result c.load-found.result c.args.seat.now c.load-found.new.hand (c.block-index.ensures.value ∙ ap (λ b. index b.frame.layout (OfBlock c.args.block)) c.self.view_is) c.load-found.ensures.2.rest;
+      free = ap (λ w. is_free w.state) (sym c.read_block.ensures) ∙ ap is_free c.in-Free.is;
+    }) c.claim_from.result
     c.claim_from.ensures.claimed
 
 pub returns-in-Open : goal.returns-in-Open

@@ -19,12 +19,13 @@ loop-next-init g c =
     c.in-Some.ensures.items)
 
 pub join-requires-clause-table : goal.join-requires-clause-table
-join-requires-clause-table g c κs within = (
-  c.loop-next.invariant.table_is,
-  subst (λ s. s.table_id ≡ c.args.self.now.table_id) (sym c.into_seat-seat.ensures)
-      (next-free c.args.self.now c.args.hands.items c.loop-next.hands.items c.pop-in-loop-next.new.self.items c.loop-next.all
-      c.in-Some-pop.next c.loop-next.invariant c.in-Some-pop.ensures.items).0,
-)
+join-requires-clause-table g c κs within = c.loop-next.invariant.table_is
+
+pub join-requires-clause-next : goal.join-requires-clause-next
+join-requires-clause-next g c κs within =
+    subst (λ s. s.table_id ≡ c.args.self.now.table_id) (sym c.into_seat-seat.ensures)
+    (next-free c.args.self.now c.args.hands.items c.loop-next.hands.items c.pop-in-loop-next.new.self.items c.loop-next.all
+    c.in-Some-pop.next c.loop-next.invariant c.in-Some-pop.ensures.items).0
 
 pub join-requires-clause-slots : goal.join-requires-clause-slots
 join-requires-clause-slots g c κs within =

@@ -6,10 +6,10 @@ use Rattle.table_kept.proofs.TracedHands.{traced-joins}
 use Rattle.op_table.proofs.table.OpTable.join.Goals as goal
 
 pub join-requires-clause-table : goal.join-requires-clause-table
-join-requires-clause-table g c = c.requires.table.0 ∙ sym (ap (λ b. b.table_id) c.self.view_is)
+join-requires-clause-table g c = c.requires.table ∙ sym (ap (λ b. b.table_id) c.self.view_is)
 
 pub join-requires-clause-same_table : goal.join-requires-clause-same_table
-join-requires-clause-same_table g c = c.requires.table.1 ∙ sym (ap (λ b. b.table_id) c.self.view_is)
+join-requires-clause-same_table g c = c.requires.next ∙ sym (ap (λ b. b.table_id) c.self.view_is)
 
 pub join-requires-clause-some : goal.join-requires-clause-some
 join-requires-clause-some g c = let words = c.self.invariant.2 in omega (arith, words)

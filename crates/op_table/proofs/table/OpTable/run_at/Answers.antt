@@ -13,11 +13,23 @@ load-word-requires g c =
     let within = c.callback-index.ensures.within in (
       c.requires.table.table_is ∙ sym (ap (λ b. b.table_id) c.self.view_is),
       omega (arith, counts, within),
-      meets-at g.P.Cargo c.args.self.now.frame c.self.inside.table.key _ c.args.seat.now.id
-          c.callback-index.result c.args.source g.J.Regard.source c.args.block c.args.node g.K.Subject.aim c.args.seat.now.me
-          (sym (ap (λ b. b.frame) c.self.view_is) ∙ sym c.self.invariant.0)
-          (c.callback-index.ensures.value ∙ ap (λ b. index b.frame.layout (OfCallback c.args.block c.args.node)) c.self.view_is)
-          c.requires.subject c.requires.source_is c.requires.needs c.requires.block c.requires.table.seated.itself,
+      meets-at g.P.Cargo c.args.self.now.frame c.self.inside.table.key (record {
+        slots = _;
+        id = c.args.seat.now.id;
+        cell = c.callback-index.result;
+        source = c.args.source;
+        other_source = g.J.Regard.source;
+        block = c.args.block;
+        place = c.args.node;
+        aim = g.K.Subject.aim;
+        seated = c.args.seat.now.me;
+        same = sym (ap (λ b. b.frame) c.self.view_is) ∙ sym c.self.invariant.0;
+        i_is = c.callback-index.ensures.value ∙ ap (λ b. index b.frame.layout (OfCallback c.args.block c.args.node)) c.self.view_is;
+        aim_is = c.requires.subject;
+        t_is = c.requires.source_is;
+        can = c.requires.needs;
+        within = c.requires.block;
+      }) c.requires.table.seated.itself,
     )
 
 pub run_from-requires-clause-table : goal.run_from-requires-clause-table

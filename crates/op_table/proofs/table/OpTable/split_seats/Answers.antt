@@ -39,6 +39,17 @@ loop-number-preserved g c =
     let split = c.split-next.ensures in (
       omega arith,
       subst (AreFreshHands c.args.self.now (c.loop-number._number + 1)) (sym (c.in_ok-push-2.ensures {u = tt}).items)
-          (one_more c.args.self.now c.loop-number._number all seat c.split-next.new.hand c.split-next.result
-          old at split.table split.left (split.same_table ∙ refl) split.right),
+          (one_more c.args.self.now (record {
+            hands = c.loop-number._number;
+            all = all;
+            seat = seat;
+            cut = c.split-next.new.hand;
+            next = c.split-next.result;
+            fresh = old;
+            at = at;
+            cut_table = split.table;
+            cut_me = split.left;
+            next_table = split.same_table ∙ refl;
+            next_me = split.right;
+          })),
     )

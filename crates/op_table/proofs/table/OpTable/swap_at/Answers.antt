@@ -29,18 +29,44 @@ exchange-requires g c = (
 
 pub returns-clause-swapped : goal.returns-clause-swapped
 returns-clause-swapped g c =
-    swapped-told c.args.self.now.frame c.control-index.result c.place-slot.result c.load.result c.args.name
-    g.K.Subject.aim c.args.item c.exchange.result c.args.seat.now.me c.load.new.hand.me c.exchange.new.hand.me
-    (c.control-index.ensures.value ∙ ap (λ b. index b.frame.layout (OfControl c.args.name.block c.args.name.node)) c.self.view_is)
-    (c.place-slot.ensures.value ∙ ap (λ b. slot_of b.frame.layout c.args.name) c.self.view_is)
-    c.requires.subject c.load.ensures.2.rest c.exchange.ensures.2 c.exchange.ensures.3
+    swapped-told c.args.self.now.frame (record {
+      cell = c.control-index.result;
+      slot = c.place-slot.result;
+      word = c.load.result;
+      name = c.args.name;
+      aim = g.K.Subject.aim;
+      new = c.args.item;
+      old = c.exchange.result;
+      first = c.args.seat.now.me;
+      turned_to = c.load.new.hand.me;
+      last = c.exchange.new.hand.me;
+      i_is = c.control-index.ensures.value ∙ ap (λ b. index b.frame.layout (OfControl c.args.name.block c.args.name.node)) c.self.view_is;
+      slot_is = c.place-slot.ensures.value ∙ ap (λ b. slot_of b.frame.layout c.args.name) c.self.view_is;
+      aim_is = c.requires.subject;
+      turned = c.load.ensures.2.rest;
+      was = c.exchange.ensures.2;
+      now = c.exchange.ensures.3;
+    })
 
 pub returns-clause-stays : goal.returns-clause-stays
 returns-clause-stays g c =
     hand-seated c.args.self.now c.args.seat.now c.exchange.new.hand c.requires.table
     (c.exchange.ensures.0 ∙ c.load.ensures.0, c.exchange.ensures.1 ∙ c.load.ensures.1)
-    (swapped-seated c.args.self.now.frame c.control-index.result c.place-slot.result c.load.result c.args.name
-    g.K.Subject.aim c.args.item c.exchange.result c.args.seat.now.me c.load.new.hand.me c.exchange.new.hand.me
-    (c.control-index.ensures.value ∙ ap (λ b. index b.frame.layout (OfControl c.args.name.block c.args.name.node)) c.self.view_is)
-    (c.place-slot.ensures.value ∙ ap (λ b. slot_of b.frame.layout c.args.name) c.self.view_is)
-    c.requires.subject c.load.ensures.2.rest c.exchange.ensures.2 c.exchange.ensures.3)
+    (swapped-seated c.args.self.now.frame (record {
+      cell = c.control-index.result;
+      slot = c.place-slot.result;
+      word = c.load.result;
+      name = c.args.name;
+      aim = g.K.Subject.aim;
+      new = c.args.item;
+      old = c.exchange.result;
+      first = c.args.seat.now.me;
+      turned_to = c.load.new.hand.me;
+      last = c.exchange.new.hand.me;
+      i_is = c.control-index.ensures.value ∙ ap (λ b. index b.frame.layout (OfControl c.args.name.block c.args.name.node)) c.self.view_is;
+      slot_is = c.place-slot.ensures.value ∙ ap (λ b. slot_of b.frame.layout c.args.name) c.self.view_is;
+      aim_is = c.requires.subject;
+      turned = c.load.ensures.2.rest;
+      was = c.exchange.ensures.2;
+      now = c.exchange.ensures.3;
+    }))
