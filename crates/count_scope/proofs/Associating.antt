@@ -47,7 +47,7 @@ module _ {P E O : Type 0} (board : Board O) (answer : ScopeWord) (old middle : S
   after-entry z is = entered.me_is ∙ ap (λ (y : View P E). (with_step 0 word entered.left y, old.me.1)) is
 
   -- what was told of that word, by the most that the scope takes
-  module _ (told : Option Refused) (n : ℕ) (told_is : told ≡ refusal answer n) (n_is : n ≡ most) where
+  module _ {told : Option Refused} {n : ℕ} (told_is : told ≡ refusal answer n) (n_is : n ≡ most) where
     so-told : (o : Option Refused) → told ≡ o → refusal answer most ≡ o
     so-told o is = sym (told_is ∙ ap (refusal answer) n_is) ∙ is
 

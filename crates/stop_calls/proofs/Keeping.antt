@@ -1,17 +1,11 @@
 -- What each call of a scan leaves as it was.
-use Rattle.std.proofs.Common.{◌≡◌, inl, inr, ℕ, zero, suc, Bool, true, false, not, ◌&&◌, ◌||◌, List, [], ◌∷◌, ◌++◌, append_assoc, refl, sym, ap, ◌∙◌, subst, arith}
-use Rattle.std.specs.Prelude.{Option, Some, None, if◌then◌else◌}
-use Rattle.std.specs.Option.{option_map_or}
+use Rattle.std.proofs.Common.{◌≡◌, inl, inr, ℕ, Bool, true, false, not, ◌&&◌, ◌||◌, List, [], ◌∷◌, ◌++◌, append_assoc, refl, sym, ap, ◌∙◌, arith}
+use Rattle.std.specs.Prelude.{Option, None, if◌then◌else◌}
 use Rattle.std.proofs.lemmas.Bool.{cases_lt, cond-true, cond-false, or_right}
-use Rattle.life_rules.specs.declared.words.CallbackPhase.{CallbackPhase}
-use Rattle.life_rules.specs.declared.words.CallbackPhase.TheVariants.{Running as Runs, Ran as HasRun, Removed}
 use Rattle.life_rules.specs.declared.event.Name.{Name}
 use Rattle.life_rules.specs.declared.event.SourceRef.{SourceRef}
 use Rattle.life_rules.specs.declared.event.SourceRef.TheVariants.{Node}
-use Rattle.node_tree.specs.Tree.{nearest}
-use Rattle.life_rules.specs.States.{source_for}
 use Rattle.life_rules.specs.Views.{same_source}
-use Rattle.life_rules.specs.Words.{is_armed}
 use Rattle.common_lemmas.proofs.Bool.{either}
 use Rattle.table_words.specs.Controls.{source_read}
 use Rattle.table_words.specs.Layouts.{index}
@@ -23,23 +17,17 @@ use Rattle.table_rules.specs.declared.view.Held.{Held}
 use Rattle.table_rules.specs.declared.view.Scanning.{Scanning}
 use Rattle.table_rules.specs.ShownViews.{has_source_ref}
 use Rattle.table_steps.specs.Views.{Board}
-use Rattle.table_steps.specs.Callbacks.{IsWithdrawn, callback_index, learns, left_by}
 use Rattle.table_steps.specs.Claims.{Seated, with_step}
-use Rattle.table_steps.specs.Readings.{notes_phase}
 use Rattle.table_steps.specs.Remembers.{running}
 use Rattle.table_steps.specs.Requests.{asks}
 use Rattle.table_steps.specs.Rouses.{IsRoused}
 use Rattle.table_steps.specs.ScanSeals.{IsScanSealed}
 use Rattle.table_steps.specs.Sights.{IsLookedAt, says_requested, spot_of}
-use Rattle.stop_calls.specs.declared.removing.Settled.{Settled}
-use Rattle.stop_calls.specs.declared.removing.Settled.TheVariants.{NeverRan as Unrun, Ran as Over, OwnHand as Inside}
-use Rattle.stop_calls.specs.declared.removing.Withdrawn.{Withdrawn}
-use Rattle.stop_calls.specs.declared.removing.Withdrawn.TheVariants.{NeverRan, Ran, OwnHand, Running}
 use Rattle.stop_calls.specs.declared.requesting.Request.{Request}
 use Rattle.stop_calls.specs.declared.requesting.Request.TheVariants.{Already}
 use Rattle.stop_calls.specs.declared.scanning.Scan.{Scan}
 use Rattle.stop_calls.specs.Asides.{IsLonger, KeepsAccounts, Passed, ComesBack}
-use Rattle.stop_calls.specs.Removals.{IsOver, IsTried, IsLastTry, IsSettled, Waits}
+use Rattle.stop_calls.specs.Removals.{IsOver}
 use Rattle.stop_calls.specs.Requests.{IsAskedFor}
 use Rattle.stop_calls.specs.Walks.{Walks, IsFound, IsThrough}
 use Rattle.stop_calls.proofs.Listing.{scans-list, walks-only}
@@ -68,10 +56,10 @@ longer-seen source l l' longer seen = ap (λ (k : List SourceRef). has_source_re
     in-longer (t ∷ more) = or_right (same_source t source) (has_source_ref (more ++ l) source) (in-longer more)
 
 module _ {P E : Type 0} where
-  abbrev seen_of : Seated P E → List SourceRef
+  abbrev pub seen_of : Seated P E → List SourceRef
   seen_of m = m.0.seen
 
-  abbrev steps_of : Seated P E → List Seen
+  abbrev pub steps_of : Seated P E → List Seen
   steps_of m = m.0.steps
 
   -- through calls that follow each other
@@ -113,7 +101,7 @@ module _ {P E : Type 0} where
 
   -- where nothing else than these changed
   module _ (held : List (Held E)) (runs : List Name) (scans : List Scanning) (seen : List SourceRef) (steps : List Seen) (m m' : Seated P E) where
-    aside-by : m' ≡ (record m.0 { held = held; runs = runs; scans = scans; seen = seen; steps = steps }, m.1) →
+    pub aside-by : m' ≡ (record m.0 { held = held; runs = runs; scans = scans; seen = seen; steps = steps }, m.1) →
         IsLonger m.0.seen m'.0.seen → IsLonger m.0.steps m'.0.steps → KeepsAccounts m m'
     aside-by is learnt fresh =
         record {
@@ -265,52 +253,3 @@ module _ {P E O : Type 0} (board : Board O) (old new : Seat (Option P) (View P E
     pub through-passed : IsThrough board before old new after → Passed old.me new.me
     through-passed t =
         passed-by _ _ _ _ old.me new.me t.me_is (same-longer old.me.0.seen new.me.0.seen (ap seen_of t.me_is)) (through-longer t)
-
--- A callback that is removed.
-learns-longer : (source : Option SourceRef) (seen : List SourceRef) → IsLonger seen (option_map_or (λ s. s ∷ seen) source seen)
-learns-longer None seen = same-longer seen seen refl
-learns-longer (Some s) seen = one-longer s seen (s ∷ seen) refl
-
-module _ {P E O : Type 0} (board : Board O) (x : Name) where
-  module _ (old new : Seat (Option P) (View P E)) where
-    -- one that runs or ran tells of the request
-    ran-aside : (phase : CallbackPhase) → is_armed phase ≡ false → IsWithdrawn board x phase old new → KeepsAccounts old.me new.me
-    ran-aside phase unarmed told =
-        let noted = learns board.frame.tree x (notes_phase x phase old.me.0) in
-        let s : Seen = entry (callback_index board x) told.word (left_by x.generation told.word) in
-        let is : new.me ≡ (with_step (callback_index board x) told.word (left_by x.generation told.word) noted, old.me.1) =
-        told.me_is
-        ∙ ap (λ (v : View P E). (with_step (callback_index board x) told.word (left_by x.generation told.word) v, old.me.1))
-        (cond-false (is_armed phase) (notes_phase x Removed old.me.0) noted unarmed) in
-        let heard = source_for x (nearest board.frame.tree x.node) in
-        aside-by _ _ _ _ _ old.me new.me is
-        (subst (IsLonger old.me.0.seen) (sym (ap seen_of is)) (learns-longer heard old.me.0.seen))
-        (one-longer s old.me.0.steps new.me.0.steps (ap steps_of is))
-
-    -- what a try leaves
-    pub tried-aside : (answer : Withdrawn) → IsTried board x old new answer → KeepsAccounts old.me new.me
-    tried-aside NeverRan r =
-        let is = r.told.me_is in
-        aside-by _ _ _ _ _ old.me new.me is (same-longer old.me.0.seen new.me.0.seen (ap seen_of is))
-        (one-longer _ old.me.0.steps new.me.0.steps (ap steps_of is))
-    tried-aside Ran r = ran-aside HasRun refl r.told
-    tried-aside Running r = ran-aside Runs refl r.told
-    tried-aside OwnHand r =
-        let is = r.told.me_is in
-        aside-by _ _ _ _ _ old.me new.me is (same-longer old.me.0.seen new.me.0.seen (ap seen_of is))
-        (one-longer _ old.me.0.steps new.me.0.steps (ap steps_of is))
-
-    last-aside : (answer : Settled) → IsLastTry board x old new answer → KeepsAccounts old.me new.me
-    last-aside Unrun r = tried-aside NeverRan r
-    last-aside Over r = tried-aside Ran r
-    last-aside Inside r = tried-aside OwnHand r
-
-  waited-aside : (count : ℕ) (old new : Seat (Option P) (View P E)) → Waits board x count old new → KeepsAccounts old.me new.me
-  waited-aside zero old new waited = (comes-here old.me new.me waited).passed.aside
-  waited-aside (suc count) old new waited =
-      aside-on old.me waited.0.me new.me (waited-aside count old waited.0 waited.1) (tried-aside waited.0 new Running waited.2)
-
-  -- and a removal
-  pub settled-aside : (old new : Seat (Option P) (View P E)) (answer : Settled) → IsSettled board x old new answer → KeepsAccounts old.me new.me
-  settled-aside old new answer s =
-      aside-on old.me s.middle.me new.me (waited-aside s.count old s.middle s.waited) (last-aside s.middle new answer s.last)

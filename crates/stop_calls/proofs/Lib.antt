@@ -1,4 +1,6 @@
 pub mod Order
+pub mod Below
+pub mod ScanLists
 pub mod Walking
 pub mod Looking
 pub mod Waiting

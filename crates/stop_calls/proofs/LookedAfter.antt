@@ -69,7 +69,15 @@ module _ {A : Type 0} (name : A → Name) (change : A → A) (same_name : (e : A
       behind : (d : A) (ds : List A) → find_by name (d ∷ ds) y ≡ Some e → same (name d) y ≡ false → find_by name ds y ≡ Some e
       behind d ds is later = sym (cond-false (same (name d) y) (Some d) (find_by name ds y) later) ∙ is
 
-module _ {P E O : Type 0} (board : Board O) (x : Name) (old middle : Seat (Option P) (View P E)) (can : CanArm board.frame.tree old.me.0 x) (armed : IsArmed board x old middle) where
+-- a callback was registered, by a hand that could
+pub record HasArmed {P E O : Type 0} (board : Board O) (x : Name) (old middle : Seat (Option P) (View P E)) : Type 0 where
+  pub can : CanArm board.frame.tree old.me.0 x
+  pub armed : IsArmed board x old middle
+
+module _ {P E O : Type 0} {board : Board O} {x : Name} {old middle : Seat (Option P) (View P E)}
+    (has : HasArmed board x old middle) where
+  open has use {can, armed}
+
   abbrev noted : Held E → Held E
   noted e = record e { phase = Some IsArmedNow }
 

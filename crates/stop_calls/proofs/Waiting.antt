@@ -17,12 +17,12 @@ use Rattle.op_slot.proofs.Kept.{find-noted}
 use Rattle.stop_calls.specs.declared.removing.Settled.{Settled}
 use Rattle.stop_calls.specs.Removals.{MayWithdraw, IsReadAs, IsLastTry, IsSettled, Waits}
 
-module _ {P E O : Type 0} (board : Board O) (x : Name) (old new : Seat (Option P) (View P E)) (may : MayWithdraw old.me.0 x) (r : IsReadAs board x old new Runs) where
-  unrun : running new.me.0 x ≡ 0
-  unrun = ap (λ m. running m.0 x) r.told.me_is ∙ r.unrun
+module _ {P E O : Type 0} {board : Board O} {x : Name} {old new : Seat (Option P) (View P E)} where
+  unrun : IsReadAs board x old new Runs → running new.me.0 x ≡ 0
+  unrun r = ap (λ m. running m.0 x) r.told.me_is ∙ r.unrun
 
-  pub again : MayWithdraw new.me.0 x
-  again = record {
+  pub again : MayWithdraw old.me.0 x → IsReadAs board x old new Runs → MayWithdraw new.me.0 x
+  again may r = record {
     held = record (may.held) { phase = Some Runs };
     holds =
         ap (λ m. find_by (λ (e : Held E). e.name) m.0.held x) r.told.me_is
@@ -30,7 +30,7 @@ module _ {P E O : Type 0} (board : Board O) (x : Name) (old new : Seat (Option P
     known = Runs;
     known_is = refl;
     registered = refl;
-    unscanned = λ runs. let none = unrun in absurd (omega (arith, runs, none));
+    unscanned = λ runs. let none = unrun r in absurd (omega (arith, runs, none));
   }
 
 module _ {P E O : Type 0} (board : Board O) (x : Name) (old : Seat (Option P) (View P E)) where

@@ -1,5 +1,5 @@
 -- How the steps of one call of a scan follow one another.
-use Rattle.std.proofs.Common.{◌≡◌, ℕ, suc, ◌+◌, ◌*◌, ◌≤◌, true, false, List, [], ◌∷◌, length, refl, sym, ap, ◌∙◌, subst, arith, inl, inr, ◌&&◌, ◌==◌}
+use Rattle.std.proofs.Common.{◌≡◌, ℕ, suc, ◌+◌, ◌*◌, ◌≤◌, true, false, List, ◌∷◌, length, refl, sym, ap, ◌∙◌, subst, arith, inl, inr, ◌&&◌, ◌==◌}
 use Rattle.std.specs.Prelude.{Option, Some, None}
 use Rattle.std.specs.List.{list_any}
 use Rattle.std.proofs.lemmas.Bool.{cond-true, cond-false}
@@ -8,8 +8,6 @@ use Rattle.node_tree.specs.declared.node.TreeNode.{TreeNode}
 use Rattle.life_rules.specs.declared.event.Name.{Name}
 use Rattle.life_rules.specs.declared.event.Place.{Place}
 use Rattle.life_rules.specs.declared.event.SourceRef.{SourceRef}
-use Rattle.life_rules.specs.Views.{same_source}
-use Rattle.common_lemmas.proofs.Bool.{either}
 use Rattle.atomic_table.specs.declared.shared.Seat.{Seat}
 use Rattle.table_rules.specs.declared.view.View.{View}
 use Rattle.table_rules.specs.declared.view.Scanning.{Scanning}
@@ -26,49 +24,8 @@ use Rattle.stop_calls.specs.declared.scanning.Scan.{Scan}
 use Rattle.stop_calls.specs.Cursors.{cursor, NoneBetween, Stands, NoneHears}
 use Rattle.stop_calls.specs.Walks.{MayTry, scanning_at, PassesBlock, EntersBlock, Walks, IsFound, IsThrough}
 use Rattle.stop_calls.specs.Searches.{IsNextFrom, NoneLeft, CanEnter, IsBlockMet}
+use Rattle.stop_calls.proofs.ScanLists.{passes-same, scan-after, passes-twice}
 use Rattle.stop_calls.proofs.Order.{none-past, is-next, unrun, none-on}
-
--- a scan that goes on from where it stands is as before
-pub passes-same : (source : SourceRef) (at : ℕ) (l : List Scanning) → scan_in l source ≡ Some at → passes_to source at l ≡ l
-passes-same source at [] is = refl
-passes-same source at (a ∷ l) is =
-    either (same_source a.source source)
-    (λ t.
-    let next : a.next ≡ at = let e = sym (cond-true (same_source a.source source) (Some a.next) (scan_in l source) t) ∙ is in cc in
-    cond-true (same_source a.source source) (record { source = a.source; next = at } ∷ l) (a ∷ passes_to source at l) t
-    ∙ ap (λ k. record { source = a.source; next = k } ∷ l) (sym next))
-    (λ f.
-    cond-false (same_source a.source source) (record { source = a.source; next = at } ∷ l) (a ∷ passes_to source at l) f
-    ∙ ap (λ z. a ∷ z) (passes-same source at l (sym (cond-false (same_source a.source source) (Some a.next) (scan_in l source) f) ∙ is)))
-
--- a scan that went on stands there
-pub scan-after : (source : SourceRef) (k i : ℕ) (l : List Scanning) → scan_in l source ≡ Some i →
-    scan_in (passes_to source k l) source ≡ Some k
-scan-after source k i [] at = cc
-scan-after source k i (a ∷ l) at =
-    either (same_source a.source source)
-    (λ t.
-    ap (λ z. scan_in z source) (cond-true (same_source a.source source) (record { source = a.source; next = k } ∷ l) (a ∷ passes_to source k l) t)
-    ∙ cond-true (same_source a.source source) (Some k) (scan_in l source) t)
-    (λ f.
-    ap (λ z. scan_in z source) (cond-false (same_source a.source source) (record { source = a.source; next = k } ∷ l) (a ∷ passes_to source k l) f)
-    ∙ cond-false (same_source a.source source) (Some a.next) (scan_in (passes_to source k l) source) f
-    ∙ scan-after source k i l (sym (cond-false (same_source a.source source) (Some a.next) (scan_in l source) f) ∙ at))
-
--- where it went on twice the last counts
-pub passes-twice : (source : SourceRef) (k at : ℕ) (l : List Scanning) → passes_to source k (passes_to source at l) ≡ passes_to source k l
-passes-twice source k at [] = refl
-passes-twice source k at (a ∷ l) =
-    either (same_source a.source source)
-    (λ t.
-    ap (passes_to source k) (cond-true (same_source a.source source) (record { source = a.source; next = at } ∷ l) (a ∷ passes_to source at l) t)
-    ∙ cond-true (same_source a.source source) (record { source = a.source; next = k } ∷ l) (record { source = a.source; next = at } ∷ passes_to source k l) t
-    ∙ sym (cond-true (same_source a.source source) (record { source = a.source; next = k } ∷ l) (a ∷ passes_to source k l) t))
-    (λ f.
-    ap (passes_to source k) (cond-false (same_source a.source source) (record { source = a.source; next = at } ∷ l) (a ∷ passes_to source at l) f)
-    ∙ cond-false (same_source a.source source) (record { source = a.source; next = k } ∷ passes_to source at l) (a ∷ passes_to source k (passes_to source at l)) f
-    ∙ ap (λ z. a ∷ z) (passes-twice source k at l)
-    ∙ sym (cond-false (same_source a.source source) (record { source = a.source; next = k } ∷ l) (a ∷ passes_to source k l) f))
 
 -- what was found in the table's own tree and blocks
 pub next-in : {O : Type 0} (board : Board O) (nodes : List TreeNode) (blocks : ℕ) (scan : Scan) (place : Place) → nodes ≡ board.frame.tree →
@@ -120,7 +77,7 @@ module _ {P E O : Type 0} (board : Board O) (before : Scan) (old : Seat (Option 
         between = stands.between;
       }
 
-  module _ (scan : Scan) (read : Option ℕ) (now : Seat (Option P) (View P E)) (w : IsWalking scan read now) where
+  module _ {scan : Scan} {read : Option ℕ} {now : Seat (Option P) (View P E)} (w : IsWalking scan read now) where
     pub scans-at : scan_in now.me.0.scans source ≡ Some w.at
     scans-at =
         ap (λ (m : Seated P E). scan_in m.0.scans source) w.me_is
@@ -176,7 +133,7 @@ module _ {P E O : Type 0} (board : Board O) (before : Scan) (old : Seat (Option 
         ]
 
     -- the scan's next place
-    module _ (place : Place) (n : IsNextFrom tree board.frame.layout.blocks scan place) where
+    module _ {place : Place} (n : IsNextFrom tree board.frame.layout.blocks scan place) where
       abbrev number : ℕ
       number = place.block * length tree + place.node
 

@@ -32,8 +32,20 @@ abbrev number_in : List Entry → ℕ
 number_in [] = 0
 number_in (e ∷ es) = e.number
 
--- a root that was taken again is emptied, finished and given back
-module _ (board : Board ℕ) (x : Name) (is : IsNode board x) (three : x.node ≡ 3) (m m1 m2 m3 m4 m5 : Seated Item Entry) (calm : IsCalm m) (i word taken : ℕ) (took : TakenAt ghosts (aimed board.frame x) (board.frame.over.value ∷ []) i word taken m m1) where
+-- a root was taken again
+pub record TakesAgain (board : Board ℕ) (x : Name) (m m1 : Seated Item Entry) : Type 0 where
+  pub is : IsNode board x
+  pub three : x.node ≡ 3
+  pub calm : IsCalm m
+  pub at : ℕ
+  pub word : ℕ
+  pub taken : ℕ
+  pub took : TakenAt ghosts (aimed board.frame x) (board.frame.over.value ∷ []) at word taken m m1
+
+-- it is emptied, finished and given back
+module _ {board : Board ℕ} {x : Name} {m m1 : Seated Item Entry} (again : TakesAgain board x m m1) where
+  open again use {is, three, calm, at as i, word, taken, took}
+
   abbrev taken_held : Held Entry
   taken_held = held_as x took.start took.named took.told took.told_children None
 
@@ -43,7 +55,7 @@ module _ (board : Board ℕ) (x : Name) (is : IsNode board x) (three : x.node �
   pub again-home : HasHome board.frame.layout m1 x
   again-home = tends-home board.frame x m1 taken_held (Some took.item) (λ _. None) again-tends
 
-  module _ (o : Option Item) (out : IsTakenOut board.frame x o m1 m2) where
+  module _ {m2 : Seated Item Entry} {o : Option Item} (out : IsTakenOut board.frame x o m1 m2) where
     empty-tends : Tends board.frame x taken_held None (λ _. None) m2
     empty-tends = swapped-own board.frame x None o m1 m2 out taken_held (Some took.item) (λ _. None) (node-places board x is) again-tends
 
@@ -59,8 +71,8 @@ module _ (board : Board ℕ) (x : Name) (is : IsNode board x) (three : x.node �
         subst (λ i. CanPut ghosts board.frame m2 x i) (some-same took.item item (sym again-item ∙ some))
         (tends-puts board.frame x m2 taken_held None (λ _. None) empty-tends ghosts took.item refl took.shows took.fit)
 
-    pub again-back : (item : Item) → IsPut board.frame x item m2 m3 → Holds m3.0 x
-    again-back item put =
+    pub again-back : (m3 : Seated Item Entry) (item : Item) → IsPut board.frame x item m2 m3 → Holds m3.0 x
+    again-back m3 item put =
         let has = swapped-own board.frame x (Some item) None m2 m3 put taken_held None (λ _. None) (node-places board x is) empty-tends in
         record { held = taken_held; holds = has.holds }
 
@@ -82,7 +94,7 @@ module _ (board : Board ℕ) (x : Name) (is : IsNode board x) (three : x.node �
         let item : took.item ≡ Kept env v = some-same took.item (Kept env v) (sym again-item ∙ said) in
         ap number_in (sym (ap start_of item) ∙ took.shows ∙ took.noted _ has)
 
-    module _ (phase : CallbackPhase) (read : IsPhaseAs board.frame x phase m2 m3) where
+    module _ (m3 : Seated Item Entry) (phase : CallbackPhase) (read : IsPhaseAs board.frame x phase m2 m3) where
       again-read : Tends board.frame x (record taken_held { phase = Some phase }) None (λ _. None) m3
       again-read = phased-tends board.frame x taken_held None (λ _. None) m2 m3 phase read empty-tends
 
@@ -99,13 +111,13 @@ module _ (board : Board ℕ) (x : Name) (is : IsNode board x) (three : x.node �
           root-finishes ghosts board.frame x m3 (record taken_held { phase = Some phase }) (λ _. None) again-calm (λ n child. refl) Never
           again-read (ap (λ p. Some p) never) refl (node-root board x is three)
 
-      module _ (j was done : ℕ) (did : FinishesAt ghosts (aimed board.frame x) j was done m3 m4) where
+      module _ (m4 : Seated Item Entry) (j was done : ℕ) (did : FinishesAt ghosts (aimed board.frame x) j was done m3 m4) where
         pub again-releases : CanRelease board.frame.layout m4 x
         again-releases =
             rooted-releases board.frame x m3 m4 j was done (did.1 (node-root board x is three)) (record taken_held { phase = Some phase }) (λ _. None)
             (node-places board x is) again-read
 
-        pub again-ends : (name : Name) (k opened free : ℕ) → ReleasesAt (aimed board.frame name) k opened free m4 m5 → IsCalm m5
-        again-ends name k opened free gave =
+        pub again-ends : (m5 : Seated Item Entry) (name : Name) (k opened free : ℕ) → ReleasesAt (aimed board.frame name) k opened free m4 m5 → IsCalm m5
+        again-ends m5 name k opened free gave =
             ap (λ (z : Seated Item Entry). z.0.scans) gave.me_is
             ∙ rooted-calm board.frame x m3 m4 j was done (did.1 (node-root board x is three)) again-calm

@@ -33,14 +33,24 @@ ended-least (Kept env value) ends = absurd ends
 ended-least (Done env value) ends = refl
 ended-least (Failed env) ends = refl
 
-module _ (board : Board ℕ) (x : Name) (is : IsNode board x) (item : Item) (m m1 m2 : Seated Item Entry) (has : HoldsNode board.frame x (env_of item) m) (out : Option Item) (took : IsTakenOut board.frame x out m m1) where
+-- a node that the hand holds, with the start of this item, had its home emptied
+pub record EmptiesHome (board : Board ℕ) (x : Name) (item : Item) (m m1 : Seated Item Entry) : Type 0 where
+  pub is : IsNode board x
+  pub has : HoldsNode board.frame x (env_of item) m
+  pub out : Option Item
+  pub took : IsTakenOut board.frame x out m m1
+
+module _ {board : Board ℕ} {x : Name} {item : Item} {m m1 : Seated Item Entry}
+    (empties : EmptiesHome board x item m m1) where
+  open empties use {is, has, out, took}
+
   emptied : Tends board.frame x has.held None (λ _. None) m1
   emptied = swapped-own board.frame x None out m m1 took has.held (Some (Going (env_of item))) (λ _. None) (node-places board x is) has.tends
 
   pub can-fill : FitsAt item x.node → CanPut ghosts board.frame m1 x item
   can-fill fits = tends-puts board.frame x m1 has.held None (λ _. None) emptied ghosts item refl (sym has.start) fits
 
-  module _ (put : IsPut board.frame x item m1 m2) where
+  module _ {m2 : Seated Item Entry} (put : IsPut board.frame x item m1 m2) where
     filled : Tends board.frame x has.held (Some item) (λ _. None) m2
     filled = swapped-own board.frame x (Some item) None m1 m2 put has.held None (λ _. None) (node-places board x is) emptied
 

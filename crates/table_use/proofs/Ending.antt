@@ -1,13 +1,10 @@
 -- A root that has its child's completion keeps it.
-use Rattle.std.proofs.Common.{◌≡◌, inl, inr, ℕ, ◌<◌, ◌≤◌, true, false, ◌==◌, arith, refl, sym, ap, ◌∙◌, subst}
-use Rattle.std.specs.Prelude.{Option, Some, None, is_some}
-use Rattle.std.proofs.lemmas.Bool.{cond-true}
+use Rattle.std.proofs.Common.{◌≡◌, inl, inr, ℕ, true, arith, refl, sym, ap, ◌∙◌, subst}
+use Rattle.std.specs.Prelude.{Option, Some, None}
 use Rattle.life_rules.specs.declared.event.Name.{Name}
 use Rattle.node_tree.specs.Tree.{is_child}
 use Rattle.life_rules.specs.Views.{beside}
 use Rattle.life_kept.proofs.Trees.{child-parent}
-use Rattle.table_rules.specs.declared.view.Rooted.{Rooted}
-use Rattle.table_steps.specs.declared.report.Report.{Report}
 use Rattle.table_steps.specs.declared.report.Report.TheVariants.{Last}
 use Rattle.table_steps.specs.Views.{Board}
 use Rattle.table_steps.specs.Claims.{Seated}
@@ -22,7 +19,7 @@ use Rattle.table_use.specs.declared.cargo.Entry.{Entry}
 use Rattle.table_use.specs.declared.cargo.Env.{Env}
 use Rattle.table_use.specs.declared.cargo.Item.{Item}
 use Rattle.table_use.specs.declared.cargo.Item.TheVariants.{Going, Kept, Done, Failed}
-use Rattle.table_use.specs.Starts.{path, answer_of, done_at, value_of, is_done, least_at, least_of, Ends, FitsAt}
+use Rattle.table_use.specs.Starts.{answer_of, done_at, value_of, is_done, least_at, least_of, Ends, FitsAt}
 use Rattle.table_use.specs.Uses.{use_tree, IsRoot, IsEnv, HasEnded, HasNoted, HoldsLast}
 use Rattle.table_use.specs.contracts.cargo.ItemCargo.TheImpl.{ghosts}
 use Rattle.table_use.proofs.Nodes.{node-places, kid-above, kid-of, use-root-kid}
@@ -37,14 +34,25 @@ own-least (Kept env value) node on fit = ap least_at fit.0
 own-least (Done env value) node on fit = absurd (on tt)
 own-least (Failed env) node on fit = absurd (on tt)
 
+-- the child of a root ended so, and the hand owes its report
+pub record OwesLast (board : Board ℕ) (x : Name) (n : ℕ) (item : Item) (m : Seated Item Entry) : Type 0 where
+  pub is : IsRoot board x
+  pub child : is_child board.frame.tree x.node n ≡ true
+  pub name : Name
+  pub name_is : name ≡ beside x n
+  pub done : HasEnded (beside x n) item m
+  pub calm : IsCalm m
+
 -- the last report gives the root, with what the child ended with
-module _ (board : Board ℕ) (x : Name) (is : IsRoot board x) (n : ℕ) (child : is_child board.frame.tree x.node n ≡ true) (y : Name) (name : y ≡ beside x n) (item : Item) (m m1 : Seated Item Entry) (done : HasEnded (beside x n) item m) (calm : IsCalm m) where
+module _ {board : Board ℕ} {x : Name} {n : ℕ} {item : Item} {m : Seated Item Entry} (owes : OwesLast board x n item m) where
+  open owes use {is, child, name as y, name_is as name, done, calm}
+
   pub last-reports : CanReport board.frame.tree m.0 y
   last-reports =
       subst (λ (z : Name). CanReport board.frame.tree m.0 z) (sym name)
       (owes-reports board.frame.tree (beside x n) x.node done.entry m (child-parent board.frame.tree x.node n child) done.owes calm)
 
-  module _ (did : IsReportedAs ghosts board.frame y Last m m1) where
+  module _ (m1 : Seated Item Entry) (did : IsReportedAs ghosts board.frame y Last m m1) where
     at-child : IsReportedAs ghosts board.frame (beside x n) Last m m1
     at-child = subst (λ z. IsReportedAs ghosts board.frame z Last m m1) name did
 
@@ -73,8 +81,17 @@ module _ (board : Board ℕ) (x : Name) (is : IsRoot board x) (n : ℕ) (child :
     pub last-quiet : IsCalm m1
     last-quiet = last-calm ghosts board.frame _ m m1 (beside x n) _ _ _ _ at-child.4 calm
 
+-- a root that its leaf was reported to
+pub record HasLeaf (board : Board ℕ) (x : Name) (env : Env) (m : Seated Item Entry) : Type 0 where
+  pub is : IsRoot board x
+  pub last : HoldsLast board.frame x env 0 (done_at env 0) m
+  pub leaf : Name
+  pub leaf_is : leaf ≡ beside x 0
+
 -- the homes of both children and the root's own are emptied, and the value is kept
-module _ (board : Board ℕ) (x : Name) (is : IsRoot board x) (env : Env) (m m1 : Seated Item Entry) (last : HoldsLast board.frame x env 0 (done_at env 0) m) (leaf : Name) (leaf_is : leaf ≡ beside x 0) where
+module _ {board : Board ℕ} {x : Name} {env : Env} {m : Seated Item Entry} (has : HasLeaf board x env m) where
+  open has use {is, last, leaf, leaf_is}
+
   first-child : is_child board.frame.tree x.node 0 ≡ true
   first-child = kid-of board x is.is_node 3 0 is.three refl
 
@@ -86,7 +103,7 @@ module _ (board : Board ℕ) (x : Name) (is : IsRoot board x) (env : Env) (m m1 
       subst (λ (z : Name). HasHome board.frame.layout m z) (sym leaf_is)
       (tends-kid board.frame x m last.held (Some last.own) last.content last.tends 0 first-child)
 
-  module _ (p : Option Item) (took : IsTakenOut board.frame leaf p m m1) where
+  module _ {m1 : Seated Item Entry} {p : Option Item} (took : IsTakenOut board.frame leaf p m m1) where
     leaf-out : IsTakenOut board.frame (beside x 0) p m m1
     leaf-out = subst (λ z. IsTakenOut board.frame z p m m1) leaf_is took
 
@@ -106,13 +123,13 @@ module _ (board : Board ℕ) (x : Name) (is : IsRoot board x) (env : Env) (m m1 
     leaf-tends =
         swapped-kid board.frame x 0 None p m m1 last.held (Some last.own) last.content (node-places board x is.is_node) first-child leaf-out last.tends
 
-    module _ (branch : Name) (branch_is : branch ≡ beside x 2) where
+    module _ {branch : Name} (branch_is : branch ≡ beside x 2) where
       pub branch-home : HasHome board.frame.layout m1 branch
       branch-home =
           subst (λ (z : Name). HasHome board.frame.layout m1 z) (sym branch_is)
           (tends-kid board.frame x m1 last.held (Some last.own) (put_at 0 None last.content) leaf-tends 2 other-child)
 
-      module _ (m2 : Seated Item Entry) (q : Option Item) (took_q : IsTakenOut board.frame branch q m1 m2) where
+      module _ {m2 : Seated Item Entry} {q : Option Item} (took_q : IsTakenOut board.frame branch q m1 m2) where
         abbrev emptied : ℕ → Option Item
         emptied = put_at 2 None (put_at 0 None last.content)
 
@@ -124,7 +141,7 @@ module _ (board : Board ℕ) (x : Name) (is : IsRoot board x) (env : Env) (m m1 
         pub own-home : HasHome board.frame.layout m2 x
         own-home = tends-home board.frame x m2 last.held (Some last.own) emptied branch-tends
 
-        module _ (m3 : Seated Item Entry) (o : Option Item) (took_o : IsTakenOut board.frame x o m2 m3) where
+        module _ {m3 : Seated Item Entry} {o : Option Item} (took_o : IsTakenOut board.frame x o m2 m3) where
           own-tends : Tends board.frame x last.held None emptied m3
           own-tends =
               swapped-own board.frame x None o m2 m3 took_o last.held (Some last.own) emptied (node-places board x is.is_node) branch-tends
@@ -133,7 +150,7 @@ module _ (board : Board ℕ) (x : Name) (is : IsRoot board x) (env : Env) (m m1 
           keeps-puts value right =
               tends-puts board.frame x m3 last.held None emptied own-tends ghosts (Kept env value) refl (sym last.start) (last.is.node, right)
 
-          module _ (m4 : Seated Item Entry) (value : ℕ) (put : IsPut board.frame x (Kept env value) m3 m4) (calm : IsCalm m) where
+          module _ {m4 : Seated Item Entry} {value : ℕ} (put : IsPut board.frame x (Kept env value) m3 m4) (calm : IsCalm m) where
             pub keeps-calm : IsCalm m4
             keeps-calm =
                 swapped-calm board.frame x (Some (Kept env value)) None m3 m4 put

@@ -35,15 +35,25 @@ use Rattle.table_use.proofs.Waiting.{still-owes}
 use Rattle.table_use.proofs.Steps.{on, found-on, walks-longer}
 use Rattle.table_use.proofs.Readings.{read-within, run-armed}
 use Rattle.table_use.proofs.Reasons.{stop-within, stop-at}
-use Rattle.stop_calls.proofs.Nesting.{deaf-above}
-use Rattle.table_use.proofs.Nesting.{scan_at, made, made-runs, begun, through-scans, ended-scans, found-heard, found-runs, found-scans, over-runs, over-scans}
+use Rattle.stop_calls.proofs.Below.{deaf-above}
+use Rattle.table_use.proofs.Nesting.{HasRequested, HasCome, DidInside, HasGoneThrough, scan_at, made, made-runs, begun, through-runs, through-scans, ended-scans, found-heard, found-runs, found-scans, over-runs, over-scans}
 
 -- a request on the scope's source by an idle hand gives a scan
 pub asked-scans : (board : Board ℕ) → board.frame.tree ≡ use_tree → (old new : Seat (Option Item) (View Item Entry)) → IsIdle old.me → (scan : Scan) →
     IsRequested board Scope (Made scan) old new → Scans board scan new.me
 asked-scans board tree old new idle scan r =
-    made board (tree-of board tree) Scope (record { spot = tt; is_one = tt }) old.me new.me idle.scans (subst (NoneHears board.frame.tree Scope) (sym idle.runs) tt) _ r.word r.left r.answer_is.0
-    r.me_is scan r.answer_is.1
+    let asked : HasRequested board Scope old.me new.me = record {
+      tree = tree-of board tree;
+      is_one = record { spot = tt; is_one = tt };
+      above = idle.scans;
+      unrun = subst (NoneHears board.frame.tree Scope) (sym idle.runs) tt;
+      at = _;
+      word = r.word;
+      left = r.left;
+      clear = r.answer_is.0;
+      me_is = r.me_is;
+    } in
+    made asked scan r.answer_is.1
 
 -- from inside the branch's callback
 module _ (board : Board ℕ) (x : Name) (is : IsNode board x) (two : x.node ≡ 2) where
@@ -55,20 +65,54 @@ module _ (board : Board ℕ) (x : Name) (is : IsNode board x) (two : x.node ≡ 
   branch-scans old new inside scan r =
       let low : x.node < 3 = omega (arith, two) in
       let tree = tree-of board is.tree in
-      made board tree (Node x) (source-in board x is branch-source) old.me new.me (subst (AreAbove x.node) (sym inside.scans) (low, tt))
-      (subst (NoneHears board.frame.tree (Node x)) (sym inside.runs) (deaf-above board.frame.tree tree x x.block x.node (omega arith), tt))
-      _ r.word r.left r.answer_is.0 r.me_is scan r.answer_is.1
+      let asked : HasRequested board (Node x) old.me new.me = record {
+        tree = tree;
+        is_one = source-in board x is branch-source;
+        above = subst (AreAbove x.node) (sym inside.scans) (low, tt);
+        unrun = subst (NoneHears board.frame.tree (Node x)) (sym inside.runs) (deaf-above board.frame.tree tree x x.block x.node (omega arith), tt);
+        at = _;
+        word = r.word;
+        left = r.left;
+        clear = r.answer_is.0;
+        me_is = r.me_is;
+      } in
+      made asked scan r.answer_is.1
 
   -- what runs then is the twig's
   pub twig-is : (y : Name) (source : SourceRef) → source ≡ Node x → Hears board.frame.tree source y → y ≡ beside x 1
   twig-is y source is_source heard =
       heard-twig board is.tree y x (subst (λ (s : SourceRef). Hears board.frame.tree s y) is_source heard) two
 
--- the scan of the root's source comes to a callback
-module _ (board : Board ℕ) (root : Name) (is : IsRoot board root) (before after : Scan) (old new : Seat (Option Item) (View Item Entry)) (s : IsOuter board root before old.me) (x : Name) (kept : after.source ≡ before.source) (f : IsFound board before old new after x) where
+-- the scan of the root's source, alone, came to a callback
+pub record HasComeOuter (board : Board ℕ) (root : Name) : Type 0 where
+  pub is : IsRoot board root
+  pub before : Scan
+  pub after : Scan
+  pub old : Seat (Option Item) (View Item Entry)
+  pub new : Seat (Option Item) (View Item Entry)
+  pub outer : IsOuter board root before old.me
+  pub place : Name
+  pub kept : after.source ≡ before.source
+  pub found : IsFound board before old new after place
+
+module _ {board : Board ℕ} {root : Name} (came : HasComeOuter board root) where
+  open came use {is, before, after, old, new, outer as s, place as x, kept, found as f}
+
+  abbrev pub come : HasCome Item Entry board
+  come = record {
+    before = before;
+    after = after;
+    old = old;
+    new = new;
+    makes = s.makes;
+    place = x;
+    kept = kept;
+    found = f;
+  }
+
   heard-root : Hears board.frame.tree (Node root) x
   heard-root =
-      subst (λ (u : SourceRef). Hears board.frame.tree u x) s.source (found-heard board before after old new s.makes x kept f)
+      subst (λ (u : SourceRef). Hears board.frame.tree u x) s.source (found-heard come)
 
   pub place-is : x ≡ beside root x.node
   place-is = heard-is board is.is_node.tree x root heard-root
@@ -85,9 +129,9 @@ module _ (board : Board ℕ) (root : Name) (is : IsRoot board root) (before afte
   pub place-inside : IsInside x new.me
   place-inside =
       record {
-        runs = found-runs board before after old new s.makes x kept f ∙ ap (λ (l : List Name). x ∷ l) s.runs;
+        runs = found-runs come ∙ ap (λ (l : List Name). x ∷ l) s.runs;
         from = f.at;
-        scans = found-scans board before after old new s.makes x kept f
+        scans = found-scans come
             ∙ ap (λ (u : SourceRef). scan_at u f.at ∷ s.makes.outer) (s.source ∙ ap Node root-is)
             ∙ ap (λ (l : List Scanning). scan_at (Node (beside x 3)) f.at ∷ l) s.alone;
       }
@@ -111,14 +155,13 @@ module _ (board : Board ℕ) (root : Name) (is : IsRoot board root) (before afte
       (stop-within board old.me new.me mid.me end.me (found-on board before after old new x f) over x fault cause)
 
   -- its run ends, and the scan goes on
-  pub outer-on : (mid end : Seat (Option Item) (View Item Entry)) → mid.me.0.runs ≡ new.me.0.runs → mid.me.0.scans ≡ new.me.0.scans →
-      IsOver board x mid end → IsOuter board root after end.me
+  pub outer-on : (did : DidInside come) (end : Seat (Option Item) (View Item Entry)) → IsOver board x did.mid end → IsOuter board root after end.me
   unfolding over-scans ended-scans
-  outer-on mid end runs scans over =
+  outer-on did end over =
       record {
-        makes = over-scans board before after old new s.makes x kept f mid end runs scans over;
+        makes = over-scans come did over;
         source = kept ∙ s.source;
-        runs = over-runs board before after old new s.makes x kept f mid end runs scans over ∙ s.runs;
+        runs = over-runs come did over ∙ s.runs;
         alone = s.alone;
       }
 
@@ -127,11 +170,19 @@ pub outer-through : (board : Board ℕ) (root : Name) (before after : Scan) (old
     after.source ≡ before.source → IsThrough board before old new after → IsOuter board root after new.me
 unfolding through-scans
 outer-through board root before after old new s kept t =
-    let runs : new.me.0.runs ≡ old.me.0.runs = ap (λ (z : Seated Item Entry). z.0.runs) t.me_is in
+    let gone : HasGoneThrough Item Entry board = record {
+      before = before;
+      after = after;
+      old = old;
+      new = new;
+      makes = s.makes;
+      kept = kept;
+      through = t;
+    } in
     record {
-      makes = through-scans board before after old new s.makes kept t;
+      makes = through-scans gone;
       source = kept ∙ s.source;
-      runs = runs ∙ s.runs;
+      runs = through-runs gone ∙ s.runs;
       alone = s.alone;
     }
 
@@ -144,15 +195,19 @@ pub failed-outer : (board : Board ℕ) (root : Name) → IsRoot board root → (
     IsOuter board root scan m1
 unfolding begun
 failed-outer board root is m m1 idle i word left clear me_is scan first =
-    let above = subst (AreAbove root.node) (sym idle.scans) tt in
-    let unrun = subst (NoneHears board.frame.tree (Node root)) (sym idle.runs) tt in
+    let asked : HasRequested board (Node root) m m1 = record {
+      tree = tree-of board is.is_node.tree;
+      is_one = source-in board root is.is_node (root-source board root is);
+      above = subst (AreAbove root.node) (sym idle.scans) tt;
+      unrun = subst (NoneHears board.frame.tree (Node root)) (sym idle.runs) tt;
+      at = i;
+      word = word;
+      left = left;
+      clear = clear;
+      me_is = me_is;
+    } in
     subst (λ (s : Scan). IsOuter board root s m1) (sym first)
-    (record {
-      makes = begun board (tree-of board is.is_node.tree) (Node root) (source-in board root is.is_node (root-source board root is)) m m1 above unrun i word left clear me_is;
-      source = refl;
-      runs = made-runs board (tree-of board is.is_node.tree) (Node root) (source-in board root is.is_node (root-source board root is)) m m1 above unrun i word left clear me_is ∙ idle.runs;
-      alone = idle.scans;
-    })
+    (record { makes = begun asked; source = refl; runs = made-runs asked ∙ idle.runs; alone = idle.scans })
 
 -- the leaf's report can be made after the scan
 pub leaf-reports : (board : Board ℕ) (root : Name) → IsRoot board root → (leaf : Name) → leaf ≡ beside root 0 → (m : Seated Item Entry) →

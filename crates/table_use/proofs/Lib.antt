@@ -12,4 +12,5 @@ mod Stopping
 pub mod Nesting
 mod Forwarding
 pub mod Roots
+pub mod ScopeScans
 mod Associating

@@ -51,43 +51,54 @@ module _ (board : Board ℕ) (x : Name) (is : IsNode board x) (env : Env) where
   pub start-puts : (m : Seated Item Entry) → OwesNode board.frame x env m → CanPut ghosts board.frame m x (Going env)
   start-puts m owes = owes-puts board.frame x m ghosts (Going env) _ owes.owes (start-fits m owes)
 
-  module _ (m m1 m2 : Seated Item Entry) (owes : OwesNode board.frame x env m) (put : IsPut board.frame x (Going env) m m1) (began : Begins ghosts (aimed board.frame x) m1 m2) where
-    start-put : Owes board.frame x (record { name = x; above = above_of env x.node; lot = [] }) (Some (Going env)) m1
-    start-put = swapped-owes board.frame x (Some (Going env)) None m m1 put _ None owes.owes
+-- a node that the hand owed was put into its home, and begun
+pub record Opens (board : Board ℕ) (x : Name) (env : Env) (m m1 m2 : Seated Item Entry) : Type 0 where
+  pub is : IsNode board x
+  pub owes : OwesNode board.frame x env m
+  pub put : IsPut board.frame x (Going env) m m1
+  pub began : Begins ghosts (aimed board.frame x) m1 m2
 
-    pub start-holds : HoldsNode board.frame x env m2
-    start-holds =
-        record {
-          is = owes.is;
-          held = _;
-          start = refl;
-          tends = begun-tends ghosts board.frame x m1 m2 began _ (Going env) (node-places board x is) start-put;
-        }
+module _ {board : Board ℕ} {x : Name} {env : Env} {m m1 m2 : Seated Item Entry} (opens : Opens board x env m m1 m2) where
+  open opens use {is, owes, put, began}
 
-    pub start-beside : KeepsBesideLeaf board.frame x m m2
-    start-beside below y owed inside apart has =
-        let f = board.frame in
-        let other : same x y ≡ false =
-        same-other x y (λ e.
-        both_ways (slot_of f.layout x == slot_of f.layout y) apart
-        (eq-eqb (slot_of f.layout x) (slot_of f.layout y) (ap (slot_of f.layout) e))) in
-        begun-beside ghosts f x m1 m2 began y owed inside other (leaf-alone board x is below (slot_of f.layout y))
-        (swapped-beside f x (Some (Going env)) None m m1 put y owed inside apart has)
+  start-put : Owes board.frame x (record { name = x; above = above_of env x.node; lot = [] }) (Some (Going env)) m1
+  start-put = swapped-owes board.frame x (Some (Going env)) None m m1 put _ None owes.owes
 
-    pub start-number : m2.0.number ≡ m.0.number
-    start-number =
-        ap (λ (z : Seated Item Entry). z.0.number) began.began.did.me_is
-        ∙ either (has_source board.frame.tree x.node) (λ t. ap (λ (z : Seated Item Entry). z.0.number) (began.renewed.0 t).did)
-        (λ none. ap (λ (z : Seated Item Entry). z.0.number) (began.renewed.1 none))
-        ∙ ap (λ (z : Seated Item Entry). z.0.number) put.me_is
+  pub start-holds : HoldsNode board.frame x env m2
+  start-holds =
+      record {
+        is = owes.is;
+        held = _;
+        start = refl;
+        tends = begun-tends ghosts board.frame x m1 m2 began _ (Going env) (node-places board x is) start-put;
+      }
 
-    pub start-notes : x.node < 3 → KeepsNotes m m2
-    start-notes below =
-        begun-notes board x m1 m2 is began below ∙ swapped-notes board x m m1 (Some (Going env)) None put
+  pub start-beside : KeepsBesideLeaf board.frame x m m2
+  start-beside below y owed inside apart has =
+      let f = board.frame in
+      let other : same x y ≡ false =
+      same-other x y (λ e.
+      both_ways (slot_of f.layout x == slot_of f.layout y) apart
+      (eq-eqb (slot_of f.layout x) (slot_of f.layout y) (ap (slot_of f.layout) e))) in
+      begun-beside ghosts f x m1 m2 began y owed inside other (leaf-alone board x is below (slot_of f.layout y))
+      (swapped-beside f x (Some (Going env)) None m m1 put y owed inside apart has)
 
-    pub start-noted : x.node ≡ 3 → HasNoted x env m2
-    start-noted three = begun-noted board x m1 m2 is began three env start-put.home
+  pub start-number : m2.0.number ≡ m.0.number
+  start-number =
+      ap (λ (z : Seated Item Entry). z.0.number) began.began.did.me_is
+      ∙ either (has_source board.frame.tree x.node) (λ t. ap (λ (z : Seated Item Entry). z.0.number) (began.renewed.0 t).did)
+      (λ none. ap (λ (z : Seated Item Entry). z.0.number) (began.renewed.1 none))
+      ∙ ap (λ (z : Seated Item Entry). z.0.number) put.me_is
 
+  pub start-notes : x.node < 3 → KeepsNotes m m2
+  start-notes below =
+      begun-notes board x m1 m2 is began below ∙ swapped-notes board x m m1 (Some (Going env)) None put
+
+  pub start-noted : x.node ≡ 3 → HasNoted x env m2
+  start-noted three = begun-noted board x m1 m2 is began three env start-put.home
+
+-- a node that the hand holds
+module _ (board : Board ℕ) (x : Name) (is : IsNode board x) (env : Env) where
   module _ (m m1 : Seated Item Entry) (has : HoldsNode board.frame x env m) (phase : CallbackPhase) (read : IsPhaseAs board.frame x phase m m1) where
     abbrev read_held : Held Entry
     read_held = record (has.held) { phase = Some phase }

@@ -1,35 +1,27 @@
 -- A root hears the scope's source: its callback is registered, the scope's source is scanned, and the callback is
 -- removed.
-use Rattle.std.proofs.Common.{◌≡◌, inl, ℕ, zero, suc, ◌+◌, ◌<◌, ◌≤◌, true, false, not, List, [], ◌∷◌, refl, sym, ap, ◌∙◌, subst, arith}
-use Rattle.std.specs.Prelude.{Option, Some, None, is_some}
+use Rattle.std.proofs.Common.{◌≡◌, ℕ, zero, suc, ◌≤◌, true, not, List, ◌∷◌, refl, sym, ap, ◌∙◌, subst, arith}
+use Rattle.std.specs.Prelude.{Option, Some, None}
 use Rattle.std.proofs.lemmas.Bool.{cond-false}
 use Rattle.life_rules.specs.declared.words.CallbackPhase.{CallbackPhase}
-use Rattle.life_rules.specs.declared.words.CallbackPhase.TheVariants.{Never, Armed, Running as Runs, Ran as HasRun, Removed}
+use Rattle.life_rules.specs.declared.words.CallbackPhase.TheVariants.{Armed, Running as Runs, Ran as HasRun, Removed}
 use Rattle.life_rules.specs.declared.event.Name.{Name}
-use Rattle.life_rules.specs.declared.event.SourceRef.{SourceRef}
 use Rattle.life_rules.specs.declared.event.SourceRef.TheVariants.{Scope, Node}
 use Rattle.node_tree.specs.Tree.{nearest}
-use Rattle.common_lemmas.specs.Sums.{one}
-use Rattle.common_lemmas.proofs.Bool.{one-is}
-use Rattle.life_rules.specs.Views.{same}
 use Rattle.life_rules.specs.States.{source_for}
-use Rattle.life_rules.proofs.Names.{same-true}
 use Rattle.table_words.specs.Controls.{source_read}
 use Rattle.table_words.specs.Layouts.{place_number}
 use Rattle.atomic_table.specs.declared.shared.Seat.{Seat}
 use Rattle.table_rules.specs.declared.view.View.{View}
 use Rattle.table_rules.specs.declared.view.Held.{Held}
-use Rattle.table_rules.specs.declared.view.Scanning.{Scanning}
 use Rattle.table_rules.specs.Named.{find_by, count_by}
 use Rattle.table_rules.specs.ShownViews.{scan_in}
 use Rattle.table_steps.specs.Views.{Board}
 use Rattle.table_steps.specs.Claims.{Seated}
-use Rattle.table_steps.specs.Callbacks.{CanArm, is_registered}
+use Rattle.table_steps.specs.Callbacks.{is_registered}
 use Rattle.table_steps.specs.Finishes.{is_settled, CanFinish}
 use Rattle.table_steps.specs.Readings.{at_entry, IsPhaseAs}
 use Rattle.table_steps.specs.Remembers.{running}
-use Rattle.table_steps.specs.RunEnds.{IsOwnWithdrawn}
-use Rattle.table_steps.specs.ScanSeals.{drops}
 use Rattle.table_steps.specs.Slots.{slot_of, kept}
 use Rattle.op_slot.specs.Puts.{IsTakenOut}
 use Rattle.op_slot.specs.Tends.{IsCalm}
@@ -38,24 +30,20 @@ use Rattle.op_slot.proofs.Tending.{swapped-calm, swapped-own}
 use Rattle.op_slot.proofs.Leaving.{root-finishes}
 use Rattle.stop_calls.specs.declared.arming.Armed.{Armed as Answer}
 use Rattle.stop_calls.specs.declared.requesting.Request.TheVariants.{Already}
-use Rattle.stop_calls.specs.declared.scanning.Scan.{Scan}
 use Rattle.stop_calls.specs.declared.removing.Settled.{Settled}
 use Rattle.stop_calls.specs.declared.removing.Settled.TheVariants.{NeverRan as Unrun, Ran as Over, OwnHand as Inside}
 use Rattle.stop_calls.specs.declared.removing.Withdrawn.{Withdrawn}
 use Rattle.stop_calls.specs.declared.removing.Withdrawn.TheVariants.{NeverRan, Ran, OwnHand, Running}
 use Rattle.stop_calls.specs.Armings.{IsArmedSo}
-use Rattle.stop_calls.specs.Removals.{MayEndRun, MayWithdraw, IsOver, IsReadAs, IsLastTry, IsTried, Waits, IsSettled}
+use Rattle.stop_calls.specs.Removals.{MayWithdraw, IsReadAs, IsLastTry, IsTried, Waits, IsSettled}
 use Rattle.stop_calls.specs.Requests.{IsRequested}
-use Rattle.stop_calls.specs.Walks.{IsFound, IsThrough}
 use Rattle.table_use.specs.declared.cargo.Item.{Item}
 use Rattle.table_use.specs.declared.cargo.Entry.{Entry}
 use Rattle.table_use.specs.Uses.{use_tree, IsRoot, HoldsGoing, IsIdle, KeepsHoldings}
-use Rattle.table_use.specs.Scans.{AreOuter, Scans, other_scans}
-use Rattle.table_use.specs.Hearing.{HoldsRoot, AsksScope, tried_as, settled_as}
+use Rattle.table_use.specs.Hearing.{HoldsRoot, tried_as, settled_as}
 use Rattle.table_use.specs.contracts.cargo.ItemCargo.TheImpl.{ghosts}
 use Rattle.table_use.proofs.Nodes.{use-scope, node-places, node-root}
 use Rattle.table_use.proofs.Opening.{armed-holds}
-use Rattle.table_use.proofs.Nesting.{scan_at, first-drops, found-runs, found-scans, ended-runs, ended-scans, over-scans, over-runs, through-scans}
 
 module _ (board : Board ℕ) (x : Name) (is : IsRoot board x) where
   pub root-hears : source_for x (nearest board.frame.tree x.node) ≡ Some Scope
@@ -213,92 +201,4 @@ asked-again board old new idle r =
           ap (λ (z : Seated Item Entry). z.0.scans) r.me_is
           ∙ cond-false (not (source_read r.word).requested) (record { source = Scope; next = 0 } ∷ old.me.0.scans) old.me.0.scans (ap not r.answer_is)
           ∙ idle.scans;
-    }
-
--- the scope's scan is the only one
-module _ (board : Board ℕ) (scan : Scan) (m : Seated Item Entry) (asks : AsksScope board scan m) where
-  none-outer : asks.makes.outer ≡ []
-  none-outer = subst (λ (u : SourceRef). AreOuter u asks.makes.outer) asks.source asks.makes.above
-
-  pub asks-others : other_scans scan.source m ≡ []
-  asks-others =
-      ap (drops scan.source) asks.makes.scans ∙ first-drops scan.source asks.makes.from asks.makes.outer asks.makes.above ∙ none-outer
-
--- a try to remove a callback from inside a run of the scope's scan, after which the scan goes on
-module _ (board : Board ℕ) (before after : Scan) (old new : Seat (Option Item) (View Item Entry)) (asks : AsksScope board before old.me) (x : Name) (kept_source : after.source ≡ before.source) (f : IsFound board before old new after x) where
-  -- no scan of a node's source is under way
-  pub scan-unmade : (y : Name) → scan_in new.me.0.scans (Node y) ≡ None
-  scan-unmade y =
-      ap (λ (l : List Scanning). scan_in l (Node y)) (found-scans board before after old new asks.makes x kept_source f)
-      ∙ ap (λ (l : List Scanning). scan_in (scan_at before.source f.at ∷ l) (Node y)) (none-outer board before old.me asks)
-      ∙ ap (λ (u : SourceRef). scan_in (scan_at u f.at ∷ []) (Node y)) asks.source
-
-  module _ (root : Name) (tried : Seat (Option Item) (View Item Entry)) where
-    own-root : 1 ≤ running new.me.0 root → x ≡ root
-    own-root some =
-        let is : running new.me.0 root ≡ 0 + one (same x root) =
-        ap (λ (l : List Name). count_by (λ (y : Name). y) l root)
-        (found-runs board before after old new asks.makes x kept_source f ∙ ap (λ (l : List Name). x ∷ l) asks.runs) in
-        same-true x root (one-is (omega (arith, some, is)))
-
-    own-run : 1 ≤ running new.me.0 root → IsOwnWithdrawn board root new tried → IsOwnWithdrawn board x new tried
-    own-run some told = subst (λ (y : Name). IsOwnWithdrawn board y new tried) (sym (own-root some)) told
-
-    removed-runs : IsOwnWithdrawn board x new tried → tried.me.0.runs ≡ []
-    removed-runs d = ended-runs board before after old new asks.makes x kept_source f new tried refl refl _ d.me_is refl refl ∙ asks.runs
-
-    removed-none : IsOwnWithdrawn board x new tried → running tried.me.0 x ≡ 0
-    removed-none d = ap (λ (l : List Name). count_by (λ (y : Name). y) l x) (removed-runs d)
-
-    -- the run may be ended whatever the try found
-    pub may-finish : (answer : Withdrawn) → IsTried board root new tried answer → MayEndRun tried.me.0 x
-    may-finish NeverRan r run = ap (λ (z : Seated Item Entry). scan_in z.0.scans (Node x)) r.told.me_is ∙ scan-unmade x
-    may-finish Ran r run = ap (λ (z : Seated Item Entry). scan_in z.0.scans (Node x)) r.told.me_is ∙ scan-unmade x
-    may-finish Running r run = ap (λ (z : Seated Item Entry). scan_in z.0.scans (Node x)) r.told.me_is ∙ scan-unmade x
-    may-finish OwnHand r run = let none = removed-none (own-run r.runs r.told) in absurd (omega (arith, run, none))
-
-    module _ (end : Seat (Option Item) (View Item Entry)) (over : IsOver board x tried end) where
-      same-runs : (v : View Item Entry) → tried.me ≡ (v, new.me.1) → v.runs ≡ new.me.0.runs → v.scans ≡ new.me.0.scans → AsksScope board after end.me
-      same-runs v is runs scans =
-          let runs_are : tried.me.0.runs ≡ new.me.0.runs = ap (λ (z : Seated Item Entry). z.0.runs) is ∙ runs in
-          let scans_are : tried.me.0.scans ≡ new.me.0.scans = ap (λ (z : Seated Item Entry). z.0.scans) is ∙ scans in
-          record {
-            makes = over-scans board before after old new asks.makes x kept_source f tried end runs_are scans_are over;
-            source = kept_source ∙ asks.source;
-            runs = over-runs board before after old new asks.makes x kept_source f tried end runs_are scans_are over ∙ asks.runs;
-          }
-
-      own-removed : IsOwnWithdrawn board x new tried → AsksScope board after end.me
-      own-removed d =
-          subst (AsksScope board after) (sym (over.was_removed (removed-none d)))
-          (record {
-            makes = ended-scans board before after old new asks.makes x kept_source f new tried refl refl _ d.me_is refl refl;
-            source = kept_source ∙ asks.source;
-            runs = removed-runs d;
-          })
-
-      pub inside-asks : (answer : Withdrawn) → IsTried board root new tried answer → AsksScope board after end.me
-      inside-asks NeverRan r = same-runs _ r.told.me_is refl refl
-      inside-asks Ran r = same-runs _ r.told.me_is refl refl
-      inside-asks Running r = same-runs _ r.told.me_is refl refl
-      inside-asks OwnHand r = own-removed (own-run r.runs r.told)
-
--- a run of the scope's scan ends, and the scan goes on
-pub due-over : (board : Board ℕ) (before after : Scan) (old new end : Seat (Option Item) (View Item Entry)) → AsksScope board before old.me → (x : Name) →
-    after.source ≡ before.source → IsFound board before old new after x → IsOver board x new end → AsksScope board after end.me
-due-over board before after old new end asks x kept_source f over =
-    record {
-      makes = over-scans board before after old new asks.makes x kept_source f new end refl refl over;
-      source = kept_source ∙ asks.source;
-      runs = over-runs board before after old new asks.makes x kept_source f new end refl refl over ∙ asks.runs;
-    }
-
--- a scan of the scope that came to its end
-pub scan-through : (board : Board ℕ) (before after : Scan) (old new : Seat (Option Item) (View Item Entry)) → AsksScope board before old.me →
-    after.source ≡ before.source → IsThrough board before old new after → AsksScope board after new.me
-scan-through board before after old new asks kept_source t =
-    record {
-      makes = through-scans board before after old new asks.makes kept_source t;
-      source = kept_source ∙ asks.source;
-      runs = ap (λ (z : Seated Item Entry). z.0.runs) t.me_is ∙ asks.runs;
     }

@@ -1,5 +1,5 @@
 -- What a step that makes the hand stop tells it.
-use Rattle.std.proofs.Common.{◌≡◌, ◌≢◌, inr, ℕ, ◌<◌, Bool, true, false, List, [], ◌∷◌, sym, ap, ◌∙◌, subst, arith}
+use Rattle.std.proofs.Common.{◌≡◌, ◌≢◌, inr, ℕ, ◌<◌, Bool, false, List, [], ◌∷◌, ap, ◌∙◌, subst, arith}
 use Rattle.std.specs.Prelude.{Option, Some, None}
 use Rattle.life_rules.specs.declared.words.ControlWord.TheVariants.{Busy, ReadyPool}
 use Rattle.life_rules.specs.declared.event.Name.{Name}

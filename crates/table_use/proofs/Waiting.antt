@@ -10,7 +10,6 @@ use Rattle.node_tree.specs.Tree.{is_child}
 use Rattle.life_rules.specs.Views.{beside}
 use Rattle.atomic_table.specs.declared.shared.Seat.{Seat}
 use Rattle.table_rules.specs.declared.view.View.{View}
-use Rattle.table_rules.specs.declared.view.Held.{Held}
 use Rattle.table_rules.specs.declared.view.Reported.{Reported}
 use Rattle.table_rules.specs.Named.{find_by}
 use Rattle.table_steps.specs.declared.block.Block.{Block}
@@ -19,7 +18,7 @@ use Rattle.table_steps.specs.Awaits.{is_named, AwaitsAt, CanAwait}
 use Rattle.table_steps.specs.Claims.{Seated, Missed}
 use Rattle.table_steps.specs.Readings.{IsBegunAs, HoldsAbove}
 use Rattle.op_slot.specs.Searches.{IsMissedBelow, IsFound}
-use Rattle.op_slot.specs.Tends.{AreApart, IsCalm, KeepsOwed, OwesReport, Owes, Tends}
+use Rattle.op_slot.specs.Tends.{AreApart, IsCalm, KeepsOwed, OwesReport, Owes}
 use Rattle.op_slot.proofs.Places.{kids-apart}
 use Rattle.op_slot.proofs.Tending.{read-tends, read-calm}
 use Rattle.op_slot.proofs.Leaving.{tends-awaits, awaited-owes}
@@ -27,8 +26,8 @@ use Rattle.table_use.specs.declared.cargo.Item.{Item}
 use Rattle.table_use.specs.declared.cargo.Entry.{Entry}
 use Rattle.table_use.specs.declared.cargo.Env.{Env}
 use Rattle.table_use.specs.declared.cargo.Item.TheVariants.{Going}
-use Rattle.table_use.specs.Starts.{above_of, path, least_at}
-use Rattle.table_use.specs.Uses.{use_tree, IsNode, IsEnv, OwesNode, OwesKid, HoldsNode, KeepsPlays, KeepsReports}
+use Rattle.table_use.specs.Starts.{above_of, least_at}
+use Rattle.table_use.specs.Uses.{use_tree, IsNode, OwesNode, OwesKid, HoldsNode, KeepsPlays, KeepsReports}
 use Rattle.table_use.specs.contracts.cargo.ItemCargo.TheImpl.{ghosts}
 use Rattle.table_use.proofs.Nodes.{node-places, kid-above, kid-held, kid-here, kid-of, path-below}
 
@@ -87,116 +86,126 @@ least-low node =
     either (node == 3) (λ t. let is = cond-true {A = ℕ} (node == 3) 1 0 t in omega (arith, is))
     (λ f. let is = cond-false {A = ℕ} (node == 3) 1 0 f in omega (arith, is))
 
-module _ (board : Board ℕ) (x : Name) (is : IsNode board x) (env : Env) where
-  -- a child was read as not begun
-  module _ (held : Held Entry) (m m1 : Seated Item Entry) (has : Tends board.frame x held (Some (Going env)) (λ _. None) m) (calm : IsCalm m) (y : Name) (n : ℕ) (name : y ≡ beside x n) (child : is_child board.frame.tree x.node n ≡ true) (a : Bool) (no : a ≡ false) (read : IsBegunAs board.frame y a m m1) where
-    kid-read : IsBegunAs board.frame (beside x n) false m m1
-    kid-read = subst (λ z. IsBegunAs board.frame z false m m1) name (subst (λ b. IsBegunAs board.frame y b m m1) no read)
+-- a child's parent is held
+pub first-held : (board : Board ℕ) (x : Name) (is : IsNode board x) (env : Env) (m : Seated Item Entry) → HoldsNode board.frame x env m →
+    (y : Name) (n : ℕ) → is_child use_tree x.node n ≡ true → y ≡ beside x n → HoldsAbove board.frame.tree m.0 y
+first-held board x is env m holds y n child name =
+    subst (λ (z : Name). HoldsAbove board.frame.tree m.0 z) (sym name)
+    (kid-held board x is n (kid-here board x is n child) holds.held (Some (Going env)) (λ _. None) m holds.tends)
 
-    pub noted-tends : Tends board.frame x (record held { idle = n ∷ held.idle }) (Some (Going env)) (λ _. None) m1
-    noted-tends =
-        read-tends board.frame x held (Some (Going env)) (λ _. None) m m1 (beside x n) (kid-above board x is n child) kid-read has
+-- a node that the hand holds waits for children that it has read so
+module _ {board : Board ℕ} {x : Name} {env : Env} {m : Seated Item Entry} (is : IsNode board x)
+    (holds : HoldsNode board.frame x env m) (nodes : List ℕ) where
+  can-wait : IsCalm m → 1 ≤ length nodes → are_different nodes ≡ true →
+      list_all (λ n. is_child board.frame.tree x.node n && list_any (λ q. q == n) holds.held.idle) nodes ≡ true →
+      CanAwait ghosts board.frame m x nodes
+  can-wait calm some different idle =
+      tends-awaits ghosts board.frame x m holds.held (λ _. None) calm (λ n child. refl) (Going env) nodes holds.tends
+      (record { start = sym holds.start; fit = holds.is.node; goes_on = λ e. e }) (let low = least-low env.node in omega (arith, low, some)) some different idle
 
-    pub noted-calm : IsCalm m1
-    noted-calm = read-calm board.frame x held (Some (Going env)) (λ _. None) m m1 (beside x n) kid-read calm
+  waits-owes : (m1 : Seated Item Entry) (i was left n : ℕ) → AwaitsAt ghosts (aimed board.frame x) nodes i was left m m1 → is_child use_tree x.node n ≡ true →
+      is_named nodes n ≡ true → OwesKid board.frame x n env m1
+  waits-owes m1 i was left n did child named =
+      record {
+        is = record { node = refl; step = holds.is.step };
+        owes = subst (λ (s : List Entry). Owes board.frame (beside x n) (record { name = beside x n; above = s; lot = [] }) None m1)
+            (path-below env x.node n holds.is.node child)
+            (awaited-owes board.frame x m m1 i was left ghosts nodes did holds.held (Going env) (λ _. None) n (node-places board x is) holds.tends
+            (kid-here board x is n child) named);
+      }
 
-    pub next-held : (z : Name) (k : ℕ) → z ≡ beside x k → is_child board.frame.tree x.node k ≡ true → HoldsAbove board.frame.tree m1.0 z
-    next-held z k named kid =
-        subst (λ (w : Name). HoldsAbove board.frame.tree m1.0 w) (sym named)
-        (kid-held board x is k kid (record held { idle = n ∷ held.idle }) (Some (Going env)) (λ _. None) m1 noted-tends)
+-- a child of a node that the hand holds was read as not begun
+pub record ReadIdle (board : Board ℕ) (x : Name) (env : Env) (n : ℕ) (m m1 : Seated Item Entry) : Type 0 where
+  pub is : IsNode board x
+  pub child : is_child use_tree x.node n ≡ true
+  pub holds : HoldsNode board.frame x env m
+  pub calm : IsCalm m
+  pub name : Name
+  pub name_is : name ≡ beside x n
+  pub answer : Bool
+  pub no : answer ≡ false
+  pub read : IsBegunAs board.frame name answer m m1
 
-  -- a child's parent is held
-  pub first-held : (m : Seated Item Entry) → HoldsNode board.frame x env m → (y : Name) (n : ℕ) → is_child use_tree x.node n ≡ true → y ≡ beside x n →
-      HoldsAbove board.frame.tree m.0 y
-  first-held m holds y n child name =
-      subst (λ (z : Name). HoldsAbove board.frame.tree m.0 z) (sym name)
-      (kid-held board x is n (kid-here board x is n child) holds.held (Some (Going env)) (λ _. None) m holds.tends)
+module _ {board : Board ℕ} {x : Name} {env : Env} {n : ℕ} {m m1 : Seated Item Entry}
+    (idle : ReadIdle board x env n m m1) where
+  open idle use {is, child, holds, calm, name, name_is, answer, no, read}
 
-  -- the node waits for children that it has read so
-  module _ (at : IsEnv board.frame x env) (held : Held Entry) (start : held.start ≡ path env) (m m1 : Seated Item Entry) (has : Tends board.frame x held (Some (Going env)) (λ _. None) m) (nodes : List ℕ) where
-    pub can-wait : IsCalm m → 1 ≤ length nodes → are_different nodes ≡ true →
-        list_all (λ n. is_child board.frame.tree x.node n && list_any (λ q. q == n) held.idle) nodes ≡ true →
-        CanAwait ghosts board.frame m x nodes
-    can-wait calm some different idle =
-        tends-awaits ghosts board.frame x m held (λ _. None) calm (λ n child. refl) (Going env) nodes has
-        (record { start = sym start; fit = at.node; goes_on = λ e. e }) (let low = least-low env.node in omega (arith, low, some)) some different idle
-
-    pub waits-owes : (i was left n : ℕ) → AwaitsAt ghosts (aimed board.frame x) nodes i was left m m1 → is_child use_tree x.node n ≡ true →
-        is_named nodes n ≡ true → OwesKid board.frame x n env m1
-    waits-owes i was left n did child named =
-        record {
-          is = record { node = refl; step = at.step };
-          owes = subst (λ (s : List Entry). Owes board.frame (beside x n) (record { name = beside x n; above = s; lot = [] }) None m1)
-              (path-below env x.node n at.node child)
-              (awaited-owes board.frame x m m1 i was left ghosts nodes did held (Going env) (λ _. None) n (node-places board x is) has
-              (kid-here board x is n child) named);
-        }
-
--- the node waits for one child
-module _ (board : Board ℕ) (x : Name) (is : IsNode board x) (env : Env) (n : ℕ) (child : is_child use_tree x.node n ≡ true) (m m1 m2 : Seated Item Entry) (holds : HoldsNode board.frame x env m) (calm : IsCalm m) (y : Name) (name : y ≡ beside x n) (a : Bool) (no : a ≡ false) (read : IsBegunAs board.frame y a m m1) where
   here : is_child board.frame.tree x.node n ≡ true
   here = kid-here board x is n child
 
+  kid-read : IsBegunAs board.frame (beside x n) false m m1
+  kid-read = subst (λ z. IsBegunAs board.frame z false m m1) name_is (subst (λ b. IsBegunAs board.frame name b m m1) no read)
+
+  -- the hand notes it
+  abbrev noted-idle : HoldsNode board.frame x env m1
+  noted-idle = record {
+    is = holds.is;
+    held = record (holds.held) { idle = n ∷ holds.held.idle };
+    start = holds.start;
+    tends = read-tends board.frame x holds.held (Some (Going env)) (λ _. None) m m1 (beside x n) (kid-above board x is n here) kid-read holds.tends;
+  }
+
+  noted-calm : IsCalm m1
+  noted-calm = read-calm board.frame x holds.held (Some (Going env)) (λ _. None) m m1 (beside x n) kid-read calm
+
+  -- and waits for this child
   own : (n == n) ≡ true
   own = eq-eqb n n refl
 
-  one-tends : Tends board.frame x (record (holds.held) { idle = n ∷ holds.held.idle }) (Some (Going env)) (λ _. None) m1
-  one-tends = noted-tends board x is env holds.held m m1 holds.tends calm y n name here a no read
-
   pub one-waits : CanAwait ghosts board.frame m1 x (n ∷ [])
   one-waits =
-      can-wait board x is env holds.is (record (holds.held) { idle = n ∷ holds.held.idle }) holds.start m1 m2 one-tends (n ∷ [])
-      (noted-calm board x is env holds.held m m1 holds.tends calm y n name here a no read) (omega arith) refl
+      can-wait is noted-idle (n ∷ []) noted-calm (omega arith) refl
       (and_from _ _ (and_from _ _ here (ap (λ b. b || list_any (λ q. q == n) holds.held.idle) own)) refl)
 
-  pub one-owes : (i was left : ℕ) → AwaitsAt ghosts (aimed board.frame x) (n ∷ []) i was left m1 m2 → OwesKid board.frame x n env m2
-  one-owes i was left did =
-      waits-owes board x is env holds.is (record (holds.held) { idle = n ∷ holds.held.idle }) holds.start m1 m2 one-tends (n ∷ []) i was left n did
-      child (ap (λ b. b || is_named [] n) own)
+  pub one-owes : (m2 : Seated Item Entry) (i was left : ℕ) → AwaitsAt ghosts (aimed board.frame x) (n ∷ []) i was left m1 m2 → OwesKid board.frame x n env m2
+  one-owes m2 i was left did = waits-owes is noted-idle (n ∷ []) m2 i was left n did child (ap (λ b. b || is_named [] n) own)
 
 -- the root's second child can be read after the first
-module _ (board : Board ℕ) (x : Name) (is : IsNode board x) (three : x.node ≡ 3) (env : Env) (m m1 : Seated Item Entry) (holds : HoldsNode board.frame x env m) (calm : IsCalm m) (left right : Name) (left_is : left ≡ beside x 0) (right_is : right ≡ beside x 2) (a : Bool) (a_is : a ≡ false) (first : IsBegunAs board.frame left a m m1) where
-  pub second-held : HoldsAbove board.frame.tree m1.0 right
-  second-held = next-held board x is env holds.held m m1 holds.tends calm left 0 left_is (kid-of board x is 3 0 three refl) a a_is first right 2 right_is (kid-of board x is 3 2 three refl)
+pub second-held : {board : Board ℕ} {x : Name} {env : Env} {m m1 : Seated Item Entry} (leaf : ReadIdle board x env 0 m m1) → x.node ≡ 3 →
+    (right : Name) → right ≡ beside x 2 → HoldsAbove board.frame.tree m1.0 right
+second-held {board = board} {x = x} {env = env} {m1 = m1} leaf three right right_is =
+    subst (λ (w : Name). HoldsAbove board.frame.tree m1.0 w) (sym right_is)
+    (kid-held board x leaf.is 2 (kid-of board x leaf.is 3 2 three refl) (noted-idle leaf).held (Some (Going env)) (λ _. None) m1 (noted-idle leaf).tends)
 
--- the root waits for the leaf and the branch
-module _ (board : Board ℕ) (x : Name) (is : IsNode board x) (three : x.node ≡ 3) (env : Env) (m m1 m2 m3 : Seated Item Entry) (holds : HoldsNode board.frame x env m) (calm : IsCalm m) (left right : Name) (left_is : left ≡ beside x 0) (right_is : right ≡ beside x 2) (a b : Bool) (a_is : a ≡ false) (b_is : b ≡ false) (first : IsBegunAs board.frame left a m m1) (second : IsBegunAs board.frame right b m1 m2) where
-  use-child : (n : ℕ) → is_child use_tree 3 n ≡ true → is_child use_tree x.node n ≡ true
-  use-child n child = ap (λ p. is_child use_tree p n) three ∙ child
+-- the branch of a root was read so too, after the leaf
+pub record ReadBoth (board : Board ℕ) (x : Name) (env : Env) (m m1 m2 : Seated Item Entry) : Type 0 where
+  pub three : x.node ≡ 3
+  pub leaf : ReadIdle board x env 0 m m1
+  pub name : Name
+  pub name_is : name ≡ beside x 2
+  pub answer : Bool
+  pub no : answer ≡ false
+  pub read : IsBegunAs board.frame name answer m1 m2
 
-  leaf-child : is_child board.frame.tree x.node 0 ≡ true
-  leaf-child = kid-of board x is 3 0 three refl
+-- the root waits for both
+module _ {board : Board ℕ} {x : Name} {env : Env} {m m1 m2 : Seated Item Entry}
+    (both : ReadBoth board x env m m1 m2) where
+  open both use {three, leaf, name, name_is, answer, no, read}
 
-  branch-child : is_child board.frame.tree x.node 2 ≡ true
-  branch-child = kid-of board x is 3 2 three refl
-
-  first-tends : Tends board.frame x (record (holds.held) { idle = 0 ∷ holds.held.idle }) (Some (Going env)) (λ _. None) m1
-  first-tends = noted-tends board x is env holds.held m m1 holds.tends calm left 0 left_is leaf-child a a_is first
-
-  first-calm : IsCalm m1
-  first-calm = noted-calm board x is env holds.held m m1 holds.tends calm left 0 left_is leaf-child a a_is first
-
-  abbrev both_held : Held Entry
-  both_held = record (holds.held) { idle = 2 ∷ 0 ∷ holds.held.idle }
-
-  both-tends : Tends board.frame x both_held (Some (Going env)) (λ _. None) m2
-  both-tends =
-      noted-tends board x is env (record (holds.held) { idle = 0 ∷ holds.held.idle }) m1 m2 first-tends first-calm right 2 right_is branch-child b b_is
-      second
+  abbrev branch : ReadIdle board x env 2 m1 m2
+  branch = record {
+    is = leaf.is;
+    child = ap (λ p. is_child use_tree p 2) three;
+    holds = noted-idle leaf;
+    calm = noted-calm leaf;
+    name = name;
+    name_is = name_is;
+    answer = answer;
+    no = no;
+    read = read;
+  }
 
   pub root-waits : CanAwait ghosts board.frame m2 x (0 ∷ 2 ∷ [])
   root-waits =
-      can-wait board x is env holds.is both_held holds.start m2 m3 both-tends (0 ∷ 2 ∷ [])
-      (noted-calm board x is env (record (holds.held) { idle = 0 ∷ holds.held.idle }) m1 m2 first-tends first-calm right 2 right_is branch-child b b_is
-      second) (omega arith) refl
-      (and_from _ _ (and_from _ _ leaf-child refl) (and_from _ _ (and_from _ _ branch-child refl) refl))
+      can-wait leaf.is (noted-idle branch) (0 ∷ 2 ∷ []) (noted-calm branch) (omega arith) refl
+      (and_from _ _ (and_from _ _ (here leaf) refl) (and_from _ _ (and_from _ _ (here branch) refl) refl))
 
-  module _ (i was busy : ℕ) (did : AwaitsAt ghosts (aimed board.frame x) (0 ∷ 2 ∷ []) i was busy m2 m3) where
+  module _ (m3 : Seated Item Entry) (i was busy : ℕ) (did : AwaitsAt ghosts (aimed board.frame x) (0 ∷ 2 ∷ []) i was busy m2 m3) where
     pub leaf-owes : OwesKid board.frame x 0 env m3
-    leaf-owes = waits-owes board x is env holds.is both_held holds.start m2 m3 both-tends (0 ∷ 2 ∷ []) i was busy 0 did (use-child 0 refl) refl
+    leaf-owes = waits-owes leaf.is (noted-idle branch) (0 ∷ 2 ∷ []) m3 i was busy 0 did leaf.child refl
 
     pub branch-owed : OwesKid board.frame x 2 env m3
-    branch-owed = waits-owes board x is env holds.is both_held holds.start m2 m3 both-tends (0 ∷ 2 ∷ []) i was busy 2 did (use-child 2 refl) refl
+    branch-owed = waits-owes leaf.is (noted-idle branch) (0 ∷ 2 ∷ []) m3 i was busy 2 did (branch.child) refl
 
 -- the branch is owed while the leaf is taken to its end
 pub branch-stays : (board : Board ℕ) (x : Name) (is : IsNode board x) → x.node ≡ 3 → (env : Env) (leaf branch : Name) → leaf ≡ beside x 0 → branch ≡ beside x 2 →

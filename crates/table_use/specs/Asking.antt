@@ -4,9 +4,7 @@ use Rattle.std.specs.Prelude.{ℕ, ◌⊎◌, Option, Some, None}
 use Rattle.life_rules.specs.declared.words.CallbackPhase.TheVariants.{Never}
 use Rattle.life_rules.specs.declared.event.Name.{Name}
 use Rattle.life_rules.specs.declared.event.SourceRef.TheVariants.{Scope}
-use Rattle.atomic_table.specs.declared.shared.Seat.{Seat}
 use Rattle.table_rules.specs.declared.cargo.Cargo.{Ghosts}
-use Rattle.table_rules.specs.declared.view.View.{View}
 use Rattle.table_steps.specs.Views.{Board}
 use Rattle.table_steps.specs.Readings.{IsPhaseAs}
 use Rattle.table_steps.specs.Steps.{Finished}
@@ -23,10 +21,8 @@ use Rattle.stop_calls.specs.Walks.{IsFound, IsThrough}
 use Rattle.table_use.specs.declared.cargo.Entry.{Entry}
 use Rattle.table_use.specs.declared.cargo.Item.{Item}
 use Rattle.table_use.specs.Causes.{GoesOn}
-
--- a hand of this use
-abbrev pub Worker : Type 0
-Worker = Seat (Option Item) (View Item Entry)
+pub use Rattle.table_use.specs.Counts.{Worker}
+use Rattle.table_use.specs.Counts.{RunsOut}
 
 -- what the request answered that gave such a scan, or none
 abbrev pub request_of : Option Scan → Request
@@ -48,16 +44,18 @@ module _ (board : Board ℕ) (root : Name) where
     pub finished : Finished board root middle new cargo
 
 module _ (board : Board ℕ) where
-  -- the hand requested a stop of the scope, and went on with the scan that this gave
-  pub record AskedAndRan (old new : Worker) : Type 0 where
+  -- the hand requested a stop of the scope, and ran so many callbacks of the scan that this gave: all that it
+  -- came to
+  pub record AskedAndRan (count : ℕ) (old new : Worker) : Type 0 where
     pub scan : Scan
     pub asked : Worker
     pub requested : IsRequested board Scope (Made scan) old asked
+    pub ran : RunsOut board count scan asked new
     pub went_on : GoesOn asked.me new.me
 
-  -- so it did where it counted what ran; else a stop was requested before
+  -- so many it ran where it answers a count; else a stop was requested before
   abbrev pub AsksAll : Option ℕ → Worker → Worker → Type 0
-  AsksAll (Some count) old new = AskedAndRan old new
+  AsksAll (Some count) old new = AskedAndRan count old new
   AsksAll None old new = IsRequested board Scope Already old new
 
 module _ (board : Board ℕ) (root : Name) where
@@ -76,19 +74,21 @@ module _ (board : Board ℕ) (root : Name) where
   RemovesNext before after (Some answer) old new = TriedInside before after answer old new
   RemovesNext before after None old new = IsThrough board before old new after
 
-  -- the hand requested a stop of the scope, the first place of its scan brought this, and it went
-  -- on with the scan
-  pub record RemovedInside (answer : Option Withdrawn) (old new : Worker) : Type 0 where
+  -- the hand requested a stop of the scope, the first place of its scan brought this, and it ran so many
+  -- callbacks more, all that the scan came to
+  pub record RemovedInside (answer : Option Withdrawn) (count : ℕ) (old new : Worker) : Type 0 where
     pub scan : Scan
     pub asked : Worker
     pub requested : IsRequested board Scope (Made scan) old asked
     pub after : Scan
     pub left : Worker
     pub next : RemovesNext scan after answer asked left
+    pub ran : RunsOut board count after left new
     pub went_on : GoesOn left.me new.me
 
   -- so it did where the removal was answered; else a stop was requested before, or the scan came to
   -- no place
   abbrev pub RemovesInside : Option (Withdrawn × ℕ) → Worker → Worker → Type 0
-  RemovesInside (Some answers) old new = RemovedInside (Some answers.0) old new
-  RemovesInside None old new = IsRequested board Scope Already old new ⊎ RemovedInside None old new
+  RemovesInside (Some answers) old new = RemovedInside (Some answers.0) answers.1 old new
+  RemovesInside None old new =
+      IsRequested board Scope Already old new ⊎ ((count : ℕ) × RemovedInside None count old new)

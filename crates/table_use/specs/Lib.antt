@@ -1,6 +1,7 @@
 pub mod Starts
 pub mod Uses
 pub mod Scans
+pub mod Counts
 pub mod Causes
 pub mod Ends
 pub mod Hearing

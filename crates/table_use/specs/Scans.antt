@@ -17,6 +17,10 @@ use Rattle.table_use.specs.declared.cargo.Entry.{Entry}
 abbrev pub other_scans : SourceRef → Seated Item Entry → List Scanning
 other_scans source m = drops source m.0.scans
 
+-- it makes those that it made
+abbrev pub KeepsOthers : SourceRef → Seated Item Entry → Seated Item Entry → Type 0
+KeepsOthers source m m' = other_scans source m' ≡ other_scans source m
+
 -- the hand runs the callback of this place alone, and makes a scan of the root's source alone
 pub record IsInside (place : Name) (m : Seated Item Entry) : Type 0 where
   pub runs : m.0.runs ≡ place ∷ []

@@ -24,7 +24,7 @@ use Rattle.table_use.specs.declared.cargo.Entry.{Entry}
 use Rattle.table_use.specs.declared.cargo.Env.{Env}
 use Rattle.table_use.specs.declared.cargo.Item.{Item}
 use Rattle.table_use.specs.declared.cargo.Item.TheVariants.{Going, Failed}
-use Rattle.table_use.specs.Starts.{path, above_of}
+use Rattle.table_use.specs.Starts.{path, above_of, done_at}
 
 -- a leaf and a branch below a root, and a twig below the branch. The root and the branch have stop sources
 abbrev pub use_tree : List TreeNode
@@ -109,6 +109,10 @@ module _ (f : Frame ℕ) (x : Name) where
     pub tends : Tends f x held (Some own) content m
     pub child : content n ≡ Some ended
 
+-- so the hand holds a root, after the report of its leaf, which ended with what the start says
+abbrev pub HoldsDone : Frame ℕ → Name → Env → Seated Item Entry → Type 0
+HoldsDone f x env m = HoldsLast f x env 0 (done_at env 0) m
+
 -- the hand owes the node's child of this number, in the same operation
 abbrev pub OwesKid : Frame ℕ → Name → ℕ → Env → Seated Item Entry → Type 0
 OwesKid f x n env m = OwesNode f (beside x n) (record env { node = n }) m
@@ -127,10 +131,14 @@ HasNoted x env m = find_by (λ e. e.name) m.0.noted x ≡ Some (record { name = 
 abbrev pub IsNotedNumber : Name → Seated Item Entry → ℕ → Type 0
 IsNotedNumber x m number = (env : Env) → HasNoted x env m → number ≡ env.number
 
+-- the hand's newest step gave this block back, and left all its homes empty
+abbrev pub LeftBlockEmpty : Board ℕ → Block → Seat (Option Item) (View Item Entry) → Ghosts Item Entry ℕ → Type 0
+LeftBlockEmpty board b hand cargo = LeftAllEmpty board b.index b.generation hand cargo
+
 -- the hand's newest step gave a block of the table back, and left all its homes empty
 abbrev pub HasEmptied : Board ℕ → Seat (Option Item) (View Item Entry) → Ghosts Item Entry ℕ → Type 0
 HasEmptied board hand cargo =
-    (b : Block) × (b.index < board.frame.layout.blocks) × LeftAllEmpty board b.index b.generation hand cargo
+    (b : Block) × (b.index < board.frame.layout.blocks) × LeftBlockEmpty board b hand cargo
 
 module _ (m : Seated Item Entry) where
   -- the hand runs no callback, and makes no scan

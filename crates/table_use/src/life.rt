@@ -1,10 +1,8 @@
 //! A whole life of an operation, from its claim to its release.
 ghost use Rattle.std.specs.Prelude.{◌≡◌, ◌+◌, IfOk, IfErr};
 ghost use Rattle.table_steps.specs.Views.{IsHandOf};
-ghost use Rattle.table_steps.specs.Steps.{LeftAllEmpty};
 ghost use Rattle.op_slot.specs.Tends.{IsCalm};
-ghost use Rattle.table_use.specs.Starts.{done_at};
-ghost use Rattle.table_use.specs.Uses.{use_tree, IsRoot, IsRootOf, HoldsNode, HoldsLast, HasNoted, HasEmptied, IsNotedNumber, KeepsNotes};
+ghost use Rattle.table_use.specs.Uses.{use_tree, IsRoot, IsRootOf, HoldsNode, HoldsDone, HasNoted, HasEmptied, LeftBlockEmpty, IsNotedNumber, KeepsNotes};
 ghost use Rattle.table_use.specs.Causes.{GoesOn};
 ghost use Rattle.table_use.specs.Ends.{IsLeft, StopsAt, StopsIn, IsEndCause};
 
@@ -31,7 +29,7 @@ fn waits(table: &Table, hand: &mut Worker, root: Name, env: Env) -> Result<(), F
     requires noted { HasNoted root env hand.old.me }
     ensures table { IsHandOf table.now hand.new }
     ensures calm { IsCalm hand.new.me }
-    ensures last { IfOk result (λ _. HoldsLast table.now.frame root env 0 (done_at env 0) hand.new.me) }
+    ensures last { IfOk result (λ _. HoldsDone table.now.frame root env hand.new.me) }
     ensures notes { KeepsNotes hand.old.me hand.new.me }
     ensures steps { GoesOn hand.old.me hand.new.me }
     ensures fault { IfErr result (StopsIn table.now hand.old.me hand.new.me root) }
@@ -54,7 +52,7 @@ fn keeps(table: &Table, hand: &mut Worker, root: Name, env: Env)
     requires table { IsHandOf table.now hand.old }
     requires root { IsRoot table.now root }
     requires calm { IsCalm hand.old.me }
-    requires last { HoldsLast table.now.frame root env 0 (done_at env 0) hand.old.me }
+    requires last { HoldsDone table.now.frame root env hand.old.me }
     ensures table { IsHandOf table.now hand.new }
     ensures calm { IsCalm hand.new.me }
     ensures notes { KeepsNotes hand.old.me hand.new.me }
@@ -79,7 +77,7 @@ fn collects(table: &Table, hand: &mut Worker, block: Block, root: Name) -> Resul
     ensures calm { IfOk result (λ _. IsCalm hand.new.me) }
     ensures answer { IfOk result (λ r. r.value ≡ r.number + table.now.frame.over.value) }
     ensures number { IfOk result (λ r. IsNotedNumber root hand.old.me r.number) }
-    ensures emptied { IfOk result (λ _. LeftAllEmpty table.now block.index block.generation hand.new ⟦<Item as Cargo>⟧) }
+    ensures emptied { IfOk result (λ _. LeftBlockEmpty table.now block hand.new ⟦<Item as Cargo>⟧) }
     ensures notes { IfErr result (λ _. KeepsNotes hand.old.me hand.new.me) }
     ensures steps { IfErr result (λ _. GoesOn hand.old.me hand.new.me) }
     ensures fault { IfErr result (StopsAt table.now hand.old.me hand.new.me root) }

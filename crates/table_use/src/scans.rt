@@ -5,7 +5,8 @@ ghost use Rattle.table_steps.specs.ScanSeals.{CanSealScan};
 ghost use Rattle.stop_calls.specs.Walks.{IsThrough};
 ghost use Rattle.table_use.specs.Uses.{KeepsReports, KeepsHoldings};
 ghost use Rattle.table_use.specs.Causes.{GoesOn};
-ghost use Rattle.table_use.specs.Scans.{Scans, Hears, IsFewer, other_scans};
+ghost use Rattle.table_use.specs.Scans.{Scans, Hears, IsFewer, KeepsOthers, other_scans};
+ghost use Rattle.table_use.specs.Counts.{RunsOne, RunsOut};
 
 use crate::node::{Table, Worker};
 use life_rules::Name;
@@ -24,7 +25,8 @@ pub fn runs_one(table: &Table, hand: &mut Worker, scan: &mut Scan) -> Option<Nam
     ensures none { IfNone result (CanSealScan table.now.frame hand.new.me.0 scan.new.source) }
     ensures through { IfNone result (IsThrough table.now scan.old hand.old hand.new scan.new) }
     ensures runs { hand.new.me.0.runs ≡ hand.old.me.0.runs }
-    ensures others { other_scans scan.new.source hand.new.me ≡ other_scans scan.new.source hand.old.me }
+    ensures others { KeepsOthers scan.new.source hand.old.me hand.new.me }
+    ensures ran { IfSome result (λ x. RunsOne table.now scan.old scan.new x hand.old hand.new) }
     ensures reports { KeepsReports hand.old.me hand.new.me }
     ensures holds { KeepsHoldings hand.old.me hand.new.me }
     ensures steps { GoesOn hand.old.me hand.new.me }
@@ -49,6 +51,7 @@ pub fn runs_out(table: &Table, hand: &mut Worker, mut scan: Scan) -> u32
     ensures reports { KeepsReports hand.old.me hand.new.me }
     ensures holds { KeepsHoldings hand.old.me hand.new.me }
     ensures steps { GoesOn hand.old.me hand.new.me }
+    ensures ran { RunsOut table.now result scan hand.old hand.new }
 {
     let mut count = 0u32;
     while let Some(_place) = runs_one(table, hand, &mut scan) {

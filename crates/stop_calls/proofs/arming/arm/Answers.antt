@@ -11,7 +11,7 @@ pub returns-else-look_step-clause-armed : goal.returns-else-look_step-clause-arm
 returns-else-look_step-clause-armed g c =
     let board = c.args.table.now in
     let is = c.if-look_step.false in
-    armed-so board c.args.node c.args.hand.now c.arm_step.new.hand c.requires.needs c.arm_step.ensures.armed Quiet
+    armed-so (record { can = c.requires.needs; armed = c.arm_step.ensures.armed }) Quiet
     c.in-Some.source c.look_step.new.hand (ap (λ t. source_for c.args.node (nearest t c.args.node.node)) (sym c.tree.ensures.tree)
     ∙ sym c.source_above.ensures.nearest ∙ c.in-Some.is)
     (subst (λ b. IsLookedAt board c.in-Some.source (Some c.args.node) b c.arm_step.new.hand c.look_step.new.hand) is

@@ -12,7 +12,7 @@ loop-preserved g c =
       next = tt;
       finite = tt;
       stays = stays-on c.args.table.now c.args.hand.now c.loop.hand c.try_withdraw.new.hand before.stays c.try_withdraw.ensures.stays;
-      may = again c.args.table.now c.args.node c.loop.hand c.try_withdraw.new.hand before.may tried;
+      may = again before.may tried;
       waited = (suc before.waited.0, (c.loop.hand, before.waited.1, tried));
     }
 

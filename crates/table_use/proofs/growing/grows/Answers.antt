@@ -1,4 +1,4 @@
-use Rattle.std.proofs.Common.{refl, ap}
+use Rattle.std.proofs.Common.{ap}
 use Rattle.node_tree.specs.Tree.{is_child}
 use Rattle.table_use.specs.Uses.{use_tree}
 use Rattle.table_use.proofs.Waiting.{owed-kid}

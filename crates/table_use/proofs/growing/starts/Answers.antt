@@ -1,4 +1,4 @@
-use Rattle.std.proofs.Common.{arith, inl, refl, ap, ◌∙◌, sym, subst}
+use Rattle.std.proofs.Common.{arith, inl, refl, ap, subst}
 use Rattle.life_rules.specs.declared.event.Name.{Name}
 use Rattle.table_use.specs.declared.cargo.Item.TheVariants.{Failed}
 use Rattle.table_use.specs.Uses.{HasEnded}

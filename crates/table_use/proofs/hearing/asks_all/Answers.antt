@@ -1,7 +1,7 @@
 use Rattle.std.proofs.Common.{sym, ◌∙◌, subst}
 use Rattle.table_use.specs.Asking.{AsksAll}
 use Rattle.table_use.proofs.Nesting.{keeps-on}
-use Rattle.table_use.proofs.Roots.{asks-others}
+use Rattle.table_use.proofs.ScopeScans.{asks-others}
 use Rattle.table_use.proofs.hearing.asks_all.Goals as goal
 
 pub runs_out-requires-clause-scans : goal.runs_out-requires-clause-scans
@@ -29,5 +29,6 @@ returns-clause-asked c =
       scan = c.in_ok-scan.scan;
       asked = c.asks.new.hand;
       requested = c.in_ok-scan.ensures.requested;
+      ran = c.runs_out.ensures.ran;
       went_on = c.runs_out.ensures.steps;
     }

@@ -1,6 +1,7 @@
 use Rattle.std.proofs.Common.{inl, inr, sym, ◌∙◌, subst}
 use Rattle.table_use.specs.Asking.{RemovesInside}
-use Rattle.table_use.proofs.Roots.{still-root, asks-others}
+use Rattle.table_use.proofs.Roots.{still-root}
+use Rattle.table_use.proofs.ScopeScans.{asks-others}
 use Rattle.table_use.proofs.hearing.removes_inside.Goals as goal
 
 pub removes_next-found-requires-clause-holds : goal.removes_next-found-requires-clause-holds
@@ -27,15 +28,19 @@ pub returns-in_err-found-clause-removed : goal.returns-in_err-found-clause-remov
 returns-in_err-found-clause-removed c =
     subst (λ r. RemovesInside c.args.table.now c.args.root r c.args.hand.now c.runs_out-left.new.hand)
     (sym c.from_residual-in_err-found.ensures)
-    (inr (record {
-      scan = c.in_ok-scan.scan;
-      asked = c.asks.new.hand;
-      requested = c.in_ok-scan.ensures.requested;
-      after = c.removes_next-found.new.scan;
-      left = c.removes_next-found.new.hand;
-      next = c.in_err-found.ensures.removed;
-      went_on = c.runs_out-left.ensures.steps;
-    }))
+    (inr (
+      c.runs_out-left.result,
+      record {
+        scan = c.in_ok-scan.scan;
+        asked = c.asks.new.hand;
+        requested = c.in_ok-scan.ensures.requested;
+        after = c.removes_next-found.new.scan;
+        left = c.removes_next-found.new.hand;
+        next = c.in_err-found.ensures.removed;
+        ran = c.runs_out-left.ensures.ran;
+        went_on = c.runs_out-left.ensures.steps;
+      },
+    ))
 
 pub returns-clause-removed : goal.returns-clause-removed
 returns-clause-removed c =
@@ -46,5 +51,6 @@ returns-clause-removed c =
       after = c.removes_next-found.new.scan;
       left = c.removes_next-found.new.hand;
       next = c.in_ok-found.ensures.removed;
+      ran = c.runs_out-left.ensures.ran;
       went_on = c.runs_out-left.ensures.steps;
     }

@@ -1,24 +1,40 @@
 use Rattle.std.proofs.Common.{refl, sym, subst}
 use Rattle.table_use.specs.Asking.{RemovesNext}
 use Rattle.table_use.proofs.Nesting.{found-keeps}
-use Rattle.table_use.proofs.Roots.{still-root, can-withdraw, scan-unmade, may-finish, inside-asks, scan-through}
+use Rattle.table_use.proofs.Roots.{still-root, can-withdraw}
+use Rattle.table_use.proofs.ScopeScans.{HasComeAlone, come, scan-unmade, may-finish, inside-asks, scan-through}
 use Rattle.table_use.proofs.hearing.removes_next.Goals as goal
 
 pub try_withdraw-inside-requires-clause-needs : goal.try_withdraw-inside-requires-clause-needs
 try_withdraw-inside-requires-clause-needs c κs =
     let board = c.args.table.now in
-    let f = c.in_ok-due.ensures.scanned in
+    let alone : HasComeAlone c.args.table.now = record {
+      before = c.args.scan.now;
+      after = c.next.new.self;
+      old = c.args.hand.now;
+      new = c.next.new.hand;
+      asks = c.requires.scan;
+      place = c.in_ok-due.due.place;
+      kept = c.next.ensures.source;
+      found = c.in_ok-due.ensures.scanned;
+    } in
     can-withdraw board c.args.root _ c.next.new.hand.me
-    (still-root board c.args.root c.args.hand.now.me c.next.new.hand.me _
-    (found-keeps board c.args.scan.now c.next.new.self c.args.hand.now c.next.new.hand c.in_ok-due.due.place f) c.requires.holds)
-    refl
-    (scan-unmade board c.args.scan.now c.next.new.self c.args.hand.now c.next.new.hand c.requires.scan c.in_ok-due.due.place c.next.ensures.source f c.args.root)
+    (still-root board c.args.root c.args.hand.now.me c.next.new.hand.me _ (found-keeps (come alone)) c.requires.holds)
+    refl (scan-unmade alone c.args.root)
 
 pub finish-requires-clause-needs : goal.finish-requires-clause-needs
 finish-requires-clause-needs c κs =
-    may-finish c.args.table.now c.args.scan.now c.next.new.self c.args.hand.now c.next.new.hand c.requires.scan c.in_ok-due.due.place
-    c.next.ensures.source c.in_ok-due.ensures.scanned c.args.root c.try_withdraw-inside.new.hand c.try_withdraw-inside.result
-    c.try_withdraw-inside.ensures.tried
+    let alone : HasComeAlone c.args.table.now = record {
+      before = c.args.scan.now;
+      after = c.next.new.self;
+      old = c.args.hand.now;
+      new = c.next.new.hand;
+      asks = c.requires.scan;
+      place = c.in_ok-due.due.place;
+      kept = c.next.ensures.source;
+      found = c.in_ok-due.ensures.scanned;
+    } in
+    may-finish alone c.args.root c.try_withdraw-inside.new.hand c.try_withdraw-inside.result c.try_withdraw-inside.ensures.tried
 
 pub returns-in_err-due-clause-scan : goal.returns-in_err-due-clause-scan
 returns-in_err-due-clause-scan c =
@@ -27,8 +43,17 @@ returns-in_err-due-clause-scan c =
 
 pub returns-clause-scan : goal.returns-clause-scan
 returns-clause-scan c =
-    inside-asks c.args.table.now c.args.scan.now c.next.new.self c.args.hand.now c.next.new.hand c.requires.scan c.in_ok-due.due.place
-    c.next.ensures.source c.in_ok-due.ensures.scanned c.args.root c.try_withdraw-inside.new.hand c.finish.new.hand c.finish.ensures.over
+    let alone : HasComeAlone c.args.table.now = record {
+      before = c.args.scan.now;
+      after = c.next.new.self;
+      old = c.args.hand.now;
+      new = c.next.new.hand;
+      asks = c.requires.scan;
+      place = c.in_ok-due.due.place;
+      kept = c.next.ensures.source;
+      found = c.in_ok-due.ensures.scanned;
+    } in
+    inside-asks alone c.args.root c.try_withdraw-inside.new.hand c.finish.new.hand c.finish.ensures.over
     c.try_withdraw-inside.result c.try_withdraw-inside.ensures.tried
 
 pub next-requires-clause-stands : goal.next-requires-clause-stands

@@ -1,7 +1,7 @@
 use Rattle.std.proofs.Common.{ap, ◌∙◌}
 use Rattle.std.specs.Prelude.{is_some}
 use Rattle.op_slot.proofs.Leaving.{rested-calm}
-use Rattle.table_use.proofs.Ending.{leaf-home, leaf-item, leaf-is-done, leaf-value, branch-home, own-home, keeps-puts, keeps-calm, keeps-rests}
+use Rattle.table_use.proofs.Ending.{HasLeaf, leaf-home, leaf-item, leaf-is-done, leaf-value, branch-home, own-home, keeps-puts, keeps-calm, keeps-rests}
 use Rattle.table_use.proofs.Stopping.{left-rests}
 use Rattle.table_use.proofs.Noted.{swapped-notes, rested-notes}
 use Rattle.table_use.proofs.Steps.{on, swapped-on, rests-on}
@@ -9,57 +9,87 @@ use Rattle.table_use.proofs.life.keeps.Goals as goal
 
 pub take_home-requires-clause-home : goal.take_home-requires-clause-home
 take_home-requires-clause-home c κs =
-    leaf-home c.args.table.now c.args.root c.requires.root c.args.env c.args.hand.now.me c.args.hand.now.me c.requires.last c.beside.result c.beside.ensures
+    let has : HasLeaf c.args.table.now c.args.root c.args.env c.args.hand.now.me = record {
+      is = c.requires.root;
+      last = c.requires.last;
+      leaf = c.beside.result;
+      leaf_is = c.beside.ensures;
+    } in
+    leaf-home has
 
 pub unwrap-requires : goal.unwrap-requires
 unwrap-requires c =
-    ap is_some
-    (leaf-item c.args.table.now c.args.root c.requires.root c.args.env c.args.hand.now.me c.take_home.new.hand.me c.requires.last c.beside.result c.beside.ensures
-    c.take_home.result c.take_home.ensures.taken)
+    let has : HasLeaf c.args.table.now c.args.root c.args.env c.args.hand.now.me = record {
+      is = c.requires.root;
+      last = c.requires.last;
+      leaf = c.beside.result;
+      leaf_is = c.beside.ensures;
+    } in
+    ap is_some (leaf-item has c.take_home.ensures.taken)
 
 pub delivered-value-requires : goal.delivered-value-requires
 delivered-value-requires c =
-    leaf-is-done c.args.table.now c.args.root c.requires.root c.args.env c.args.hand.now.me c.take_home.new.hand.me c.requires.last c.beside.result c.beside.ensures
-    c.take_home.result c.take_home.ensures.taken c.unwrap.result c.unwrap.ensures
+    let has : HasLeaf c.args.table.now c.args.root c.args.env c.args.hand.now.me = record {
+      is = c.requires.root;
+      last = c.requires.last;
+      leaf = c.beside.result;
+      leaf_is = c.beside.ensures;
+    } in
+    leaf-is-done has c.take_home.ensures.taken c.unwrap.result c.unwrap.ensures
 
 pub take_home-branch-requires-clause-home : goal.take_home-branch-requires-clause-home
 take_home-branch-requires-clause-home c κs =
-    branch-home c.args.table.now c.args.root c.requires.root c.args.env c.args.hand.now.me c.take_home.new.hand.me c.requires.last c.beside.result c.beside.ensures
-    c.take_home.result c.take_home.ensures.taken c.beside-2.result c.beside-2.ensures
+    let has : HasLeaf c.args.table.now c.args.root c.args.env c.args.hand.now.me = record {
+      is = c.requires.root;
+      last = c.requires.last;
+      leaf = c.beside.result;
+      leaf_is = c.beside.ensures;
+    } in
+    branch-home has c.take_home.ensures.taken c.beside-2.ensures
 
 pub take_home-own-requires-clause-home : goal.take_home-own-requires-clause-home
 take_home-own-requires-clause-home c κs =
-    own-home c.args.table.now c.args.root c.requires.root c.args.env c.args.hand.now.me c.take_home.new.hand.me c.requires.last c.beside.result c.beside.ensures
-    c.take_home.result c.take_home.ensures.taken c.beside-2.result c.beside-2.ensures
-    c.take_home-branch.new.hand.me c.take_home-branch.result c.take_home-branch.ensures.taken
+    let has : HasLeaf c.args.table.now c.args.root c.args.env c.args.hand.now.me = record {
+      is = c.requires.root;
+      last = c.requires.last;
+      leaf = c.beside.result;
+      leaf_is = c.beside.ensures;
+    } in
+    own-home has c.take_home.ensures.taken c.beside-2.ensures c.take_home-branch.ensures.taken
 
 pub put_home-requires-clause-needs : goal.put_home-requires-clause-needs
 put_home-requires-clause-needs c κs =
-    keeps-puts c.args.table.now c.args.root c.requires.root c.args.env c.args.hand.now.me c.take_home.new.hand.me c.requires.last c.beside.result c.beside.ensures
-    c.take_home.result c.take_home.ensures.taken c.beside-2.result c.beside-2.ensures
-    c.take_home-branch.new.hand.me c.take_home-branch.result c.take_home-branch.ensures.taken
-    c.take_home-own.new.hand.me c.take_home-own.result c.take_home-own.ensures.taken
-    c.delivered-value.result (c.delivered-value.ensures ∙ leaf-value c.args.table.now c.args.root c.requires.root c.args.env c.args.hand.now.me c.take_home.new.hand.me c.requires.last c.beside.result c.beside.ensures
-    c.take_home.result c.take_home.ensures.taken c.unwrap.result c.unwrap.ensures)
+    let has : HasLeaf c.args.table.now c.args.root c.args.env c.args.hand.now.me = record {
+      is = c.requires.root;
+      last = c.requires.last;
+      leaf = c.beside.result;
+      leaf_is = c.beside.ensures;
+    } in
+    keeps-puts has c.take_home.ensures.taken c.beside-2.ensures c.take_home-branch.ensures.taken c.take_home-own.ensures.taken
+    c.delivered-value.result (c.delivered-value.ensures ∙ leaf-value has c.take_home.ensures.taken c.unwrap.result c.unwrap.ensures)
 
 pub rest-requires-clause-needs : goal.rest-requires-clause-needs
 rest-requires-clause-needs c κs =
-    keeps-rests c.args.table.now c.args.root c.requires.root c.args.env c.args.hand.now.me c.take_home.new.hand.me c.requires.last c.beside.result c.beside.ensures
-    c.take_home.result c.take_home.ensures.taken c.beside-2.result c.beside-2.ensures
-    c.take_home-branch.new.hand.me c.take_home-branch.result c.take_home-branch.ensures.taken
-    c.take_home-own.new.hand.me c.take_home-own.result c.take_home-own.ensures.taken
-    c.put_home.new.hand.me c.delivered-value.result c.put_home.ensures.put c.requires.calm
-    (c.delivered-value.ensures ∙ leaf-value c.args.table.now c.args.root c.requires.root c.args.env c.args.hand.now.me c.take_home.new.hand.me c.requires.last c.beside.result c.beside.ensures
-    c.take_home.result c.take_home.ensures.taken c.unwrap.result c.unwrap.ensures)
+    let has : HasLeaf c.args.table.now c.args.root c.args.env c.args.hand.now.me = record {
+      is = c.requires.root;
+      last = c.requires.last;
+      leaf = c.beside.result;
+      leaf_is = c.beside.ensures;
+    } in
+    keeps-rests has c.take_home.ensures.taken c.beside-2.ensures c.take_home-branch.ensures.taken c.take_home-own.ensures.taken
+    c.put_home.ensures.put c.requires.calm (c.delivered-value.ensures ∙ leaf-value has c.take_home.ensures.taken c.unwrap.result c.unwrap.ensures)
 
 pub returns-clause-calm : goal.returns-clause-calm
 returns-clause-calm c =
+    let has : HasLeaf c.args.table.now c.args.root c.args.env c.args.hand.now.me = record {
+      is = c.requires.root;
+      last = c.requires.last;
+      leaf = c.beside.result;
+      leaf_is = c.beside.ensures;
+    } in
     rested-calm c.args.table.now.frame c.args.root c.put_home.new.hand.me c.rest.new.hand.me _ _ _ c.rest.ensures.rests.did
-    (keeps-calm c.args.table.now c.args.root c.requires.root c.args.env c.args.hand.now.me c.take_home.new.hand.me c.requires.last c.beside.result c.beside.ensures
-    c.take_home.result c.take_home.ensures.taken c.beside-2.result c.beside-2.ensures
-    c.take_home-branch.new.hand.me c.take_home-branch.result c.take_home-branch.ensures.taken
-    c.take_home-own.new.hand.me c.take_home-own.result c.take_home-own.ensures.taken
-    c.put_home.new.hand.me c.delivered-value.result c.put_home.ensures.put c.requires.calm)
+    (keeps-calm has c.take_home.ensures.taken c.beside-2.ensures c.take_home-branch.ensures.taken c.take_home-own.ensures.taken
+    c.put_home.ensures.put c.requires.calm)
 
 pub returns-clause-left : goal.returns-clause-left
 returns-clause-left c =

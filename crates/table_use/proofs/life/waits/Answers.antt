@@ -1,4 +1,4 @@
-use Rattle.std.proofs.Common.{arith, refl, ap, ◌∙◌, sym, subst}
+use Rattle.std.proofs.Common.{arith, refl, ap, ◌∙◌, subst}
 use Rattle.life_rules.specs.declared.event.Name.{Name}
 use Rattle.node_tree.specs.Tree.{is_child}
 use Rattle.table_use.specs.Starts.{done_at}
@@ -7,7 +7,7 @@ use Rattle.table_use.specs.declared.node.Fault.TheVariants.{Order}
 use Rattle.table_use.proofs.Nodes.{kid-of, leaf-low}
 use Rattle.table_use.proofs.Noted.{noted-still, reported-notes}
 use Rattle.table_use.proofs.Waiting.{owed-kid}
-use Rattle.table_use.proofs.Ending.{last-reports, last-holds, last-quiet}
+use Rattle.table_use.proofs.Ending.{OwesLast, last-reports, last-holds, last-quiet}
 use Rattle.table_use.proofs.Steps.{on, reported-on}
 use Rattle.table_use.proofs.Reasons.{passed, node-at, node-on}
 use Rattle.table_use.proofs.Stopping.{others-stops, others-calm, stops-within, stops-here, node-stops}
@@ -23,32 +23,42 @@ opens-requires-clause-owes c =
 
 pub report-requires-clause-needs : goal.report-requires-clause-needs
 report-requires-clause-needs c κs =
-    let ended = c.in_ok-ends.ensures.ended.has in
-    last-reports c.args.table.now c.args.root c.requires.root 0
-    (kid-of c.args.table.now c.args.root c.requires.root.is_node 3 0 c.requires.root.three refl) c.beside-leaf.result c.beside-leaf.ensures (done_at c.args.env 0)
-    c.ends.new.hand.me c.ends.new.hand.me (subst (λ (x : Name). HasEnded x (done_at c.args.env 0) c.ends.new.hand.me) c.beside-leaf.ensures ended)
-    (c.ends.ensures.plays.scans ∙ c.opens.ensures.still.plays.scans ∙ c.awaits_one.ensures.still.plays.scans ∙ c.requires.calm)
+    let owes : OwesLast c.args.table.now c.args.root 0 (done_at c.args.env 0) c.ends.new.hand.me = record {
+      is = c.requires.root;
+      child = kid-of c.args.table.now c.args.root c.requires.root.is_node 3 0 c.requires.root.three refl;
+      name = c.beside-leaf.result;
+      name_is = c.beside-leaf.ensures;
+      done = subst (λ (x : Name). HasEnded x (done_at c.args.env 0) c.ends.new.hand.me) c.beside-leaf.ensures c.in_ok-ends.ensures.ended.has;
+      calm = c.ends.ensures.plays.scans ∙ c.opens.ensures.still.plays.scans ∙ c.awaits_one.ensures.still.plays.scans ∙ c.requires.calm;
+    } in
+    last-reports owes
 
 pub returns-in-Last-clause-last : goal.returns-in-Last-clause-last
 returns-in-Last-clause-last c =
-    let ended = c.in_ok-ends.ensures.ended.has in
-    last-holds c.args.table.now c.args.root c.requires.root 0
-    (kid-of c.args.table.now c.args.root c.requires.root.is_node 3 0 c.requires.root.three refl) c.beside-leaf.result c.beside-leaf.ensures (done_at c.args.env 0)
-    c.ends.new.hand.me c.report.new.hand.me (subst (λ (x : Name). HasEnded x (done_at c.args.env 0) c.ends.new.hand.me) c.beside-leaf.ensures ended)
-    (c.ends.ensures.plays.scans ∙ c.opens.ensures.still.plays.scans ∙ c.awaits_one.ensures.still.plays.scans ∙ c.requires.calm)
-    c.in-Last.ensures.reported c.args.env c.requires.holds.is
+    let owes : OwesLast c.args.table.now c.args.root 0 (done_at c.args.env 0) c.ends.new.hand.me = record {
+      is = c.requires.root;
+      child = kid-of c.args.table.now c.args.root c.requires.root.is_node 3 0 c.requires.root.three refl;
+      name = c.beside-leaf.result;
+      name_is = c.beside-leaf.ensures;
+      done = subst (λ (x : Name). HasEnded x (done_at c.args.env 0) c.ends.new.hand.me) c.beside-leaf.ensures c.in_ok-ends.ensures.ended.has;
+      calm = c.ends.ensures.plays.scans ∙ c.opens.ensures.still.plays.scans ∙ c.awaits_one.ensures.still.plays.scans ∙ c.requires.calm;
+    } in
+    last-holds owes c.report.new.hand.me c.in-Last.ensures.reported c.args.env c.requires.holds.is
     (noted-still c.args.root c.args.hand.now.me c.ends.new.hand.me c.args.env
     (c.ends.ensures.notes ∙ c.opens.ensures.notes (leaf-low c.args.root c.beside-leaf.result c.beside-leaf.ensures) ∙ c.awaits_one.ensures.notes)
     c.requires.noted)
 
 pub returns-in-Last-clause-calm : goal.returns-in-Last-clause-calm
 returns-in-Last-clause-calm c =
-    let ended = c.in_ok-ends.ensures.ended.has in
-    last-quiet c.args.table.now c.args.root c.requires.root 0
-    (kid-of c.args.table.now c.args.root c.requires.root.is_node 3 0 c.requires.root.three refl) c.beside-leaf.result c.beside-leaf.ensures (done_at c.args.env 0)
-    c.ends.new.hand.me c.report.new.hand.me (subst (λ (x : Name). HasEnded x (done_at c.args.env 0) c.ends.new.hand.me) c.beside-leaf.ensures ended)
-    (c.ends.ensures.plays.scans ∙ c.opens.ensures.still.plays.scans ∙ c.awaits_one.ensures.still.plays.scans ∙ c.requires.calm)
-    c.in-Last.ensures.reported
+    let owes : OwesLast c.args.table.now c.args.root 0 (done_at c.args.env 0) c.ends.new.hand.me = record {
+      is = c.requires.root;
+      child = kid-of c.args.table.now c.args.root c.requires.root.is_node 3 0 c.requires.root.three refl;
+      name = c.beside-leaf.result;
+      name_is = c.beside-leaf.ensures;
+      done = subst (λ (x : Name). HasEnded x (done_at c.args.env 0) c.ends.new.hand.me) c.beside-leaf.ensures c.in_ok-ends.ensures.ended.has;
+      calm = c.ends.ensures.plays.scans ∙ c.opens.ensures.still.plays.scans ∙ c.awaits_one.ensures.still.plays.scans ∙ c.requires.calm;
+    } in
+    last-quiet owes c.report.new.hand.me c.in-Last.ensures.reported
 
 pub returns-in-Others-clause-calm : goal.returns-in-Others-clause-calm
 returns-in-Others-clause-calm c =

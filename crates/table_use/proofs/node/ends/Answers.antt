@@ -1,6 +1,6 @@
 use Rattle.std.proofs.Common.{◌∙◌}
 use Rattle.table_use.specs.declared.node.Fault.TheVariants.{Registered}
-use Rattle.table_use.proofs.Completing.{can-fill, filled-holds, ready-holds, can-finish, just-ended, ended-beside}
+use Rattle.table_use.proofs.Completing.{EmptiesHome, can-fill, filled-holds, ready-holds, can-finish, just-ended, ended-beside}
 use Rattle.table_use.proofs.Nodes.{node-inner}
 use Rattle.table_use.proofs.Noted.{swapped-notes, phased-notes, finished-notes}
 use Rattle.table_use.proofs.Steps.{on, swapped-on, phase-on, finished-on}
@@ -10,31 +10,56 @@ use Rattle.table_use.proofs.node.ends.Goals as goal
 
 pub put_home-requires-clause-needs : goal.put_home-requires-clause-needs
 put_home-requires-clause-needs c κs =
-    can-fill c.args.table.now c.args.x c.requires.node c.args.item c.args.hand.now.me c.take_home-start.new.hand.me c.take_home-start.new.hand.me
-    c.requires.holds c.take_home-start.result c.take_home-start.ensures.taken c.requires.fits
+    let empties : EmptiesHome c.args.table.now c.args.x c.args.item c.args.hand.now.me c.take_home-start.new.hand.me = record {
+      is = c.requires.node;
+      has = c.requires.holds;
+      out = c.take_home-start.result;
+      took = c.take_home-start.ensures.taken;
+    } in
+    can-fill empties c.requires.fits
 
 pub phase_of-requires-clause-holds : goal.phase_of-requires-clause-holds
 phase_of-requires-clause-holds c κs =
-    filled-holds c.args.table.now c.args.x c.requires.node c.args.item c.args.hand.now.me c.take_home-start.new.hand.me c.put_home.new.hand.me
-    c.requires.holds c.take_home-start.result c.take_home-start.ensures.taken c.put_home.ensures.put
+    let empties : EmptiesHome c.args.table.now c.args.x c.args.item c.args.hand.now.me c.take_home-start.new.hand.me = record {
+      is = c.requires.node;
+      has = c.requires.holds;
+      out = c.take_home-start.result;
+      took = c.take_home-start.ensures.taken;
+    } in
+    filled-holds empties c.put_home.ensures.put
 
 pub finish-requires-clause-needs : goal.finish-requires-clause-needs
 finish-requires-clause-needs c κs =
-    can-finish c.args.table.now c.args.x c.requires.node c.args.item c.args.hand.now.me c.take_home-start.new.hand.me c.put_home.new.hand.me
-    c.requires.holds c.take_home-start.result c.take_home-start.ensures.taken c.put_home.ensures.put c.phase_of.new.hand.me c.phase_of.result
-    c.phase_of.ensures.phase c.requires.idle (c.is_registered.ensures.never c.if-is_registered.false) c.requires.ends c.requires.fits
+    let empties : EmptiesHome c.args.table.now c.args.x c.args.item c.args.hand.now.me c.take_home-start.new.hand.me = record {
+      is = c.requires.node;
+      has = c.requires.holds;
+      out = c.take_home-start.result;
+      took = c.take_home-start.ensures.taken;
+    } in
+    can-finish empties c.put_home.ensures.put c.phase_of.new.hand.me c.phase_of.result c.phase_of.ensures.phase
+    c.requires.idle (c.is_registered.ensures.never c.if-is_registered.false) c.requires.ends c.requires.fits
 
 pub returns-clause-ended : goal.returns-clause-ended
 returns-clause-ended c =
-    just-ended c.args.table.now c.args.x c.requires.node c.args.item c.args.hand.now.me c.take_home-start.new.hand.me c.put_home.new.hand.me
-    c.requires.holds c.take_home-start.result c.take_home-start.ensures.taken c.put_home.ensures.put c.phase_of.new.hand.me c.phase_of.result
-    c.phase_of.ensures.phase c.requires.inner c.finish.new.hand.me c.finish.ensures.finished
+    let empties : EmptiesHome c.args.table.now c.args.x c.args.item c.args.hand.now.me c.take_home-start.new.hand.me = record {
+      is = c.requires.node;
+      has = c.requires.holds;
+      out = c.take_home-start.result;
+      took = c.take_home-start.ensures.taken;
+    } in
+    just-ended empties c.put_home.ensures.put c.phase_of.new.hand.me c.phase_of.result c.phase_of.ensures.phase
+    c.requires.inner c.finish.new.hand.me c.finish.ensures.finished
 
 pub returns-clause-beside : goal.returns-clause-beside
 returns-clause-beside c =
-    ended-beside c.args.table.now c.args.x c.requires.node c.args.item c.args.hand.now.me c.take_home-start.new.hand.me c.put_home.new.hand.me
-    c.requires.holds c.take_home-start.result c.take_home-start.ensures.taken c.put_home.ensures.put c.phase_of.new.hand.me c.phase_of.result
-    c.phase_of.ensures.phase c.requires.inner c.finish.new.hand.me c.finish.ensures.finished
+    let empties : EmptiesHome c.args.table.now c.args.x c.args.item c.args.hand.now.me c.take_home-start.new.hand.me = record {
+      is = c.requires.node;
+      has = c.requires.holds;
+      out = c.take_home-start.result;
+      took = c.take_home-start.ensures.taken;
+    } in
+    ended-beside empties c.put_home.ensures.put c.phase_of.new.hand.me c.phase_of.result c.phase_of.ensures.phase
+    c.requires.inner c.finish.new.hand.me c.finish.ensures.finished
 
 pub returns-clause-notes : goal.returns-clause-notes
 returns-clause-notes c =
@@ -63,6 +88,12 @@ returns-clause-steps c =
 
 pub returns-then-is_registered-clause-fault : goal.returns-then-is_registered-clause-fault
 returns-then-is_registered-clause-fault c =
+    let empties : EmptiesHome c.args.table.now c.args.x c.args.item c.args.hand.now.me c.take_home-start.new.hand.me = record {
+      is = c.requires.node;
+      has = c.requires.holds;
+      out = c.take_home-start.result;
+      took = c.take_home-start.ensures.taken;
+    } in
     let board = c.args.table.now in
     node-within board c.args.hand.now.me c.put_home.new.hand.me c.phase_of.new.hand.me
     (on c.args.hand.now.me c.take_home-start.new.hand.me c.put_home.new.hand.me
@@ -72,6 +103,4 @@ returns-then-is_registered-clause-fault c =
     (registered-here board c.put_home.new.hand.me c.phase_of.new.hand.me c.args.x c.requires.inner
     (registered-cause board c.args.x c.put_home.new.hand.me c.phase_of.new.hand.me c.phase_of.result
     (c.is_registered.ensures.once c.if-is_registered.true) c.phase_of.ensures.phase
-    (ready-holds board c.args.x c.requires.node c.args.item c.args.hand.now.me c.take_home-start.new.hand.me c.put_home.new.hand.me
-    c.requires.holds c.take_home-start.result c.take_home-start.ensures.taken c.put_home.ensures.put c.phase_of.new.hand.me c.phase_of.result
-    c.phase_of.ensures.phase)))
+    (ready-holds empties c.put_home.ensures.put c.phase_of.new.hand.me c.phase_of.result c.phase_of.ensures.phase)))

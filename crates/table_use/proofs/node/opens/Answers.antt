@@ -1,4 +1,4 @@
-use Rattle.table_use.proofs.Opening.{start-fits, start-puts, start-holds, start-beside, start-number, start-notes, start-noted}
+use Rattle.table_use.proofs.Opening.{Opens, start-fits, start-puts, start-holds, start-beside, start-number, start-notes, start-noted}
 use Rattle.table_use.proofs.Steps.{on, swapped-on, begun-on}
 use Rattle.table_use.proofs.node.opens.Goals as goal
 
@@ -12,23 +12,43 @@ begin-requires-clause-needs c κs =
 
 pub returns-clause-holds : goal.returns-clause-holds
 returns-clause-holds c =
-    start-holds c.args.table.now c.args.x c.requires.node c.args.env c.args.hand.now.me c.put_home.new.hand.me c.begin.new.hand.me c.requires.owes
-    c.put_home.ensures.put c.begin.ensures.begun
+    let opens : Opens c.args.table.now c.args.x c.args.env c.args.hand.now.me c.put_home.new.hand.me c.begin.new.hand.me = record {
+      is = c.requires.node;
+      owes = c.requires.owes;
+      put = c.put_home.ensures.put;
+      began = c.begin.ensures.begun;
+    } in
+    start-holds opens
 
 pub returns-clause-beside : goal.returns-clause-beside
 returns-clause-beside c =
-    start-beside c.args.table.now c.args.x c.requires.node c.args.env c.args.hand.now.me c.put_home.new.hand.me c.begin.new.hand.me c.requires.owes
-    c.put_home.ensures.put c.begin.ensures.begun
+    let opens : Opens c.args.table.now c.args.x c.args.env c.args.hand.now.me c.put_home.new.hand.me c.begin.new.hand.me = record {
+      is = c.requires.node;
+      owes = c.requires.owes;
+      put = c.put_home.ensures.put;
+      began = c.begin.ensures.begun;
+    } in
+    start-beside opens
 
 pub returns-clause-notes : goal.returns-clause-notes
 returns-clause-notes c =
-    start-notes c.args.table.now c.args.x c.requires.node c.args.env c.args.hand.now.me c.put_home.new.hand.me c.begin.new.hand.me c.requires.owes
-    c.put_home.ensures.put c.begin.ensures.begun
+    let opens : Opens c.args.table.now c.args.x c.args.env c.args.hand.now.me c.put_home.new.hand.me c.begin.new.hand.me = record {
+      is = c.requires.node;
+      owes = c.requires.owes;
+      put = c.put_home.ensures.put;
+      began = c.begin.ensures.begun;
+    } in
+    start-notes opens
 
 pub returns-clause-noted : goal.returns-clause-noted
 returns-clause-noted c =
-    start-noted c.args.table.now c.args.x c.requires.node c.args.env c.args.hand.now.me c.put_home.new.hand.me c.begin.new.hand.me c.requires.owes
-    c.put_home.ensures.put c.begin.ensures.begun
+    let opens : Opens c.args.table.now c.args.x c.args.env c.args.hand.now.me c.put_home.new.hand.me c.begin.new.hand.me = record {
+      is = c.requires.node;
+      owes = c.requires.owes;
+      put = c.put_home.ensures.put;
+      began = c.begin.ensures.begun;
+    } in
+    start-noted opens
 
 pub returns-clause-steps : goal.returns-clause-steps
 returns-clause-steps c =
@@ -38,5 +58,10 @@ returns-clause-steps c =
 
 pub returns-clause-number : goal.returns-clause-number
 returns-clause-number c =
-    start-number c.args.table.now c.args.x c.requires.node c.args.env c.args.hand.now.me c.put_home.new.hand.me c.begin.new.hand.me c.requires.owes
-    c.put_home.ensures.put c.begin.ensures.begun
+    let opens : Opens c.args.table.now c.args.x c.args.env c.args.hand.now.me c.put_home.new.hand.me c.begin.new.hand.me = record {
+      is = c.requires.node;
+      owes = c.requires.owes;
+      put = c.put_home.ensures.put;
+      began = c.begin.ensures.begun;
+    } in
+    start-number opens

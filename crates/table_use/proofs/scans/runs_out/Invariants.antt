@@ -1,8 +1,9 @@
-use Rattle.std.specs.Prelude.{◌≡◌}
+use Rattle.std.specs.Prelude.{◌≡◌, ℕ, ◌-◌, ◌^◌, min}
 use Rattle.table_steps.specs.Views.{IsHandOf}
 use Rattle.stop_calls.specs.Nestings.{Scans, places_left}
 use Rattle.table_use.specs.Uses.{KeepsReports, KeepsHoldings}
 use Rattle.table_use.specs.Scans.{other_scans}
+use Rattle.table_use.specs.Counts.{RunsSome}
 use Rattle.table_use.specs.Causes.{GoesOn}
 use Rattle.table_use.proofs.scans.runs_out.Given as goal
 
@@ -16,6 +17,7 @@ invariant-loop-place l = record {
   reports : KeepsReports l.fn.hand.me l.hand.me;
   holds : KeepsHoldings l.fn.hand.me l.hand.me;
   steps : GoesOn l.fn.hand.me l.hand.me;
+  ran : (ran : ℕ) × (l.count ≡ min ran (2 ^ 32 - 1)) × RunsSome l.table ran l.fn.scan l.scan l.fn.hand l.hand;
 }
 
 abbrev pub decreases-loop-place : goal.decreases-loop-place

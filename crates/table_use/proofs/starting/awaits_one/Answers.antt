@@ -1,9 +1,9 @@
 use Rattle.std.proofs.Common.{arith, ap, ◌∙◌}
 use Rattle.life_rules.specs.declared.event.Name.{Name}
 use Rattle.table_use.specs.declared.node.Fault.TheVariants.{Begun}
-use Rattle.table_use.proofs.Nodes.{named-kid, use-low-kid}
+use Rattle.table_use.proofs.Nodes.{use-low-kid}
 use Rattle.table_use.proofs.Noted.{read-notes, awaited-notes}
-use Rattle.table_use.proofs.Waiting.{first-held, one-waits, one-owes}
+use Rattle.table_use.proofs.Waiting.{ReadIdle, first-held, one-waits, one-owes}
 use Rattle.table_use.proofs.Steps.{on, child-on, awaits-on}
 use Rattle.table_use.proofs.Readings.{begun-cause}
 use Rattle.table_use.proofs.Reasons.{node-at}
@@ -16,14 +16,33 @@ has_begun-requires-clause-holds c κs =
 
 pub await_children-requires-clause-needs : goal.await_children-requires-clause-needs
 await_children-requires-clause-needs c κs =
-    one-waits c.args.table.now c.args.x c.requires.node c.args.env c.args.node c.requires.child c.args.hand.now.me c.has_begun.new.hand.me c.has_begun.new.hand.me
-    c.requires.holds c.requires.idle c.beside-child.result c.beside-child.ensures c.has_begun.result c.if-has_begun.false c.has_begun.ensures.begun
+    let idle : ReadIdle c.args.table.now c.args.x c.args.env c.args.node c.args.hand.now.me c.has_begun.new.hand.me = record {
+      is = c.requires.node;
+      child = c.requires.child;
+      holds = c.requires.holds;
+      calm = c.requires.idle;
+      name = c.beside-child.result;
+      name_is = c.beside-child.ensures;
+      answer = c.has_begun.result;
+      no = c.if-has_begun.false;
+      read = c.has_begun.ensures.begun;
+    } in
+    one-waits idle
 
 pub returns-clause-owes : goal.returns-clause-owes
 returns-clause-owes c =
-    one-owes c.args.table.now c.args.x c.requires.node c.args.env c.args.node c.requires.child c.args.hand.now.me c.has_begun.new.hand.me c.await_children.new.hand.me
-    c.requires.holds c.requires.idle c.beside-child.result c.beside-child.ensures c.has_begun.result c.if-has_begun.false c.has_begun.ensures.begun
-    _ _ _ c.await_children.ensures.awaits.did
+    let idle : ReadIdle c.args.table.now c.args.x c.args.env c.args.node c.args.hand.now.me c.has_begun.new.hand.me = record {
+      is = c.requires.node;
+      child = c.requires.child;
+      holds = c.requires.holds;
+      calm = c.requires.idle;
+      name = c.beside-child.result;
+      name_is = c.beside-child.ensures;
+      answer = c.has_begun.result;
+      no = c.if-has_begun.false;
+      read = c.has_begun.ensures.begun;
+    } in
+    one-owes idle c.await_children.new.hand.me _ _ _ c.await_children.ensures.awaits.did
 
 pub returns-clause-steps : goal.returns-clause-steps
 returns-clause-steps c =
