@@ -189,7 +189,7 @@ module _ (board : Board Blueprint) (x : Name) (start : List Entry) (node : Node)
         keep = from-keeps board x start m parcel
             (emptying-less board x start m 1 (least_of (Rest start (Some parcel))) (λ _. None)
             (few-begun.rest start node at.node_is (adaptor-awaits node is) (Some parcel)) pass.ready) pass.from;
-        rests = λ small last. pass.from.small small;
+        rests = record { rest = tt; kept = λ small last. pass.from.small small };
       }
 
   -- it may complete with the error that it names, or rest so

@@ -4,3 +4,4 @@ pub mod Places
 pub mod Adapting
 pub mod Leafing
 pub mod Receiving
+pub mod Stepping

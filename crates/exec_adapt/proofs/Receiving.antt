@@ -169,7 +169,7 @@ module _ (board : Board Blueprint) (plan : Blueprint) (x : Name) (root : ℕ) (o
           keep = from-keeps board x env m parcel
               (emptying-less board x env m 1 (least_of (Rest env (Some parcel))) (λ _. None)
               (few-begun.top_rest env own-top (Some parcel)) pass.ready) pass.from;
-          rests = λ small last. pass.from.small small;
+          rests = record { rest = tt; kept = λ small last. pass.from.small small };
         }
 
     -- else the root can be started

@@ -2,6 +2,7 @@
 ghost use Rattle.std.specs.Prelude.{◌≡◌, ◌≤◌, ◌-◌, length};
 ghost use Rattle.std.specs.Thread.{IsSync};
 ghost use Rattle.plan_kinds.specs.Runnable.{IsRunnable};
+ghost use Rattle.table_steps.specs.Readings.{KnowsIdle};
 ghost use Rattle.table_steps.specs.Views.{IsHandOf, Stays};
 ghost use Rattle.exec_start.specs.Starts.{IsStart};
 ghost use Rattle.exec_recv.specs.Over.{IsOver};
@@ -9,7 +10,7 @@ ghost use Rattle.exec_recv.specs.Beginnings.{AllCanStart};
 ghost use Rattle.exec_recv.specs.Steppable.{CanStep};
 ghost use Rattle.exec_recv.specs.Nexts.{IsStepped};
 ghost use Rattle.node_steps.specs.Midway.{KeepsReady};
-ghost use Rattle.node_steps.specs.Starts.{KnowsIdle, MayRun};
+ghost use Rattle.node_steps.specs.Starts.{MayRun};
 ghost use Rattle.exec_adapt.specs.Kinds.{SpawnsNone};
 
 use crate::opening::at_hand;

@@ -1,6 +1,6 @@
 -- A hand that came to hold a node may step it: by the last report of the node's children, by a take, or by
 -- the node's begin.
-use Rattle.std.proofs.Common.{◌≡◌, ◌⊎◌, inl, inr, ℕ, ◌==◌, true, false, List, [], ◌∷◌, refl, sym, ap, ◌∙◌, subst}
+use Rattle.std.proofs.Common.{◌≡◌, inl, inr, ℕ, true, false, List, [], ◌∷◌, refl, sym, ap, ◌∙◌, subst}
 use Rattle.std.specs.Prelude.{Option, Some, None, is_some}
 use Rattle.life_rules.specs.declared.event.Name.{Name}
 use Rattle.node_tree.specs.Tree.{is_child}
@@ -10,9 +10,8 @@ use Rattle.table_rules.specs.declared.view.Owed.{Owed}
 use Rattle.table_rules.specs.declared.view.Reported.{Reported}
 use Rattle.table_rules.specs.Named.{find_by}
 use Rattle.table_steps.specs.Views.{Board, IsPlaceIn, aimed}
-use Rattle.table_steps.specs.Claims.{Seated, with_step}
-use Rattle.table_steps.specs.Kids.{empty_slots}
-use Rattle.table_steps.specs.Reports.{LastAt, holds_last, laid}
+use Rattle.table_steps.specs.Claims.{Seated}
+use Rattle.table_steps.specs.Reports.{LastAt, laid}
 use Rattle.table_steps.specs.Slots.{IsSeated, AreApart, slot_of, kids_of, kept, is_of_family}
 use Rattle.table_steps.specs.Takes.{TakenAt}
 use Rattle.op_slot.specs.Tends.{IsCalm, HasPlaces, OwesReport}
@@ -20,11 +19,9 @@ use Rattle.op_slot.proofs.Tending.{held_as, last-calm, last-tends, taken-calm, t
 use Rattle.exec_start.specs.contracts.item.ItemCargo.TheImpl.{ghosts}
 use Rattle.exec_start.specs.declared.entry.Entry.{Entry}
 use Rattle.exec_start.specs.declared.item.Item.{Item}
-use Rattle.exec_start.specs.Entries.{whole_row}
-use Rattle.exec_start.specs.Items.{start_in}
-use Rattle.exec_recv.specs.Beginnings.{CanStart, AllCanStart}
+use Rattle.exec_recv.specs.Beginnings.{AllCanStart}
 use Rattle.exec_recv.specs.Family.{AreOwedElsewhere}
-use Rattle.exec_recv.specs.Steppable.{CanStep, IsDoneBelow}
+use Rattle.exec_recv.specs.Steppable.{CanStep}
 use Rattle.exec_recv.proofs.Behind.{behind-family, empty-laid}
 use Rattle.exec_recv.proofs.Fitting.{hears-still}
 use Rattle.exec_recv.proofs.Starts.{KeepsHomes}

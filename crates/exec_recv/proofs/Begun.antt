@@ -1,5 +1,5 @@
 -- A node whose start can begin can be stepped once it has begun, and all other starts can begin still.
-use Rattle.std.proofs.Common.{◌≡◌, inl, ℕ, zero, suc, ◌+◌, ◌≤◌, true, false, ◌||◌, ◌==◌, List, [], ◌∷◌, arith, refl, sym, ap, ◌∙◌, subst}
+use Rattle.std.proofs.Common.{◌≡◌, inl, ℕ, ◌≤◌, true, false, ◌||◌, ◌==◌, List, [], ◌∷◌, arith, refl, sym, ap, ◌∙◌, subst}
 use Rattle.std.specs.Prelude.{Option, Some, None}
 use Rattle.std.specs.List.{list_any}
 use Rattle.std.specs.Option.{option_map_or}
@@ -16,17 +16,14 @@ use Rattle.life_rules.proofs.Names.{same-refl, same-true}
 use Rattle.node_tree.specs.Tree.{nearest}
 use Rattle.plan_shape.specs.Blueprint.{Blueprint}
 use Rattle.table_words.specs.Layouts.{place_number}
-use Rattle.table_rules.specs.declared.view.Held.{Held}
 use Rattle.table_rules.specs.declared.view.Owed.{Owed}
 use Rattle.table_rules.specs.Named.{count_by, find_by, without, Each}
 use Rattle.table_rules.specs.ShownViews.{has_source_ref}
-use Rattle.table_steps.specs.Views.{Board, aimed, IsPlaceIn}
-use Rattle.table_steps.specs.Begins.{Begins, begun_as, start_shown}
-use Rattle.table_steps.specs.Claims.{Seated, with_step}
-use Rattle.table_steps.specs.Kids.{empty_slots}
-use Rattle.table_steps.specs.Owing.{Owes}
+use Rattle.table_steps.specs.Views.{Board, aimed}
+use Rattle.table_steps.specs.Begins.{Begins, begun_as}
+use Rattle.table_steps.specs.Claims.{Seated}
 use Rattle.table_steps.specs.Reports.{laid}
-use Rattle.table_steps.specs.Slots.{AreApart, slot_of, kids_of, kept, has_seen, is_of_family, owed_at, home_at}
+use Rattle.table_steps.specs.Slots.{AreApart, slot_of, kids_of, kept, has_seen, is_of_family, owed_at}
 use Rattle.table_kept.proofs.Entries.{count-without, each-without}
 use Rattle.op_slot.specs.Tends.{IsCalm, HasPlaces, Owes as OwesWith}
 use Rattle.op_slot.proofs.Kept.{find-without}
@@ -34,12 +31,10 @@ use Rattle.op_slot.proofs.Tending.{renewed-same, begun-calm, begun-tends}
 use Rattle.exec_start.specs.contracts.item.ItemCargo.TheImpl.{ghosts}
 use Rattle.exec_start.specs.declared.entry.Entry.{Entry}
 use Rattle.exec_start.specs.declared.item.Item.{Item}
-use Rattle.exec_start.specs.declared.item.Item.TheVariants.{Start}
 use Rattle.exec_start.specs.Items.{start_in}
 use Rattle.exec_start.specs.Bounds.{least_of}
 use Rattle.exec_start.specs.Fits.{FitsHome}
 use Rattle.exec_recv.specs.Beginnings.{CanStart, AllCanStart}
-use Rattle.exec_recv.specs.Family.{AreOwedElsewhere}
 use Rattle.exec_recv.specs.Steppable.{CanStep}
 use Rattle.exec_recv.proofs.Behind.{behind-laid, empty-laid}
 use Rattle.exec_recv.proofs.Fitting.{fits-more, hears-still}

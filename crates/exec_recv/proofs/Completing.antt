@@ -1,37 +1,32 @@
 -- How a node delivers: its parcel is put into its home, it is finished, and reported.
-use Rattle.std.proofs.Common.{◌≡◌, ◌⊎◌, inl, inr, ℕ, ◌≤◌, Bool, true, false, ◌||◌, ◌==◌, List, [], ◌∷◌, refl, sym, ap, ◌∙◌, subst}
+use Rattle.std.proofs.Common.{◌≡◌, inl, Bool, true, false, ◌||◌, ◌==◌, ◌∷◌, refl, sym, ap, ◌∙◌, subst}
 use Rattle.std.specs.Prelude.{Option, Some, None, MatchOption}
 use Rattle.std.specs.List.{list_any}
-use Rattle.std.proofs.lemmas.Bool.{cond-true}
 use Rattle.life_rules.specs.declared.event.Name.{Name}
 use Rattle.life_rules.specs.declared.words.CallbackPhase.{CallbackPhase}
 use Rattle.life_rules.specs.declared.words.ControlWord.TheVariants.{Busy, Done as IsDone}
-use Rattle.life_rules.specs.Views.{same}
-use Rattle.life_rules.proofs.Names.{same-refl}
 use Rattle.listed_steps.specs.declared.seen.Seen.{Seen}
 use Rattle.listed_steps.specs.Lists.{entry}
-use Rattle.node_tree.specs.Tree.{is_child, is_root, parent_of}
+use Rattle.node_tree.specs.Tree.{is_root}
 use Rattle.plan_shape.specs.Blueprint.{Blueprint}
 use Rattle.table_words.specs.Layouts.{place_number}
 use Rattle.table_rules.specs.declared.view.Held.{Held}
-use Rattle.table_rules.specs.declared.view.Owed.{Owed}
 use Rattle.table_rules.specs.declared.view.Reported.{Reported}
 use Rattle.table_rules.specs.ShownViews.{has_source_ref}
-use Rattle.table_rules.specs.Named.{find_by, without}
-use Rattle.table_steps.specs.Views.{Board, IsPlaceIn, aimed, aim_at}
+use Rattle.table_rules.specs.Named.{without}
+use Rattle.table_steps.specs.Views.{Board, aimed, aim_at}
 use Rattle.table_steps.specs.Claims.{Seated}
 use Rattle.table_steps.specs.Finishes.{is_settled, CanFinish, FinishesAt, FinishedAt}
 use Rattle.table_steps.specs.Lefts.{LeavesControl}
-use Rattle.table_steps.specs.Readings.{above_it}
-use Rattle.table_steps.specs.Reports.{CanReport, IsReportedAs, LastAt}
-use Rattle.table_steps.specs.Slots.{IsSeated, slot_of, kids_of, kept, is_of_family, has_seen}
+use Rattle.table_steps.specs.Reports.{IsReportedAs}
+use Rattle.table_steps.specs.Slots.{slot_of, kids_of, kept, is_of_family, has_seen}
 use Rattle.table_steps.specs.Steps.{control_index}
 use Rattle.table_steps.specs.declared.report.Report.{Report}
 use Rattle.table_steps.specs.declared.report.Report.TheVariants.{Last, Others}
 use Rattle.op_slot.specs.Puts.{CanPut, IsPut}
 use Rattle.op_slot.specs.Tends.{IsCalm, HasPlaces, OwesReport, Tends}
 use Rattle.op_slot.proofs.Tending.{swapped-calm, swapped-own, swapped-else}
-use Rattle.op_slot.proofs.Leaving.{tends-puts, tends-finishes, finished-owes, finished-calm, owes-reports}
+use Rattle.op_slot.proofs.Leaving.{tends-puts, tends-finishes, finished-owes, finished-calm}
 use Rattle.op_slot.proofs.Kept.{kept-shed}
 use Rattle.exec_start.specs.contracts.item.ItemCargo.TheImpl.{ghosts}
 use Rattle.exec_start.specs.declared.entry.Entry.{Entry}
@@ -40,8 +35,6 @@ use Rattle.exec_start.specs.declared.item.Item.TheVariants.{Done}
 use Rattle.exec_start.specs.Items.{start_in}
 use Rattle.exec_start.specs.Fits.{FitsHome}
 use Rattle.exec_start.specs.Parcels.{Delivery}
-use Rattle.exec_recv.specs.declared.next.Next.{Next}
-use Rattle.exec_recv.specs.declared.next.Next.TheVariants.{Go, Rest}
 use Rattle.exec_recv.specs.Asides.{Aside, aside_of, SeesMore, KeepsAside}
 use Rattle.exec_recv.specs.Beginnings.{AllCanStart}
 use Rattle.exec_recv.specs.Deliveries.{CanDeliver}
@@ -126,6 +119,9 @@ module _ (board : Board Blueprint) (x : Name) (parcel : Delivery) (m1 m2 : Seate
   pub finish-held : m2.0.held ≡ without (λ (e : Held Entry). e.name) m1.0.held x
   finish-held = ap (λ (z : Seated Item Entry). z.0.held) ended.me_is
 
+  pub finish-owed : m2.0.owed ≡ m1.0.owed
+  finish-owed = ap (λ (z : Seated Item Entry). z.0.owed) ended.me_is
+
   pub finish-calm : IsCalm m1 → IsCalm m2
   finish-calm calm = finished-calm board.frame x m1 m2 (control_index board x) finished.read finished.left ghosts ended calm
 
@@ -147,7 +143,7 @@ module _ (board : Board Blueprint) (x : Name) (parcel : Delivery) (m1 m2 : Seate
 
   pub finish-starts : AllCanStart board m1 → AllCanStart board m2
   finish-starts =
-      all-still board m1 m2 (ap (λ (z : Seated Item Entry). z.0.owed) ended.me_is) finish-homes finish-sees
+      all-still board m1 m2 finish-owed finish-homes finish-sees
 
 -- Then it is reported: the parent waits for others, or the hand holds it and may step it.
 module _ (board : Board Blueprint) (x : Name) (m3 m4 : Seated Item Entry) where

@@ -1,5 +1,5 @@
 -- What a delivery did, from the hand that held the node to the hand that goes on.
-use Rattle.std.proofs.Common.{◌≡◌, ℕ, Bool, true, false, List, [], ◌∷◌, ◌++◌, append_assoc, refl, sym, ap, ◌∙◌, subst}
+use Rattle.std.proofs.Common.{◌≡◌, ℕ, true, List, [], ◌∷◌, ◌++◌, append_assoc, refl, sym, ap, ◌∙◌}
 use Rattle.std.specs.Prelude.{Option, Some, None}
 use Rattle.std.proofs.lemmas.Bool.{cond-true}
 use Rattle.life_rules.specs.declared.event.Name.{Name}
@@ -38,18 +38,17 @@ use Rattle.exec_start.specs.declared.item.Item.TheVariants.{Done}
 use Rattle.exec_start.specs.Entries.{plan_of}
 use Rattle.exec_start.specs.Parcels.{Delivery}
 use Rattle.exec_start.specs.Starts.{IsStart}
-use Rattle.exec_recv.specs.declared.next.Next.{Next}
 use Rattle.exec_recv.specs.declared.next.Next.TheVariants.{Go, Rest}
-use Rattle.exec_recv.specs.Asides.{Aside, aside_of, SeesMore, KeepsAside, KeepsAll}
+use Rattle.exec_recv.specs.Asides.{Aside, aside_of, KeepsAside, KeepsAll}
 use Rattle.exec_recv.specs.Beginnings.{AllCanStart}
 use Rattle.exec_recv.specs.Deliveries.{CanDeliver, MarksFailed, IsDelivered}
 use Rattle.exec_recv.specs.Family.{AreOwedElsewhere}
 use Rattle.exec_recv.specs.Over.{IsOver}
-use Rattle.exec_recv.specs.Nexts.{LetsGo, GoesTo, IsStepped}
+use Rattle.exec_recv.specs.Nexts.{IsStepped}
 use Rattle.exec_recv.proofs.Arriving.{last-homes, last-steps}
-use Rattle.exec_recv.proofs.Completing.{put-home, put-aside, put-starts, reported_with, item-is, finish-owes, finish-held, finish-calm, finish-aside, finish-steps, finish-sees, finish-starts, report-aside, report-seen, report-steps}
+use Rattle.exec_recv.proofs.Completing.{put-home, put-aside, put-starts, reported_with, item-is, finish-owes, finish-held, finish-owed, finish-calm, finish-aside, finish-steps, finish-sees, finish-starts, report-aside, report-seen, report-steps}
 use Rattle.exec_recv.proofs.Failing.{owes-failed}
-use Rattle.exec_recv.proofs.Starts.{all-still}
+use Rattle.exec_recv.proofs.Starts.{all-still, owes-no-more}
 
 module _ (board : Board Blueprint) (x : Name) (parcel : Delivery) (m m1 m2 : Seated Item Entry) (can : CanDeliver board x parcel m)
     (places : HasPlaces board.frame x) (put : IsPut board.frame x (Done parcel) m m1)
@@ -114,6 +113,11 @@ module _ (board : Board Blueprint) (x : Name) (parcel : Delivery) (m m1 m2 : Sea
     held-before =
         told.held ∙ finish-held board x parcel m1 m2 can.inner home-full elsewhere finished
         ∙ ap (λ (l : List (Held Entry)). without (λ (e : Held Entry). e.name) l x) (ap (λ (z : Seated Item Entry). z.0.held) put.me_is)
+
+    owed-before : m3.0.owed ≡ m.0.owed
+    owed-before =
+        told.owed ∙ finish-owed board x parcel m1 m2 can.inner home-full elsewhere finished
+        ∙ ap (λ (z : Seated Item Entry). z.0.owed) put.me_is
 
     module _ (m4 : Seated Item Entry) where
       -- what it left as it was, and the report took off again
@@ -198,6 +202,7 @@ module _ (board : Board Blueprint) (x : Name) (parcel : Delivery) (m m1 m2 : Sea
               starts = all-still board m3 m4 (ap (λ (z : Seated Item Entry). z.0.owed) did.me_is)
                   (last-homes board parent x i reported.0 reported.1 m3 m4 did seated before)
                   (λ source is. ap (λ (z : Seated Item Entry). has_source_ref z.0.seen source) did.me_is ∙ is) before;
+              owes = owes-no-more board x m m4 (ap (λ (z : Seated Item Entry). z.0.owed) did.me_is ∙ owed-before);
               goes = record {
                 held = _;
                 holds = ap (λ (z : Seated Item Entry). z.0.held) did.me_is ∙ ap (λ (l : List (Held Entry)). held_as parent did.start did.named did.told did.told_children (Some did.lot) ∷ l) held-before;
@@ -217,5 +222,6 @@ module _ (board : Board Blueprint) (x : Name) (parcel : Delivery) (m m1 m2 : Sea
               starts = all-still board m3 m4 (ap (λ (z : Seated Item Entry). z.0.owed) is)
                   (λ y owed owes inside lies. ap (λ (z : Seated Item Entry). kept (slot_of board.frame.layout y) z.1) is ∙ lies)
                   (λ source seen. ap (λ (z : Seated Item Entry). has_source_ref z.0.seen source) is ∙ seen) (starts-before starts);
+              owes = owes-no-more board x m m4 (ap (λ (z : Seated Item Entry). z.0.owed) is ∙ owed-before);
               goes = ap (λ (z : Seated Item Entry). z.0.held) is ∙ held-before;
             }

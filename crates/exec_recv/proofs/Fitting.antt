@@ -1,5 +1,5 @@
 -- What fits a home fits there still when the hand has seen more requests.
-use Rattle.std.proofs.Common.{◌≡◌, ℕ, Bool, List, true, false, refl, sym, ap, ◌∙◌}
+use Rattle.std.proofs.Common.{◌≡◌, ℕ, Bool, List, true, false, sym, ◌∙◌}
 use Rattle.std.specs.Prelude.{Option, Some, None}
 use Rattle.std.specs.Option.{option_map_or}
 use Rattle.std.proofs.lemmas.Bool.{both_ways}
@@ -42,6 +42,7 @@ pub hears-still : (tree : List TreeNode) (v v' : View Item Entry) (x : Name) (to
 hears-still tree v v' x told told_children number requested hears =
     record {
       scope = λ zero scope. hears.scope (sym number ∙ zero) scope ∙ sym requested;
+      none = hears.none;
       passes = hears.passes;
       shelters = hears.shelters;
     }

@@ -1,8 +1,7 @@
 -- Where the nodes of a table over a plan lie.
-use Rattle.std.proofs.Common.{◌≡◌, ℕ, ◌<◌, ◌≤◌, true, arith, refl, sym, ap, ◌∙◌}
-use Rattle.std.specs.Prelude.{Some}
+use Rattle.std.proofs.Common.{◌≡◌, ℕ, ◌<◌, true, arith}
 use Rattle.life_rules.specs.declared.event.Name.{Name}
-use Rattle.node_tree.specs.Tree.{IsTree, parent_of, is_child}
+use Rattle.node_tree.specs.Tree.{is_child}
 use Rattle.node_tree.proofs.Walk.{parent_within}
 use Rattle.life_kept.proofs.Trees.{child-parent}
 use Rattle.plan_shape.specs.Blueprint.{Blueprint}

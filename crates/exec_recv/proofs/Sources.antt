@@ -1,5 +1,5 @@
 -- Only a `when_all` has a stop source of its own.
-use Rattle.std.proofs.Common.{◌≡◌, ℕ, true, sym, ap, ◌∙◌}
+use Rattle.std.proofs.Common.{◌≡◌, ℕ, true, ap, ◌∙◌}
 use Rattle.std.specs.Prelude.{slice_get, Some}
 use Rattle.node_tree.specs.declared.node_list.NodeList.{NodeList}
 use Rattle.node_tree.specs.Tree.{has_source}

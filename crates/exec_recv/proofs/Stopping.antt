@@ -1,8 +1,7 @@
 -- A failure was told to a node's source, and its callbacks ran: all else is as before.
-use Rattle.std.proofs.Common.{◌≡◌, ℕ, Bool, true, false, ◌||◌, List, [], ◌∷◌, ◌++◌, append_assoc, arith, Option, refl, sym, ap, ◌∙◌}
+use Rattle.std.proofs.Common.{◌≡◌, Bool, true, false, ◌||◌, List, [], ◌∷◌, ◌++◌, append_assoc, arith, Option, refl, sym, ap, ◌∙◌}
 use Rattle.std.proofs.lemmas.List.Elements.{Contains-append_right}
 use Rattle.life_rules.specs.declared.event.Name.{Name}
-use Rattle.life_rules.specs.declared.event.SourceRef.{SourceRef}
 use Rattle.life_rules.specs.declared.event.SourceRef.TheVariants.{Node}
 use Rattle.listed_steps.specs.declared.seen.Seen.{Seen}
 use Rattle.listed_steps.specs.Lists.{entry}
@@ -10,7 +9,6 @@ use Rattle.atomic_table.specs.declared.shared.Seat.{Seat}
 use Rattle.plan_shape.specs.Blueprint.{Blueprint}
 use Rattle.table_words.specs.Layouts.{OfSource, index}
 use Rattle.table_rules.specs.declared.view.View.{View}
-use Rattle.table_rules.specs.ShownViews.{has_source_ref}
 use Rattle.table_steps.specs.Views.{Board}
 use Rattle.table_steps.specs.Claims.{Seated}
 use Rattle.stop_calls.specs.declared.requesting.Request.{Request}

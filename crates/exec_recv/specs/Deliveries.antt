@@ -1,5 +1,5 @@
 -- How a node delivers its completion ([exec.recv]): what that needs, and what it does.
-use Rattle.std.specs.Prelude.{◌≡◌, ℕ, ◌≤◌, Bool, true, false, ◌||◌, Some, None, MatchOption, List, [], Contains, ◌++◌}
+use Rattle.std.specs.Prelude.{◌≡◌, ℕ, ◌≤◌, Bool, true, false, ◌||◌, Some, None, MatchOption, List, [], Contains}
 use Rattle.life_rules.specs.declared.event.Name.{Name}
 use Rattle.life_rules.specs.declared.words.ControlWord.TheVariants.{Busy, Done as IsDone}
 use Rattle.listed_steps.specs.declared.seen.Seen.{Seen}

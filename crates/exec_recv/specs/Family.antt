@@ -1,5 +1,5 @@
 -- The homes of a node and of its children, beside those of nodes whose start the hand owes.
-use Rattle.std.specs.Prelude.{◌≡◌, false, Option, Some}
+use Rattle.std.specs.Prelude.{◌≡◌, false, Some}
 use Rattle.life_rules.specs.declared.event.Name.{Name}
 use Rattle.plan_shape.specs.Blueprint.{Blueprint}
 use Rattle.table_rules.specs.declared.view.Owed.{Owed}

@@ -1,17 +1,19 @@
 -- Where a step leaves its node.
-use Rattle.std.specs.Prelude.{◌≡◌, ℕ, List, ◌∷◌}
+use Rattle.std.specs.Prelude.{◌≡◌, ◌⊎◌, ℕ, true, List, ◌∷◌}
 use Rattle.life_rules.specs.declared.event.Name.{Name}
 use Rattle.life_rules.specs.Words.{resting_at}
 use Rattle.life_rules.specs.declared.event.Resting.{Resting}
 use Rattle.life_rules.specs.declared.event.Resting.TheVariants.{Parked as parked}
 use Rattle.listed_steps.specs.declared.seen.Seen.{Seen}
 use Rattle.listed_steps.specs.Lists.{entry}
+use Rattle.node_tree.specs.Tree.{is_child}
 use Rattle.plan_shape.specs.Blueprint.{Blueprint}
 use Rattle.table_rules.specs.declared.view.Held.{Held}
 use Rattle.table_rules.specs.Named.{without}
 use Rattle.table_steps.specs.Views.{Board}
 use Rattle.table_steps.specs.Claims.{Seated}
 use Rattle.table_steps.specs.Lefts.{SaysControl}
+use Rattle.table_steps.specs.Owing.{Owes}
 use Rattle.table_steps.specs.Steps.{control_index}
 use Rattle.table_steps.specs.Takes.{resting_in}
 use Rattle.exec_start.specs.declared.entry.Entry.{Entry}
@@ -21,6 +23,10 @@ use Rattle.exec_recv.specs.declared.next.Next.TheVariants.{Go, Rest, Ready, Park
 use Rattle.exec_recv.specs.Asides.{KeepsAside}
 use Rattle.exec_recv.specs.Beginnings.{AllCanStart}
 use Rattle.exec_recv.specs.Steppable.{CanStep}
+
+-- what a step of a node does, from the hand as it was to the hand afterwards
+abbrev pub Doing : Type 1
+Doing = Board Blueprint → Name → Next → Seated Item Entry → Seated Item Entry → Type 0
 
 module _ (board : Board Blueprint) (x : Name) (m m' : Seated Item Entry) where
   -- the hand holds the node no more, and nothing in its place
@@ -48,9 +54,15 @@ module _ (board : Board Blueprint) (x : Name) (m m' : Seated Item Entry) where
   IsNext (Ready on) = LeftAt (resting_in on)
   IsNext Parked = LeftAt parked
 
-  -- What each step of a node x leaves: the hand's view beside nodes and starts is as before, and each
-  -- start that it owes can begin.
+  -- the hand owes starts that it owed before, and beside them those of children of x alone
+  abbrev pub OwesNewBelow : Type 0
+  OwesNewBelow =
+      (y : Name) → Owes m'.0 y → Owes m.0 y ⊎ (is_child board.frame.tree x.node y.node ≡ true)
+
+  -- What each step of a node x leaves: the hand's view beside nodes and starts is as before. Each
+  -- start that it owes can begin, and what it came to owe are starts of children of x.
   pub record IsStepped (next : Next) : Type 0 where
     pub aside : KeepsAside m m'
     pub starts : AllCanStart board m'
+    pub owes : OwesNewBelow
     pub goes : IsNext next

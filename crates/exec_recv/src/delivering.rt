@@ -115,8 +115,8 @@ fn tell_failure<G: Gate, R: Wait + Sync>(
 /// Step: those of `put_home` and `finish`, where a child of a `when_all` failed those of `fail_stop`
 /// and of the scan, and that of `report`.
 /// Needs: the hand holds the node, which isn't the receiver node, makes no scan and runs no
-/// callback. The homes of the node and of its children are empty, and its callback isn't registered. The parcel shows the node's
-/// start and fits. Each start that the hand owes can begin.
+/// callback. The homes of the node and of its children are empty, and its callback isn't registered.
+/// The parcel shows the node's start and fits. Each start that the hand owes can begin.
 /// Afterwards: the node is done with this parcel. The hand holds its parent in its place, and may
 /// step it, or nothing. What else it holds and owes is as before.
 pub fn deliver<G: Gate, R: Wait + Sync>(

@@ -4,7 +4,7 @@ ghost use Rattle.plan_shape.specs.Blueprint.{Blueprint};
 ghost use Rattle.plan_kinds.specs.Runnable.{IsRunnable};
 ghost use Rattle.table_steps.specs.Views.{IsHandOf, Stays};
 ghost use Rattle.exec_recv.specs.Over.{IsOver};
-ghost use Rattle.exec_recv.specs.Beginnings.{AllCanStart, OwesNoRoot};
+ghost use Rattle.exec_recv.specs.Beginnings.{AllCanStart};
 ghost use Rattle.exec_recv.specs.Steppable.{CanStep};
 ghost use Rattle.exec_recv.specs.Nexts.{IsStepped};
 
@@ -39,23 +39,35 @@ pub trait Gate {
         requires sync { IsSync R.row };
 }
 
+/// A gate that holds nobody.
+#[derive(Clone, Copy, Debug, Drop)]
+pub struct OpenGate;
+
+impl Gate for OpenGate {
+    fn pass<R: Wait + Sync>(&self, _rt: &R, _point: Point) {}
+}
+
 /// What steps the nodes of a plan.
 pub trait Stepper: Gate {
     ghost use Rattle.plan_shape.specs.Blueprint.{Blueprint};
+    ghost use Rattle.exec_recv.specs.Nexts.{Doing};
 
     /// The plan whose nodes it steps.
     ghost plan: { Self → Blueprint };
 
+    /// What its steps do.
+    ghost does: { Self → Doing };
+
     /// Steps the node, which the hand holds: it delivers a completion, awaits children, or is left
     /// at rest.
     ///
-    /// Needs: the table is over the plan, whose kinds match. The hand makes no scan and runs no callback, and since it
-    /// came to hold the node it has made no step on it and has moved nothing of its home and of its
-    /// children's. Each start that the hand owes can begin.
+    /// Needs: the table is over the plan, whose kinds match. The hand makes no scan and runs no
+    /// callback, and since it came to hold the node it has made no step on it and has moved nothing
+    /// of its home and of its children's. Each start that the hand owes can begin.
     /// Afterwards: Go names the node that the hand holds in place of this one, and may step next;
-    /// else it holds none in its place. Each start that the hand owes can begin, and it owes that of
-    /// a root only where it did before. What its view has
-    /// besides is as before, but for requests that it has seen and the list of its steps.
+    /// else it holds none in its place. Each start that the hand owes can begin: those that it came
+    /// to owe are of children of the node. What its view has besides is as before, but for requests
+    /// that it has seen and the list of its steps.
     fn step<R: Wait + Sync>(
         &self,
         rt: &R,
@@ -72,5 +84,5 @@ pub trait Stepper: Gate {
         requires starts { AllCanStart table.now hand.old.me }
         ensures stays { Stays table.now hand.old hand.new }
         ensures stepped { IsStepped table.now name hand.old.me hand.new.me result }
-        ensures inner { OwesNoRoot table.now hand.old.me → OwesNoRoot table.now hand.new.me };
+        ensures does { does self.now table.now name result hand.old.me hand.new.me };
 }

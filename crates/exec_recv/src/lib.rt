@@ -18,7 +18,7 @@ mod next;
 mod scans;
 
 pub use delivering::deliver;
-pub use exec_start::{Entry, Env, Item, Parcel, copy_env};
-pub use gate::{Gate, Point, Stepper};
+pub use exec_start::{Env, Item, Parcel};
+pub use gate::{Gate, OpenGate, Point, Stepper};
 pub use next::Next;
 pub use scans::run_scan;

@@ -59,11 +59,17 @@ abbrev pub KeepsParcel : Item → Type 0
 KeepsParcel (Rest start (Some parcel)) = parcel.completion ≢ NoMemory
 KeepsParcel item = ⊥
 
--- The receiver node of a small plan rests only with its child's parcel.
-abbrev pub MayRest : Item → ℕ → Type 0
-MayRest item node =
-    IsSmall (plan_of (start_in item)) → node ≡ length (plan_of (start_in item)).nodes
-    → KeepsParcel item
+-- The node goes on later: the item is neither a start nor a completion.
+abbrev pub IsRest : Item → Type 0
+IsRest (Rest start kept) = ⊤
+IsRest item = ⊥
+
+-- The node may rest with the item. The receiver node of a small plan does only with its child's
+-- parcel. So a node whose home shows a start has just begun.
+pub record MayRest (item : Item) (node : ℕ) : Type 0 where
+  pub rest : IsRest item
+  pub kept : IsSmall (plan_of (start_in item)) → node ≡ length (plan_of (start_in item)).nodes →
+      KeepsParcel item
 
 -- what fits where nothing was requested fits where something was
 pub fits-widens : (item : Item) (node : ℕ) → FitsHome item node false → FitsHome item node true

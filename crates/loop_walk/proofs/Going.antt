@@ -6,7 +6,7 @@ use Rattle.common_lemmas.proofs.Bool.{either}
 use Rattle.life_rules.specs.declared.event.Name.{Name}
 use Rattle.life_rules.specs.Views.{same}
 use Rattle.listed_steps.specs.Lists.{entry}
-use Rattle.node_tree.specs.Tree.{is_root, has_source}
+use Rattle.node_tree.specs.Tree.{IsTree, is_root, has_source}
 use Rattle.plan_shape.specs.Blueprint.{Blueprint}
 use Rattle.table_rules.specs.declared.view.Held.{Held}
 use Rattle.table_rules.specs.declared.view.Owed.{Owed}
@@ -24,11 +24,14 @@ use Rattle.exec_start.specs.contracts.item.ItemCargo.TheImpl.{ghosts}
 use Rattle.exec_start.specs.declared.entry.Entry.{Entry}
 use Rattle.exec_start.specs.declared.item.Item.{Item}
 use Rattle.exec_recv.specs.Asides.{aside_of, KeepsAside}
-use Rattle.exec_recv.specs.Beginnings.{AllCanStart, OwesNoRoot}
-use Rattle.exec_recv.specs.Nexts.{LetsGo, GoesTo}
+use Rattle.exec_recv.specs.Beginnings.{OwesNoRoot}
+use Rattle.exec_recv.specs.declared.next.Next.{Next}
+use Rattle.exec_recv.specs.Nexts.{Doing, LetsGo, GoesTo, IsStepped}
 use Rattle.exec_recv.proofs.Asiding.{aside-here, aside-on, aside-one}
 use Rattle.exec_recv.proofs.Begun.{begun-starts, begun-steps, is-other}
+use Rattle.exec_recv.proofs.Starts.{inner-still}
 use Rattle.loop_walk.specs.Resting.{IsAtRest, HasOnlyStarts, OwesOnly, CanGoOn}
+use Rattle.loop_walk.specs.Stepped.{HasStepped}
 
 abbrev at_held : Held Entry → Name
 at_held e = e.name
@@ -49,9 +52,31 @@ alone-in h e l rest y is none found =
     (λ f.
     absurd (no-some e (sym (cond-false (same h.name y) (Some h) None f) ∙ sym (ap (λ l. find_by at_held l y) all) ∙ found)))
 
+-- the first step, with what followed
+pub stepped-aside : (does : Doing) (board : Board Blueprint) (x : Name) (m m' : Seated Item Entry) → HasStepped does board x m m' →
+    KeepsAside m m'
+stepped-aside does board x m m' is = aside-on m is.between m' is.stepped.aside is.after
+
+pub stepped-on : (does : Doing) (board : Board Blueprint) (x : Name) (m m1 m' : Seated Item Entry) → HasStepped does board x m m1 →
+    KeepsAside m1 m' → HasStepped does board x m m'
+stepped-on does board x m m1 m' is more =
+    record {
+      next = is.next;
+      between = is.between;
+      did = is.did;
+      stepped = is.stepped;
+      after = aside-on is.between m1 m' is.after more;
+    }
+
 -- after a step
-module _ (board : Board Blueprint) (x : Name) (m m' : Seated Item Entry) (go : CanGoOn board x m) (aside : KeepsAside m m')
-    (starts : AllCanStart board m') (inner : OwesNoRoot board m') where
+module _ (board : Board Blueprint) (is_tree : IsTree board.frame.tree) (x : Name) (m m' : Seated Item Entry) (next : Next)
+    (go : CanGoOn board x m) (stepped : IsStepped board x m m' next) where
+  aside : KeepsAside m m'
+  aside = stepped.aside
+
+  inner : OwesNoRoot board m'
+  inner = inner-still board x m m' is_tree stepped.owes go.inner
+
   pub goes-to : (y : Name) → GoesTo board x m m' y → CanGoOn board y m'
   goes-to y goes =
       record {
@@ -59,7 +84,7 @@ module _ (board : Board Blueprint) (x : Name) (m m' : Seated Item Entry) (go : C
         alone = alone-in goes.held goes.can.held m'.0.held (without at_held m.0.held x) y goes.holds go.alone goes.can.tends.holds;
         reported = ap (λ a. a.reported) aside.same ∙ go.reported;
         finished = ap (λ a. a.finished) aside.same ∙ go.finished;
-        starts = starts;
+        starts = stepped.starts;
         inner = inner;
       }
 
@@ -72,7 +97,7 @@ module _ (board : Board Blueprint) (x : Name) (m m' : Seated Item Entry) (go : C
           finished = ap (λ a. a.finished) aside.same ∙ go.finished;
           runs = ap (λ a. a.runs) aside.same ∙ go.can.unrun;
           scans = ap (λ a. a.scans) aside.same ∙ go.can.calm;
-          starts = starts;
+          starts = stepped.starts;
         };
         inner = inner;
       }
@@ -133,7 +158,7 @@ module _ (board : Board Blueprint) (y : Name) (m m' : Seated Item Entry) (has : 
       }
 
   -- the renewal of the source of the node, where it has one
-  renewed-aside : KeepsAside m did.middle
+  pub renewed-aside : KeepsAside m did.middle
   renewed-aside =
       either (has_source board.frame.tree y.node)
       (λ t.

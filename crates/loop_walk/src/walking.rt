@@ -6,6 +6,7 @@ ghost use Rattle.table_steps.specs.Views.{IsHandOf, Stays, knows};
 ghost use Rattle.exec_recv.specs.Asides.{KeepsAside};
 ghost use Rattle.exec_recv.specs.Over.{IsOver};
 ghost use Rattle.loop_walk.specs.Resting.{IsAtRest, OwesOnly, CanGoOn, GoesOn};
+ghost use Rattle.loop_walk.specs.Stepped.{HasStepped};
 
 use crate::mail::Mail;
 use exec_recv::{Item, Next, Stepper};
@@ -45,7 +46,7 @@ fn step_once<T: Stepper, M: Mail, R: Wait + Sync>(
     requires kinds { IsRunnable (T.plan stepper.now) }
     requires can { CanGoOn table.now name hand.old.me }
     ensures stays { Stays table.now hand.old hand.new }
-    ensures aside { KeepsAside hand.old.me hand.new.me }
+    ensures first { HasStepped (T.does stepper.now) table.now name hand.old.me hand.new.me }
     ensures next { GoesOn table.now result hand.new.me }
 {
     match stepper.step(rt, alloc, table, hand, name) {
@@ -67,8 +68,8 @@ fn step_once<T: Stepper, M: Mail, R: Wait + Sync>(
 /// Step: those of the steps, and of the begins.
 /// Needs: the table is over the stepper's plan, whose kinds match. The hand may step the node, and
 /// has nothing besides but starts that it owes, each of which can begin, and none of a root.
-/// Afterwards: the hand is at rest. All else that its view says is as before, but for requests that
-/// it has seen and the list of its steps.
+/// Afterwards: the stepper has stepped the node. The hand is at rest. All else that its view says is
+/// as before, but for requests that it has seen and the list of its steps.
 pub fn go_on<T: Stepper, M: Mail, R: Wait + Sync>(
     rt: &R,
     alloc: Global,
@@ -84,13 +85,14 @@ pub fn go_on<T: Stepper, M: Mail, R: Wait + Sync>(
     requires kinds { IsRunnable (T.plan stepper.now) }
     requires can { CanGoOn table.now name hand.old.me }
     ensures stays { Stays table.now hand.old hand.new }
+    ensures first { HasStepped (T.does stepper.now) table.now name hand.old.me hand.new.me }
     ensures rests { IsAtRest (knows hand.new) }
     ensures aside { KeepsAside hand.old.me hand.new.me }
 {
-    let mut name = name;
+    let mut going = step_once(rt, alloc, table, hand, stepper, name, mail);
     for _ in rt.forever() {
-        match step_once(rt, alloc, table, hand, stepper, name, mail) {
-            Some(next) => name = next,
+        match going {
+            Some(next) => going = step_once(rt, alloc, table, hand, stepper, next, mail),
             None => return,
         }
     }

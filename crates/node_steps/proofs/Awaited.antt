@@ -1,5 +1,5 @@
 -- How a node's child is awaited, and can begin.
-use Rattle.std.proofs.Common.{◌≡◌, ℕ, ◌+◌, Bool, true, false, not, ◌&&◌, ◌||◌, ◌==◌, List, [], ◌∷◌, arith, refl, sym, ap, ◌∙◌, subst}
+use Rattle.std.proofs.Common.{◌≡◌, inl, inr, ℕ, ◌+◌, Bool, true, false, not, ◌&&◌, ◌||◌, ◌==◌, List, [], ◌∷◌, arith, refl, sym, ap, ◌∙◌, subst}
 use Rattle.std.specs.Prelude.{Some, None}
 use Rattle.std.specs.List.{list_any}
 use Rattle.std.proofs.lemmas.Bool.{and_from, cond-false, eq-eqb, eqb-true, both_ways}
@@ -10,6 +10,7 @@ use Rattle.life_rules.specs.declared.words.ControlWord.TheVariants.{Busy}
 use Rattle.life_rules.specs.Views.{beside, same}
 use Rattle.life_rules.proofs.Names.{same-true}
 use Rattle.listed_steps.specs.Lists.{entry}
+use Rattle.node_tree.specs.Tree.{is_child}
 use Rattle.plan_shape.specs.Blueprint.{Blueprint}
 use Rattle.table_words.specs.Layouts.{place_number}
 use Rattle.table_kept.proofs.Entries.{found, each-found}
@@ -39,7 +40,7 @@ use Rattle.exec_start.proofs.Fitting.{start-fits, below-names}
 use Rattle.exec_recv.specs.declared.next.Next.TheVariants.{Rest as IsAtRest}
 use Rattle.exec_recv.specs.Asides.{aside_of, KeepsAside}
 use Rattle.exec_recv.specs.Beginnings.{CanStart, AllCanStart}
-use Rattle.exec_recv.specs.Nexts.{IsStepped}
+use Rattle.exec_recv.specs.Nexts.{OwesNewBelow, IsStepped}
 use Rattle.exec_recv.proofs.Asiding.{aside-on, aside-one}
 use Rattle.exec_recv.proofs.Fitting.{fits-more, sees-more}
 use Rattle.node_steps.specs.Midway.{Ready}
@@ -278,11 +279,23 @@ module _ (board : Board Blueprint) (x : Name) (start : List Entry) (n : ℕ) (be
             (put-starts board x start None 0 m ready tt (λ e. refl) (λ s. none-known) m1 put z
             (record { owed = owes.owed; owes = sym find ∙ owes.owes })))
 
+        -- and no other is owed than was
+        await-owes : OwesNewBelow board x m m3
+        await-owes z owes =
+            either (same y z)
+            (λ t. inr (subst (λ (w : Name). is_child board.frame.tree x.node w.node ≡ true) (same-true y z t) may.child))
+            (λ other.
+            let owed_by = λ (l : List (Owed Entry)). find_by (λ (e : Owed Entry). e.name) l z in
+            let later = ap owed_by owed-is ∙ cond-false (same y z) (Some owed) (owed_by m1.0.owed) other in
+            let first = (put-beside board x start None 0 m ready tt (λ e. refl) (λ s. none-known) m1 put).owed in
+            inl (record { owed = owes.owed; owes = ap owed_by (sym first) ∙ sym later ∙ owes.owes }))
+
         pub await-stepped : IsStepped board x m m3 IsAtRest
         await-stepped =
             record {
               aside = aside-on m m1 m3 (put-beside board x start None 0 m ready tt (λ e. refl) (λ s. none-known) m1 put).aside after-aside;
               starts = await-starts;
+              owes = await-owes;
               goes = ap (λ (z : Seated Item Entry). z.0.held) last.me_is ∙ ap (λ (z : Seated Item Entry). z.0.held) did.me_is
                   ∙ ap (λ (l : List (Held Entry)). without (λ (e : Held Entry). e.name) l x)
                   (put-held board x start None 0 m ready tt (λ e. refl) (λ s. none-known) m1 put);

@@ -1,5 +1,5 @@
 -- What calls within a step keep, one after the other.
-use Rattle.std.proofs.Common.{◌≡◌, ℕ, ◌≤◌, Bool, true, List, ◌∷◌, arith, refl, sym, ap, ◌∙◌, subst}
+use Rattle.std.proofs.Common.{◌≡◌, inl, inr, ℕ, ◌≤◌, Bool, true, List, ◌∷◌, arith, refl, sym, ap, ◌∙◌, subst}
 use Rattle.std.specs.Prelude.{Option, Some, None}
 use Rattle.life_rules.specs.declared.event.Name.{Name}
 use Rattle.node_tree.specs.Tree.{is_child}
@@ -17,11 +17,11 @@ use Rattle.exec_start.specs.Fits.{FitsHome}
 use Rattle.exec_recv.specs.declared.next.Next.{Next}
 use Rattle.exec_recv.specs.declared.next.Next.TheVariants.{Go, Rest, Ready as IsReadyIn, Parked}
 use Rattle.exec_recv.specs.Family.{AreOwedElsewhere}
-use Rattle.exec_recv.specs.Nexts.{IsNext, IsStepped}
+use Rattle.exec_recv.specs.Nexts.{OwesNewBelow, IsNext, IsStepped}
 use Rattle.exec_recv.specs.Steppable.{IsDoneBelow}
 use Rattle.exec_recv.proofs.Asiding.{aside-here, aside-on}
 use Rattle.exec_recv.proofs.Fitting.{hears-still}
-use Rattle.exec_recv.proofs.Starts.{KeepsHomes, all-still}
+use Rattle.exec_recv.proofs.Starts.{KeepsHomes, owes-as, all-still}
 use Rattle.node_steps.specs.Midway.{Emptying, Ready, IsReady, KeepsOthers, KeepsReady}
 
 module _ (board : Board Blueprint) (x : Name) where
@@ -74,11 +74,19 @@ module _ (board : Board Blueprint) (x : Name) where
           says = is.says;
         }
 
+    owes-after : OwesNewBelow board x between m' → OwesNewBelow board x m m'
+    owes-after new y owes =
+        elim (new y owes) [
+          | inl before ↦ inl (owes-as m between y first.owed before)
+          | inr below ↦ inr below
+        ]
+
     pub stepped-after : (next : Next) → IsStepped board x between m' next → IsStepped board x m m' next
     stepped-after next is =
         record {
           aside = aside-on m between m' first.aside is.aside;
           starts = is.starts;
+          owes = owes-after is.owes;
           goes = next-after next is.goes;
         }
 

@@ -35,9 +35,9 @@ use Rattle.exec_start.specs.Parcels.{Delivery}
 use Rattle.exec_recv.specs.Asides.{aside_of, KeepsAside}
 use Rattle.exec_recv.specs.Beginnings.{AllCanStart}
 use Rattle.exec_recv.specs.Family.{AreOwedElsewhere}
-use Rattle.exec_recv.specs.Nexts.{LeftAt}
+use Rattle.exec_recv.specs.Nexts.{LeftAt, OwesNewBelow}
 use Rattle.exec_recv.proofs.Asiding.{aside-on, aside-one}
-use Rattle.exec_recv.proofs.Starts.{KeepsHomes, all-still}
+use Rattle.exec_recv.proofs.Starts.{KeepsHomes, all-still, owes-no-more}
 use Rattle.node_steps.specs.Heard.{MaySee}
 use Rattle.node_steps.specs.Leaves.{IsLeftAt}
 use Rattle.node_steps.specs.Midway.{Ready, KeepsOthers}
@@ -120,9 +120,15 @@ module _ (board : Board Blueprint) (x : Name) (start : List Entry) (kept_one : O
           (ap (λ (z : Seated Item Entry). aside_of z.0) rested.did.me_is) (ap (λ (z : Seated Item Entry). z.0.steps) rested.did.me_is)
           (ap (λ (z : Seated Item Entry). z.0.seen) rested.did.me_is))
 
+      rest-owed : m2.0.owed ≡ m1.0.owed
+      rest-owed = ap (λ (z : Seated Item Entry). z.0.owed) rested.did.me_is
+
+      pub rest-owes : OwesNewBelow board x m m2
+      rest-owes = owes-no-more board x m m2 (rest-owed ∙ put-beside.owed)
+
       pub rest-starts : AllCanStart board m2
       rest-starts =
-          all-still board m1 m2 (ap (λ (z : Seated Item Entry). z.0.owed) rested.did.me_is) rest-homes
+          all-still board m1 m2 rest-owed rest-homes
           (λ source is. ap (λ (z : Seated Item Entry). has_source_ref z.0.seen source) rested.did.me_is ∙ is) put-starts
 
       pub rest-at : LeftAt board x m m2 to

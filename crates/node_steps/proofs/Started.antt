@@ -17,7 +17,7 @@ use Rattle.table_rules.specs.declared.view.View.{View}
 use Rattle.table_rules.specs.declared.view.Held.{Held}
 use Rattle.table_steps.specs.Views.{Board, IsPlaceIn}
 use Rattle.table_steps.specs.Claims.{Seated, logged}
-use Rattle.table_steps.specs.Readings.{above_it, says_begun, notes_idle, HoldsAbove, IsBegunAs}
+use Rattle.table_steps.specs.Readings.{above_it, says_begun, notes_idle, KnowsIdle, HoldsAbove, IsBegunAs}
 use Rattle.table_steps.specs.Steps.{control_index}
 use Rattle.exec_start.specs.declared.entry.Entry.{Entry}
 use Rattle.exec_start.specs.declared.item.Item.{Item}
@@ -29,7 +29,7 @@ use Rattle.exec_recv.specs.Asides.{aside_of}
 use Rattle.exec_recv.specs.Over.{IsOver}
 use Rattle.exec_recv.proofs.Asiding.{aside-one}
 use Rattle.node_steps.specs.Midway.{KeepsReady}
-use Rattle.node_steps.specs.Starts.{asked_for_child, child_start, KnowsIdle, MayAwait, MayRun}
+use Rattle.node_steps.specs.Starts.{asked_for_child, child_start, MayAwait, MayRun}
 use Rattle.node_steps.specs.Wants.{MayWant}
 use Rattle.node_steps.proofs.Frames.{emptying-less}
 use Rattle.node_steps.proofs.Noting.{NotesEntry, ChangesNotes, notes-held, notes-keeps, looks-keeps}

@@ -82,8 +82,11 @@ top-leaves board plan x start n asked m over root is may none =
     let own = may.ready.node in
     record {
       keep = record { ready = may.ready; child = tt; saw = λ e. refl; small = λ small. none-known };
-      rests = λ small at.
-          absurd (none
-          (root-start start is (subst (λ (b : Blueprint). IsPlan b) (sym same) over.is_plan) (omega (arith, size, last, nodes, own))
-          may.ready.kinds small));
+      rests = record {
+        rest = tt;
+        kept = λ small at.
+            absurd (none
+            (root-start start is (subst (λ (b : Blueprint). IsPlan b) (sym same) over.is_plan) (omega (arith, size, last, nodes, own))
+            may.ready.kinds small));
+      };
     }

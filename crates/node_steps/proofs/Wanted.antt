@@ -48,5 +48,5 @@ pub bare-leaves : (board : Board Blueprint) (plan : Blueprint) (x : Name) (start
 bare-leaves board plan x start m over inner ready =
     record {
       keep = record { ready = ready; child = tt; saw = λ none. refl; small = λ small. none-known };
-      rests = inner-rests board plan x (Rest start None) over ready.key inner;
+      rests = record { rest = tt; kept = inner-rests board plan x (Rest start None) over ready.key inner };
     }

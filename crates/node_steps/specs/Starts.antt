@@ -1,19 +1,17 @@
 -- How a step starts a child that runs with the arguments of its node, and awaits it.
-use Rattle.std.specs.Prelude.{◌≡◌, ◌⊎◌, ℕ, ◌≤◌, Bool, true, false, ◌==◌, List, [], ◌∷◌, Contains, Some, None}
-use Rattle.std.specs.List.{list_any}
+use Rattle.std.specs.Prelude.{◌≡◌, ◌⊎◌, ℕ, ◌≤◌, Bool, true, false, List, [], ◌∷◌, Contains, Some, None}
 use Rattle.exec_value.specs.Place.{AreInPlace}
 use Rattle.life_rules.specs.declared.event.Name.{Name}
 use Rattle.life_rules.specs.declared.words.ControlWord.TheVariants.{Busy}
 use Rattle.life_rules.specs.Views.{beside}
 use Rattle.node_tree.specs.Tree.{is_child}
 use Rattle.plan_shape.specs.Blueprint.{Blueprint}
-use Rattle.table_rules.specs.declared.view.Held.{Held}
 use Rattle.table_steps.specs.Views.{Board, aim_at}
 use Rattle.table_steps.specs.Awaits.{AwaitsAt}
 use Rattle.table_steps.specs.Claims.{Seated}
 use Rattle.table_steps.specs.Lefts.{LeavesControl}
-use Rattle.table_steps.specs.Readings.{IsBegunAs}
-use Rattle.table_steps.specs.Slots.{has_seen, held_at, home_at}
+use Rattle.table_steps.specs.Readings.{KnowsIdle, IsBegunAs}
+use Rattle.table_steps.specs.Slots.{has_seen, home_at}
 use Rattle.op_slot.specs.Puts.{IsPut}
 use Rattle.exec_start.specs.contracts.item.ItemCargo.TheImpl.{ghosts}
 use Rattle.exec_start.specs.declared.entry.Entry.{Entry}
@@ -42,12 +40,6 @@ asked_for_child (p ∷ above) = asked_below (plan_node p) p.asked
 -- its start
 abbrev pub child_start : ℕ → List Entry → List Entry
 child_start n start = start_below n (args_of start) [] (asked_for_child start) start
-
--- the hand holds x, and has read that this child of it hasn't begun
-pub record KnowsIdle (x : Name) (n : ℕ) (m : Seated Item Entry) : Type 0 where
-  pub held : Held Entry
-  pub holds : held_at m.0 x ≡ Some held
-  pub idle : list_any (λ q. q == n) held.idle ≡ true
 
 module _ (board : Board Blueprint) (x : Name) (start : List Entry) (n : ℕ)
     (below : List Entry) where

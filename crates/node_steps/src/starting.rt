@@ -3,10 +3,11 @@ ghost use Rattle.std.specs.Prelude.{◌≡◌, false};
 ghost use Rattle.std.specs.Thread.{IsSync};
 ghost use Rattle.node_tree.specs.Tree.{is_root};
 ghost use Rattle.plan_kinds.specs.Runnable.{IsRunnable};
+ghost use Rattle.table_steps.specs.Readings.{KnowsIdle};
 ghost use Rattle.table_steps.specs.Views.{IsHandOf, Stays};
 ghost use Rattle.exec_recv.specs.Nexts.{IsStepped};
 ghost use Rattle.exec_recv.specs.Over.{IsOver};
-ghost use Rattle.node_steps.specs.Starts.{KnowsIdle, MayRun, StartsChild, ReadsAndStarts};
+ghost use Rattle.node_steps.specs.Starts.{MayRun, StartsChild, ReadsAndStarts};
 
 use crate::awaiting::{await_child, child_env};
 use crate::leaving::leave_at_rest;

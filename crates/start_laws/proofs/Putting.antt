@@ -1,7 +1,7 @@
 -- What a hand may put into the home of a node that it holds.
 use Rattle.std.specs.Prelude.{IsFalse, slice_get}
 use Rattle.std.specs.Option.{option_map_or}
-use Rattle.std.proofs.Common.{◌≡◌, ◌≢◌, ℕ, Bool, false, List, [], ◌∷◌, length, Some, None, ap, ◌∙◌, subst, arith}
+use Rattle.std.proofs.Common.{◌≡◌, ◌≢◌, ℕ, Bool, false, List, [], ◌∷◌, Option, Some, None, ap, ◌∙◌, subst, arith}
 use Rattle.std.proofs.lemmas.Option.{slice_get_within}
 use Rattle.exec_value.specs.declared.outcome.Completion.{Completion}
 use Rattle.exec_value.specs.declared.outcome.Completion.TheVariants.{NoMemory}
@@ -12,7 +12,6 @@ use Rattle.plan_rules.specs.declared.node.Node.TheVariants.{Unstoppable}
 use Rattle.plan_kinds.specs.Small.{IsSmall}
 use Rattle.plan_kinds.specs.TreeLaws.{ShowsNode}
 use Rattle.plan_kinds.proofs.Trees.{trees-show}
-use Rattle.plan_shape.specs.Blueprint.{Blueprint}
 use Rattle.plan_shape.specs.PlanTree.{is_when_all, receiver_node, tree_of}
 use Rattle.plan_shape.proofs.TreeLemmas.{tree_of-receiver}
 use Rattle.common_lemmas.proofs.Bool.{either}
@@ -22,7 +21,6 @@ use Rattle.exec_start.specs.declared.item.Item.TheVariants.{Start, Rest, Done}
 use Rattle.exec_start.specs.Entries.{plan_of, node_of, asked_of}
 use Rattle.exec_start.specs.Starts.{IsReceiverStart}
 use Rattle.exec_start.specs.Parcels.{Delivery}
-use Rattle.exec_start.specs.Items.{start_in}
 use Rattle.exec_start.specs.Fits.{FitsHome, MayRest}
 use Rattle.exec_start.proofs.Fitting.{start-fits, rest-fits, kept-fits, done-fits}
 use Rattle.start_laws.specs.Nodes.{start_node, IsStartOf, image_of, MakesImage, MayHaveSeen}
@@ -67,16 +65,18 @@ pub homes-fit : HomesFit
 homes-fit = record { start = puts-start; rest = puts-rest; kept = puts-kept; done = puts-done; image = puts-image }
 
 -- a node of the plan isn't the receiver node
-node-rests : (start : List Entry) (node : Node) → start_node start ≡ Some node → (item : Item) → start_in item ≡ start →
-    MayRest item (node_of start)
-node-rests start node at item shows small last =
+node-rests : (start : List Entry) (node : Node) → start_node start ≡ Some node → (kept : Option Delivery) →
+    MayRest (Rest start kept) (node_of start)
+node-rests start node at kept =
     let within = slice_get_within (plan_of start).nodes (node_of start) node at in
-    let same : plan_of (start_in item) ≡ plan_of start = ap plan_of shows in
-    let count : length (plan_of (start_in item)).nodes ≡ length (plan_of start).nodes = ap (λ (p : Blueprint). length p.nodes) same in
-    absurd (omega (arith, within, last, count))
+    record { rest = tt; kept = λ small last. absurd (omega (arith, within, last)) }
 
 pub nodes-rest : NodesMayRest
-nodes-rest = record { node = node-rests; top = λ start n told parcel from small last. from.small small }
+nodes-rest =
+    record {
+      node = node-rests;
+      top = λ start n told parcel from. record { rest = tt; kept = λ small last. from.small small };
+    }
 
 module _ (start : List Entry) (node : Node) (at : IsStartOf start node) where
   abbrev tree : List TreeNode

@@ -32,7 +32,7 @@ module _ (start : List Entry) (n : ℕ) (told : Bool) (parcel : Delivery) (child
       record { from = from; fits = puts-kept start n told reported.held parcel from; rests = rests }
 
   rests-kept : IsFromBelow start parcel reported.told_children → MayRest (Rest start (Some parcel)) n
-  rests-kept below small last = below.small small
+  rests-kept below = record { rest = tt; kept = λ small last. below.small small }
 
   keeps-top : IsReceiverStart start → MayKeep start n told parcel
   keeps-top is =

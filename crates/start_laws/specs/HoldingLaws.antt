@@ -1,5 +1,5 @@
 -- What a hand learns of a node and of what its child delivered, and what it may put into the home.
-use Rattle.std.specs.Prelude.{◌≡◌, ◌≢◌, ℕ, ◌<◌, IsFalse, Bool, true, false, List, ◌∷◌, length, Contains, Some, None, slice_get}
+use Rattle.std.specs.Prelude.{◌≡◌, ◌≢◌, ℕ, ◌<◌, IsFalse, Bool, true, false, List, ◌∷◌, length, Contains, Option, Some, None, slice_get}
 use Rattle.exec_value.specs.declared.outcome.Completion.{Completion}
 use Rattle.exec_value.specs.declared.outcome.Completion.TheVariants.{NoMemory}
 use Rattle.exec_job.specs.declared.job.Job.{Job}
@@ -91,10 +91,11 @@ pub record HomesFit : Type 0 where
         saw = parcel.saw;
       })) n told
 
--- What may rest: a node of the plan with any item, and the receiver node with its child's parcel.
+-- What may rest: a node of the plan with its child's parcel or without one, and the receiver node
+-- with its child's parcel.
 pub record NodesMayRest : Type 0 where
   pub node : (start : List Entry) (node : Node) → start_node start ≡ Some node →
-      (item : Item) → start_in item ≡ start → MayRest item (node_of start)
+      (kept : Option Delivery) → MayRest (Rest start kept) (node_of start)
   pub top : (start : List Entry) (n : ℕ) (told : Bool) (parcel : Delivery) →
       IsFromBelow start parcel told → MayRest (Rest start (Some parcel)) n
 

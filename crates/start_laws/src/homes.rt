@@ -20,7 +20,8 @@ pub fn homes_fit()
     ensures { HomesFit }
 {}
 
-/// A node of the plan may rest with any item. The receiver node may with its child's parcel.
+/// A node of the plan may rest with its child's parcel or without one. The receiver node may with
+/// its child's parcel.
 pub fn nodes_may_rest()
     ensures { NodesMayRest }
 {}

@@ -1,29 +1,42 @@
-use Rattle.std.proofs.Common.{◌≡◌, true, [], refl, ap, subst}
-use Rattle.life_rules.specs.declared.event.Name.{Name}
+use Rattle.std.proofs.Common.{true, [], refl, subst}
 use Rattle.life_rules.specs.declared.event.SourceRef.TheVariants.{Node}
 use Rattle.stop_calls.specs.declared.requesting.Request.{Request}
 use Rattle.stop_calls.specs.Requests.{IsAskedFor}
 use Rattle.stop_calls.proofs.Keeping.{already-back}
-use Rattle.stop_calls.proofs.Passing.{own-source, idle-may, asked-nests, asked-back}
+use Rattle.stop_calls.proofs.Passing.{MakesScan, own-source, idle-may, asked-nests, asked-back}
 use Rattle.exec_recv.proofs.Stopping.{has-stopped}
 use Rattle.exec_recv.proofs.delivering.stop_siblings.Goals as goal
 
 pub run_scan-requires-clause-nests : goal.run_scan-requires-clause-nests
 run_scan-requires-clause-nests g c κs within =
-    asked-nests c.args.table.now c.requires.over.is_tree (Node c.args.node)
-    (own-source c.args.table.now c.args.node c.requires.place c.requires.source) true c.in-Made.scan c.args.hand.now c.fail_stop-request.new.hand
-    (idle-may c.args.hand.now.me.0 (Node c.args.node) c.requires.unrun c.requires.calm)
-    (subst (λ (r : Request). IsAskedFor c.args.table.now (Node c.args.node) true r c.args.hand.now c.fail_stop-request.new.hand) c.in-Made.is
-    c.fail_stop-request.ensures.failed.asked)
+    let makes : MakesScan _ _ c.args.table.now (Node c.args.node) = record {
+      tree = c.requires.over.is_tree;
+      is_one = own-source c.args.table.now c.args.node c.requires.place c.requires.source;
+      failure = true;
+      scan = c.in-Made.scan;
+      old = c.args.hand.now;
+      new = c.fail_stop-request.new.hand;
+      may = idle-may c.args.hand.now.me.0 (Node c.args.node) c.requires.unrun c.requires.calm;
+      asked = subst (λ (r : Request). IsAskedFor c.args.table.now (Node c.args.node) true r c.args.hand.now c.fail_stop-request.new.hand) c.in-Made.is
+          c.fail_stop-request.ensures.failed.asked;
+    } in
+    asked-nests makes
 
 pub returns-in-Made-clause-stopped : goal.returns-in-Made-clause-stopped
 returns-in-Made-clause-stopped g c =
-    let asked = subst (λ (r : Request). IsAskedFor c.args.table.now (Node c.args.node) true r c.args.hand.now c.fail_stop-request.new.hand) c.in-Made.is
-    c.fail_stop-request.ensures.failed.asked in
-    has-stopped c.args.table.now c.args.node _ c.args.hand.now c.fail_stop-request.new.hand asked c.run_scan.new.hand.me
-    (asked-back c.args.table.now c.requires.over.is_tree c.args.node
-    (own-source c.args.table.now c.args.node c.requires.place c.requires.source) true c.in-Made.scan c.args.hand.now c.fail_stop-request.new.hand
-    (idle-may c.args.hand.now.me.0 (Node c.args.node) c.requires.unrun c.requires.calm) asked c.run_scan.new.hand.me c.run_scan.ensures.ended)
+    let makes : MakesScan _ _ c.args.table.now (Node c.args.node) = record {
+      tree = c.requires.over.is_tree;
+      is_one = own-source c.args.table.now c.args.node c.requires.place c.requires.source;
+      failure = true;
+      scan = c.in-Made.scan;
+      old = c.args.hand.now;
+      new = c.fail_stop-request.new.hand;
+      may = idle-may c.args.hand.now.me.0 (Node c.args.node) c.requires.unrun c.requires.calm;
+      asked = subst (λ (r : Request). IsAskedFor c.args.table.now (Node c.args.node) true r c.args.hand.now c.fail_stop-request.new.hand) c.in-Made.is
+          c.fail_stop-request.ensures.failed.asked;
+    } in
+    has-stopped c.args.table.now c.args.node _ c.args.hand.now c.fail_stop-request.new.hand makes.asked c.run_scan.new.hand.me
+    (asked-back makes c.run_scan.new.hand.me c.run_scan.ensures.ended)
     c.run_scan.ensures.ended.passed.aside.steps
 
 pub returns-in-Already-clause-stopped : goal.returns-in-Already-clause-stopped

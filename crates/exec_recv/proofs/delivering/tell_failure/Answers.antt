@@ -1,4 +1,3 @@
-use Rattle.std.proofs.Common.{refl}
 use Rattle.exec_recv.proofs.Asiding.{tells-stopped}
 use Rattle.exec_recv.proofs.delivering.tell_failure.Goals as goal
 

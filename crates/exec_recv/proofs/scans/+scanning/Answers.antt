@@ -1,4 +1,4 @@
-use Rattle.std.proofs.Common.{◌≡◌, ◌<◌, ◌≤◌, ◌*◌, ◌+◌, false, arith, inl, refl, sym, ap, ◌∙◌, subst}
+use Rattle.std.proofs.Common.{◌<◌, ◌≤◌, false, arith, inl, refl, sym, ap, ◌∙◌, subst}
 use Rattle.life_rules.specs.declared.event.Name.{Name}
 use Rattle.life_rules.specs.declared.event.SourceRef.{SourceRef}
 use Rattle.life_rules.specs.declared.event.SourceRef.TheVariants.{Node}
@@ -9,14 +9,11 @@ use Rattle.table_steps.specs.ScanSeals.{IsScanSealed}
 use Rattle.table_steps.specs.Sights.{IsSourceIn}
 use Rattle.table_steps.specs.Views.{IsPlaceIn}
 use Rattle.op_slot.proofs.Staying.{stays-here, stays-on}
-use Rattle.stop_calls.specs.declared.scanning.Scan.{Scan}
-use Rattle.stop_calls.specs.Asides.{ScansOn, EndsScan}
-use Rattle.stop_calls.specs.Nestings.{Nests, RunsInside, depth_of}
-use Rattle.stop_calls.specs.Removals.{IsOver}
-use Rattle.stop_calls.specs.Walks.{IsFound, IsThrough}
+use Rattle.stop_calls.specs.Asides.{ScansOn}
+use Rattle.stop_calls.specs.Nestings.{RunsInside, depth_of}
 use Rattle.stop_calls.proofs.Keeping.{already-back, roused-back}
-use Rattle.stop_calls.proofs.Nesting.{found-fewer}
-use Rattle.stop_calls.proofs.Passing.{own-source, scans-here, scans-on, asked-nests, asked-back, found-deeper, due-ends, due-on, found-inside, due-nests, through-on, sealed-ends}
+use Rattle.stop_calls.proofs.Nesting.{HasCome, HasGoneThrough, found-fewer}
+use Rattle.stop_calls.proofs.Passing.{MakesScan, own-source, scans-here, scans-on, asked-nests, asked-back, found-deeper, due-ends, due-on, found-inside, due-nests, through-on, sealed-ends}
 use Rattle.exec_recv.specs.Actions.{Acts}
 use Rattle.exec_recv.proofs.Sources.{all-source}
 use Rattle.exec_recv.proofs.Acting.{lists-others, lists-on, others-on}
@@ -35,20 +32,38 @@ act-request_stop-requires-clause-needs g t c κs = inl (inl c.requires.inside.ru
 
 pub act-run_scan-requires-clause-nests : goal.act-run_scan-requires-clause-nests
 act-run_scan-requires-clause-nests g t c κs within =
-    asked-nests c.args.table.now c.requires.over.is_tree (Node c.args.place) (own-source c.args.table.now c.args.place c.requires.place
-    (all-source c.args.table.now c.args.plan.now c.requires.over c.args.place.node c.in-WhenAll.children
-    (c.node.ensures ∙ ap (λ (n : PlanNode). Some n) c.in-WhenAll.is))) _ c.in-Made.scan c.args.hand.now c.request_stop.new.hand
-    c.requires.inside.may c.in-Made.ensures.requested
+    let makes : MakesScan _ _ c.args.table.now (Node c.args.place) = record {
+      tree = c.requires.over.is_tree;
+      is_one = own-source c.args.table.now c.args.place c.requires.place
+          (all-source c.args.table.now c.args.plan.now c.requires.over c.args.place.node c.in-WhenAll.children
+          (c.node.ensures ∙ ap (λ (n : PlanNode). Some n) c.in-WhenAll.is));
+      failure = false;
+      scan = c.in-Made.scan;
+      old = c.args.hand.now;
+      new = c.request_stop.new.hand;
+      may = c.requires.inside.may;
+      asked = c.in-Made.ensures.requested;
+    } in
+    asked-nests makes
 
 pub act-returns-in-Delay-clause-back : goal.act-returns-in-Delay-clause-back
 act-returns-in-Delay-clause-back g t c = roused-back c.args.table.now c.args.hand.now c.rouse.new.hand c.args.place c.rouse.result c.rouse.ensures.roused
 
 pub act-returns-in-Made-clause-back : goal.act-returns-in-Made-clause-back
 act-returns-in-Made-clause-back g t c =
-    asked-back c.args.table.now c.requires.over.is_tree c.args.place (own-source c.args.table.now c.args.place c.requires.place
-    (all-source c.args.table.now c.args.plan.now c.requires.over c.args.place.node c.in-WhenAll.children
-    (c.node.ensures ∙ ap (λ (n : PlanNode). Some n) c.in-WhenAll.is))) _ c.in-Made.scan c.args.hand.now c.request_stop.new.hand
-    c.requires.inside.may c.in-Made.ensures.requested c.run_scan.new.hand.me c.run_scan.ensures.ended
+    let makes : MakesScan _ _ c.args.table.now (Node c.args.place) = record {
+      tree = c.requires.over.is_tree;
+      is_one = own-source c.args.table.now c.args.place c.requires.place
+          (all-source c.args.table.now c.args.plan.now c.requires.over c.args.place.node c.in-WhenAll.children
+          (c.node.ensures ∙ ap (λ (n : PlanNode). Some n) c.in-WhenAll.is));
+      failure = false;
+      scan = c.in-Made.scan;
+      old = c.args.hand.now;
+      new = c.request_stop.new.hand;
+      may = c.requires.inside.may;
+      asked = c.in-Made.ensures.requested;
+    } in
+    asked-back makes c.run_scan.new.hand.me c.run_scan.ensures.ended
 
 pub act-returns-in-Already-clause-back : goal.act-returns-in-Already-clause-back
 act-returns-in-Already-clause-back g t c =
@@ -98,8 +113,17 @@ run_scan-loop-due-init g t c = record {
 
 pub run_scan-finish-requires-clause-needs : goal.run_scan-finish-requires-clause-needs
 run_scan-finish-requires-clause-needs g t c κs =
-    due-ends c.args.table.now c.loop-due.scan c.next.new.self c.loop-due.hand c.next.new.hand c.loop-due.invariant.nests.makes
-    c.in-Some.due.place c.next.ensures.source c.in-Some.ensures.scanned c.act.new.hand c.act.ensures.back
+    let come : HasCome _ _ c.args.table.now = record {
+      before = c.loop-due.scan;
+      after = c.next.new.self;
+      old = c.loop-due.hand;
+      new = c.next.new.hand;
+      makes = c.loop-due.invariant.nests.makes;
+      place = c.in-Some.due.place;
+      kept = c.next.ensures.source;
+      found = c.in-Some.ensures.scanned;
+    } in
+    due-ends come c.act.new.hand c.act.ensures.back
 
 pub run_scan-loop-due-smaller : goal.run_scan-loop-due-smaller
 run_scan-loop-due-smaller g t c =
@@ -109,18 +133,26 @@ pub run_scan-loop-due-preserved : goal.run_scan-loop-due-preserved
 run_scan-loop-due-preserved g t c =
     let board = c.args.table.now in
     let at = c.loop-due.invariant in
+    let come : HasCome _ _ c.args.table.now = record {
+      before = c.loop-due.scan;
+      after = c.next.new.self;
+      old = c.loop-due.hand;
+      new = c.next.new.hand;
+      makes = c.loop-due.invariant.nests.makes;
+      place = c.in-Some.due.place;
+      kept = c.next.ensures.source;
+      found = c.in-Some.ensures.scanned;
+    } in
     record {
       stays = stays-on board c.args.hand.now c.act.new.hand c.finish.new.hand
           (stays-on board c.args.hand.now c.next.new.hand c.act.new.hand
           (stays-on board c.args.hand.now c.loop-due.hand c.next.new.hand at.stays c.next.ensures.stays) c.act.ensures.stays)
           c.finish.ensures.stays;
       source = c.next.ensures.source ∙ at.source;
-      nests = due-nests board c.loop-due.scan c.next.new.self c.loop-due.hand c.next.new.hand at.nests c.in-Some.due.place
-          c.next.ensures.source c.in-Some.ensures.scanned c.act.new.hand c.finish.new.hand c.act.ensures.back c.finish.ensures.over;
+      nests = due-nests come at.nests.around c.act.new.hand c.finish.new.hand c.act.ensures.back c.finish.ensures.over;
       on = scans-on c.args.scan.source c.args.hand.now.me c.loop-due.hand.me c.finish.new.hand.me at.on
           (subst (λ (s : SourceRef). ScansOn c.loop-due.hand.me c.finish.new.hand.me s) at.source
-          (due-on board c.loop-due.scan c.next.new.self c.loop-due.hand c.next.new.hand at.nests.makes c.in-Some.due.place
-          c.next.ensures.source c.in-Some.ensures.scanned c.act.new.hand c.act.ensures.back c.finish.new.hand c.finish.ensures.over));
+          (due-on come c.act.new.hand c.act.ensures.back c.finish.new.hand c.finish.ensures.over));
       acts = lists-on board c.args.plan.now c.args.hand.now.me c.loop-due.hand.me c.finish.new.hand.me at.acts
           (due-lists board c.args.plan.now c.loop-due.scan c.next.new.self c.loop-due.hand c.next.new.hand c.act.new.hand c.finish.new.hand
           c.in-Some.due.place c.in-Some.ensures.place c.in-Some.ensures.scanned
@@ -142,11 +174,20 @@ pub run_scan-returns-clause-ended : goal.run_scan-returns-clause-ended
 run_scan-returns-clause-ended g t c =
     let board = c.args.table.now in
     let at = c.loop-due.invariant in
+    let gone : HasGoneThrough _ _ board = record {
+      before = c.loop-due.scan;
+      after = c.next.new.self;
+      old = c.loop-due.hand;
+      new = c.next.new.hand;
+      makes = at.nests.makes;
+      kept = c.next.ensures.source;
+      through = c.in_default.ensures.scanned;
+    } in
     let source = c.next.ensures.source ∙ at.source in
     sealed-ends board c.args.scan.source c.args.hand.now.me c.next.new.hand c.seal.new.hand
     (scans-on c.args.scan.source c.args.hand.now.me c.loop-due.hand.me c.next.new.hand.me at.on
     (subst (λ (s : SourceRef). ScansOn c.loop-due.hand.me c.next.new.hand.me s) at.source
-    (through-on board c.loop-due.scan c.next.new.self c.loop-due.hand c.next.new.hand at.nests.makes c.in_default.ensures.scanned)))
+    (through-on gone)))
     (subst (λ (s : SourceRef). IsScanSealed board s c.next.new.hand c.seal.new.hand) source c.seal.ensures.sealed)
 
 pub run_scan-returns-clause-acts : goal.run_scan-returns-clause-acts
@@ -166,15 +207,23 @@ run_scan-act-requires g t c κs within =
     let tree = c.args.table.now.frame.tree in
     let at = c.loop-due.invariant in
     let falls = c.decreases in
+    let come : HasCome _ _ c.args.table.now = record {
+      before = c.loop-due.scan;
+      after = c.next.new.self;
+      old = c.loop-due.hand;
+      new = c.next.new.hand;
+      makes = c.loop-due.invariant.nests.makes;
+      place = c.in-Some.due.place;
+      kept = c.next.ensures.source;
+      found = c.in-Some.ensures.scanned;
+    } in
     let deeper : c.in-Some.due.place.node < depth_of tree c.loop-due.scan.source =
-    found-deeper c.args.table.now c.loop-due.scan c.next.new.self c.loop-due.hand c.next.new.hand at.nests.makes c.in-Some.due.place
-    c.next.ensures.source c.in-Some.ensures.scanned in
+    found-deeper come in
     let less : c.place-place.result.node < depth_of tree c.args.scan.source =
     subst (λ (x : Name). x.node < depth_of tree c.args.scan.source) (sym c.place-place.ensures)
     (subst (λ (s : SourceRef). c.in-Some.due.place.node < depth_of tree s) at.source deeper) in
     let place = sym c.place-place.ensures in
-    let inside = found-inside c.args.table.now c.loop-due.scan c.next.new.self c.loop-due.hand c.next.new.hand at.nests c.in-Some.due.place
-    c.next.ensures.source c.in-Some.ensures.scanned in (
+    let inside = found-inside come at.nests.around in (
       omega (arith, falls, less),
       (
         within.0,

@@ -1,5 +1,5 @@
-use Rattle.op_slot.proofs.Staying.{stays-here, stays-on}
-use Rattle.exec_recv.proofs.Asiding.{aside-here, aside-on}
+use Rattle.op_slot.proofs.Staying.{stays-on}
+use Rattle.loop_walk.proofs.Going.{stepped-aside, stepped-on}
 use Rattle.loop_walk.proofs.walking.go_on.Goals as goal
 
 pub loop-init : goal.loop-init
@@ -7,26 +7,24 @@ loop-init g c =
     record {
       next = tt;
       finite = tt;
-      stays = stays-here c.args.table.now c.args.hand.now c.requires.hand;
-      can = c.requires.can;
-      aside = aside-here c.args.hand.now.me;
+      stays = c.step_once-going.ensures.stays;
+      goes = c.step_once-going.ensures.next;
+      first = c.step_once-going.ensures.first;
     }
 
 pub loop-preserved : goal.loop-preserved
 loop-preserved g c =
     let before = c.loop.invariant in
+    let step = c.step_once-going-in-Some-going in
     record {
       next = tt;
       finite = tt;
-      stays = stays-on c.args.table.now c.args.hand.now c.loop.hand c.step_once.new.hand before.stays c.step_once.ensures.stays;
-      can = c.in-Some-step_once.ensures.next;
-      aside = aside-on c.args.hand.now.me c.loop.hand.me c.step_once.new.hand.me before.aside c.step_once.ensures.aside;
+      stays = stays-on c.args.table.now c.args.hand.now c.loop.hand step.new.hand before.stays step.ensures.stays;
+      goes = step.ensures.next;
+      first = stepped-on (g.T.Stepper.does c.args.stepper.now) c.args.table.now c.args.name c.args.hand.now.me c.loop.hand.me step.new.hand.me before.first
+          (stepped-aside (g.T.Stepper.does c.args.stepper.now) c.args.table.now _ c.loop.hand.me step.new.hand.me step.ensures.first);
     }
 
-pub returns-in-None-step_once-clause-aside : goal.returns-in-None-step_once-clause-aside
-returns-in-None-step_once-clause-aside g c =
-    aside-on c.args.hand.now.me c.loop.hand.me c.step_once.new.hand.me c.loop.invariant.aside c.step_once.ensures.aside
-
-pub returns-in-None-step_once-clause-stays : goal.returns-in-None-step_once-clause-stays
-returns-in-None-step_once-clause-stays g c =
-    stays-on c.args.table.now c.args.hand.now c.loop.hand c.step_once.new.hand c.loop.invariant.stays c.step_once.ensures.stays
+pub returns-in-None-going-clause-aside : goal.returns-in-None-going-clause-aside
+returns-in-None-going-clause-aside g c =
+    stepped-aside (g.T.Stepper.does c.args.stepper.now) c.args.table.now c.args.name c.args.hand.now.me c.loop.hand.me c.loop.invariant.first

@@ -1,6 +1,6 @@
 use Rattle.table_steps.specs.Views.{Stays}
-use Rattle.exec_recv.specs.Asides.{KeepsAside}
-use Rattle.loop_walk.specs.Resting.{CanGoOn}
+use Rattle.loop_walk.specs.Resting.{GoesOn}
+use Rattle.loop_walk.specs.Stepped.{HasStepped}
 use Rattle.loop_walk.proofs.walking.go_on.Given as goal
 
 abbrev pub invariant-loop : goal.invariant-loop
@@ -8,6 +8,6 @@ invariant-loop g l = record {
   next : (goal.iterator-loop g).can_next l.iterator';
   finite : (goal.iterator-loop g).is_finite l.iterator';
   stays : Stays l.table l.fn.hand l.hand;
-  can : CanGoOn l.table l.name l.hand.me;
-  aside : KeepsAside l.fn.hand.me l.hand.me;
+  goes : GoesOn l.table l.going l.hand.me;
+  first : HasStepped (g.T.Stepper.does l.stepper) l.table l.fn.name l.fn.hand.me l.hand.me;
 }

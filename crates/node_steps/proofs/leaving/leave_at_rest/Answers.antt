@@ -1,6 +1,6 @@
 use Rattle.std.proofs.Common.{arith}
 use Rattle.table_steps.specs.Takes.{resting_in}
-use Rattle.node_steps.proofs.Left.{can-rest, rest-left, rest-aside, rest-starts, rest-at, can-put}
+use Rattle.node_steps.proofs.Left.{can-rest, rest-left, rest-aside, rest-starts, rest-owes, rest-at, can-put}
 use Rattle.node_steps.proofs.leaving.leave_at_rest.Goals as goal
 
 pub rest-requires-clause-needs : goal.rest-requires-clause-needs
@@ -21,6 +21,9 @@ returns-clause-stepped c = record {
       c.requires.may.keep.child c.requires.may.keep.saw c.requires.may.keep.small c.put_home.new.hand.me c.put_home.ensures.put
       (resting_in c.args.on) c.rest.new.hand.me c.rest.ensures.rests;
   starts = rest-starts c.args.table.now c.args.name c.args.env c.args.kept _ c.args.hand.now.me c.requires.may.keep.ready
+      c.requires.may.keep.child c.requires.may.keep.saw c.requires.may.keep.small c.put_home.new.hand.me c.put_home.ensures.put
+      (resting_in c.args.on) c.rest.new.hand.me c.rest.ensures.rests;
+  owes = rest-owes c.args.table.now c.args.name c.args.env c.args.kept _ c.args.hand.now.me c.requires.may.keep.ready
       c.requires.may.keep.child c.requires.may.keep.saw c.requires.may.keep.small c.put_home.new.hand.me c.put_home.ensures.put
       (resting_in c.args.on) c.rest.new.hand.me c.rest.ensures.rests;
   goes = rest-at c.args.table.now c.args.name c.args.env c.args.kept _ c.args.hand.now.me c.requires.may.keep.ready

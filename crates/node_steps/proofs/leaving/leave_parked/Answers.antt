@@ -1,6 +1,6 @@
 use Rattle.std.proofs.Common.{arith}
 use Rattle.life_rules.specs.declared.event.Resting.TheVariants.{Parked as IsParked}
-use Rattle.node_steps.proofs.Left.{can-rest, rest-left, rest-aside, rest-starts, rest-at, can-put}
+use Rattle.node_steps.proofs.Left.{can-rest, rest-left, rest-aside, rest-starts, rest-owes, rest-at, can-put}
 use Rattle.node_steps.proofs.leaving.leave_parked.Goals as goal
 
 pub park-requires-clause-needs : goal.park-requires-clause-needs
@@ -21,6 +21,9 @@ returns-clause-stepped c = record {
       c.requires.may.keep.child c.requires.may.keep.saw c.requires.may.keep.small c.put_home.new.hand.me c.put_home.ensures.put
       IsParked c.park.new.hand.me c.park.ensures.rests;
   starts = rest-starts c.args.table.now c.args.name c.args.env c.args.kept _ c.args.hand.now.me c.requires.may.keep.ready
+      c.requires.may.keep.child c.requires.may.keep.saw c.requires.may.keep.small c.put_home.new.hand.me c.put_home.ensures.put
+      IsParked c.park.new.hand.me c.park.ensures.rests;
+  owes = rest-owes c.args.table.now c.args.name c.args.env c.args.kept _ c.args.hand.now.me c.requires.may.keep.ready
       c.requires.may.keep.child c.requires.may.keep.saw c.requires.may.keep.small c.put_home.new.hand.me c.put_home.ensures.put
       IsParked c.park.new.hand.me c.park.ensures.rests;
   goes = rest-at c.args.table.now c.args.name c.args.env c.args.kept _ c.args.hand.now.me c.requires.may.keep.ready

@@ -1,0 +1,20 @@
+-- A hand that has stepped a node, and gone on.
+use Rattle.life_rules.specs.declared.event.Name.{Name}
+use Rattle.plan_shape.specs.Blueprint.{Blueprint}
+use Rattle.table_steps.specs.Views.{Board}
+use Rattle.table_steps.specs.Claims.{Seated}
+use Rattle.exec_start.specs.declared.entry.Entry.{Entry}
+use Rattle.exec_start.specs.declared.item.Item.{Item}
+use Rattle.exec_recv.specs.declared.next.Next.{Next}
+use Rattle.exec_recv.specs.Asides.{KeepsAside}
+use Rattle.exec_recv.specs.Nexts.{Doing, IsStepped}
+
+-- The node x was stepped, which did what a step of its does. What the view has beside nodes and
+-- starts is as that step left it, but for requests that the hand has seen and the list of its steps.
+pub record HasStepped (does : Doing) (board : Board Blueprint) (x : Name)
+    (m m' : Seated Item Entry) : Type 0 where
+  pub next : Next
+  pub between : Seated Item Entry
+  pub did : does board x next m between
+  pub stepped : IsStepped board x m between next
+  pub after : KeepsAside between m'
