@@ -1,0 +1,25 @@
+use Rattle.std.proofs.Common.{subst}
+use Rattle.exec_recv.proofs.Asiding.{aside-on}
+use Rattle.run_loop.specs.Turns.{TakesNothing}
+use Rattle.run_loop.proofs.Served.{serves-later}
+use Rattle.run_loop.proofs.Turned.{nothing-later}
+use Rattle.run_loop.proofs.looped.Loop.turn.Goals as goal
+
+pub returns-clause-aside : goal.returns-clause-aside
+returns-clause-aside g c =
+    aside-on c.args.self.now.hand.me c.poll-taken.new.self.hand.me c.scan_blocks.new.hand.me c.poll-taken.ensures.aside
+    c.scan_blocks.ensures.aside
+
+pub returns-clause-none : goal.returns-clause-none
+returns-clause-none g c zero =
+    let board = c.args.table.now in
+    let old = c.args.self.now in
+    let between = c.poll-taken.new.self in
+    let new = c.scan_blocks.new.hand in
+    nothing-later board old.helps old.hand.me between.hand.me new.me c.poll-taken.ensures.aside
+    (subst (TakesNothing board between.hand.me new.me) c.poll-taken.ensures.counts.helps (c.scan_blocks.ensures.none zero))
+
+pub returns-clause-served : goal.returns-clause-served
+returns-clause-served g c =
+    serves-later (g.T.Stepper.does c.args.stepper.now) c.args.table.now c.scan_blocks.result c.args.self.now.hand.me
+    c.poll-taken.new.self.hand.me c.scan_blocks.new.hand.me c.poll-taken.ensures.aside c.scan_blocks.ensures.served

@@ -1,0 +1,48 @@
+use Rattle.std.proofs.Common.{refl, ap, ◌∙◌}
+use Rattle.exec_recv.proofs.Asiding.{aside-here, aside-on}
+use Rattle.run_loop.specs.declared.looped.Loop.{Loop as Looped}
+use Rattle.run_loop.proofs.Turned.{looked-aside}
+use Rattle.run_loop.proofs.OneRun.{listed-still, collected-later}
+use Rattle.run_loop.proofs.looped.Loop.turn_until.Goals as goal
+
+pub loop-init : goal.loop-init
+loop-init g c =
+    record {
+      next = tt;
+      finite = tt;
+      ready = c.requires.ready;
+      same = (refl, refl);
+      aside = aside-here c.args.self.now.hand.me;
+      counts = record { helps = refl; tally = refl };
+    }
+
+pub collect-requires-clause-listed : goal.collect-requires-clause-listed
+collect-requires-clause-listed g c =
+    listed-still c.args.table.now c.args.block c.args.self.now.hand.me c.loop.self.hand.me c.loop.invariant.aside c.requires.listed
+
+pub loop-preserved : goal.loop-preserved
+loop-preserved g c =
+    let before = c.loop.invariant in
+    let none = c.in_default.ensures.none in
+    let collect = c.collect.ensures.same in
+    let turn = c.turn-taken.ensures in
+    let old = c.args.self.now.hand.me in
+    let between = c.loop.self.hand.me in
+    let after = c.collect.new.self.hand.me in
+    record {
+      next = tt;
+      finite = tt;
+      ready = turn.ready;
+      same = (turn.same.0 ∙ collect.0 ∙ before.same.0, turn.same.1 ∙ collect.1 ∙ before.same.1);
+      aside = aside-on old after c.turn-taken.new.self.hand.me
+          (aside-on old between after before.aside (looked-aside _ none.read.word between after none.read.is)) turn.aside;
+      counts = record {
+        helps = turn.counts.helps ∙ ap (λ (z : Looped). z.helps) none.rest ∙ before.counts.helps;
+        tally = turn.counts.tally ∙ ap (λ (z : Looped). z.tally) none.rest ∙ before.counts.tally;
+      };
+    }
+
+pub returns-in-Some-collect-clause-collected : goal.returns-in-Some-collect-clause-collected
+returns-in-Some-collect-clause-collected g c =
+    collected-later c.args.table.now c.args.block c.args.self.now c.loop.self c.collect.new.self c.in-Some-collect.collected
+    c.loop.invariant.aside c.loop.invariant.counts c.in-Some-collect.ensures.collected

@@ -1,0 +1,40 @@
+use Rattle.std.proofs.Common.{arith, ap, ◌∙◌}
+use Rattle.op_slot.proofs.Staying.{stays-here, stays-on}
+use Rattle.exec_recv.specs.Asides.{Aside}
+use Rattle.exec_recv.proofs.Asiding.{aside-here, aside-on}
+use Rattle.run_loop.proofs.Turned.{passed-more}
+use Rattle.run_loop.proofs.scanning.scan_block.Goals as goal
+
+pub loop-node-init : goal.loop-node-init
+loop-node-init g c =
+    record {
+      stays = stays-here c.args.table.now c.args.hand.now c.requires.hand;
+      rests = c.requires.rests;
+      aside = aside-here c.args.hand.now.me;
+      served = λ first serves. serves;
+      none = λ zero. (zero, λ node below inner. absurd (omega (arith, below)));
+    }
+
+pub take_node-taken-requires-clause-first : goal.take_node-taken-requires-clause-first
+take_node-taken-requires-clause-first g c κs within = ap (λ (a : Aside). a.number) c.loop-node.invariant.aside.same ∙ c.requires.first
+
+pub loop-node-preserved : goal.loop-node-preserved
+loop-node-preserved g c =
+    let board = c.args.table.now in
+    let before = c.loop-node.invariant in
+    let old = c.args.hand.now in
+    let between = c.loop-node.hand in
+    let new = c.take_node-taken.new.hand in
+    record {
+      stays = stays-on board old between new before.stays c.take_node-taken.ensures.stays;
+      rests = c.take_node-taken.ensures.rests;
+      aside = aside-on old.me between.me new.me before.aside c.take_node-taken.ensures.aside;
+      served = λ first serves. c.take_node-taken.ensures.served first (before.served first serves);
+      none = λ zero.
+          let here = c.take_node-taken.ensures.none zero in
+          let earlier = before.none here.0 in (
+            earlier.0,
+            passed-more board c.args.helps c.args.block old.me between.me new.me c.loop-node.node before.aside
+                c.take_node-taken.ensures.aside earlier.1 here.1,
+          );
+    }

@@ -1,0 +1,15 @@
+use Rattle.table_steps.specs.Views.{Stays}
+use Rattle.exec_recv.specs.Asides.{KeepsAside}
+use Rattle.loop_walk.specs.Resting.{IsAtRest}
+use Rattle.run_loop.specs.Serves.{ServesOn}
+use Rattle.run_loop.specs.Turns.{ArePassed, CountsNothing}
+use Rattle.run_loop.proofs.scanning.scan_block.Given as goal
+
+abbrev pub invariant-loop-node : goal.invariant-loop-node
+invariant-loop-node g l = record {
+  stays : Stays l.table l.fn.hand l.hand;
+  rests : IsAtRest l.hand.me.0;
+  aside : KeepsAside l.fn.hand.me l.hand.me;
+  served : ServesOn (g.T.Stepper.does l.stepper) l.table l.fn.taken l.taken l.fn.hand.me l.hand.me;
+  none : CountsNothing l.fn.taken l.taken (ArePassed l.table l.fn.hand.me l.hand.me l.helps l.block l.node);
+}

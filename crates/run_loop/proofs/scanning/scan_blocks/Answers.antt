@@ -1,0 +1,37 @@
+use Rattle.std.proofs.Common.{arith, ap, ◌∙◌}
+use Rattle.op_slot.proofs.Staying.{stays-here, stays-on}
+use Rattle.exec_recv.specs.Asides.{Aside}
+use Rattle.exec_recv.proofs.Asiding.{aside-here, aside-on}
+use Rattle.run_loop.proofs.Turned.{blocks-more}
+use Rattle.run_loop.proofs.scanning.scan_blocks.Goals as goal
+
+pub loop-block-init : goal.loop-block-init
+loop-block-init g c =
+    record {
+      stays = stays-here c.args.table.now c.args.hand.now c.requires.hand;
+      rests = c.requires.rests;
+      aside = aside-here c.args.hand.now.me;
+      served = aside-here c.args.hand.now.me;
+      none = λ zero block below. absurd (omega (arith, below));
+    }
+
+pub scan_block-taken-requires-clause-first : goal.scan_block-taken-requires-clause-first
+scan_block-taken-requires-clause-first g c κs within = ap (λ (a : Aside). a.number) c.loop-block.invariant.aside.same ∙ c.requires.first
+
+pub loop-block-preserved : goal.loop-block-preserved
+loop-block-preserved g c =
+    let board = c.args.table.now in
+    let before = c.loop-block.invariant in
+    let old = c.args.hand.now in
+    let between = c.loop-block.hand in
+    let new = c.scan_block-taken.new.hand in
+    record {
+      stays = stays-on board old between new before.stays c.scan_block-taken.ensures.stays;
+      rests = c.scan_block-taken.ensures.rests;
+      aside = aside-on old.me between.me new.me before.aside c.scan_block-taken.ensures.aside;
+      served = c.scan_block-taken.ensures.served old.me before.served;
+      none = λ zero.
+          let here = c.scan_block-taken.ensures.none zero in
+          blocks-more board c.args.helps c.loop-block.block old.me between.me new.me before.aside c.scan_block-taken.ensures.aside
+          (before.none here.0) here.1;
+    }

@@ -1,0 +1,63 @@
+use Rattle.std.proofs.Common.{◌+◌, arith, sym, ap, ◌∙◌, subst}
+use Rattle.std.proofs.lemmas.Option.{slice_get-get_or}
+use Rattle.op_slot.proofs.Staying.{stays-here, stays-on}
+use Rattle.exec_recv.specs.Asides.{Aside}
+use Rattle.exec_recv.proofs.Asiding.{aside-here, aside-on}
+use Rattle.run_loop.specs.Serves.{Serves}
+use Rattle.run_loop.specs.Turns.{AreLeft}
+use Rattle.run_loop.proofs.Served.{serves-after, serves-more}
+use Rattle.run_loop.proofs.Turned.{left-more}
+use Rattle.run_loop.proofs.turning.serve_each.Goals as goal
+use Rattle.run_loop.proofs.turning.serve_each.Goals.{then-serve_name, else-serve_name}
+
+pub loop-name-init : goal.loop-name-init
+loop-name-init g c =
+    record {
+      stays = stays-here c.args.table.now c.args.hand.now c.requires.hand;
+      rests = c.requires.rests;
+      aside = aside-here c.args.hand.now.me;
+      served = aside-here c.args.hand.now.me;
+      none = λ zero k name below. absurd (omega (arith, below));
+    }
+
+pub serve_name-requires-clause-first : goal.serve_name-requires-clause-first
+serve_name-requires-clause-first g c κs within = ap (λ (a : Aside). a.number) c.loop-name.invariant.aside.same ∙ c.requires.first
+
+pub loop-name-preserved : goal.loop-name-preserved
+loop-name-preserved g c =
+    let does = g.T.Stepper.does c.args.stepper.now in
+    let board = c.args.table.now in
+    let before = c.loop-name.invariant in
+    let old = c.args.hand.now in
+    let between = c.loop-name.hand in
+    let new = c.serve_name.new.hand in
+    record {
+      stays = stays-on board old between new before.stays c.serve_name.ensures.stays;
+      rests = c.serve_name.ensures.rests;
+      aside = aside-on old.me between.me new.me before.aside c.serve_name.ensures.aside;
+      served = elim c.if-serve_name.branch [
+        | then-serve_name w ↦
+            subst (λ n. Serves does board n old.me new.me) (sym w.taken-is)
+            (serves-more does board c.loop-name.taken w.one_more-taken.result old.me between.me new.me w.one_more-taken.ensures.one
+            c.serve_name.ensures.aside before.served (c.serve_name.ensures.served w.if-serve_name.true))
+        | else-serve_name w ↦
+            subst (λ n. Serves does board n old.me new.me) (sym w.taken-is)
+            (serves-after does board c.loop-name.taken old.me between.me new.me before.served c.serve_name.ensures.aside)
+      ];
+      none = λ zero.
+          elim c.if-serve_name.branch [
+            | then-serve_name w ↦
+                let one = w.one_more-taken.ensures.some in
+                let is = w.taken-is in
+                absurd {A = AreLeft board old.me new.me c.args.helps c.args.told.now (c.loop-name.name-index + 1)}
+                (omega (arith, one, is, zero))
+            | else-serve_name w ↦
+                left-more board c.args.helps old.me between.me new.me c.args.told.now c.loop-name.name-index _
+                (slice_get-get_or c.args.told.now c.loop-name.name-index _ c.loop-name-test.true) before.aside c.serve_name.ensures.aside
+                (before.none (sym w.taken-is ∙ zero)) (c.serve_name.ensures.left w.if-serve_name.false)
+          ];
+    }
+
+pub returns-clause-none : goal.returns-clause-none
+returns-clause-none g c zero k name below =
+    let past = c.loop-name-test.false in c.loop-name.invariant.none zero k name (omega (arith, below, past))

@@ -1,0 +1,63 @@
+use Rattle.std.proofs.Common.{sym, ap, ◌∙◌, subst}
+use Rattle.std.specs.Prelude.{◌≢◌}
+use Rattle.std.proofs.lemmas.Bool.{both_ways}
+use Rattle.node_tree.specs.declared.context.Context.TheVariants.{Loop, Pool}
+use Rattle.table_steps.specs.Steps.{control_index}
+use Rattle.table_steps.specs.Takes.{rest_word, resting_in}
+use Rattle.op_slot.proofs.Staying.{stays-here, stays-on}
+use Rattle.exec_recv.specs.Asides.{Aside}
+use Rattle.exec_recv.specs.Over.{IsOver}
+use Rattle.exec_recv.proofs.Asiding.{aside-here, aside-on}
+use Rattle.run_loop.proofs.Turned.{since-before, since-after}
+use Rattle.run_loop.proofs.Served.{one-later}
+use Rattle.run_loop.proofs.turning.serve_name.Goals as goal
+
+pub is_inner-requires : goal.is_inner-requires
+is_inner-requires g c = record { over = subst (IsOver c.args.table.now) (sym c.requires.over.over) c.requires.over }
+
+pub returns-then-not-is_inner-clause-stays : goal.returns-then-not-is_inner-clause-stays
+returns-then-not-is_inner-clause-stays g c = stays-here c.args.table.now c.args.hand.now c.requires.hand
+
+pub returns-then-not-is_inner-clause-aside : goal.returns-then-not-is_inner-clause-aside
+returns-then-not-is_inner-clause-aside g c = aside-here c.args.hand.now.me
+
+pub serve-requires-2-clause-first : goal.serve-requires-2-clause-first
+serve-requires-2-clause-first g c κs within = ap (λ (a : Aside). a.number) c.serve.ensures.aside.same ∙ c.requires.first
+
+pub returns-clause-stays : goal.returns-clause-stays
+returns-clause-stays g c =
+    stays-on c.args.table.now c.args.hand.now c.serve.new.hand c.serve-2.new.hand c.serve.ensures.stays c.serve-2.ensures.stays
+
+pub returns-clause-aside : goal.returns-clause-aside
+returns-clause-aside g c =
+    aside-on c.args.hand.now.me c.serve.new.hand.me c.serve-2.new.hand.me c.serve.ensures.aside c.serve-2.ensures.aside
+
+pub returns-then-not-is_inner-clause-left : goal.returns-then-not-is_inner-clause-left
+returns-then-not-is_inner-clause-left g c left inner = absurd (c.is_inner.ensures.no c.if-not-is_inner.true inner)
+
+pub returns-then-not-helps-clause-left : goal.returns-then-not-helps-clause-left
+returns-then-not-helps-clause-left g c left inner =
+    record {
+      loop = c.serve.ensures.missed c.if-serve.false;
+      pool = λ help. absurd (both_ways c.args.helps c.if-not-helps.true help);
+    }
+
+pub returns-clause-left : goal.returns-clause-left
+returns-clause-left g c left inner =
+    let board = c.args.table.now in
+    let x = c.args.name in
+    let i = control_index board x in
+    let old = c.args.hand.now.me in
+    let between = c.serve.new.hand.me in
+    let new = c.serve-2.new.hand.me in
+    record {
+      loop = since-after i (λ word. word ≢ rest_word x (resting_in Loop)) old between new (c.serve.ensures.missed c.if-serve.false)
+          c.serve-2.ensures.aside;
+      pool = λ help.
+          since-before i (λ word. word ≢ rest_word x (resting_in Pool)) old between new c.serve.ensures.aside (c.serve-2.ensures.missed left);
+    }
+
+pub returns-clause-served : goal.returns-clause-served
+returns-clause-served g c served =
+    one-later (g.T.Stepper.does c.args.stepper.now) c.args.table.now c.args.hand.now.me c.serve.new.hand.me c.serve-2.new.hand.me
+    c.serve.ensures.aside (c.serve-2.ensures.served served)

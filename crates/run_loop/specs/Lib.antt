@@ -1,0 +1,11 @@
+pub mod Loops
+pub mod Starts
+pub mod Emptied
+pub mod Collects
+pub mod Turns
+pub mod Serves
+pub mod Waits
+-- the definitions that the public contracts cite
+pub use Rattle.table_steps.specs.Views
+pub use Rattle.exec_recv.specs.Over
+pub use Rattle.loop_walk.specs.Resting

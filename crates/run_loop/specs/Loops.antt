@@ -1,0 +1,55 @@
+-- A loop as its callers see it, and what its calls leave of its hand's view.
+use Rattle.std.specs.Prelude.{◌≡◌, ◌≤◌, false, List, [], ◌∷◌, ◌++◌, Option}
+use Rattle.life_rules.specs.declared.event.Name.{Name}
+use Rattle.listed_steps.specs.declared.seen.Seen.{Seen}
+use Rattle.atomic_table.specs.declared.shared.Seat.{Seat}
+use Rattle.plan_shape.specs.Blueprint.{Blueprint}
+use Rattle.run_tally.specs.Tallied.{new_tally}
+use Rattle.table_rules.specs.declared.view.View.{View}
+use Rattle.table_steps.specs.Views.{Board, IsHandOf, knows}
+use Rattle.table_steps.specs.Claims.{Seated}
+use Rattle.exec_start.specs.declared.entry.Entry.{Entry}
+use Rattle.exec_start.specs.declared.item.Item.{Item}
+use Rattle.exec_recv.specs.Asides.{Aside, aside_of, SeesMore}
+use Rattle.loop_walk.specs.Resting.{IsAtRest}
+use Rattle.run_loop.specs.declared.looped.Loop.{Loop as Looped}
+
+-- A new loop on this hand knows no names, doesn't help the pool, and has collected nothing.
+pub record IsOpened (hand : Seat (Option Item) (View Item Entry)) (loop : Looped) : Type 0 where
+  pub hand_is : loop.hand ≡ hand
+  pub names : loop.names.list.items ≡ []
+  pub next : loop.next ≡ 0
+  pub helps : loop.helps ≡ false
+  pub tally : loop.tally ≡ new_tally
+
+-- The names that it was told of, and with one more at the back.
+abbrev pub told : Looped → List Name
+told loop = loop.names.list.items
+
+abbrev pub told_also : Name → Looped → List Name
+told_also name loop = told loop ++ name ∷ []
+
+-- These are the names that it knows now. All else is as before.
+pub record IsTold (names : List Name) (old new : Looped) : Type 0 where
+  pub names_are : told new ≡ names
+  pub rest : new ≡ record old { names = new.names }
+
+-- The loop's hand is hand 0 of this table, and at rest.
+pub record IsReady (board : Board Blueprint) (loop : Looped) : Type 0 where
+  pub hand : IsHandOf board loop.hand
+  pub first : (knows loop.hand).number ≡ 0
+  pub rests : IsAtRest (knows loop.hand)
+  pub next : loop.next ≤ board.frame.layout.blocks
+
+-- It helps as before, and has collected nothing more.
+pub record KeepsCounts (old new : Looped) : Type 0 where
+  pub helps : new.helps ≡ old.helps
+  pub tally : new.tally ≡ old.tally
+
+-- Beside nodes and starts this is what the hand's view says afterwards. Its list of steps only grew,
+-- and a request that was seen is seen still.
+pub record LeavesAside (aside : Aside) (m m' : Seated Item Entry) : Type 0 where
+  pub is : aside_of m'.0 ≡ aside
+  pub fresh : List Seen
+  pub grown : m'.0.steps ≡ fresh ++ m.0.steps
+  pub sees : SeesMore m m'

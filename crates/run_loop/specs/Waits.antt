@@ -1,0 +1,52 @@
+-- What waiting for one operation comes to ([exec.sync.wait]).
+use Rattle.std.specs.Prelude.{◌≡◌, ◌+◌, List, Some}
+use Rattle.plan_shape.specs.Blueprint.{Blueprint}
+use Rattle.run_tally.specs.Tallied.{raised}
+use Rattle.table_rules.specs.declared.view.Rooted.{Rooted}
+use Rattle.table_steps.specs.declared.block.Block.{Block}
+use Rattle.table_steps.specs.Views.{Board}
+use Rattle.table_steps.specs.Claims.{root_name}
+use Rattle.table_steps.specs.Slots.{noted_at}
+use Rattle.exec_start.specs.declared.entry.Entry.{Entry}
+use Rattle.exec_recv.specs.Asides.{Aside, aside_of}
+use Rattle.run_loop.specs.declared.collecting.Collected.{Collected}
+use Rattle.run_loop.specs.declared.looped.Loop.{Loop as Looped}
+use Rattle.run_loop.specs.declared.waiting.Waited.{Waited}
+use Rattle.run_loop.specs.declared.waiting.Waited.TheVariants.{Completed, NoBlock}
+use Rattle.run_loop.specs.Collects.{IsFor}
+use Rattle.run_loop.specs.Emptied.{with_released}
+use Rattle.run_loop.specs.Loops.{KeepsCounts, LeavesAside}
+use Rattle.run_loop.specs.Starts.{FindsNoBlock}
+
+-- The loop collected one operation more, which completed so. It helps as before.
+pub record CountsOne (old new : Looped) (c : Collected) : Type 0 where
+  pub helps : new.helps ≡ old.helps
+  pub tally : new.tally ≡ raised c.completion old.tally
+
+-- The operation in the block was collected, for the start that the hand noted of its root.
+pub record IsCollected (board : Board Blueprint) (b : Block) (old new : Looped) (c : Collected) : Type 0 where
+  pub is_for : (e : Rooted Entry) → noted_at old.hand.me.0 (root_name board b.index b.generation) ≡ Some e →
+      IsFor e.start old.hand.me.0.requested c
+  pub leaves : LeavesAside (with_released (root_name board b.index b.generation) (aside_of old.hand.me.0)) old.hand.me new.hand.me
+  pub counts : CountsOne old new c
+
+-- One block was claimed, and given back.
+abbrev pub with_used : Aside → Aside
+with_used aside = record aside { claimed = aside.claimed + 1; released = aside.released + 1 }
+
+-- An operation with this start was run, and completed so.
+pub record HasRun (start : List Entry) (old new : Looped) (c : Collected) : Type 0 where
+  pub is_for : IsFor start old.hand.me.0.requested c
+  pub leaves : LeavesAside (with_used (aside_of old.hand.me.0)) old.hand.me new.hand.me
+  pub counts : CountsOne old new c
+
+-- No block was free for it, and its start comes back.
+pub record HasNoBlock (board : Board Blueprint) (start : List Entry) (old new : Looped) (back : List Entry) : Type 0 where
+  pub back_is : back ≡ start
+  pub none : FindsNoBlock board old new
+  pub counts : KeepsCounts old new
+
+-- The one or the other.
+abbrev pub Waits : Board Blueprint → List Entry → Looped → Looped → Waited → Type 0
+Waits board start old new (Completed c) = HasRun start old new c
+Waits board start old new (NoBlock back) = HasNoBlock board start old new back

@@ -1,0 +1,32 @@
+//! A loop of operations on one hand of a running table over a plan: hand 0, which starts
+//! operations, takes what is ready in the loop, and collects what they completed with.
+//!
+//! It stands on loop_walk, by which it goes on, and on op_slot, exec_recv and exec_start. It keeps
+//! one promise: what is collected is want of memory, or is allowed for the start with which its
+//! operation began, and it saw a stop request only where the scope's request stands.
+//!
+//!     env --start--> an operation in a block --poll, turn--> ready at its root --collect--> Collected
+//!      |                                                                                        ^
+//!      +--sync_wait-----------------------------------------------------------------------------+
+//!
+//! The loop has no list of its operations. Its hand notes the start of each root that it begins,
+//! and forgets it when it gives the block back: the operations that a loop started and hasn't
+//! collected are those notes.
+#![tactic(auto)]
+
+mod collecting;
+mod emptying;
+mod looped;
+mod names;
+mod scanning;
+mod serving;
+mod starting;
+mod turning;
+mod waiting;
+
+pub use collecting::Collected;
+pub use exec_recv::{Env, Gate, Item, Stepper};
+pub use looped::Loop;
+pub use op_slot::Block;
+pub use run_tally::Tally;
+pub use waiting::Waited;

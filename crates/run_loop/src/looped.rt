@@ -1,0 +1,100 @@
+//! The loop itself.
+ghost use Rattle.std.specs.Prelude.{◌≡◌, IfOk, IfErr};
+ghost use Rattle.plan_kinds.specs.Runnable.{IsRunnable};
+ghost use Rattle.table_steps.specs.Views.{IsHandOf, knows};
+ghost use Rattle.exec_recv.specs.Over.{IsOver};
+ghost use Rattle.run_loop.specs.Loops.{IsOpened, IsTold, told, told_also};
+
+use crate::names::Names;
+use exec_recv::Item;
+use life_rules::Name;
+use op_slot::{Hand, OpTable};
+use plan_shape::Plan;
+use run_tally::Tally;
+use std::alloc::Global;
+
+/// A loop on hand 0 of a table. Its type keeps no fact of the hand: each call that takes the table
+/// asks that the loop is ready, and leaves it so.
+#[derive(Drop)]
+pub struct Loop {
+    /// The hand on which it works.
+    pub hand: Hand<Item>,
+    /// What it was told of since the last poll.
+    pub(crate) names: Names,
+    /// The room of the names that a poll serves.
+    pub(crate) served: Names,
+    /// The block at which the search for a free one begins.
+    pub(crate) next: u32,
+    pub(crate) helps: bool,
+    pub(crate) tally: Tally,
+}
+
+impl Loop {
+    /// A loop on the hand. The hand comes back on want of memory alone.
+    ///
+    /// Needs: the hand is hand 0 of the table, which was opened over the plan, whose kinds match.
+    /// Afterwards: the loop knows no names, doesn't help the pool, and has collected nothing.
+    pub fn open(
+        alloc: Global,
+        plan: &Plan,
+        table: &OpTable<Item>,
+        hand: Hand<Item>,
+    ) -> Result<Loop, Hand<Item>>
+        requires hand { IsHandOf table.now hand }
+        requires first { (knows hand).number ≡ 0 }
+        requires over { IsOver table.now plan.now }
+        requires kinds { IsRunnable plan.now }
+        ensures opened { IfOk result (IsOpened hand) }
+        ensures back { IfErr result (λ back. back ≡ hand) }
+    {
+        let _ = plan;
+        let (blocks, nodes) = (table.blocks(), table.tree().size());
+        let Ok(names) = Names::with_room(alloc, blocks, nodes) else {
+            return Err(hand);
+        };
+        let Ok(served) = Names::with_room(alloc, blocks, nodes) else {
+            return Err(hand);
+        };
+        Ok(Loop {
+            hand,
+            names,
+            served,
+            next: 0,
+            helps: false,
+            tally: Tally::new(),
+        })
+    }
+
+    /// Tells the loop of a node that may be ready. The name comes back on want of memory alone.
+    pub fn push_name(&mut self, name: Name) -> Result<(), Name>
+        ensures pushed { IfOk result (λ _. IsTold (told_also name self.old) self.old self.new) }
+        ensures same { IfErr result (λ _. IsTold (told self.old) self.old self.new) }
+        ensures back { IfErr result (λ back. back ≡ name) }
+    {
+        match self.names.add(name) {
+            Ok(()) => Ok(()),
+            Err(_) => Err(name),
+        }
+    }
+
+    /// Whether turns from now on take nodes that are ready in the pool, too.
+    pub fn help_pool(&mut self, helps: bool)
+        ensures { self.new ≡ record self.old { helps = helps } }
+    {
+        self.helps = helps;
+    }
+
+    /// How many operations were collected with each kind of completion.
+    pub fn tally(&self) -> Tally
+        ensures { result ≡ self.now.tally }
+    {
+        self.tally
+    }
+
+    /// The loop's hand.
+    pub fn into_hand(self) -> Hand<Item>
+        ensures { result ≡ self.hand }
+    {
+        self.hand
+    }
+}

@@ -1,0 +1,188 @@
+//! A turn of the loop.
+ghost use Rattle.std.specs.Prelude.{◌≡◌, true, false};
+ghost use Rattle.std.specs.Thread.{IsSync};
+ghost use Rattle.plan_kinds.specs.Runnable.{IsRunnable};
+ghost use Rattle.table_steps.specs.Views.{IsHandOf, IsSameHand, Stays, knows};
+ghost use Rattle.exec_recv.specs.Asides.{KeepsAside};
+ghost use Rattle.exec_recv.specs.Over.{IsOver};
+ghost use Rattle.loop_walk.specs.Resting.{IsAtRest};
+ghost use Rattle.run_loop.specs.Loops.{IsReady, KeepsCounts};
+ghost use Rattle.run_loop.specs.Serves.{ServesOne, Serves};
+ghost use Rattle.run_loop.specs.Turns.{IsInner, IsLeft, AreAllLeft, MissesAll, FindsNothing};
+
+use crate::looped::Loop;
+use crate::names::Names;
+use crate::scanning::scan_blocks;
+use crate::serving::{one_more, serve};
+use exec_recv::{Item, Stepper};
+use life_rules::Name;
+use node_tree::Context;
+use op_slot::{Hand, OpTable};
+use std::alloc::Global;
+use std::mem;
+use std::sync::Wait;
+
+// The name is of a place of the table, and of no root.
+fn is_inner(table: &OpTable<Item>, name: Name) -> bool
+    requires over { IsOver table.now table.now.frame.over.value }
+    ensures yes { result ≡ true → IsInner table.now name }
+    ensures no { result ≡ false → ¬ IsInner table.now name }
+{
+    let size = table.tree().size();
+    name.block < table.blocks() && name.node < size - 1
+}
+
+// Takes the node of a name that the loop was told of, where it is ready. A root is left for
+// `collect`, and a name of no place is no hint.
+fn serve_name<T: Stepper, R: Wait + Sync>(
+    rt: &R,
+    alloc: Global,
+    table: &OpTable<Item>,
+    hand: &mut Hand<Item>,
+    stepper: &T,
+    names: &mut Names,
+    helps: bool,
+    name: Name,
+) -> bool
+    requires sync { IsSync R.row }
+    requires hand { IsHandOf table.now hand.old }
+    requires over { IsOver table.now (T.plan stepper.now) }
+    requires kinds { IsRunnable (T.plan stepper.now) }
+    requires first { (knows hand.old).number ≡ 0 }
+    requires rests { IsAtRest (knows hand.old) }
+    ensures stays { Stays table.now hand.old hand.new }
+    ensures rests { IsAtRest (knows hand.new) }
+    ensures aside { KeepsAside hand.old.me hand.new.me }
+    ensures served { result ≡ true →
+        ServesOne (T.does stepper.now) table.now hand.old.me hand.new.me }
+    ensures left { result ≡ false → IsLeft table.now hand.old.me hand.new.me helps name }
+{
+    if !is_inner(table, name) {
+        return false;
+    }
+    if serve(rt, alloc, table, hand, stepper, names, name, Context::Loop) {
+        return true;
+    }
+    if !helps {
+        return false;
+    }
+    serve(rt, alloc, table, hand, stepper, names, name, Context::Pool)
+}
+
+// Takes the nodes of these names, from the front.
+fn serve_each<T: Stepper, R: Wait + Sync>(
+    rt: &R,
+    alloc: Global,
+    table: &OpTable<Item>,
+    hand: &mut Hand<Item>,
+    stepper: &T,
+    names: &mut Names,
+    helps: bool,
+    told: &[Name],
+) -> u32
+    requires sync { IsSync R.row }
+    requires hand { IsHandOf table.now hand.old }
+    requires over { IsOver table.now (T.plan stepper.now) }
+    requires kinds { IsRunnable (T.plan stepper.now) }
+    requires first { (knows hand.old).number ≡ 0 }
+    requires rests { IsAtRest (knows hand.old) }
+    ensures stays { Stays table.now hand.old hand.new }
+    ensures rests { IsAtRest (knows hand.new) }
+    ensures aside { KeepsAside hand.old.me hand.new.me }
+    ensures served { Serves (T.does stepper.now) table.now result hand.old.me hand.new.me }
+    ensures none { result ≡ 0 → AreAllLeft table.now hand.old.me hand.new.me helps told.now }
+{
+    let mut taken = 0;
+    for name in told {
+        if serve_name(rt, alloc, table, hand, stepper, names, helps, *name) {
+            taken = one_more(taken);
+        }
+    }
+    taken
+}
+
+impl Loop {
+    /// Takes the nodes of the names that it was told of, and goes on with each. What they leave
+    /// ready is told for the next call. The answer is how many it took, each of which the stepper
+    /// stepped; 0 only where the word of each node that it was told of, but of roots, at its own step
+    /// of this call, said that it isn't ready at the name's generation in the loop, nor where the
+    /// loop helps in the pool.
+    ///
+    /// Step: those of `take` for each name, and those of the steps of its nodes.
+    /// Needs: the loop is ready. The table is over the stepper's plan, whose kinds match.
+    /// Afterwards: the loop is ready. Its operations are as before.
+    pub fn poll<T: Stepper, R: Wait + Sync>(
+        &mut self,
+        rt: &R,
+        alloc: Global,
+        table: &OpTable<Item>,
+        stepper: &T,
+    ) -> u32
+        requires sync { IsSync R.row }
+        requires ready { IsReady table.now self.old }
+        requires over { IsOver table.now (T.plan stepper.now) }
+        requires kinds { IsRunnable (T.plan stepper.now) }
+        ensures ready { IsReady table.now self.new }
+        ensures same { IsSameHand self.old.hand self.new.hand }
+        ensures counts { KeepsCounts self.old self.new }
+        ensures aside { KeepsAside self.old.hand.me self.new.hand.me }
+        ensures served { Serves (T.does stepper.now) table.now result self.old.hand.me self.new.hand.me }
+        ensures none { result ≡ 0 → MissesAll table.now self.old self.new }
+    {
+        mem::swap(&mut self.names, &mut self.served);
+        let taken = serve_each(
+            rt,
+            alloc,
+            table,
+            &mut self.hand,
+            stepper,
+            &mut self.names,
+            self.helps,
+            &self.served.list,
+        );
+        self.served.list.clear();
+        taken
+    }
+
+    /// One turn: polls, and where that took no node, looks at each node of the table but the roots,
+    /// and goes on with each that it takes. The answer is how many it took, each of which the stepper
+    /// stepped; 0 only where the word of each node but the roots, at its own step of this call, said
+    /// that it isn't ready in the loop, nor where the loop helps in the pool.
+    ///
+    /// Step: those of `poll`; then for each node one load of its control word, and where that says
+    /// that it is ready, those of `take`; and those of the steps of its nodes.
+    /// Needs: the loop is ready. The table is over the stepper's plan, whose kinds match.
+    /// Afterwards: the loop is ready. Its operations are as before.
+    pub fn turn<T: Stepper, R: Wait + Sync>(
+        &mut self,
+        rt: &R,
+        alloc: Global,
+        table: &OpTable<Item>,
+        stepper: &T,
+    ) -> u32
+        requires sync { IsSync R.row }
+        requires ready { IsReady table.now self.old }
+        requires over { IsOver table.now (T.plan stepper.now) }
+        requires kinds { IsRunnable (T.plan stepper.now) }
+        ensures ready { IsReady table.now self.new }
+        ensures same { IsSameHand self.old.hand self.new.hand }
+        ensures counts { KeepsCounts self.old self.new }
+        ensures aside { KeepsAside self.old.hand.me self.new.hand.me }
+        ensures served { Serves (T.does stepper.now) table.now result self.old.hand.me self.new.hand.me }
+        ensures none { result ≡ 0 → FindsNothing table.now self.old self.new }
+    {
+        let taken = self.poll(rt, alloc, table, stepper);
+        if taken > 0 {
+            return taken;
+        }
+        scan_blocks(
+            rt,
+            alloc,
+            table,
+            &mut self.hand,
+            stepper,
+            &mut self.names,
+            self.helps,
+        )
+    }
+}

@@ -1,0 +1,90 @@
+//! How one operation is run and waited for ([exec.sync.wait]).
+ghost use Rattle.std.specs.Prelude.{◌≡◌};
+ghost use Rattle.std.specs.Thread.{IsSync};
+ghost use Rattle.plan_kinds.specs.Runnable.{IsRunnable};
+ghost use Rattle.table_steps.specs.Views.{IsSameHand};
+ghost use Rattle.exec_recv.specs.Over.{IsOver};
+ghost use Rattle.run_tally.specs.Tallied.{IsSmallTally};
+ghost use Rattle.run_loop.specs.Loops.{IsReady};
+ghost use Rattle.run_loop.specs.Starts.{CanRun};
+ghost use Rattle.run_loop.specs.Collects.{IsListed};
+ghost use Rattle.run_loop.specs.Waits.{IsCollected, Waits};
+
+use crate::collecting::Collected;
+use crate::looped::Loop;
+use exec_recv::{Env, Item, Stepper};
+use op_slot::{Block, OpTable};
+use std::alloc::Global;
+use std::sync::Wait;
+
+/// What waiting for one operation came to.
+#[derive(Drop)]
+pub enum Waited {
+    /// The operation completed so.
+    Completed(Collected),
+    /// No block was free for it. Its environment comes back.
+    NoBlock(Env),
+}
+
+impl Loop {
+    // Turns until the operation in the block can be collected.
+    fn turn_until<T: Stepper, R: Wait + Sync>(
+        &mut self,
+        rt: &R,
+        alloc: Global,
+        table: &OpTable<Item>,
+        stepper: &T,
+        block: Block,
+    ) -> Collected
+        requires sync { IsSync R.row }
+        requires ready { IsReady table.now self.old }
+        requires over { IsOver table.now (T.plan stepper.now) }
+        requires kinds { IsRunnable (T.plan stepper.now) }
+        requires listed { IsListed table.now block self.old.hand.me }
+        requires small { IsSmallTally self.old.tally }
+        ensures ready { IsReady table.now self.new }
+        ensures same { IsSameHand self.old.hand self.new.hand }
+        ensures collected { IsCollected table.now block self.old self.new result }
+    {
+        for _ in rt.forever() {
+            if let Some(collected) = self.collect(table, block) {
+                return collected;
+            }
+            let _taken = self.turn(rt, alloc, table, stepper);
+        }
+        unreachable!()
+    }
+
+    /// Starts an operation in a free block, turns until it can be collected, and collects it
+    /// ([exec.sync.wait]). NoBlock where no block was free: each was missed at its own step of this
+    /// call. What is promised holds if it returns.
+    ///
+    /// Step: those of `start`, of turns and of `collect`.
+    /// Needs: as `start`, and a small tally.
+    /// Afterwards: the loop is ready. Its operations are as before. What the operation completed
+    /// with is want of memory, or allowed for the start that the environment shows, and is of its
+    /// number; it saw a stop request only where the scope's stood. The tally is raised by it.
+    pub fn sync_wait<T: Stepper, R: Wait + Sync>(
+        &mut self,
+        rt: &R,
+        alloc: Global,
+        table: &OpTable<Item>,
+        stepper: &T,
+        env: Env,
+    ) -> Waited
+        requires sync { IsSync R.row }
+        requires ready { IsReady table.now self.old }
+        requires over { IsOver table.now (T.plan stepper.now) }
+        requires kinds { IsRunnable (T.plan stepper.now) }
+        requires start { CanRun table.now env }
+        requires small { IsSmallTally self.old.tally }
+        ensures ready { IsReady table.now self.new }
+        ensures same { IsSameHand self.old.hand self.new.hand }
+        ensures waits { Waits table.now env self.old self.new result }
+    {
+        match self.start(rt, alloc, table, stepper, env) {
+            Ok(block) => Waited::Completed(self.turn_until(rt, alloc, table, stepper, block)),
+            Err(env) => Waited::NoBlock(env),
+        }
+    }
+}
