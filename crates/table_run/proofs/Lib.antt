@@ -1,0 +1,12 @@
+mod Moved
+mod Starting
+mod Entered
+mod Named
+mod Listed
+mod Allowed
+mod Worked
+mod Sounding
+mod Requested
+mod Joined
+mod Cleared
+mod Changed

@@ -1,0 +1,171 @@
+-- What a run keeps through its calls.
+use Rattle.std.proofs.Common.{◌≡◌, ℕ, ◌+◌, ◌*◌, ◌<◌, ◌≤◌, ◌^◌, Bool, true, false, List, [], ◌∷◌, length, set, get_or, cond, refl, sym, ap, ◌∙◌, subst, arith}
+use Rattle.std.specs.Prelude.{Option, Some, None, is_some, replicate}
+use Rattle.std.proofs.lemmas.List.{length-set, length-replicate}
+use Rattle.std.proofs.lemmas.List.Folds.{sum_by-replicate}
+use Rattle.common_lemmas.proofs.Lists.{get_or-replicate_same}
+use Rattle.exec_value.specs.declared.data.Datum.{Datum}
+use Rattle.life_rules.specs.declared.event.SourceRef.TheVariants.{Scope}
+use Rattle.plan_kinds.specs.Runnable.{IsRunnable}
+use Rattle.plan_shape.specs.Blueprint.{Blueprint}
+use Rattle.table_rules.specs.declared.view.Rooted.{Rooted}
+use Rattle.table_rules.specs.Named.{find_by}
+use Rattle.table_steps.specs.Views.{Board, IsHandOf, knows}
+use Rattle.exec_start.specs.declared.entry.Entry.{Entry}
+use Rattle.exec_start.specs.Entries.{record_start}
+use Rattle.exec_recv.specs.Asides.{Aside, aside_of}
+use Rattle.exec_recv.specs.Over.{IsOver}
+use Rattle.loop_walk.specs.Resting.{IsAtRest}
+use Rattle.run_loop.specs.declared.looped.Loop.{Loop as Looped}
+use Rattle.run_loop.specs.Loops.{IsReady}
+use Rattle.table_run.specs.declared.tickets.Operation.{Operation}
+use Rattle.table_run.specs.Calls.{with_entered, with_left, LeavesWith, LeavesSame, Enters, AsksScope}
+use Rattle.table_run.specs.Opened.{IsUnused}
+use Rattle.table_run.specs.Runs.{Run, run_of, root_of}
+use Rattle.table_run.specs.Sound.{taken, Has, AreListed, HasTickets, IsSound}
+use Rattle.table_run.proofs.Listed.{entered-listed, left-listed}
+
+module _ (on : Board Blueprint → Type 0) (run : Run) (stepped : Blueprint) (next : ℕ) (sound : IsSound on run stepped next) (looped : Looped) (ready : IsReady run.board looped) where
+  abbrev aside : Aside
+  aside = aside_of (knows run.looped.hand)
+
+  -- where the hand knows of the same requests, of the same associations in the making, and of these operations
+  module _ (now : Aside) (same : LeavesWith now run.looped.hand.me looped.hand.me) (requests : now.requested ≡ aside.requested)
+      (settled : now.making + now.refused ≡ aside.making + aside.refused) where
+    pub moved-sound : (operations : List (Option Operation)) (later : ℕ) → AreListed run.board run.plan now operations →
+        HasTickets (length operations) later → IsSound on (record run { looped = looped; operations = operations }) stepped later
+    moved-sound operations later listed tickets =
+        record {
+          table = record {
+            is_on = sound.table.is_on;
+            over = sound.table.over;
+            kinds = sound.table.kinds;
+            stepped_is = sound.table.stepped_is;
+            scope = sound.table.scope;
+          };
+          tickets = tickets;
+          ready = ready;
+          settled = ap (λ (a : Aside). a.making + a.refused) same.is ∙ settled ∙ sound.settled;
+          listed = subst (λ (a : Aside). AreListed run.board run.plan a operations) (sym same.is) listed;
+          asked = record {
+            seen = λ asked. same.sees Scope (sound.asked.seen asked);
+            made = λ made. sound.asked.made (sym (ap (λ (a : Aside). a.requested) same.is ∙ requests) ∙ made);
+          };
+        }
+
+  pub turned-sound : LeavesSame run.looped.hand.me looped.hand.me → IsSound on (record run { looped = looped }) stepped next
+  turned-sound same = moved-sound aside same refl refl run.operations next sound.listed sound.tickets
+
+  module _ (t : ℕ) (within : t < length run.operations) where
+    pub entered-sound : (o : Operation) → get_or run.operations t None ≡ None → (number : ℕ) (datum : Datum) (asked : Bool) →
+        Enters run.board o (record_start run.plan (datum ∷ []) number asked) run.looped.hand.me looped.hand.me →
+        (later : ℕ) → later < length run.operations →
+        IsSound on (record run { looped = looped; operations = set run.operations t (Some o) }) stepped later
+    entered-sound o free number datum asked enters later inside =
+        let few = sound.tickets.few in
+        let count : length (set run.operations t (Some o)) ≡ length run.operations = length-set run.operations t (Some o) in
+        moved-sound (with_entered (root_of run.board o) (record_start run.plan (datum ∷ []) number asked) aside) enters.leaves refl refl
+        (set run.operations t (Some o)) later
+        (entered-listed run.board run.plan aside run.operations sound.listed t within o free enters.within enters.unnoted number datum asked)
+        (record { within = omega (arith, inside, count); few = omega (arith, few, count) })
+
+    pub left-sound : (o : Operation) → Has run.operations t o →
+        LeavesWith (with_left (root_of run.board o) aside) run.looped.hand.me looped.hand.me →
+        IsSound on (record run { looped = looped; operations = set run.operations t None }) stepped next
+    left-sound o has leaves =
+        let few = sound.tickets.few in
+        let inside = sound.tickets.within in
+        let count : length (set run.operations t None) ≡ length run.operations = length-set run.operations t None in
+        moved-sound (with_left (root_of run.board o) aside) leaves refl refl (set run.operations t None) next
+        (left-listed run.board run.plan aside run.operations sound.listed t within o has)
+        (record { within = omega (arith, inside, count); few = omega (arith, few, count) })
+
+  pub asked-sound : AsksScope run.looped.hand.me looped.hand.me → IsSound on (record run { looped = looped; requested = true }) stepped next
+  asked-sound asks =
+      record {
+        table = record {
+          is_on = sound.table.is_on;
+          over = sound.table.over;
+          kinds = sound.table.kinds;
+          stepped_is = sound.table.stepped_is;
+          scope = sound.table.scope;
+        };
+        tickets = sound.tickets;
+        ready = ready;
+        settled = ap (λ (a : Aside). a.making + a.refused) asks.same ∙ sound.settled;
+        listed = record {
+          made = ap (λ (a : Aside). a.made) asks.same ∙ sound.listed.made;
+          claimed = ap (λ (a : Aside). a.claimed) asks.same ∙ sound.listed.claimed
+              ∙ sym (ap (λ (a : Aside). a.released + taken run.operations) asks.same);
+          each = λ t o has.
+              let before = sound.listed.each t o has in
+              record {
+                within = before.within;
+                number = before.number;
+                datum = before.datum;
+                asked = before.asked;
+                start = ap (λ (a : Aside). find_by (λ (e : Rooted Entry). e.name) a.noted (root_of run.board o)) asks.same ∙ before.start;
+              };
+          apart = sound.listed.apart;
+        };
+        asked = record { seen = λ _. asks.seen; made = λ _. refl };
+      }
+
+-- a loop that requested a stop is ready
+pub asked-ready : (board : Board Blueprint) (old new : Looped) → IsReady board old → new.next ≡ old.next → IsHandOf board new.hand →
+    IsAtRest (knows new.hand) → AsksScope old.hand.me new.hand.me → IsReady board new
+asked-ready board old new ready next hand rests asks =
+    record {
+      hand = hand;
+      first = ap (λ (a : Aside). a.number) asks.same ∙ ready.first;
+      rests = rests;
+      next = let before = ready.next in omega (arith, next, before);
+    }
+
+-- a new run
+pub opened-sound : (on : Board Blueprint → Type 0) (board : Board Blueprint) (plan stepped : Blueprint) (tickets : ℕ) (looped : Looped) →
+    on board → IsOver board plan → IsRunnable plan → stepped ≡ plan → board.frame.kind ≡ plan.settings.scope → 0 < tickets → tickets ≤ 2 ^ 16 →
+    IsUnused board looped.hand → looped.next ≡ 0 → (operations : List (Option Operation)) → operations ≡ replicate tickets None →
+    IsSound on (run_of board plan looped operations false) stepped 0
+opened-sound on board plan stepped tickets looped is_on over kinds steps scope some few unused next operations free =
+    record {
+      table = record { is_on = is_on; over = over; kinds = kinds; stepped_is = steps; scope = scope };
+      tickets = record { within = omega (arith, count, some); few = omega (arith, count, few) };
+      ready = record {
+        hand = unused.hand_of;
+        first = unused.first;
+        rests = record {
+          held = unused.nothing.held;
+          owed = unused.nothing.owed;
+          reported = unused.nothing.reported;
+          finished = unused.nothing.finished;
+          runs = unused.nothing.runs;
+          scans = unused.nothing.scans;
+        };
+        next = omega (arith, next);
+      };
+      settled = let making = unused.nothing.making in let refused = unused.nothing.refused in omega (arith, making, refused);
+      listed = record {
+        made = unused.nothing.made ∙ sym none;
+        claimed = let even = unused.even in omega (arith, even, none);
+        each = λ t o has. absurd (vacant t o has);
+        apart = λ t u o p has. absurd (vacant t o has);
+      };
+      asked = record {
+        seen = λ e. absurd (let no = e in cc);
+        made = λ e. absurd (let no = sym unused.unasked ∙ e in cc);
+      };
+    }
+  where
+    count : length operations ≡ tickets
+    count = ap length free ∙ length-replicate tickets None
+
+    none : taken operations ≡ 0
+    none =
+        let all : taken (replicate tickets None) ≡ tickets * 0 = sum_by-replicate (λ (o : Option Operation). cond (is_some o) 1 0) tickets None in
+        ap taken free ∙ (let e : tickets * 0 ≡ 0 = omega arith in all ∙ e)
+
+    vacant : (t : ℕ) (o : Operation) → Has operations t o → ⊥
+    vacant t o has =
+        let gone : get_or operations t None ≡ None = ap (λ (l : List (Option Operation)). get_or l t None) free ∙ get_or-replicate_same tickets t None in
+        cc

@@ -1,0 +1,62 @@
+-- A start for a record may run: its datum is of the kind with which the plan's root runs.
+use Rattle.std.proofs.Common.{◌≡◌, ℕ, ◌+◌, ◌-◌, Bool, [], ◌∷◌, length, inl, refl, sym, subst, arith}
+use Rattle.std.specs.Prelude.{Option, Some, slice_get}
+use Rattle.std.proofs.lemmas.Option.{same_Some, slice_get_within}
+use Rattle.exec_value.specs.Kinds.{HasKind}
+use Rattle.exec_value.specs.declared.data.Datum.{Datum}
+use Rattle.plan_rules.specs.declared.node.Node.{Node}
+use Rattle.plan_rules.specs.declared.node.Node.TheVariants.{Bulk, Part}
+use Rattle.plan_kinds.specs.Built.{IsNoPart}
+use Rattle.plan_kinds.specs.Reached.{Reaches}
+use Rattle.plan_kinds.proofs.Kept.{plain-arguments}
+use Rattle.plan_shape.specs.Blueprint.{Blueprint, IsPlan}
+use Rattle.plan_shape.specs.Forest.{IsPartOf}
+use Rattle.table_steps.specs.Views.{Board}
+use Rattle.exec_start.specs.Entries.{record_start}
+use Rattle.exec_start.specs.HasKinds.{HasKinds}
+use Rattle.exec_start.specs.Starts.{IsReceiverStart}
+use Rattle.exec_recv.specs.Over.{IsOver}
+use Rattle.run_loop.specs.Starts.{CanRun}
+
+-- the root is no part, since a part stands before its bulk
+root-whole : (plan : Blueprint) → IsPlan plan → (n : ℕ) → length plan.nodes ≡ n + 1 → (found : Option Node) →
+    slice_get plan.nodes n ≡ found → IsNoPart found
+root-whole plan is n last (Some (Part bulk part)) at =
+    let made : IsPartOf plan.nodes n bulk part = (is.forest.each n (Part bulk part) at).made in
+    let it = made.bulk_stands in
+    let stands = slice_get_within plan.nodes bulk (Bulk it.0 it.1) it.2 in
+    let place = made.place in
+    let small = made.within in
+    absurd (omega (arith, stands, place, small, last))
+root-whole plan is n last found at = tt
+
+module _ (plan : Blueprint) (is : IsPlan plan) (datum : Datum) (number : ℕ) (asked : Bool) where
+  abbrev root : ℕ
+  root = length plan.nodes - 1
+
+  root-last : length plan.nodes ≡ root + 1
+  root-last = let some = is.some in omega (arith, some)
+
+  pub starts-receiver : IsReceiverStart (record_start plan (datum ∷ []) number asked)
+  starts-receiver =
+      record { node = refl; top = root; names = refl; is_top = inl (sym root-last); whole = refl }
+
+  root-kinds : HasKind datum plan.settings.input → HasKinds plan root (datum ∷ [])
+  root-kinds kind =
+      record {
+        shape = Some (plan.settings.input ∷ []);
+        reached = Reaches.root root-last;
+        kinds = plain-arguments (slice_get plan.nodes root)
+            (root-whole plan is root root-last (slice_get plan.nodes root) refl)
+            (Some (plan.settings.input ∷ [])) (datum ∷ []) (kind, tt);
+      }
+
+  pub can-run : (board : Board Blueprint) → IsOver board plan → HasKind datum plan.settings.input →
+      CanRun board (record_start plan (datum ∷ []) number asked)
+  can-run board over kind =
+      record {
+        receiver = starts-receiver;
+        plan = sym over.over;
+        kinds = λ child names.
+            subst (λ n. HasKinds plan n (datum ∷ [])) (same_Some root child names) (root-kinds kind);
+      }

@@ -1,0 +1,171 @@
+-- What the seam sees of the operations: as they were, with one more, or with one less.
+use Rattle.std.proofs.Common.{◌≡◌, ◌≢◌, ℕ, ◌<◌, true, List, [], ◌∷◌, length, set, get_or, inl, inr, refl, sym, ap, ◌∙◌, subst}
+use Rattle.std.specs.Prelude.{Option, Some, None, MatchOption, IsSome}
+use Rattle.std.specs.Option.{option_and_then}
+use Rattle.std.proofs.lemmas.Bool.{cases_eq, cases_lt}
+use Rattle.std.proofs.lemmas.List.{get_or_past}
+use Rattle.std.proofs.lemmas.Option.{same_Some}
+use Rattle.exec_value.specs.declared.data.Datum.{Datum}
+use Rattle.exec_value.specs.declared.outcome.Completion.{Completion}
+use Rattle.plan_shape.specs.Blueprint.{Blueprint}
+use Rattle.run_tally.specs.Tallied.{raised}
+use Rattle.record_loop.specs.Works.{Begun, Keeps, Begins, Collects, MayComplete}
+use Rattle.table_rules.specs.declared.view.Rooted.{Rooted}
+use Rattle.table_rules.specs.Named.{find_by}
+use Rattle.table_steps.specs.Slots.{noted_at}
+use Rattle.table_steps.specs.Views.{Board, knows}
+use Rattle.exec_start.specs.declared.entry.Entry.{Entry}
+use Rattle.exec_start.specs.Entries.{record_start}
+use Rattle.exec_recv.specs.Asides.{Aside, aside_of}
+use Rattle.run_loop.specs.declared.collecting.Collected.{Collected}
+use Rattle.run_loop.specs.declared.looped.Loop.{Loop as Looped}
+use Rattle.run_loop.specs.Collects.{IsFor}
+use Rattle.table_run.specs.declared.tickets.Operation.{Operation}
+use Rattle.table_run.specs.Calls.{with_left, LeavesWith, Enters}
+use Rattle.table_run.specs.Moves.{KeepsRun, LeavesRun}
+use Rattle.table_run.specs.Runs.{Run, WantsMemory, root_of, begun_in, begun_as, work_of}
+use Rattle.table_run.specs.Sound.{Has, IsOfRecord, AreListed}
+use Rattle.table_run.proofs.Allowed.{collected-may}
+use Rattle.table_run.proofs.Listed.{name_of, put-here, put-there, entered-here, entered-there, left-there}
+
+none-some : {A : Type 0} (x : A) → None ≡ Some x → ⊥
+none-some x e = cc
+
+pub keeps-work : (old new : Run) → KeepsRun old new → Keeps (work_of old) (work_of new)
+keeps-work old new keeps =
+    record {
+      plan = keeps.plan;
+      requested = keeps.requested;
+      tally = keeps.tally;
+      blocks = λ t begun is. same t ∙ is;
+    }
+  where
+    same : (t : ℕ) → (work_of new).block t ≡ (work_of old).block t
+    same t = λ i. option_and_then (begun_as (keeps.board i) (keeps.noted i)) (get_or (keeps.operations i) t None)
+
+pub left-work : (old new : Run) (ticket : ℕ) (answer : Option Completion) → MatchOption answer (KeepsRun old new) (LeavesRun old new ticket) →
+    MatchOption answer (Keeps (work_of old) (work_of new)) (Collects WantsMemory (work_of old) (work_of new) ticket)
+left-work old new ticket None keeps = keeps-work old new keeps
+left-work old new ticket (Some completion) leaves = leaves.collects
+
+-- a ticket that has an operation is there
+pub within-begun : (run : Run) (t : ℕ) → IsSome ((work_of run).block t) → t < length run.operations
+within-begun run t begun = elim (cases_lt t (length run.operations)) [
+  | inl less ↦ less
+  | inr more ↦
+      absurd
+      (let none = subst (λ (o : Option Operation). IsSome (option_and_then (begun_as run.board (knows run.looped.hand).noted) o))
+      (get_or_past run.operations t None more) begun in
+      cc)
+]
+
+abbrev begun_from : Option (Rooted Entry) → Option Begun
+begun_from found = option_and_then (λ (e : Rooted Entry). begun_in e.start) found
+
+-- an operation whose start is noted as before was begun as before
+same-begun : (board : Board Blueprint) (noted noted' : List (Rooted Entry)) (found : Option Operation) →
+    ((p : Operation) → found ≡ Some p → find_by name_of noted' (root_of board p) ≡ find_by name_of noted (root_of board p)) →
+    option_and_then (begun_as board noted') found ≡ option_and_then (begun_as board noted) found
+same-begun board noted noted' None same = refl
+same-begun board noted noted' (Some p) same = ap begun_from (same p refl)
+
+-- what an operation of a record was begun with
+pub begun-record : (run : Run) (t : ℕ) (o : Operation) → Has run.operations t o →
+    (is : IsOfRecord run.board run.plan (knows run.looped.hand).noted o) →
+    (work_of run).block t ≡ Some (record { number = is.number; datum = is.datum; asked = is.asked })
+begun-record run t o has is =
+    ap (option_and_then (begun_as run.board (knows run.looped.hand).noted)) has ∙ ap begun_from is.start
+
+module _ (run : Run) (listed : AreListed run.board run.plan (aside_of (knows run.looped.hand)) run.operations) (t : ℕ) (within : t < length run.operations)
+    (looped : Looped) where
+  abbrev noted : List (Rooted Entry)
+  noted = (knows run.looped.hand).noted
+
+  abbrev noted_now : List (Rooted Entry)
+  noted_now = (knows looped.hand).noted
+
+  -- one more
+  module _ (o : Operation) (free : get_or run.operations t None ≡ None) (number : ℕ) (datum : Datum)
+      (enters : Enters run.board o (record_start run.plan (datum ∷ []) number run.requested) run.looped.hand.me looped.hand.me) where
+    abbrev start : List Entry
+    start = record_start run.plan (datum ∷ []) number run.requested
+
+    abbrev grown : Run
+    grown = record run { looped = looped; operations = set run.operations t (Some o) }
+
+    noted-grown : noted_now ≡ record { name = root_of run.board o; start = start } ∷ noted
+    noted-grown = ap (λ (a : Aside). a.noted) enters.leaves.is
+
+    begun-here : (work_of grown).block t ≡ Some (record { number = number; datum = datum; asked = run.requested })
+    begun-here =
+        ap (option_and_then (begun_as run.board noted_now)) (put-here run.operations t within (Some o))
+        ∙ ap begun_from
+        (ap (λ (l : List (Rooted Entry)). find_by name_of l (root_of run.board o)) noted-grown
+        ∙ entered-here run.board run.plan (aside_of (knows run.looped.hand)) run.operations listed t within o free enters.within enters.unnoted
+        number datum run.requested)
+
+    begun-there : (u : ℕ) → u ≢ t → (work_of grown).block u ≡ (work_of run).block u
+    begun-there u apart =
+        ap (option_and_then (begun_as run.board noted_now)) (put-there run.operations t within (Some o) u apart)
+        ∙ same-begun run.board noted noted_now (get_or run.operations u None)
+        (λ p has.
+        ap (λ (l : List (Rooted Entry)). find_by name_of l (root_of run.board p)) noted-grown
+        ∙ entered-there run.board run.plan (aside_of (knows run.looped.hand)) run.operations listed t within o free enters.within
+        enters.unnoted number datum run.requested u p has)
+
+    kept-begun : (u : ℕ) (begun : Begun) → (work_of run).block u ≡ Some begun → (work_of grown).block u ≡ Some begun
+    kept-begun u begun is = elim (cases_eq u t) [
+      | inl here ↦
+          absurd
+          (none-some begun
+          (sym (ap (option_and_then (begun_as run.board noted)) (ap (λ k. get_or run.operations k None) here ∙ free)) ∙ is))
+      | inr there ↦ begun-there u there ∙ is
+    ]
+
+    pub begins-work : looped.tally ≡ run.looped.tally → Begins (work_of run) (work_of grown) number datum t
+    begins-work tally =
+        record {
+          keeps = record { plan = refl; requested = refl; tally = tally; blocks = kept-begun };
+          begun = begun-here;
+        }
+
+  -- one less
+  module _ (o : Operation) (has : Has run.operations t o)
+      (leaves : LeavesWith (with_left (root_of run.board o) (aside_of (knows run.looped.hand))) run.looped.hand.me looped.hand.me) where
+    abbrev shrunk : Run
+    shrunk = record run { looped = looped; operations = set run.operations t None }
+
+    gone-there : (u : ℕ) → u ≢ t → (work_of shrunk).block u ≡ (work_of run).block u
+    gone-there u apart =
+        ap (option_and_then (begun_as run.board noted_now)) (put-there run.operations t within None u apart)
+        ∙ same-begun run.board noted noted_now (get_or run.operations u None)
+        (λ p has_p.
+        ap (λ (a : Aside). find_by name_of a.noted (root_of run.board p)) leaves.is
+        ∙ left-there run.board run.plan (aside_of (knows run.looped.hand)) run.operations listed t within o has u p apart has_p)
+
+    gone-here : (work_of shrunk).block t ≡ None
+    gone-here = ap (option_and_then (begun_as run.board noted_now)) (put-here run.operations t within None)
+
+    module _ (c : Collected) (made : (knows run.looped.hand).requested ≡ true → run.requested ≡ true)
+        (is_for : (e : Rooted Entry) → noted_at (knows run.looped.hand) (root_of run.board o) ≡ Some e →
+        IsFor e.start (knows run.looped.hand).requested c) where
+      ends-so : (begun : Begun) → (work_of run).block t ≡ Some begun → MayComplete WantsMemory (work_of run) begun c.completion
+      ends-so begun is =
+          let of : IsOfRecord run.board run.plan noted o = listed.each t o has in
+          let same : record { number = of.number; datum = of.datum; asked = of.asked } ≡ begun =
+          same_Some _ begun (sym (begun-record run t o has of) ∙ is) in
+          subst (λ (b : Begun). MayComplete WantsMemory (work_of run) b c.completion) same
+          (collected-may (work_of run) (record { number = of.number; datum = of.datum; asked = of.asked })
+          (knows run.looped.hand).requested c (is_for _ of.start) made)
+
+      pub collects-work : looped.tally ≡ raised c.completion run.looped.tally →
+          Collects WantsMemory (work_of run) (work_of shrunk) t c.completion
+      collects-work tally =
+          record {
+            plan = refl;
+            requested = refl;
+            tally = λ _. tally;
+            free = gone-here;
+            others = λ u begun apart is. gone-there u apart ∙ is;
+            ends = ends-so;
+          }

@@ -1,0 +1,16 @@
+use Rattle.std.proofs.Common.{refl}
+use Rattle.table_run.specs.Runs.{run_of}
+use Rattle.table_run.proofs.Sounding.{asked-ready, asked-sound}
+use Rattle.table_run.proofs.operations.TableRunOperations.request.Goals as goal
+
+pub invariant_of-self : goal.invariant_of-self
+invariant_of-self g c =
+    let inside = c.self.inside in
+    let sound = c.self.invariant in
+    let looped = record inside.looped { hand = c.ask_scope.new.hand } in
+    asked-sound g.B.OnTable.is
+    (run_of inside.table.now inside.plan.now inside.looped inside.operations.items inside.requested)
+    (g.T.Stepper.plan inside.stepper.now) inside.next sound looped
+    (asked-ready inside.table.now inside.looped looped sound.ready refl c.ask_scope.ensures.stays.hand c.ask_scope.ensures.rests
+    c.ask_scope.ensures.asked)
+    c.ask_scope.ensures.asked

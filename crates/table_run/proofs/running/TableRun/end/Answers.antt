@@ -1,0 +1,41 @@
+use Rattle.std.proofs.Common.{◌≡◌, ℕ, get_or, sym, ap, ◌∙◌, subst, arith}
+use Rattle.std.specs.Prelude.{None}
+use Rattle.table_run.specs.Ends.{IsEnded}
+use Rattle.table_run.specs.Runs.{Run, run_of}
+use Rattle.table_run.proofs.Cleared.{free-more, free-all, ended}
+use Rattle.table_run.proofs.running.TableRun.end.Goals as goal
+
+pub loop-ticket-preserved : goal.loop-ticket-preserved
+loop-ticket-preserved g c =
+    let before = c.loop-ticket.invariant in
+    record {
+      count = c.clear.ensures.clears.count ∙ before.count;
+      free = free-more c.clear.new.self.operations c.loop-ticket.ticket
+          (λ t less. c.clear.ensures.clears.free t (before.free t less)) c.clear.ensures.freed;
+    }
+
+pub discard-requires : goal.discard-requires
+discard-requires g c =
+    let run = c.loop-ticket.run in
+    let before = c.loop-ticket.invariant in
+    let count = before.count in
+    let last = c.loop-ticket-test.false in
+    λ t.
+    ap (λ (r : Run). get_or r.operations t None) c.run-2.view_is
+    ∙ free-all run.operations c.loop-ticket.ticket (omega (arith, count, last)) before.free t
+
+pub returns : goal.returns
+returns g c =
+    let inside = c.run-2.inside in
+    let run = c.loop-ticket.run in
+    let before = c.loop-ticket.invariant in
+    let count = before.count in
+    let last = c.loop-ticket-test.false in
+    let free : (t : ℕ) → get_or inside.operations.items t None ≡ None =
+    λ t.
+    ap (λ (r : Run). get_or r.operations t None) c.run-2.view_is
+    ∙ free-all run.operations c.loop-ticket.ticket (omega (arith, count, last)) before.free t in
+    subst (IsEnded g.B.OnTable.is) (sym c.into_hand.ensures)
+    (ended g.B.OnTable.is (run_of inside.table.now inside.plan.now inside.looped inside.operations.items inside.requested)
+    (g.T.Stepper.plan inside.stepper.now) inside.next c.run-2.invariant free c.join.new.looped c.join.ensures.ready c.join.ensures.same
+    c.join.ensures.joined)

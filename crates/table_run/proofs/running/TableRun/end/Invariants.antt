@@ -1,0 +1,8 @@
+use Rattle.std.proofs.Common.{◌≡◌, ℕ, ◌<◌, length, get_or, None}
+use Rattle.table_run.proofs.running.TableRun.end.Given as goal
+
+abbrev pub invariant-loop-ticket : goal.invariant-loop-ticket
+invariant-loop-ticket g l = record {
+  count : length l.run.operations ≡ l.ticket-end;
+  free : (t : ℕ) → t < l.ticket → get_or l.run.operations t None ≡ None;
+}

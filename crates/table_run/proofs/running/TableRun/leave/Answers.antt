@@ -1,0 +1,45 @@
+use Rattle.std.proofs.Common.{◌≡◌, ◌<◌, length, sym, subst}
+use Rattle.table_run.specs.Moves.{LeavesRun}
+use Rattle.table_run.specs.Runs.{Run, run_of}
+use Rattle.table_run.proofs.Changed.{shown-block, block-listed, left-by, has-left-sound, has-left-run}
+use Rattle.table_run.proofs.running.TableRun.leave.Goals as goal
+
+pub collect-requires-clause-listed : goal.collect-requires-clause-listed
+collect-requires-clause-listed g c =
+    let inside = c.self.inside in
+    let run = run_of inside.table.now inside.plan.now inside.looped inside.operations.items inside.requested in
+    let lent : c.deref.result.now ≡ inside.operations.items = cc in
+    block-listed g.B.OnTable.is run (g.T.Stepper.plan inside.stepper.now) inside.next c.self.invariant c.args.ticket c.in_ok-block.block
+    (shown-block c.deref.result.now inside.operations.items c.args.ticket c.block_of.result c.in_ok-block.block lent c.block_of.ensures
+    c.in_ok-block.was)
+
+pub invariant_of-self-2 : goal.invariant_of-self-2
+invariant_of-self-2 g c =
+    let inside = c.self.inside in
+    let run = run_of inside.table.now inside.plan.now inside.looped inside.operations.items inside.requested in
+    let lent : c.deref.result.now ≡ inside.operations.items = cc in
+    let within = subst (λ (r : Run). c.args.ticket < length r.operations) (sym c.self.view_is) c.requires.within in
+    has-left-sound g.B.OnTable.is run (g.T.Stepper.plan inside.stepper.now) inside.next c.self.invariant c.args.ticket
+    c.in_ok-collected.collected
+    (left-by run c.args.ticket c.in_ok-collected.collected within c.take-left.result c.take-left.ensures.operation c.in_ok-block.block
+    (shown-block c.deref.result.now inside.operations.items c.args.ticket c.block_of.result c.in_ok-block.block lent c.block_of.ensures
+    c.in_ok-block.was)
+    c.collect.new.self c.in_ok-collected.ensures.ready c.in_ok-collected.ensures.collected c.disassociate.new.hand
+    c.disassociate.ensures.stays.hand c.disassociate.ensures.left c.take-left.new.operations.items c.take-left.ensures.items)
+
+pub returns : goal.returns
+returns g c =
+    let inside = c.self.inside in
+    let run = run_of inside.table.now inside.plan.now inside.looped inside.operations.items inside.requested in
+    let lent : c.deref.result.now ≡ inside.operations.items = cc in
+    let within = subst (λ (r : Run). c.args.ticket < length r.operations) (sym c.self.view_is) c.requires.within in
+    let left : Run =
+    record run { looped = record c.collect.new.self { hand = c.disassociate.new.hand }; operations = c.take-left.new.operations.items } in
+    subst (λ (r : Run). LeavesRun r left c.args.ticket c.in_ok-collected.collected.completion) c.self.view_is
+    (has-left-run g.B.OnTable.is run (g.T.Stepper.plan inside.stepper.now) inside.next c.self.invariant c.args.ticket
+    c.in_ok-collected.collected
+    (left-by run c.args.ticket c.in_ok-collected.collected within c.take-left.result c.take-left.ensures.operation c.in_ok-block.block
+    (shown-block c.deref.result.now inside.operations.items c.args.ticket c.block_of.result c.in_ok-block.block lent c.block_of.ensures
+    c.in_ok-block.was)
+    c.collect.new.self c.in_ok-collected.ensures.ready c.in_ok-collected.ensures.collected c.disassociate.new.hand
+    c.disassociate.ensures.stays.hand c.disassociate.ensures.left c.take-left.new.operations.items c.take-left.ensures.items))

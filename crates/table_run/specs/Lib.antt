@@ -1,0 +1,6 @@
+pub mod Runs
+pub mod Sound
+pub mod Calls
+pub mod Moves
+pub mod Opened
+pub mod Ends

@@ -1,0 +1,28 @@
+-- What a run's own calls leave of its operations.
+use Rattle.std.specs.Prelude.{◌≡◌, ℕ, length, None, slice_index_or, slice_set}
+use Rattle.exec_value.specs.declared.outcome.Completion.{Completion}
+use Rattle.record_loop.specs.Works.{Collects}
+use Rattle.table_steps.specs.Views.{knows}
+use Rattle.table_run.specs.Runs.{Run, WantsMemory, work_of}
+
+-- All operations are as they were.
+pub record KeepsRun (old new : Run) : Type 0 where
+  pub board : new.board ≡ old.board
+  pub plan : new.plan ≡ old.plan
+  pub operations : new.operations ≡ old.operations
+  pub requested : new.requested ≡ old.requested
+  pub tally : new.looped.tally ≡ old.looped.tally
+  pub noted : (knows new.looped.hand).noted ≡ (knows old.looped.hand).noted
+
+-- The operation of the ticket was collected, and the ticket is free.
+pub record LeavesRun (old new : Run) (ticket : ℕ) (completion : Completion) : Type 0 where
+  pub board : new.board ≡ old.board
+  pub operations : new.operations ≡ slice_set old.operations ticket None
+  pub collects : Collects WantsMemory (work_of old) (work_of new) ticket completion
+
+-- Tickets that were free are free still.
+pub record Clears (old new : Run) : Type 0 where
+  pub board : new.board ≡ old.board
+  pub count : length new.operations ≡ length old.operations
+  pub free : (t : ℕ) → slice_index_or old.operations t None ≡ None
+      → slice_index_or new.operations t None ≡ None

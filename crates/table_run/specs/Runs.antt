@@ -1,0 +1,66 @@
+-- What a run over a table shows of the operations that it has.
+use Rattle.std.specs.Prelude.{Bool, List, [], ◌∷◌, Option, Some, None, option_and_then, slice_index_or}
+use Rattle.exec_value.specs.declared.data.Datum.{Datum}
+use Rattle.life_rules.specs.declared.event.Name.{Name}
+use Rattle.plan_kinds.specs.Small.{IsSmall}
+use Rattle.plan_shape.specs.Blueprint.{Blueprint}
+use Rattle.record_loop.specs.Works.{Begun, Work}
+use Rattle.table_rules.specs.declared.view.Rooted.{Rooted}
+use Rattle.table_rules.specs.Named.{find_by}
+use Rattle.table_steps.specs.Views.{Board, knows}
+use Rattle.table_steps.specs.Claims.{root_name}
+use Rattle.exec_start.specs.declared.entry.Entry.{Entry}
+use Rattle.run_loop.specs.declared.looped.Loop.{Loop as Looped}
+use Rattle.table_run.specs.declared.tickets.Operation.{Operation}
+
+-- A plan may want memory where it isn't small.
+abbrev pub WantsMemory : Blueprint → Type 0
+WantsMemory plan = ¬ IsSmall plan
+
+-- The table and the plan, the loop on hand 0, the operation that each ticket has, and whether a stop
+-- was requested.
+pub record Run : Type 0 where
+  pub board : Board Blueprint
+  pub plan : Blueprint
+  pub looped : Looped
+  pub operations : List (Option Operation)
+  pub requested : Bool
+
+abbrev pub run_of : Board Blueprint → Blueprint → Looped → List (Option Operation) → Bool → Run
+run_of board plan looped operations requested = record {
+  board = board;
+  plan = plan;
+  looped = looped;
+  operations = operations;
+  requested = requested;
+}
+
+-- The root of the operation's block.
+abbrev pub root_of : Board Blueprint → Operation → Name
+root_of board o = root_name board o.block.index o.block.generation
+
+-- The record that a start of the receiver node is for: its one argument is the record's datum.
+abbrev pub begun_with : Entry → List Datum → Option Begun
+begun_with e (datum ∷ []) =
+    Some (record { number = e.number; datum = datum; asked = e.asked })
+begun_with e _ = None
+
+abbrev pub begun_in : List Entry → Option Begun
+begun_in [] = None
+begun_in (e ∷ above) = begun_with e e.args
+
+-- What an operation was begun with: the hand noted the start of its root.
+abbrev pub begun_as : Board Blueprint → List (Rooted Entry) → Operation → Option Begun
+begun_as board noted o =
+    option_and_then (λ (e : Rooted Entry). begun_in e.start)
+    (find_by (λ (e : Rooted Entry). e.name) noted (root_of board o))
+
+-- The operations of the tickets.
+abbrev pub work_of : Run → Work
+work_of run = record {
+  plan = run.plan;
+  block = λ t. option_and_then (begun_as run.board (knows run.looped.hand).noted)
+      (slice_index_or run.operations t None);
+  requested = run.requested;
+  tally = run.looped.tally;
+}

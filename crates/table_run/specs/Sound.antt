@@ -1,0 +1,74 @@
+-- What each run over a table keeps.
+use Rattle.std.specs.Prelude.{◌≡◌, ℕ, ◌+◌, ◌<◌, ◌≤◌, ◌^◌, Bool, true, List, [], ◌∷◌, length, count_by, is_some, Option, Some, None, slice_index_or}
+use Rattle.exec_value.specs.declared.data.Datum.{Datum}
+use Rattle.life_rules.specs.declared.event.SourceRef.TheVariants.{Scope}
+use Rattle.plan_kinds.specs.Runnable.{IsRunnable}
+use Rattle.plan_shape.specs.Blueprint.{Blueprint}
+use Rattle.table_rules.specs.declared.view.Rooted.{Rooted}
+use Rattle.table_rules.specs.Named.{find_by}
+use Rattle.table_rules.specs.ShownViews.{has_source_ref}
+use Rattle.table_steps.specs.ScopeEntries.{MayEnter}
+use Rattle.table_steps.specs.Views.{Board, knows}
+use Rattle.exec_start.specs.declared.entry.Entry.{Entry}
+use Rattle.exec_start.specs.Entries.{record_start}
+use Rattle.exec_recv.specs.Asides.{Aside, aside_of}
+use Rattle.exec_recv.specs.Over.{IsOver}
+use Rattle.run_loop.specs.Loops.{IsReady}
+use Rattle.table_run.specs.declared.tickets.Operation.{Operation}
+use Rattle.table_run.specs.Runs.{Run, root_of}
+
+-- So many tickets have an operation.
+abbrev pub taken : List (Option Operation) → ℕ
+taken operations = count_by is_some operations
+
+-- The ticket has this operation.
+abbrev pub Has : List (Option Operation) → ℕ → Operation → Type 0
+Has operations t o = slice_index_or operations t None ≡ Some o
+
+-- The operation is in a block of the table, and its root was begun with a start for a record.
+pub record IsOfRecord (board : Board Blueprint) (plan : Blueprint) (noted : List (Rooted Entry))
+    (o : Operation) : Type 0 where
+  pub within : o.block.index < board.frame.layout.blocks
+  pub number : ℕ
+  pub datum : Datum
+  pub asked : Bool
+  pub start : find_by (λ (e : Rooted Entry). e.name) noted (root_of board o)
+      ≡ Some (record { name = root_of board o; start = record_start plan (datum ∷ []) number asked })
+
+-- The hand has an association for each operation, and claimed a block for each that it didn't give
+-- back. It noted the start of each, and no two of them are in one block.
+pub record AreListed (board : Board Blueprint) (plan : Blueprint) (aside : Aside)
+    (operations : List (Option Operation)) : Type 0 where
+  pub made : aside.made ≡ taken operations
+  pub claimed : aside.claimed ≡ aside.released + taken operations
+  pub each : (t : ℕ) (o : Operation) → Has operations t o → IsOfRecord board plan aside.noted o
+  pub apart : (t u : ℕ) (o p : Operation) → Has operations t o → Has operations u p
+      → root_of board o ≡ root_of board p → t ≡ u
+
+-- A stop that was requested of the run was requested of the scope; and the hand made none of
+-- another's.
+pub record IsAsked (run : Run) : Type 0 where
+  pub seen : run.requested ≡ true → has_source_ref (knows run.looped.hand).seen Scope ≡ true
+  pub made : (knows run.looped.hand).requested ≡ true → run.requested ≡ true
+
+-- The table is the one that was told. It is over the plan that is stepped, whose kinds match, and its scope is of the plan's kind.
+pub record HasTable (on : Board Blueprint → Type 0) (run : Run) (stepped : Blueprint) : Type 0 where
+  pub is_on : on run.board
+  pub over : IsOver run.board run.plan
+  pub kinds : IsRunnable run.plan
+  pub stepped_is : stepped ≡ run.plan
+  pub scope : run.board.frame.kind ≡ run.plan.settings.scope
+
+-- The ticket that is next to be taken is there, and there are few.
+pub record HasTickets (count next : ℕ) : Type 0 where
+  pub within : next < count
+  pub few : count ≤ 2 ^ 16
+
+pub record IsSound (on : Board Blueprint → Type 0) (run : Run) (stepped : Blueprint) (next : ℕ)
+    : Type 0 where
+  pub table : HasTable on run stepped
+  pub tickets : HasTickets (length run.operations) next
+  pub ready : IsReady run.board run.looped
+  pub settled : MayEnter (knows run.looped.hand)
+  pub listed : AreListed run.board run.plan (aside_of (knows run.looped.hand)) run.operations
+  pub asked : IsAsked run

@@ -1,0 +1,44 @@
+//! How a run ends.
+ghost use Rattle.std.specs.Thread.{IsSync};
+ghost use Rattle.table_run.specs.Ends.{IsEnded};
+
+use crate::joining::join;
+use crate::running::{OnTable, TableRun};
+use crate::tickets::discard;
+use exec_recv::{Item, Stepper};
+use op_slot::Hand;
+use std::alloc::Global;
+use std::sync::Wait;
+
+impl<'a, T: Stepper, B: OnTable> TableRun<'a, T, B> {
+    /// Ends the run: turns until each operation that is left is collected, closes and joins the
+    /// scope (P3149, [exec.counting.scopes]), and gives the hand back. What is promised holds if it
+    /// returns.
+    ///
+    /// Afterwards: the hand is of the run's table, has nothing, and gave back as many blocks as it claimed. One of its
+    /// steps left the scope joined. So the table may be closed, once the other hands have come back.
+    pub fn end<R: Wait + Sync>(self, rt: &R, alloc: Global) -> Hand<Item>
+        requires sync { IsSync R.row }
+        ensures { IsEnded B.is result }
+    {
+        let mut run = self;
+        for ticket in 0..run.operations.len() {
+            run.clear(rt, alloc, ticket);
+        }
+        let TableRun {
+            table,
+            plan: _,
+            stepper,
+            looped,
+            operations,
+            next: _,
+            requested: _,
+            idle: _,
+            on: _,
+        } = run;
+        discard(operations);
+        let mut last = looped;
+        join(rt, alloc, table, stepper, &mut last);
+        last.into_hand()
+    }
+}

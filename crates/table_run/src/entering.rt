@@ -1,0 +1,53 @@
+//! How an operation is started in the scope.
+ghost use Rattle.std.specs.Prelude.{◌≡◌, IfOk, IfErr};
+ghost use Rattle.std.specs.Thread.{IsSync};
+ghost use Rattle.plan_kinds.specs.Runnable.{IsRunnable};
+ghost use Rattle.table_steps.specs.Views.{knows};
+ghost use Rattle.table_steps.specs.ScopeEntries.{MayEnter};
+ghost use Rattle.exec_recv.specs.Over.{IsOver};
+ghost use Rattle.run_loop.specs.Loops.{IsReady, KeepsCounts};
+ghost use Rattle.run_loop.specs.Starts.{CanRun};
+ghost use Rattle.table_run.specs.Calls.{LeavesSame, Enters};
+
+use crate::tickets::Operation;
+use count_scope::{associate, disassociate};
+use exec_recv::{Item, Stepper};
+use op_slot::OpTable;
+use run_loop::{Env, Loop};
+use std::alloc::Global;
+use std::sync::Wait;
+
+/// Starts an operation with an association of the scope (P3149, `spawn`). The environment comes back
+/// where the scope takes no association, or no block is free.
+pub(crate) fn enter<T: Stepper, R: Wait + Sync>(
+    rt: &R,
+    alloc: Global,
+    table: &OpTable<Item>,
+    stepper: &T,
+    looped: &mut Loop,
+    env: Env,
+) -> Result<Operation, Env>
+    requires sync { IsSync R.row }
+    requires ready { IsReady table.now looped.old }
+    requires settled { MayEnter (knows looped.old.hand) }
+    requires over { IsOver table.now (T.plan stepper.now) }
+    requires kinds { IsRunnable (T.plan stepper.now) }
+    requires start { CanRun table.now env }
+    ensures ready { IsReady table.now looped.new }
+    ensures counts { KeepsCounts looped.old looped.new }
+    ensures entered { IfOk result (λ o.
+        Enters table.now o env looped.old.hand.me looped.new.hand.me) }
+    ensures back { IfErr result (λ back. back ≡ env) }
+    ensures same { IfErr result (λ _. LeavesSame looped.old.hand.me looped.new.hand.me) }
+{
+    let Ok(association) = associate(table, &mut looped.hand) else {
+        return Err(env);
+    };
+    match looped.start(rt, alloc, table, stepper, env) {
+        Ok(block) => Ok(Operation { block, association }),
+        Err(back) => {
+            disassociate(table, &mut looped.hand, association);
+            Err(back)
+        }
+    }
+}

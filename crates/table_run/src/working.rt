@@ -1,0 +1,77 @@
+//! What a run does with the operations that it has.
+ghost use Rattle.std.specs.Prelude.{◌≡◌, ◌<◌, MatchOption, is_none, length, None, slice_index_or};
+ghost use Rattle.std.specs.Thread.{IsSync};
+ghost use Rattle.table_run.specs.Moves.{KeepsRun, LeavesRun, Clears};
+
+use crate::running::{OnTable, TableRun};
+use crate::tickets::{block_of, is_free, take};
+use count_scope::disassociate;
+use exec_recv::{Gate, Point, Stepper};
+use exec_value::Completion;
+use std::alloc::Global;
+use std::sync::Wait;
+
+/// So many polls in a row that took no node are followed by a look at each node of the table: that
+/// costs more than all the work, and is needed where a name was lost.
+const IDLE_POLLS: u32 = 64;
+
+impl<'a, T: Stepper, B: OnTable> TableRun<'a, T, B> {
+    /// Lets the operations go on: takes the nodes of the names that the loop was told of, and after
+    /// many polls that took none looks at each node.
+    pub(crate) fn go_round<R: Wait + Sync>(&mut self, rt: &R, alloc: Global)
+        requires sync { IsSync R.row }
+        ensures { KeepsRun self.old self.new }
+    {
+        if self.idle >= IDLE_POLLS {
+            self.idle = 0;
+            let _taken = self.looped.turn(rt, alloc, self.table, self.stepper);
+            return;
+        }
+        let taken = self.looped.poll(rt, alloc, self.table, self.stepper);
+        self.idle = if taken > 0 { 0 } else { self.idle + 1 };
+    }
+
+    /// What the operation of a ticket completed with, where it has one that is complete. Its block is
+    /// given back, and then its association is left: an association lasts as long as its work.
+    pub(crate) fn leave<R: Wait + Sync>(&mut self, rt: &R, ticket: usize) -> Option<Completion>
+        requires sync { IsSync R.row }
+        requires within { ticket < length self.old.operations }
+        ensures { MatchOption result (KeepsRun self.old self.new)
+            (LeavesRun self.old self.new ticket) }
+    {
+        let block = block_of(&self.operations, ticket)?;
+        if !self.looped.tally().is_small() {
+            return None;
+        }
+        self.stepper.pass(rt, Point::Release(block));
+        let collected = self.looped.collect(self.table, block)?;
+        let left = take(&mut self.operations, ticket);
+        disassociate(self.table, &mut self.looped.hand, left.into_association());
+        Some(collected.completion)
+    }
+
+    // Whether a ticket is free.
+    fn has_free(&self, ticket: usize) -> bool
+        requires { ticket < length self.now.operations }
+        ensures { result ≡ is_none (slice_index_or self.now.operations ticket None) }
+    {
+        is_free(&self.operations, ticket)
+    }
+
+    /// Turns until the operation of a ticket is collected, where it has one.
+    pub(crate) fn clear<R: Wait + Sync>(&mut self, rt: &R, alloc: Global, ticket: usize)
+        requires sync { IsSync R.row }
+        requires within { ticket < length self.old.operations }
+        ensures clears { Clears self.old self.new }
+        ensures freed { slice_index_or self.new.operations ticket None ≡ None }
+    {
+        for _ in rt.forever() {
+            if self.has_free(ticket) {
+                return;
+            }
+            let _completion = self.leave(rt, ticket);
+            self.go_round(rt, alloc);
+        }
+        unreachable!()
+    }
+}
