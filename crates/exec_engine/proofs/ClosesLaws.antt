@@ -1,8 +1,7 @@
 -- How a run of a task closes, by what the loop over its records did.
-use Rattle.std.proofs.Common.{◌≡◌, ◌≢◌, ℕ, ◌≤◌, [], refl, sym, ap, ◌∙◌, subst, arith}
-use Rattle.exec_value.specs.declared.kinds.Kind.{Kind}
+use Rattle.std.proofs.Common.{◌≡◌, ◌≢◌, ℕ, ◌≤◌, [], refl, sym, ◌∙◌, subst, arith}
 use Rattle.exec_io.specs.Views.{SourceView, SinkView}
-use Rattle.plain_runs.specs.PlainWork.{WantsMemory}
+use Rattle.record_runs.specs.Endings.{WantsMemory, begins}
 use Rattle.plan_shape.specs.Blueprint.{Blueprint}
 use Rattle.record_lines.specs.declared.ending.End.TheVariants.{Ended, Fault}
 use Rattle.record_lines.specs.Records.{records_of}
@@ -13,7 +12,6 @@ use Rattle.record_loop.specs.Generated.{generated_lines}
 use Rattle.record_loop.specs.Printing.{Finished, HoldsAllBut}
 use Rattle.record_loop.proofs.PrintingLaws.{HoldsAllBut-summary}
 use Rattle.record_loop.specs.Ran.{Answered, Ran}
-use Rattle.record_loop.specs.Standing.{Opening}
 use Rattle.run_rules.specs.PlanTerms.{window_of}
 use Rattle.exec_engine.specs.declared.task.Origin.{Origin}
 use Rattle.exec_engine.specs.declared.task.Origin.TheVariants.{Source, Generated}
@@ -22,20 +20,16 @@ use Rattle.exec_engine.specs.Closes.{Closes}
 use Rattle.exec_engine.specs.Taken.{Takes, LeavesSource}
 use Rattle.exec_engine.specs.Tasks.{form_for}
 
--- how a run begins
-abbrev pub begins : Blueprint → ℕ → Form → SinkView → Opening
-begins plan window form sink = record { plan = plan; window = window; form = form; sink = sink }
-
-module _ (plan : Blueprint) (task : Task) (p : Blueprint) (window : ℕ) (same : p ≡ plan) (sized : window ≡ window_of plan task.window) where
-  -- the loop ran this plan with this window
-  opened-as : (P : Blueprint → ℕ → Type 0) → P p window → P plan (window_of plan task.window)
-  opened-as P holds = subst (λ (w : ℕ). P plan w) sized (subst (λ (q : Blueprint). P q window) same holds)
+module _ (plan : Blueprint) (task : Task) (window : ℕ) (sized : window ≡ window_of plan task.window) where
+  -- the records were run with this window
+  opened-as : (P : ℕ → Type 0) → P window → P (window_of plan task.window)
+  opened-as P holds = subst P sized holds
 
   pub source-closes : {before after : SourceView} {old new : SinkView} (form : Form) (ending : Ending) → task.origin ≡ Source form
-      → Ran WantsMemory (begins p window form old) before after new ending → (ending.end ≢ Fault → after.faults ≡ before.faults) → before.faults ≤ after.faults
+      → Ran WantsMemory (begins plan window form old) before after new ending → (ending.end ≢ Fault → after.faults ≡ before.faults) → before.faults ≤ after.faults
       → Closes plan task before after old new ending
   source-closes {before = before} {after = after} {old = old} {new = new} form ending is run still later =
-      let ran = opened-as (λ q w. Ran WantsMemory (begins q w form old) before after new ending) run in
+      let ran = opened-as (λ w. Ran WantsMemory (begins plan w form old) before after new ending) run in
       let records = records_of ran.bytes ending.end in
       record {
         outcomes = ran.answered.outcomes;
@@ -52,18 +46,18 @@ module _ (plan : Blueprint) (task : Task) (p : Blueprint) (window : ℕ) (same :
         leaves = subst (λ (o : Origin). LeavesSource o before after) (sym is) tt;
       }
 
-  pub generated-closes : {source : SourceView} {old new : SinkView} (kind : Kind) (count : ℕ) (ending : Ending) → task.origin ≡ Generated count → kind ≡ plan.settings.input
-      → ending.end ≡ Ended → Answered WantsMemory (begins p window Summary old) (generated_lines kind count) new ending
+  pub generated-closes : {source : SourceView} {old new : SinkView} (count : ℕ) (ending : Ending) → task.origin ≡ Generated count
+      → ending.end ≡ Ended → Answered WantsMemory (begins plan window Summary old) (generated_lines plan.settings.input count) new ending
       → Closes plan task source source old new ending
-  generated-closes {source = source} {old = old} {new = new} kind count ending is of ended answers =
-      let answered = opened-as (λ q w. Answered WantsMemory (begins q w Summary old) (generated_lines kind count) new ending) answers in
-      let records = generated_lines kind count in
+  generated-closes {source = source} {old = old} {new = new} count ending is ended answers =
+      let answered = opened-as (λ w. Answered WantsMemory (begins plan w Summary old) (generated_lines plan.settings.input count) new ending) answers in
+      let records = generated_lines plan.settings.input count in
       record {
         outcomes = answered.outcomes;
         records = records;
         rest = [];
         all = λ _. refl;
-        takes = subst (λ (o : Origin). Takes o plan.settings.input source source ending.end [] records) (sym is) (record { ended = ended; none = refl; same = refl; are = ap (λ (k : Kind). generated_lines k count) of });
+        takes = subst (λ (o : Origin). Takes o plan.settings.input source source ending.end [] records) (sym is) (record { ended = ended; none = refl; same = refl; are = refl });
         lawful = answered.lawful;
         finished = subst (λ (o : Origin). Finished (form_for o) old new ending.summary ending.lost answered.outcomes) (sym is) answered.finished;
         begun = subst (λ (o : Origin). HoldsAllBut (window_of plan task.window) (form_for o) old new answered.outcomes) (sym is)

@@ -7,7 +7,7 @@ use Rattle.outcome_lines.specs.Summary.{is_value, is_out_of_memory}
 use Rattle.exec_io.specs.Writing.{AppendsFront}
 use Rattle.exec_io.specs.Untouched.{IsUntouched}
 use Rattle.plan_reader.specs.declared.fault.PlanFault.{PlanFault}
-use Rattle.plain_runs.specs.PlainWork.{WantsMemory}
+use Rattle.record_runs.specs.Endings.{WantsMemory}
 use Rattle.plan_shape.specs.Blueprint.{Blueprint}
 use Rattle.record_lines.specs.declared.ending.End.{End}
 use Rattle.record_lines.specs.declared.ending.End.TheVariants.{Ended, Fault, Limit as LimitEnd}

@@ -8,7 +8,7 @@
 //! source and the sinks that are handed in. What its promise rests on is defined in specs/: what a
 //! command is (`CommandEnds`), which lines are lawful for the records that were taken (`Lines`, over
 //! run_rules), and what each status says of them (`Says`) and of notes (`Noted`). A run's records are
-//! worked on by record_loop, over the operations of plain_runs. It stands on these, plan_reader,
+//! worked on by record_runs, over the running table or plainly. It stands on this, plan_reader,
 //! exec_words, exec_status and trace_commands.
 #![tactic(auto)]
 

@@ -11,9 +11,9 @@ use crate::ending::status_of;
 use crate::task::{Origin, Task};
 use exec_io::{Sink, Source};
 use exec_status::Status;
-use plain_runs::PlainRuns;
 use plan_shape::Plan;
-use record_loop::{Ending, run_generated, run_records};
+use record_loop::Ending;
+use record_runs::{run_counted, run_lines};
 use run_rules::at_once;
 use std::alloc::{AllocError, Global};
 use std::sync::Wait;
@@ -39,15 +39,15 @@ fn close_plan<R: Wait + Sync, S: Source, K: Sink>(
         (S.told records.old) (S.told records.new)
         (K.told out.old) (K.told out.new)) }
 {
-    let settings = *plan.settings();
     let window = at_once(plan, task.window as usize);
-    let mut runs = PlainRuns::open(alloc, plan, window)?;
     match task.origin {
         Origin::Source(form) => {
-            run_records(rt, alloc, settings, window, form, &mut runs, records, out)
+            let account = run_lines(rt, alloc, plan, window, form, records, out)?;
+            Ok(account.ending)
         }
         Origin::Generated(count) => {
-            run_generated(rt, alloc, settings, window, count, &mut runs, out)
+            let account = run_counted(rt, alloc, plan, window, count, out)?;
+            Ok(account.ending)
         }
     }
 }

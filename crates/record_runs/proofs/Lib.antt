@@ -1,0 +1,3 @@
+mod EndingLaws
+mod HandLaws
+mod AccountLaws

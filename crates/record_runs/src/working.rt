@@ -1,0 +1,144 @@
+//! The work of a run on a table, from the hand that it begins with to the hand that it gives back.
+//!
+//! Between the opening of a table and its closing no call returns early: where there is no memory
+//! for the run, or none for the loop over its records, the hand comes back all the same.
+ghost use Rattle.std.specs.Prelude.{◌≡◌, ◌≤◌, IfOk, IsErr};
+ghost use Rattle.std.specs.Thread.{IsSync};
+ghost use Rattle.record_lines.specs.declared.limits.TheConstants.{MOST_RECORDS};
+ghost use Rattle.record_loop.specs.Generated.{generated_lines};
+ghost use Rattle.record_loop.specs.Tallies.{TalliesWith};
+ghost use Rattle.record_loop.specs.declared.printer.Form.{Form};
+ghost use Rattle.record_runs.specs.Endings.{EndsLines, EndsCounted, begins, supply};
+ghost use Rattle.record_runs.specs.Opened.{CanRunOn, IsFreshHand, IsLeft};
+
+use exec_io::Sink;
+use exec_recv::{Item, Stepper};
+use op_table::{Hand, OpTable};
+use plan_shape::Plan;
+use record_loop::{Ending, Form, RecordSource, run_generated, run_records};
+use run_tally::Tally;
+use std::alloc::{AllocError, Global};
+use std::sync::Wait;
+use table_run::{OnTable, TableRun};
+
+/// A plan, what steps its nodes, and the table on which they run.
+#[derive(Drop)]
+pub(crate) struct Tabled<'a, T: Stepper> {
+    pub(crate) plan: &'a Plan,
+    pub(crate) stepper: &'a T,
+    pub(crate) table: &'a OpTable<Item>,
+}
+
+/// What a run leaves before its table is closed.
+#[derive(Drop)]
+pub(crate) struct Worked {
+    pub(crate) answer: Result<Ending, AllocError>,
+    pub(crate) tally: Tally,
+    pub(crate) hand: Hand<Item>,
+}
+
+// There was no memory for the run, and the hand did nothing.
+fn unbegun(hand: Hand<Item>) -> Worked
+    ensures none { IsErr result.answer }
+    ensures hand { result.hand ≡ hand }
+{
+    Worked {
+        answer: Err(AllocError),
+        tally: Tally::new(),
+        hand,
+    }
+}
+
+/// Works on the records of a source. `B` tells which table it is.
+pub(crate) fn work_on_lines<B: OnTable, T: Stepper, R: Wait + Sync, S: RecordSource, K: Sink>(
+    rt: &R,
+    alloc: Global,
+    tabled: &Tabled<'_, T>,
+    hand: Hand<Item>,
+    form: Form,
+    records: &mut S,
+    out: &mut K,
+) -> Worked
+    requires sync { IsSync R.row }
+    requires on { B.is tabled.now.table.now }
+    requires runs { CanRunOn tabled.now.table.now tabled.now.plan.now
+        (T.plan tabled.now.stepper.now) }
+    requires fresh { IsFreshHand tabled.now.table.now hand }
+    ensures ends { EndsLines
+        (begins tabled.now.plan.now tabled.now.table.now.frame.layout.blocks form (K.told out.old))
+        (supply (S.told records.old) (S.reads records.old))
+        (supply (S.told records.new) (S.reads records.new)) (K.told out.new) result.answer }
+    ensures told { IfOk result.answer (λ ending. TalliesWith result.tally ending.summary) }
+    ensures left { IsLeft B.is result.answer result.hand }
+{
+    let window = tabled.table.blocks() as usize;
+    let settings = *tabled.plan.settings();
+    let opened: Result<TableRun<'_, T, B>, Hand<Item>> = TableRun::open(
+        alloc,
+        tabled.plan,
+        tabled.table,
+        tabled.stepper,
+        hand,
+        window,
+    );
+    match opened {
+        Ok(mut run) => {
+            let answer = run_records(rt, alloc, settings, window, form, &mut run, records, out);
+            let tally = run.tally();
+            let hand = run.end(rt, alloc);
+            Worked {
+                answer,
+                tally,
+                hand,
+            }
+        }
+        Err(back) => unbegun(back),
+    }
+}
+
+/// Works on so many generated records. `B` tells which table it is.
+pub(crate) fn work_on_counted<B: OnTable, T: Stepper, R: Wait + Sync, K: Sink>(
+    rt: &R,
+    alloc: Global,
+    tabled: &Tabled<'_, T>,
+    hand: Hand<Item>,
+    count: u32,
+    out: &mut K,
+) -> Worked
+    requires sync { IsSync R.row }
+    requires on { B.is tabled.now.table.now }
+    requires runs { CanRunOn tabled.now.table.now tabled.now.plan.now
+        (T.plan tabled.now.stepper.now) }
+    requires fresh { IsFreshHand tabled.now.table.now hand }
+    requires few { count ≤ MOST_RECORDS }
+    ensures ends { EndsCounted
+        (begins tabled.now.plan.now tabled.now.table.now.frame.layout.blocks Form.Summary
+        (K.told out.old)) (generated_lines tabled.now.plan.now.settings.input count)
+        (K.told out.new) result.answer }
+    ensures told { IfOk result.answer (λ ending. TalliesWith result.tally ending.summary) }
+    ensures left { IsLeft B.is result.answer result.hand }
+{
+    let window = tabled.table.blocks() as usize;
+    let settings = *tabled.plan.settings();
+    let opened: Result<TableRun<'_, T, B>, Hand<Item>> = TableRun::open(
+        alloc,
+        tabled.plan,
+        tabled.table,
+        tabled.stepper,
+        hand,
+        window,
+    );
+    match opened {
+        Ok(mut run) => {
+            let answer = run_generated(rt, alloc, settings, window, count, &mut run, out);
+            let tally = run.tally();
+            let hand = run.end(rt, alloc);
+            Worked {
+                answer,
+                tally,
+                hand,
+            }
+        }
+        Err(back) => unbegun(back),
+    }
+}
