@@ -1,0 +1,148 @@
+-- What a step has at hand, once the homes are emptied.
+use Rattle.std.specs.Prelude.{is_some, IfSome, MatchOption, if◌then◌else◌}
+use Rattle.std.specs.Option.{option_map}
+use Rattle.std.proofs.Common.{◌≡◌, ℕ, Bool, true, false, List, Option, Some, None, refl, sym, ap, ◌∙◌, subst, arith}
+use Rattle.std.proofs.lemmas.Option.{same_Some}
+use Rattle.common_lemmas.specs.Sums.{one}
+use Rattle.life_rules.specs.declared.event.Name.{Name}
+use Rattle.node_tree.specs.Tree.{is_unstoppable}
+use Rattle.plan_rules.specs.declared.node.Node.{Node}
+use Rattle.plan_shape.specs.Blueprint.{Blueprint}
+use Rattle.table_steps.specs.Views.{Board}
+use Rattle.table_steps.specs.Claims.{Seated}
+use Rattle.exec_start.specs.declared.entry.Entry.{Entry}
+use Rattle.exec_start.specs.declared.item.Item.{Item}
+use Rattle.exec_start.specs.declared.item.Item.TheVariants.{Start, Rest, Done}
+use Rattle.exec_start.specs.Bounds.{least_of, least_at_rest}
+use Rattle.exec_start.specs.Fits.{IsItemOf}
+use Rattle.exec_start.specs.Items.{parcel_in, saw_in}
+use Rattle.exec_start.specs.Parcels.{Delivery, IsDelivery}
+use Rattle.exec_start.specs.Starts.{IsStart}
+use Rattle.exec_recv.specs.Steppable.{CanStep}
+use Rattle.start_laws.specs.Nodes.{IsStartOf}
+use Rattle.start_laws.proofs.Knowing.{from-plain}
+use Rattle.node_steps.specs.declared.taken.AtHome.{AtHome}
+use Rattle.node_steps.specs.declared.taken.AtHome.TheVariants.{Start as Unbegun, Rest as Rested}
+use Rattle.node_steps.specs.declared.taken.TakenOut.{TakenOut}
+use Rattle.node_steps.specs.Heard.{MaySee}
+use Rattle.node_steps.specs.Midway.{Ready}
+use Rattle.node_steps.specs.TakenOut.{item_at, start_at, least_known, IsFoundBelow, IsOnlyChild, TakesOwn, TakesBelow}
+use Rattle.node_steps.proofs.Frames.{emptying-less}
+use Rattle.node_steps.proofs.Opened.{takes-both, takes-one}
+use Rattle.node_steps.proofs.Telling.{found-done, kept-from}
+use Rattle.exec_hop.specs.declared.opening.AtHand.{AtHand}
+use Rattle.exec_hop.specs.Hops.{IsUnbegun}
+use Rattle.exec_hop.specs.Kinds.{hop_child}
+use Rattle.exec_hop.specs.Openings.{item_of, TakesAll, HasParcel, Opens}
+use Rattle.exec_hop.proofs.Places.{Hopping, hop-runs, hop-keeps, source-none, start-of}
+
+-- what was taken is what lay there
+module _ (board : Board Blueprint) (x : Name) (own : AtHome) (m m1 : Seated Item Entry) (can : CanStep board x m) (took : TakesOwn board x own m m1) where
+  pub all-both : (n : ℕ) → IsOnlyChild board x (Some n) → (below : Option Delivery) (m2 : Seated Item Entry) → TakesBelow board x n below m1 m2 →
+      TakesAll board x (Some n) (record { own = own; below = below }) m m2
+  all-both n only below m2 next =
+      record {
+        takes = takes-both board x own m m1 can took n only below m2 next;
+        item = took.item;
+        lay = λ other k names.
+            subst (λ i. other.kid i ≡ option_map Done below) (same_Some n k names)
+            (next.lay (start_at own) (least_of (item_at own)) other.kid (took.left other));
+      }
+
+  pub all-one : IsOnlyChild board x None → TakesAll board x None (record { own = own; below = None }) m m1
+  all-one only =
+      record {
+        takes = takes-one board x own m m1 can took only;
+        item = took.item;
+        lay = λ other k names. cc;
+      }
+
+-- The step of a node that hops or shelters was opened.
+module _ (board : Board Blueprint) (x : Name) (node : Node) (hops : Hopping board x node) (taken : TakenOut) (m0 m : Seated Item Entry)
+    (all : TakesAll board x (hop_child node) taken m0 m) (starts : IsStart (start_at taken.own)) where
+  abbrev start : List Entry
+  start = start_at taken.own
+
+  own-of : IsStartOf start node
+  own-of = start-of board x node hops start (least_known taken) m all.takes.ready starts
+
+  own-ready : Ready board x start 0 m
+  own-ready = emptying-less board x start m (least_known taken) 0 (λ _. None) (omega arith) all.takes.ready
+
+  -- what the child's home tells
+  abbrev Below : Option ℕ → Type 0
+  Below o = MatchOption o (taken.below ≡ None) (λ n. IfSome taken.below (IsFoundBelow board x start n m))
+
+  no-parcel : (parcel : Delivery) → hop_child node ≡ None → taken.below ≡ Some parcel → ⊥
+  no-parcel parcel names e = let none : taken.below ≡ None = subst Below names all.takes.below in cc
+
+  found-there : (n : ℕ) (parcel : Delivery) → hop_child node ≡ Some n → taken.below ≡ Some parcel → IsFoundBelow board x start n m parcel
+  found-there n parcel names e = subst (λ o. IfSome o (IsFoundBelow board x start n m)) e (subst Below names all.takes.below)
+
+  below-here : (o : Option ℕ) → hop_child node ≡ o → (below : Option Delivery) → taken.below ≡ below →
+      IfSome below (HasParcel board x start m)
+  below-here o names None e = tt
+  below-here None names (Some parcel) e = absurd (no-parcel parcel names e)
+  below-here (Some n) names (Some parcel) e = record {
+    ready = emptying-less board x start m (least_known taken) 1 (λ _. None)
+        (let full : one (is_some taken.below) ≡ 1 = ap (λ (o : Option Delivery). one (is_some o)) e in omega (arith, full))
+        all.takes.ready;
+    from = from-plain start parcel n _
+        (found-done board x start n m parcel (found-there n parcel names e) starts (source-none board x node hops)) node own-of
+        (hop-runs node hops.is n names);
+  }
+
+  -- which saw no request, where the node is unstoppable
+  below-calm : is_unstoppable board.frame.tree x.node ≡ true → (o : Option ℕ) → hop_child node ≡ o → (below : Option Delivery) →
+      taken.below ≡ below → IfSome below (λ (parcel : Delivery). parcel.saw ≡ false)
+  below-calm un o names None e = tt
+  below-calm un None names (Some parcel) e = absurd (no-parcel parcel names e)
+  below-calm un (Some n) names (Some parcel) e =
+      ((found-there n parcel names e).shelters (source-none board x node hops) un).saw
+
+  -- and the one with which the node rested
+  kept-here : (kept : Option Delivery) → parcel_in (item_at taken.own) ≡ kept → IfSome kept (HasParcel board x start m)
+  kept-here None e = tt
+  kept-here (Some parcel) e = kept-of taken.own refl
+    where
+      kept-of : (own : AtHome) → taken.own ≡ own → HasParcel board x start m parcel
+      kept-of (Unbegun s) at = let none : parcel_in (item_at taken.own) ≡ None = ap (λ (o : AtHome). parcel_in (item_at o)) at in cc
+      kept-of (Rested s k) at =
+          let rest : item_at taken.own ≡ Rest start (Some parcel) =
+          ap item_at at ∙ ap (λ (o : Option Delivery). Rest s o) (sym (ap (λ (o : AtHome). parcel_in (item_at o)) at) ∙ e)
+          ∙ ap (λ (l : List Entry). Rest l (Some parcel)) (sym (ap start_at at)) in
+          let least : least_of (item_at taken.own) ≡ 1 =
+          ap least_of rest ∙ ap (λ o. least_at_rest o (Some parcel)) own-of.node_is ∙ hop-keeps node hops.is parcel in
+          record {
+            ready = emptying-less board x start m (least_known taken) 1 (λ _. None) (omega (arith, least)) all.takes.ready;
+            from = kept-from board x start m parcel (subst (λ (i : Item). IsItemOf i x.node) rest all.takes.of)
+                (subst (λ (i : Item). IfSome (parcel_in i) IsDelivery) rest all.takes.kept)
+                (subst (λ (i : Item). MaySee board x (saw_in i) m) rest all.takes.saw);
+          }
+
+  -- the step has this at hand
+  pub hop-opens : (hand : AtHand) → hand.env ≡ start → parcel_in (item_at taken.own) ≡ hand.kept → taken.below ≡ hand.below →
+      item_at taken.own ≡ item_of hand → Opens board x node hand m0 m
+  hop-opens hand env kept below item = record {
+    beside = all.takes.beside;
+    at = subst (λ (s : List Entry). IsStartOf s node) (sym env) own-of;
+    ready = subst (λ (s : List Entry). Ready board x s 0 m) (sym env) own-ready;
+    below = subst (λ (s : List Entry). IfSome hand.below (HasParcel board x s m)) (sym env)
+        (below-here (hop_child node) refl hand.below below);
+    kept = subst (λ (s : List Entry). IfSome hand.kept (HasParcel board x s m)) (sym env) (kept-here hand.kept kept);
+    shelters = λ un. below-calm un (hop_child node) refl hand.below below;
+    item = λ can. all.item can ∙ item;
+    lay = λ can n names. all.lay can n names ∙ ap (option_map Done) below;
+  }
+
+-- a node that had begun is no such
+pub begun-not : (hand : AtHand) (item : Item) → item ≡ item_of hand → hand.unbegun ≡ false → IsUnbegun item → ⊥
+begun-not hand item lay begun un =
+    let rest : item ≡ Rest hand.env hand.kept =
+    lay ∙ ap (λ (b : Bool). if b then Start hand.env else Rest hand.env hand.kept) begun in
+    subst IsUnbegun rest un
+
+-- nor is a home full in which nothing lay
+pub empty-not : (kid : Option Item) (below : Option Delivery) → kid ≡ option_map Done below → below ≡ None → is_some kid ≡ true → ⊥
+empty-not kid below lay none full =
+    let empty : is_some kid ≡ false = ap is_some (lay ∙ ap (option_map Done) none) in cc

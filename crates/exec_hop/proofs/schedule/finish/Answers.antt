@@ -1,0 +1,37 @@
+use Rattle.std.proofs.Common.{Bool, ◌||◌, [], ap, ◌∙◌}
+use Rattle.exec_value.specs.declared.outcome.Completion.TheVariants.{Value}
+use Rattle.plan_rules.specs.Settle.{unless_asked}
+use Rattle.node_steps.proofs.Frames.{ready-is, stepped-after}
+use Rattle.exec_hop.proofs.Landed.{look-sees, has-still, schedule-may, schedule-completes}
+use Rattle.exec_hop.proofs.schedule.finish.Goals as goal
+
+pub hear-saw-requires-clause-ready : goal.hear-saw-requires-clause-ready
+hear-saw-requires-clause-ready g c = ready-is c.args.table.now c.args.name c.args.env c.args.hand.now.me 0 c.requires.has.ready
+
+pub of-parcel-requires : goal.of-parcel-requires
+of-parcel-requires g c =
+    schedule-may c.args.table.now c.args.name c.args.node.now c.args.on c.requires.is c.args.env c.hear-saw.new.hand.me
+    (has-still c.args.table.now c.args.name c.args.env c.args.node.now c.args.hand.now.me c.hear-saw.new.hand.me c.hear-saw.ensures.keeps
+    c.requires.has)
+    c.hear-saw.result (look-sees c.args.table.now c.args.name c.hear-saw.result c.hear-saw.new.hand.me c.hear-saw.ensures.tells)
+    c.put_scheduled.new.done
+    (c.put_scheduled.ensures
+    ∙ ap (λ (found : Bool). unless_asked found (Value []))
+    (c.either-found.ensures ∙ ap (λ (asked : Bool). asked || c.hear-saw.result) c.asked.ensures))
+
+pub complete-requires-clause-may : goal.complete-requires-clause-may
+complete-requires-clause-may g c κs within =
+    schedule-completes c.args.table.now c.args.name c.args.node.now c.args.on c.requires.is c.args.env c.hear-saw.new.hand.me
+    (has-still c.args.table.now c.args.name c.args.env c.args.node.now c.args.hand.now.me c.hear-saw.new.hand.me c.hear-saw.ensures.keeps
+    c.requires.has)
+    c.hear-saw.result (look-sees c.args.table.now c.args.name c.hear-saw.result c.hear-saw.new.hand.me c.hear-saw.ensures.tells)
+    c.put_scheduled.new.done
+    (c.put_scheduled.ensures
+    ∙ ap (λ (found : Bool). unless_asked found (Value []))
+    (c.either-found.ensures ∙ ap (λ (asked : Bool). asked || c.hear-saw.result) c.asked.ensures))
+    c.of-parcel.result c.of-parcel.ensures
+
+pub returns-clause-stepped : goal.returns-clause-stepped
+returns-clause-stepped g c =
+    stepped-after c.args.table.now c.args.name c.args.hand.now.me c.hear-saw.new.hand.me c.complete.new.hand.me
+    c.hear-saw.ensures.keeps.beside c.complete.result c.complete.ensures.stepped

@@ -1,0 +1,106 @@
+use Rattle.std.proofs.Common.{◌≡◌, Option, Some, refl, sym, ap, subst}
+use Rattle.std.specs.Prelude.{IfSome}
+use Rattle.plan_rules.specs.declared.node.Node.{Node}
+use Rattle.exec_start.specs.Below.{asked_below}
+use Rattle.exec_start.specs.Entries.{asked_of}
+use Rattle.exec_start.specs.Parcels.{Delivery}
+use Rattle.start_laws.specs.Leaves.{IsStoppable}
+use Rattle.start_laws.specs.Nodes.{MayHaveSeen}
+use Rattle.node_steps.proofs.Frames.{ready-is, others-on, stepped-after}
+use Rattle.exec_hop.specs.Hops.{HopsAs}
+use Rattle.exec_hop.specs.Kinds.{HopsOrShelters, hop_child}
+use Rattle.exec_hop.specs.Openings.{HasParcel}
+use Rattle.exec_hop.proofs.Landed.{look-sees, has-still, hop-bare, hop-lands, hop-starts}
+use Rattle.exec_hop.proofs.Opened.{begun-not}
+use Rattle.exec_hop.proofs.Places.{hopping, inner-is}
+use Rattle.exec_hop.proofs.starts_on.step_starts_on.Goals as goal
+
+pub open-env-requires-clause-hops : goal.open-env-requires-clause-hops
+open-env-requires-clause-hops g c = subst HopsOrShelters (sym c.requires.is) tt
+
+pub open-env-requires-clause-child : goal.open-env-requires-clause-child
+open-env-requires-clause-child g c = sym (ap hop_child c.requires.is)
+
+pub hop-requires-clause-inner : goal.hop-requires-clause-inner
+hop-requires-clause-inner g c κs within =
+    inner-is c.args.table.now c.args.name c.args.node.now
+    (hopping c.args.table.now c.args.plan.now c.args.name c.args.node.now c.requires.over c.requires.kinds c.requires.node
+    (subst HopsOrShelters (sym c.requires.is) tt))
+
+pub pass_unless_stopped-requires-clause-inner : goal.pass_unless_stopped-requires-clause-inner
+pass_unless_stopped-requires-clause-inner g c κs within =
+    inner-is c.args.table.now c.args.name c.args.node.now
+    (hopping c.args.table.now c.args.plan.now c.args.name c.args.node.now c.requires.over c.requires.kinds c.requires.node
+    (subst HopsOrShelters (sym c.requires.is) tt))
+
+pub start_unless_stopped-requires-clause-inner : goal.start_unless_stopped-requires-clause-inner
+start_unless_stopped-requires-clause-inner g c κs within =
+    inner-is c.args.table.now c.args.name c.args.node.now
+    (hopping c.args.table.now c.args.plan.now c.args.name c.args.node.now c.requires.over c.requires.kinds c.requires.node
+    (subst HopsOrShelters (sym c.requires.is) tt))
+
+pub hear-saw-requires-clause-ready : goal.hear-saw-requires-clause-ready
+hear-saw-requires-clause-ready g c =
+    ready-is c.args.table.now c.args.name c.open-env.result.env c.open-env.new.hand.me 0 c.open-env.ensures.opens.ready
+
+pub hop-requires-clause-may : goal.hop-requires-clause-may
+hop-requires-clause-may g c κs within =
+    hop-bare c.args.table.now c.args.name c.args.node.now
+    (hopping c.args.table.now c.args.plan.now c.args.name c.args.node.now c.requires.over c.requires.kinds c.requires.node
+    (subst HopsOrShelters (sym c.requires.is) tt))
+    c.open-env.result.env c.open-env.new.hand.me (record { ready = c.open-env.ensures.opens.ready; at = c.open-env.ensures.opens.at }) (subst IsStoppable (sym c.requires.is) tt)
+
+pub pass_unless_stopped-requires-clause-may : goal.pass_unless_stopped-requires-clause-may
+pass_unless_stopped-requires-clause-may g c κs within =
+    hop-lands c.args.table.now c.args.name c.args.node.now
+    (hopping c.args.table.now c.args.plan.now c.args.name c.args.node.now c.requires.over c.requires.kinds c.requires.node
+    (subst HopsOrShelters (sym c.requires.is) tt))
+    c.open-env.result.env c.open-env.new.hand.me (record { ready = c.open-env.ensures.opens.ready; at = c.open-env.ensures.opens.at }) c.in-Some.parcel
+    (subst (λ (o : Option Delivery). IfSome o (HasParcel c.args.table.now c.args.name c.open-env.result.env c.open-env.new.hand.me)) c.in-Some.is
+    c.open-env.ensures.opens.below)
+    c.args.child (ap hop_child c.requires.is) (subst IsStoppable (sym c.requires.is) tt)
+    (subst (λ (n : Node). MayHaveSeen n c.in-Some.parcel.saw) (sym c.requires.is) tt) _ (λ none. refl)
+
+pub start_unless_stopped-requires-clause-may : goal.start_unless_stopped-requires-clause-may
+start_unless_stopped-requires-clause-may g c κs within =
+    hop-starts c.args.table.now c.args.name c.args.node.now
+    (hopping c.args.table.now c.args.plan.now c.args.name c.args.node.now c.requires.over c.requires.kinds c.requires.node
+    (subst HopsOrShelters (sym c.requires.is) tt))
+    c.open-env.result.env c.hear-saw.new.hand.me
+    (has-still c.args.table.now c.args.name c.open-env.result.env c.args.node.now c.open-env.new.hand.me c.hear-saw.new.hand.me c.hear-saw.ensures.keeps
+    (record { ready = c.open-env.ensures.opens.ready; at = c.open-env.ensures.opens.at }))
+    c.args.child (ap hop_child c.requires.is) (subst IsStoppable (sym c.requires.is) tt)
+    (subst (λ (n : Node). asked_of c.open-env.result.env ≡ asked_below (Some n) (asked_of c.open-env.result.env)) (sym c.requires.is) refl)
+    c.hear-saw.result (look-sees c.args.table.now c.args.name c.hear-saw.result c.hear-saw.new.hand.me c.hear-saw.ensures.tells)
+
+pub returns-then-unbegun-clause-stepped : goal.returns-then-unbegun-clause-stepped
+returns-then-unbegun-clause-stepped g c =
+    stepped-after c.args.table.now c.args.name c.args.hand.now.me c.open-env.new.hand.me c.hop.new.hand.me
+    c.open-env.ensures.opens.beside c.hop.result c.hop.ensures.stepped
+
+pub returns-then-unbegun-clause-hops : goal.returns-then-unbegun-clause-hops
+returns-then-unbegun-clause-hops g c =
+    subst (λ (n : Node). HopsAs c.args.table.now c.args.name (Some n) c.hop.result c.args.hand.now.me c.hop.new.hand.me)
+    (sym c.requires.is) (λ can un. c.hop.ensures.lands)
+
+pub returns-in-Some-clause-stepped : goal.returns-in-Some-clause-stepped
+returns-in-Some-clause-stepped g c =
+    stepped-after c.args.table.now c.args.name c.args.hand.now.me c.open-env.new.hand.me c.pass_unless_stopped.new.hand.me
+    c.open-env.ensures.opens.beside c.pass_unless_stopped.result c.pass_unless_stopped.ensures.stepped
+
+pub returns-in-Some-clause-hops : goal.returns-in-Some-clause-hops
+returns-in-Some-clause-hops g c =
+    subst (λ (n : Node). HopsAs c.args.table.now c.args.name (Some n) c.pass_unless_stopped.result c.args.hand.now.me c.pass_unless_stopped.new.hand.me)
+    (sym c.requires.is) (λ can un. absurd (begun-not c.open-env.result can.item (c.open-env.ensures.opens.item can) c.if-unbegun.false un))
+
+pub returns-in-None-clause-stepped : goal.returns-in-None-clause-stepped
+returns-in-None-clause-stepped g c =
+    stepped-after c.args.table.now c.args.name c.args.hand.now.me c.hear-saw.new.hand.me c.start_unless_stopped.new.hand.me
+    (others-on c.args.table.now c.args.name c.args.hand.now.me c.open-env.new.hand.me c.hear-saw.new.hand.me c.open-env.ensures.opens.beside
+    c.hear-saw.ensures.keeps.beside)
+    c.start_unless_stopped.result c.start_unless_stopped.ensures.stepped
+
+pub returns-in-None-clause-hops : goal.returns-in-None-clause-hops
+returns-in-None-clause-hops g c =
+    subst (λ (n : Node). HopsAs c.args.table.now c.args.name (Some n) c.start_unless_stopped.result c.args.hand.now.me c.start_unless_stopped.new.hand.me)
+    (sym c.requires.is) (λ can un. absurd (begun-not c.open-env.result can.item (c.open-env.ensures.opens.item can) c.if-unbegun.false un))

@@ -1,0 +1,13 @@
+use Rattle.std.proofs.Common.{Bool, ◌||◌, sym, ap, ◌∙◌, subst}
+use Rattle.node_steps.specs.Starts.{MayRun}
+use Rattle.exec_hop.proofs.stopping.start_unless_stopped.Goals as goal
+
+pub deliver_stopped-requires-clause-may : goal.deliver_stopped-requires-clause-may
+deliver_stopped-requires-clause-may g c κs within =
+    c.requires.may.stops
+    (ap (λ (asked : Bool). asked || c.args.saw) (sym c.asked-asked.ensures) ∙ sym c.either-stops.ensures ∙ c.if-stops.true)
+
+pub start_unbegun_child-requires-clause-may : goal.start_unbegun_child-requires-clause-may
+start_unbegun_child-requires-clause-may g c κs within =
+    subst (λ (asked : Bool). MayRun c.args.table.now c.args.name c.args.env c.args.child asked c.args.hand.now.me)
+    (sym c.asked-asked.ensures) c.requires.may.runs

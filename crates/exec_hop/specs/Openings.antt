@@ -1,0 +1,54 @@
+-- What a step has at hand, once the homes are emptied.
+use Rattle.std.specs.Prelude.{◌≡◌, ℕ, true, false, if◌then◌else◌, List, Option, Some, IfSome}
+use Rattle.std.specs.Option.{option_map}
+use Rattle.life_rules.specs.declared.event.Name.{Name}
+use Rattle.node_tree.specs.Tree.{is_unstoppable}
+use Rattle.plan_rules.specs.declared.node.Node.{Node}
+use Rattle.plan_shape.specs.Blueprint.{Blueprint}
+use Rattle.table_steps.specs.Views.{Board}
+use Rattle.table_steps.specs.Claims.{Seated}
+use Rattle.exec_start.specs.declared.entry.Entry.{Entry}
+use Rattle.exec_start.specs.declared.item.Item.{Item}
+use Rattle.exec_start.specs.declared.item.Item.TheVariants.{Start, Rest, Done}
+use Rattle.exec_start.specs.Parcels.{Delivery}
+use Rattle.exec_recv.specs.Steppable.{CanStep}
+use Rattle.start_laws.specs.Holding.{IsFromBelow}
+use Rattle.start_laws.specs.Nodes.{IsStartOf}
+use Rattle.node_steps.specs.declared.taken.TakenOut.{TakenOut}
+use Rattle.node_steps.specs.Heard.{has_heard}
+use Rattle.node_steps.specs.Midway.{Ready, KeepsOthers}
+use Rattle.node_steps.specs.TakenOut.{item_at, TakesOut}
+use Rattle.exec_hop.specs.declared.opening.AtHand.{AtHand}
+use Rattle.exec_hop.specs.Kinds.{hop_child}
+
+-- the item that lay in the node's home
+abbrev pub item_of : AtHand → Item
+item_of hand = if hand.unbegun then Start hand.env else Rest hand.env hand.kept
+
+module _ (board : Board Blueprint) (x : Name) where
+  -- The homes were emptied: what was taken is what lay in them when the step began.
+  pub record TakesAll (child : Option ℕ) (taken : TakenOut) (m m' : Seated Item Entry) : Type 0 where
+    pub takes : TakesOut board x child taken m m'
+    pub item : (can : CanStep board x m) → can.item ≡ item_at taken.own
+    pub lay : (can : CanStep board x m) (n : ℕ) → child ≡ Some n →
+        can.kid n ≡ option_map Done taken.below
+
+  -- The child of x, which has this start, has completed with this parcel.
+  pub record HasParcel (start : List Entry) (m : Seated Item Entry) (parcel : Delivery) :
+      Type 0 where
+    pub ready : Ready board x start 1 m
+    pub from : IsFromBelow start parcel (has_heard board x m)
+
+  -- So x has its start at hand, and with it the child's parcel, as it lay in the child's home, or as x
+  -- kept it. No request reached the child of an `unstoppable`.
+  pub record Opens (node : Node) (hand : AtHand) (m m' : Seated Item Entry) : Type 0 where
+    pub beside : KeepsOthers board x m m'
+    pub at : IsStartOf hand.env node
+    pub ready : Ready board x hand.env 0 m'
+    pub below : IfSome hand.below (HasParcel hand.env m')
+    pub kept : IfSome hand.kept (HasParcel hand.env m')
+    pub shelters : is_unstoppable board.frame.tree x.node ≡ true →
+        IfSome hand.below (λ parcel. parcel.saw ≡ false)
+    pub item : (can : CanStep board x m) → can.item ≡ item_of hand
+    pub lay : (can : CanStep board x m) (n : ℕ) → hop_child node ≡ Some n →
+        can.kid n ≡ option_map Done hand.below

@@ -1,0 +1,56 @@
+//! The step of an `unstoppable` ([exec.unstoppable]).
+ghost use Rattle.std.specs.Prelude.{◌≡◌, slice_get, Some};
+ghost use Rattle.std.specs.Thread.{IsSync};
+ghost use Rattle.plan_kinds.specs.Runnable.{IsRunnable};
+ghost use Rattle.table_steps.specs.Views.{IsHandOf, Stays};
+ghost use Rattle.exec_recv.specs.Over.{IsOver};
+ghost use Rattle.exec_recv.specs.Beginnings.{AllCanStart};
+ghost use Rattle.exec_recv.specs.Steppable.{CanStep};
+ghost use Rattle.exec_recv.specs.Nexts.{IsStepped};
+
+use crate::opening::{AtHand, open};
+use crate::passing::pass_on;
+use life_rules::Name;
+use node_steps::{Gate, Item, Next, start_unbegun_child};
+use op_slot::{Hand, OpTable};
+use plan_rules::{Node, NodeId};
+use plan_shape::Plan;
+use std::alloc::Global;
+use std::sync::Wait;
+
+/// Steps an `unstoppable`: it starts its child as if no request was made, and completes as the child
+/// does.
+pub(crate) fn step_unstoppable<G: Gate, R: Wait + Sync>(
+    rt: &R,
+    alloc: Global,
+    plan: &Plan,
+    table: &OpTable<Item>,
+    hand: &mut Hand<Item>,
+    name: Name,
+    node: &Node,
+    child: NodeId,
+    gate: &G,
+) -> Next
+    requires sync { IsSync R.row }
+    requires hand { IsHandOf table.now hand.old }
+    requires over { IsOver table.now plan.now }
+    requires kinds { IsRunnable plan.now }
+    requires node { slice_get plan.now.nodes name.node ≡ Some node.now }
+    requires is { node.now ≡ Node.Unstoppable child }
+    requires can { CanStep table.now name hand.old.me }
+    requires starts { AllCanStart table.now hand.old.me }
+    ensures stays { Stays table.now hand.old hand.new }
+    ensures stepped { IsStepped table.now name hand.old.me hand.new.me result }
+{
+    let AtHand {
+        env,
+        unbegun: _,
+        kept,
+        below,
+    } = open(plan, table, hand, name, node, Some(child));
+    drop(kept);
+    match below {
+        Some(parcel) => pass_on(rt, plan, table, hand, name, env, parcel, gate),
+        None => { start_unbegun_child(rt, alloc, plan, table, hand, name, env, child, false, gate) }
+    }
+}

@@ -1,0 +1,197 @@
+-- Where lets and their children stand, and whose starts they have.
+use Rattle.std.specs.Prelude.{Contains, All, MatchOption, slice_get}
+use Rattle.std.proofs.Common.{◌≡◌, ◌⊎◌, ℕ, ◌+◌, ◌<◌, ◌==◌, true, false, List, [], ◌∷◌, length, get_or, Option, Some, inl, inr, refl, sym, ap, ◌∙◌, subst, arith}
+use Rattle.std.proofs.lemmas.Bool.{eqb-true, cases_lt}
+use Rattle.std.proofs.lemmas.List.Elements.{Contains-get_or, Contains-append_left, Contains-append_cases}
+use Rattle.std.proofs.lemmas.Option.{slice_get_within, slice_get_past}
+use Rattle.common_lemmas.proofs.Bool.{either}
+use Rattle.life_rules.specs.declared.event.Name.{Name}
+use Rattle.node_tree.specs.Tree.{is_root, is_child, has_source, is_unstoppable}
+use Rattle.plan_rules.specs.declared.node.Node.{Node}
+use Rattle.plan_rules.specs.declared.node.Node.TheVariants.{LetValue, LetError, LetStopped}
+use Rattle.plan_rules.specs.Children.{named_by}
+use Rattle.plan_shape.specs.Blueprint.{Blueprint}
+use Rattle.plan_shape.specs.Children.{children_of}
+use Rattle.plan_shape.specs.Forest.{IsForest}
+use Rattle.plan_shape.specs.PlanTree.{is_when_all, spawns}
+use Rattle.plan_shape.specs.PlanTree as plan_tree
+use Rattle.plan_kinds.specs.Built.{IsWhole}
+use Rattle.plan_kinds.specs.Runnable.{IsRunnable}
+use Rattle.plan_kinds.specs.Runs.{run_by, bodies_of}
+use Rattle.plan_kinds.specs.TreeLaws.{ShowsNode}
+use Rattle.plan_kinds.proofs.Placing.{no-member, child-no_body, run-named, body-named, named-cases}
+use Rattle.plan_kinds.proofs.Plans.{plans-built}
+use Rattle.plan_kinds.proofs.Trees.{trees-show}
+use Rattle.table_steps.specs.Views.{Board}
+use Rattle.table_steps.specs.Claims.{Seated}
+use Rattle.exec_start.specs.declared.entry.Entry.{Entry}
+use Rattle.exec_start.specs.declared.item.Item.{Item}
+use Rattle.exec_start.specs.Bounds.{least_at_rest}
+use Rattle.exec_start.specs.Entries.{plan_of, node_of}
+use Rattle.exec_start.specs.Parcels.{Delivery}
+use Rattle.exec_start.specs.Starts.{IsStart}
+use Rattle.exec_recv.specs.Over.{IsOver}
+use Rattle.start_laws.specs.Nodes.{IsStartOf, plain_children, AwaitsOne}
+use Rattle.start_laws.proofs.Pairs.{sole}
+use Rattle.node_steps.specs.Midway.{Ready}
+use Rattle.exec_let.specs.Kinds.{IsLet, let_child}
+
+pub let-plain : (node : Node) → IsLet node → is_when_all node ≡ false
+let-plain (LetValue x pick xs) is = refl
+let-plain (LetError x pick xs) is = refl
+let-plain (LetStopped x pick xs) is = refl
+let-plain node is = absurd is
+
+let-stoppable : (node : Node) → IsLet node → plan_tree.is_unstoppable node ≡ false
+let-stoppable (LetValue x pick xs) is = refl
+let-stoppable (LetError x pick xs) is = refl
+let-stoppable (LetStopped x pick xs) is = refl
+let-stoppable node is = absurd is
+
+let-spawns : (node : Node) → IsLet node → (k : ℕ) → spawns k node ≡ false
+let-spawns (LetValue x pick xs) is k = refl
+let-spawns (LetError x pick xs) is k = refl
+let-spawns (LetStopped x pick xs) is k = refl
+let-spawns node is k = absurd is
+
+pub let-awaits : (node : Node) → IsLet node → AwaitsOne node
+let-awaits (LetValue x pick xs) is = tt
+let-awaits (LetError x pick xs) is = tt
+let-awaits (LetStopped x pick xs) is = tt
+let-awaits node is = absurd is
+
+-- a rest that keeps a parcel has begun a child
+pub let-keeps : (node : Node) → IsLet node → (parcel : Delivery) → least_at_rest (Some node) (Some parcel) ≡ 1
+let-keeps (LetValue x pick xs) is parcel = refl
+let-keeps (LetError x pick xs) is parcel = refl
+let-keeps (LetStopped x pick xs) is parcel = refl
+let-keeps node is parcel = absurd is
+
+one-there : (x : ℕ) → Contains (x ∷ []) x
+one-there x = (0, omega arith, refl)
+
+-- its child runs with its arguments, and is the only one that does
+pub let-runs : (node : Node) → IsLet node → Contains (plain_children node) (let_child node)
+let-runs (LetValue x pick xs) is = one-there x
+let-runs (LetError x pick xs) is = one-there x
+let-runs (LetStopped x pick xs) is = one-there x
+let-runs node is = absurd is
+
+child-run : (node : Node) → IsLet node → Contains (run_by node) (let_child node)
+child-run (LetValue x pick xs) is = one-there x
+child-run (LetError x pick xs) is = one-there x
+child-run (LetStopped x pick xs) is = one-there x
+child-run node is = absurd is
+
+run-child : (node : Node) → IsLet node → (k : ℕ) → Contains (run_by node) k → k ≡ let_child node
+run-child (LetValue x pick xs) is k among = sole x k among
+run-child (LetError x pick xs) is k among = sole x k among
+run-child (LetStopped x pick xs) is k among = sole x k among
+run-child node is k among = absurd is
+
+no-parts : (node : Node) → IsLet node → (n k : ℕ) → Contains (children_of n node) k → Contains (named_by node) k
+no-parts (LetValue x pick xs) is n k among = elim (Contains-append_cases (x ∷ xs) [] k among) [ inl named ↦ named | inr none ↦ no-member k none ]
+no-parts (LetError x pick xs) is n k among = elim (Contains-append_cases (x ∷ xs) [] k among) [ inl named ↦ named | inr none ↦ no-member k none ]
+no-parts (LetStopped x pick xs) is n k among = elim (Contains-append_cases (x ∷ xs) [] k among) [ inl named ↦ named | inr none ↦ no-member k none ]
+no-parts node is n k among = absurd is
+
+let-whole : (nodes : List Node) (node : Node) → IsLet node → IsWhole nodes node → 0 < length (bodies_of node)
+let-whole nodes (LetValue x pick xs) is whole = whole
+let-whole nodes (LetError x pick xs) is whole = whole
+let-whole nodes (LetStopped x pick xs) is whole = whole
+let-whole nodes node is whole = absurd is
+
+-- the node is a let of the plan
+pub kind-let : (o : Option Node) (node : Node) → o ≡ Some node → MatchOption o ⊥ IsLet → IsLet node
+kind-let o node e kind = subst (λ (q : Option Node). MatchOption q ⊥ IsLet) e kind
+
+pub kind-within : (nodes : List Node) (n : ℕ) → MatchOption (slice_get nodes n) ⊥ IsLet → n < length nodes
+kind-within nodes n kind =
+    elim (cases_lt n (length nodes)) [
+      | inl within ↦ within
+      | inr past ↦ absurd (subst (λ (o : Option Node). MatchOption o ⊥ IsLet) (slice_get_past nodes n past) kind)
+    ]
+
+-- which is none of the bodies
+pub child-apart : (nodes : List Node) → IsForest nodes → (n : ℕ) (node : Node) → IsLet node → slice_get nodes n ≡ Some node →
+    Contains (bodies_of node) (let_child node) → ⊥
+child-apart nodes forest n node is at among = child-no_body nodes forest n (let_child node) node at (child-run node is) among
+
+-- a let, in the table over its plan
+pub record Letting (board : Board Blueprint) (x : Name) (node : Node) : Type 0 where
+  pub plan : Blueprint
+  pub over : IsOver board plan
+  pub runnable : IsRunnable plan
+  pub stands : slice_get plan.nodes x.node ≡ Some node
+  pub is : IsLet node
+
+pub letting : (board : Board Blueprint) (plan : Blueprint) (x : Name) (node : Node) → IsOver board plan → IsRunnable plan →
+    slice_get plan.nodes x.node ≡ Some node → IsLet node → Letting board x node
+letting board plan x node over runnable stands is =
+    record { plan = plan; over = over; runnable = runnable; stands = stands; is = is }
+
+module _ (board : Board Blueprint) (x : Name) (node : Node) (lets : Letting board x node) where
+  shows : ShowsNode board.frame.tree x.node node
+  shows = subst (λ t. ShowsNode t x.node node) (sym lets.over.tree) ((trees-show lets.plan lets.over.is_plan).each x.node node lets.stands)
+
+  pub source-none : has_source board.frame.tree x.node ≡ false
+  source-none = shows.source ∙ let-plain node lets.is
+
+  pub stoppable : is_unstoppable board.frame.tree x.node ≡ false
+  stoppable = shows.unstoppable ∙ let-stoppable node lets.is
+
+  -- isn't the receiver node
+  pub inner-is : is_root board.frame.tree x.node ≡ false
+  inner-is =
+      let size : length board.frame.tree ≡ length lets.plan.nodes + 1 =
+      ap length lets.over.tree ∙ (trees-show lets.plan lets.over.is_plan).size in
+      let within = slice_get_within lets.plan.nodes x.node node lets.stands in
+      either (is_root board.frame.tree x.node)
+      (λ t. let last : x.node + 1 ≡ length board.frame.tree = eqb-true (x.node + 1) (length board.frame.tree) t in
+      absurd (omega (arith, size, within, last)))
+      (λ f. f)
+
+  -- its children are the one and the bodies
+  named-below : (k : ℕ) → Contains (named_by node) k → is_child board.frame.tree x.node k ≡ true
+  named-below k among = (shows.children k).1 (Contains-append_left (named_by node) _ k among, let-spawns node lets.is k)
+
+  pub child-below : is_child board.frame.tree x.node (let_child node) ≡ true
+  child-below = named-below (let_child node) (run-named node (let_child node) (child-run node lets.is))
+
+  pub body-below : (k : ℕ) → Contains (bodies_of node) k → is_child board.frame.tree x.node k ≡ true
+  body-below k among = named-below k (body-named node k among)
+
+  pub bodies-below : All (λ k. is_child board.frame.tree x.node k ≡ true) (bodies_of node)
+  bodies-below k d within = body-below (get_or (bodies_of node) k d) (Contains-get_or (bodies_of node) k d within)
+
+  pub below-cases : (k : ℕ) → is_child board.frame.tree x.node k ≡ true → (k ≡ let_child node) ⊎ Contains (bodies_of node) k
+  below-cases k below =
+      elim (named-cases node k (no-parts node lets.is x.node k ((shows.children k).0 below).0)) [
+        | inl run ↦ inl (run-child node lets.is k run)
+        | inr body ↦ inr body
+      ]
+
+  -- there is a body
+  pub some-bodies : 0 < length (bodies_of node)
+  some-bodies =
+      let-whole lets.plan.nodes node lets.is ((plans-built lets.plan lets.over.is_plan).whole x.node node lets.stands)
+
+  -- the start of a let that is held is one of this let
+  pub start-of : (start : List Entry) (least : ℕ) (m : Seated Item Entry) → Ready board x start least m → IsStart start → IsStartOf start node
+  start-of start least m ready is =
+      let same : plan_of start ≡ lets.plan = ready.key ∙ lets.over.over in
+      record {
+        start_is = is;
+        runnable = subst IsRunnable (sym same) lets.runnable;
+        node_is = ap (λ (b : Blueprint). slice_get b.nodes (node_of start)) same
+            ∙ ap (slice_get lets.plan.nodes) ready.node ∙ lets.stands;
+      }
+
+  -- the child isn't a body
+  pub child-other : (n : ℕ) → Contains (bodies_of node) n → (let_child node == n) ≡ false
+  child-other n among =
+      either (let_child node == n)
+      (λ t.
+      absurd (child-apart lets.plan.nodes lets.over.is_plan.forest x.node node lets.is lets.stands
+      (subst (Contains (bodies_of node)) (sym (eqb-true (let_child node) n t)) among)))
+      (λ f. f)

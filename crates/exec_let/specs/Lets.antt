@@ -1,0 +1,90 @@
+-- How a let goes on when its child has completed, or a body ([exec.let]).
+use Rattle.std.specs.Prelude.{◌≡◌, ◌⊎◌, ℕ, List, [], Option, Some, None, IfSome, All, Contains}
+use Rattle.exec_value.specs.declared.data.Datum.{Datum}
+use Rattle.exec_value.specs.declared.outcome.Completion.{Completion}
+use Rattle.exec_value.specs.declared.outcome.Completion.TheVariants.{NoMemory}
+use Rattle.exec_job.specs.Apply.{apply_of, ending}
+use Rattle.life_rules.specs.declared.event.Name.{Name}
+use Rattle.node_tree.specs.declared.context.Context.TheVariants.{Loop}
+use Rattle.plan_rules.specs.declared.node.Node.{Node}
+use Rattle.plan_shape.specs.Blueprint.{Blueprint}
+use Rattle.plan_kinds.specs.Runs.{bodies_of}
+use Rattle.table_steps.specs.Views.{Board}
+use Rattle.table_steps.specs.Claims.{Seated}
+use Rattle.node_images.specs.Picks.{picked_body}
+use Rattle.exec_start.specs.declared.entry.Entry.{Entry}
+use Rattle.exec_start.specs.declared.item.Item.{Item}
+use Rattle.exec_start.specs.declared.item.Item.TheVariants.{Done}
+use Rattle.exec_start.specs.Entries.{asked_of, start_below}
+use Rattle.exec_start.specs.Parcels.{Delivery}
+use Rattle.start_laws.specs.Lets.{channel_of, pick_of}
+use Rattle.exec_recv.specs.declared.next.Next.{Next}
+use Rattle.exec_recv.specs.declared.next.Next.TheVariants.{Rest, Ready}
+use Rattle.exec_recv.specs.Steppable.{CanStep}
+use Rattle.node_steps.specs.Completes.{IsCompleted}
+use Rattle.node_steps.specs.Starts.{IsAwaiting}
+use Rattle.exec_let.specs.Kinds.{let_child}
+
+module _ (board : Board Blueprint) (x : Name) (next : Next) (m' : Seated Item Entry) where
+  -- x completed with this, from somewhere in its step
+  pub record EndsWith (done : Completion) : Type 0 where
+    pub from : Seated Item Entry
+    pub parcel : Delivery
+    pub is : parcel.completion ≡ done
+    pub completed : IsCompleted board x parcel next from m'
+
+  -- x awaits this body, which can begin with these data as its arguments
+  pub record Awaits (body : ℕ) (values : List Datum) : Type 0 where
+    pub next_is : next ≡ Rest
+    pub start : List Entry
+    pub from : Seated Item Entry
+    pub awaits : IsAwaiting board x start body
+        (start_below body values [] (asked_of start) start) from m'
+
+  -- x goes on later, in the loop; or there was no memory, and it delivered that
+  abbrev pub Defers : Type 0
+  Defers = (next ≡ Ready Loop) ⊎ EndsWith NoMemory
+
+  -- The pick answered this to these data: the body that it names is awaited, and else x completes
+  -- with the answer.
+  abbrev pub ByAnswer : Option ℕ → List Datum → Completion → Type 0
+  ByAnswer None values answer = EndsWith answer
+  ByAnswer (Some body) values answer = Awaits body values
+
+  -- The child completed with this, in which these are the data of the let's channel: they are given
+  -- to the pick. What is on another channel passes.
+  abbrev pub ByData : Node → Option (List Datum) → Completion → Type 0
+  ByData node None done = EndsWith done
+  ByData node (Some values) done =
+      ByAnswer (picked_body (ending (apply_of (pick_of node) values)) (bodies_of node)) values
+      (ending (apply_of (pick_of node) values)) ⊎ Defers
+
+  abbrev pub GoesOn : Node → Completion → Type 0
+  GoesOn node done = ByData node (channel_of node done) done
+
+module _ (board : Board Blueprint) (x : Name) (m : Seated Item Entry) (node : Node) where
+  -- The child's home alone was full, with this parcel.
+  pub record ChildIsDone (can : CanStep board x m) (parcel : Delivery) : Type 0 where
+    pub full : can.kid (let_child node) ≡ Some (Done parcel)
+    pub alone : All (λ n. can.kid n ≡ None) (bodies_of node)
+
+  -- The home of a body was full with this parcel, and no other body's was.
+  pub record BodyIsDone (can : CanStep board x m) (parcel : Delivery) : Type 0 where
+    pub body : ℕ
+    pub among : Contains (bodies_of node) body
+    pub full : can.kid body ≡ Some (Done parcel)
+    pub alone : (n : ℕ) (item : Item) → Contains (bodies_of node) n → can.kid n ≡ Some item →
+        n ≡ body
+
+  -- Where the child has completed the let goes on by that, and where a body has it completes as the
+  -- body.
+  pub record LetsAs (next : Next) (m' : Seated Item Entry) : Type 0 where
+    pub child : (can : CanStep board x m) (parcel : Delivery) → ChildIsDone can parcel →
+        GoesOn board x next m' node parcel.completion
+    pub body : (can : CanStep board x m) (parcel : Delivery) → BodyIsDone can parcel →
+        EndsWith board x next m' parcel.completion
+
+-- the same by the node of a plan
+abbrev pub AsLet : Board Blueprint → Name → Option Node → Next → Seated Item Entry →
+    Seated Item Entry → Type 0
+AsLet board x node next m m' = IfSome node (λ one. LetsAs board x m one next m')
