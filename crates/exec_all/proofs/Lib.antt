@@ -1,0 +1,10 @@
+pub mod Walking
+pub mod Emptied
+pub mod Plans
+pub mod Opened
+pub mod Watched
+pub mod Made
+pub mod Stopped
+pub mod Begun
+pub mod Ended
+pub mod Stepped

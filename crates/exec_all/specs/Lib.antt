@@ -1,0 +1,10 @@
+pub mod Kinds
+pub mod Joined
+pub mod Opens
+pub mod Starts
+pub mod Watches
+pub mod Begins
+pub mod Ends
+pub mod Steps
+-- the definitions that the public contracts cite
+pub use Rattle.exec_recv.specs.Nexts

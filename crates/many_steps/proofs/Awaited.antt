@@ -1,0 +1,269 @@
+-- How several children of a node are awaited.
+use Rattle.std.proofs.Common.{◌≡◌, ◌⊎◌, inl, inr, ℕ, suc, ◌+◌, ◌<◌, Bool, true, false, not, ◌&&◌, ◌||◌, ◌==◌, List, [], ◌∷◌, length, arith, refl, sym, ap, ◌∙◌, subst}
+use Rattle.std.specs.Prelude.{ℤ, Option, Some, None, slice_index}
+use Rattle.std.specs.List.{list_any}
+use Rattle.std.proofs.lemmas.Bool.{and_from, or_parts, cond-false, eq-eqb}
+use Rattle.common_lemmas.specs.Sums.{one}
+use Rattle.common_lemmas.proofs.Bool.{either, one-most}
+use Rattle.life_rules.specs.declared.event.Name.{Name}
+use Rattle.life_rules.specs.declared.words.ControlWord.TheVariants.{Busy}
+use Rattle.life_rules.specs.Views.{beside, same}
+use Rattle.life_rules.proofs.Names.{same-true}
+use Rattle.listed_steps.specs.Lists.{entry}
+use Rattle.plan_shape.specs.Blueprint.{Blueprint}
+use Rattle.table_words.specs.Layouts.{place_number}
+use Rattle.table_kept.proofs.Awaiting.{count-owes, each-owes}
+use Rattle.table_kept.proofs.Entries.{found, each-found}
+use Rattle.table_rules.specs.declared.view.Held.{Held}
+use Rattle.table_rules.specs.declared.view.Owed.{Owed}
+use Rattle.table_rules.specs.Named.{find_by, count_by, without, Each}
+use Rattle.table_steps.specs.Views.{Board, aim_at, aimed}
+use Rattle.table_steps.specs.Awaits.{owes_each, is_named, is_unnamed, CanAwait, AwaitsAt}
+use Rattle.table_steps.specs.Claims.{Seated}
+use Rattle.table_steps.specs.Lefts.{LeavesControl}
+use Rattle.table_steps.specs.Owing.{owing, Owes}
+use Rattle.table_steps.specs.Slots.{slot_of, kids_of, kept, is_of_family, has_seen}
+use Rattle.table_steps.specs.Steps.{control_index}
+use Rattle.op_slot.specs.Puts.{CanPut, IsPut}
+use Rattle.op_slot.specs.Tends.{Tends}
+use Rattle.op_slot.proofs.Kept.{kept-shed}
+use Rattle.op_slot.proofs.Leaving.{tends-awaits, awaited-owes}
+use Rattle.op_slot.proofs.Places.{kid-within}
+use Rattle.exec_start.specs.contracts.item.ItemCargo.TheImpl.{ghosts}
+use Rattle.exec_start.specs.declared.entry.Entry.{Entry}
+use Rattle.exec_start.specs.declared.item.Item.{Item}
+use Rattle.exec_start.specs.declared.item.Item.TheVariants.{Rest}
+use Rattle.exec_start.specs.Items.{lot_of}
+use Rattle.exec_start.specs.Parcels.{Delivery}
+use Rattle.exec_recv.specs.Asides.{aside_of, KeepsAside}
+use Rattle.exec_recv.specs.Beginnings.{CanStart}
+use Rattle.exec_recv.specs.Nexts.{OwesNewBelow}
+use Rattle.exec_recv.proofs.Asiding.{aside-on, aside-one}
+use Rattle.exec_recv.proofs.Fitting.{fits-more, sees-more}
+use Rattle.node_steps.specs.Midway.{Ready}
+use Rattle.node_tree.specs.Tree.{is_child}
+use Rattle.node_steps.proofs.Left.{can-put, put-tends, put-calm, put-on, put-beside, put-held, put-starts, put-elsewhere}
+use Rattle.many_steps.specs.Awaits.{MayAwaitMany, AwaitsMany}
+use Rattle.many_steps.specs.Starting.{OwesBare, owed_below, IsAmong}
+use Rattle.many_steps.proofs.Lists.{any-at, all-at}
+
+held-same : (a b : Held Entry) → Some a ≡ Some b → a ≡ b
+held-same a b e = cc
+
+inside-same : (a b : Item) → Some (Some a) ≡ Some (Some b) → a ≡ b
+inside-same a b e = cc
+
+-- where no test holds in a list, no narrower one does
+none-narrower : (narrow wide : ℕ → Bool) (ns : List ℕ) → list_any wide ns ≡ false → list_any (λ q. narrow q && wide q) ns ≡ false
+none-narrower narrow wide [] none = refl
+none-narrower narrow wide (q ∷ qs) none =
+    let parts = or_parts (wide q) (list_any wide qs) none in
+    ap (λ b. (narrow q && b) || list_any (λ k. narrow k && wide k) qs) parts.0
+    ∙ ap (λ b. b || list_any (λ k. narrow k && wide k) qs) (and-false (narrow q))
+    ∙ none-narrower narrow wide qs parts.1
+  where
+    and-false : (b : Bool) → (b && false) ≡ false
+    and-false true = refl
+    and-false false = refl
+
+or-narrower : (b : Bool) (narrow wide : ℕ → Bool) (ns : List ℕ) → (b || list_any wide ns) ≡ false →
+    (b || list_any (λ q. narrow q && wide q) ns) ≡ false
+or-narrower true narrow wide ns none = cc
+or-narrower false narrow wide ns none = none-narrower narrow wide ns none
+
+named-at : (nodes : List ℕ) (i : ℕ) → i < length nodes → is_named nodes (slice_index nodes i) ≡ true
+named-at nodes i within = any-at (λ m. m == slice_index nodes i) nodes i within (eq-eqb (slice_index nodes i) (slice_index nodes i) refl)
+
+-- one of these children, by its name
+among-of : (x : Name) (nodes : List ℕ) (z : Name) → list_any (λ k. same (beside x k) z) nodes ≡ true → IsAmong x nodes (length nodes) z
+among-of x [] z t = cc
+among-of x (n ∷ ns) z t =
+    either (same (beside x n) z)
+    (λ here. (0, omega arith, same-true (beside x n) z here))
+    (λ no.
+    let more = among-of x ns z (ap (λ b. b || list_any (λ k. same (beside x k) z) ns) (sym no) ∙ t) in
+    (suc more.0, (let less = more.1 in omega (arith, less)), more.2))
+
+-- what is owed of another node is owed as before
+find-other : (x : Name) (start : List Entry) (lot : List ℤ) (nodes : List ℕ) (owed : List (Owed Entry)) (z : Name) →
+    list_any (λ k. same (beside x k) z) nodes ≡ false →
+    find_by (λ (e : Owed Entry). e.name) (owes_each x start lot nodes owed) z ≡ find_by (λ (e : Owed Entry). e.name) owed z
+find-other x start lot [] owed z none = refl
+find-other x start lot (n ∷ ns) owed z none =
+    let parts = or_parts (same (beside x n) z) (list_any (λ k. same (beside x k) z) ns) none in
+    cond-false (same (beside x n) z) (Some (owed_below x start lot n))
+    (find_by (λ (e : Owed Entry). e.name) (owes_each x start lot ns owed) z) parts.0
+    ∙ find-other x start lot ns owed z parts.1
+
+module _ (board : Board Blueprint) (x : Name) (start : List Entry) (kept_one : Option Delivery) (children : List ℕ) (m : Seated Item Entry)
+    (may : MayAwaitMany board x start kept_one children m) where
+  abbrev item : Item
+  item = Rest start kept_one
+
+  abbrev ready : Ready board x start 0 m
+  ready = may.ready
+
+  -- the node's start is put into its home
+  pub many-put : CanPut ghosts board.frame m x item
+  many-put = can-put board x start kept_one 0 m may.ready may.child may.saw may.small
+
+  module _ (m1 : Seated Item Entry) (put : IsPut board.frame x item m m1) where
+    lies : Tends board.frame x ready.held (Some item) (λ _. None) m1
+    lies = put-tends board x start kept_one 0 m may.ready may.child may.saw may.small m1 put
+
+    idle : (i : ℕ) → i < length children → list_any (λ q. q == slice_index children i) ready.held.idle ≡ true
+    idle i within =
+        subst (λ (h : Held Entry). list_any (λ q. q == slice_index children i) h.idle ≡ true)
+        (held-same may.idle.held ready.held (sym may.idle.holds ∙ ready.tends.holds)) (may.idle.idle i within)
+
+    -- the children can be awaited
+    pub can-await-many : CanAwait ghosts board.frame m1 x children
+    can-await-many =
+        tends-awaits ghosts board.frame x m1 ready.held (λ _. None)
+        (put-calm board x start kept_one 0 m may.ready may.child may.saw may.small m1 put) (λ k at. refl) item children lies
+        (put-on board x start kept_one 0 m may.ready may.child may.saw may.small m1 put) may.least may.some may.kids.different
+        (all-at _ children (λ i within. and_from _ _ (may.kids.each i within) (idle i within)))
+
+    module _ (m2 : Seated Item Entry)
+        (awaited : LeavesControl (aim_at board x) (Busy 0) (Busy (length children)) (AwaitsAt ghosts (aim_at board x) children) m1 m2) where
+      abbrev did : AwaitsAt ghosts (aimed board.frame x) children (control_index board x) awaited.read awaited.left m1 m2
+      did = awaited.did
+
+      abbrev lot : List ℤ
+      lot = lot_of item
+
+      item-is : did.item ≡ item
+      item-is = inside-same did.item item (sym did.home ∙ lies.own)
+
+      owed-is : m2.0.owed ≡ owes_each x start lot children m1.0.owed
+      owed-is =
+          ap (λ (z : Seated Item Entry). z.0.owed) did.me_is
+          ∙ ap (λ (i : Item). owes_each x (ghosts.start i) (ghosts.lot i) children m1.0.owed) item-is
+
+      -- how often a start is owed
+      owing-is : (z : Name) → owing m2.0 z ≡ owing m1.0 z + one (list_any (λ k. same (beside x k) z) children)
+      owing-is z =
+          ap (λ (l : List (Owed Entry)). count_by (λ (e : Owed Entry). e.name) l z) owed-is
+          ∙ count-owes x start lot children m1.0.owed z may.kids.different
+
+      -- the hand owes each child's start, and its home is empty
+      many-bare : (i : ℕ) → i < length children →
+          OwesBare board (beside x (slice_index children i)) (owed_below x start lot (slice_index children i)) m2
+      many-bare i within =
+          let n = slice_index children i in
+          record {
+            place = record { block = ready.place.block; node = kid-within board.frame x ready.places n (may.kids.each i within) };
+            owes = awaited-owes board.frame x m1 m2 (control_index board x) awaited.read awaited.left ghosts children did ready.held item
+                (λ _. None) n ready.places lies (may.kids.each i within) (named-at children i within);
+            once =
+                let none = did.unowed n (named-at children i within) in
+                let few = one-most (list_any (λ k. same (beside x k) (beside x n)) children) in
+                let is = owing-is (beside x n) in
+                omega (arith, none, few, is);
+            beside = subst (λ (l : List (Owed Entry)). Each (λ (e : Owed Entry). e.name.block ≡ x.block → e.name.generation ≡ x.generation) l)
+                (sym owed-is)
+                (each-owes (λ (e : Owed Entry). e.name.block ≡ x.block → e.name.generation ≡ x.generation) x start lot children m1.0.owed
+                (λ k named at. refl) did.beside_it);
+          }
+
+      await-aside : KeepsAside m1 m2
+      await-aside =
+          aside-one (entry (control_index board x) awaited.read awaited.left) m1 m2 (ap (λ (z : Seated Item Entry). aside_of z.0) did.me_is)
+          (ap (λ (z : Seated Item Entry). z.0.steps) did.me_is) (ap (λ (z : Seated Item Entry). z.0.seen) did.me_is)
+
+      -- and each other start can begin still
+      module _ (z : Name) (other : list_any (λ k. same (beside x k) z) children ≡ false) where
+        find-same : find_by (λ (e : Owed Entry). e.name) m2.0.owed z ≡ find_by (λ (e : Owed Entry). e.name) m1.0.owed z
+        find-same =
+            ap (λ (l : List (Owed Entry)). find_by (λ (e : Owed Entry). e.name) l z) owed-is
+            ∙ find-other x start lot children m1.0.owed z other
+
+        module _ (can : CanStart board z m1) where
+          far : is_of_family board.frame.tree board.frame.layout x (slot_of board.frame.layout z) ≡ false
+          far =
+              put-elsewhere board x start kept_one 0 m may.ready may.child may.saw may.small m1 put z can.begin.owed can.begin.owes
+
+          unnamed : is_unnamed board.frame.tree board.frame.layout x children (slot_of board.frame.layout z) ≡ false
+          unnamed =
+              let slot = slot_of board.frame.layout z in
+              or-narrower (slot_of board.frame.layout x == slot) (λ q. not (is_named children q))
+              (λ q. place_number board.frame.layout x.block q == slot) (kids_of board.frame.tree x.node) far
+
+          home-same : kept (slot_of board.frame.layout z) m2.1 ≡ kept (slot_of board.frame.layout z) m1.1
+          home-same =
+              ap (λ (s : Seated Item Entry). kept (slot_of board.frame.layout z) s.1) did.me_is
+              ∙ kept-shed (is_unnamed board.frame.tree board.frame.layout x children) (slot_of board.frame.layout z) m1.1 unnamed
+
+          -- in a block all starts that are owed are of one generation
+          of-block : x.block ≡ z.block → x.generation ≡ z.generation
+          of-block block =
+              let name = (found (λ (e : Owed Entry). e.name) m1.0.owed z can.begin.owed can.begin.owes).name_is in
+              let all = each-found (λ (e : Owed Entry). e.name.block ≡ x.block → e.name.generation ≡ x.generation)
+              (λ (e : Owed Entry). e.name) m1.0.owed z can.begin.owed can.begin.owes did.beside_it in
+              sym (sym (ap (λ (w : Name). w.generation) name) ∙ all (ap (λ (w : Name). w.block) name ∙ sym block))
+
+          still-starts : CanStart board z m2
+          still-starts =
+              record {
+                place = can.place;
+                begin = record {
+                  owed = can.begin.owed;
+                  owes = find-same ∙ can.begin.owes;
+                  item = can.begin.item;
+                  home = home-same ∙ can.begin.home;
+                  entry = can.begin.entry;
+                  start = can.begin.start;
+                  key = can.begin.key;
+                  drawn = can.begin.drawn;
+                  goes_on = can.begin.goes_on;
+                };
+                is_start = can.is_start;
+                fit = fits-more can.begin.item z.node (has_seen board.frame.tree m1.0 z) (has_seen board.frame.tree m2.0 z)
+                    (sees-more board.frame.tree m1 m2 z await-aside.sees) can.fit;
+                once =
+                    let few = can.once in
+                    let is = owing-is z in
+                    let no : one (list_any (λ k. same (beside x k) z) children) ≡ 0 = ap one other in
+                    omega (arith, few, is, no);
+                beside = subst (λ (l : List (Owed Entry)). Each (λ (e : Owed Entry). e.name.block ≡ z.block → e.name.generation ≡ z.generation) l)
+                    (sym owed-is)
+                    (each-owes (λ (e : Owed Entry). e.name.block ≡ z.block → e.name.generation ≡ z.generation) x start lot children
+                    m1.0.owed (λ k named at. of-block at) can.beside);
+              }
+
+      many-each : (z : Name) → Owes m2.0 z → IsAmong x children (length children) z ⊎ CanStart board z m2
+      many-each z owes =
+          either (list_any (λ k. same (beside x k) z) children)
+          (λ t. inl (among-of x children z t))
+          (λ other.
+          inr (still-starts z other
+          (put-starts board x start kept_one 0 m may.ready may.child may.saw may.small m1 put z
+          (record { owed = owes.owed; owes = sym (find-same z other) ∙ owes.owes }))))
+
+      -- and no other is owed than was
+      many-owes : OwesNewBelow board x m m2
+      many-owes z owes =
+          either (list_any (λ k. same (beside x k) z) children)
+          (λ t.
+          let among = among-of x children z t in
+          inr (subst (λ (w : Name). is_child board.frame.tree x.node w.node ≡ true) among.2 (may.kids.each among.0 among.1)))
+          (λ other.
+          let owed_by = λ (l : List (Owed Entry)). find_by (λ (e : Owed Entry). e.name) l z in
+          let first = (put-beside board x start kept_one 0 m may.ready may.child may.saw may.small m1 put).owed in
+          inl (record { owed = owes.owed; owes = ap owed_by (sym first) ∙ sym (find-same z other) ∙ owes.owes }))
+
+      pub awaits-many : AwaitsMany board x start kept_one children m m2
+      awaits-many =
+          let beside_it = put-beside board x start kept_one 0 m may.ready may.child may.saw may.small m1 put in
+          record {
+            full = m1;
+            put = beside_it.aside;
+            home = lies.own;
+            awaits = awaited;
+            aside = aside-on m m1 m2 beside_it.aside await-aside;
+            lets_go = ap (λ (z : Seated Item Entry). z.0.held) did.me_is
+                ∙ ap (λ (l : List (Held Entry)). without (λ (e : Held Entry). e.name) l x)
+                (put-held board x start kept_one 0 m may.ready may.child may.saw may.small m1 put);
+            owes = many-owes;
+            starting = record { bare = many-bare; each = many-each };
+          }

@@ -1,0 +1,4 @@
+pub mod Lists
+pub mod ReadIdle
+pub mod Awaited
+pub mod Put

@@ -1,0 +1,4 @@
+pub mod Kids
+pub mod Starting
+pub mod Awaits
+pub mod Puts
