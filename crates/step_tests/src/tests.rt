@@ -1,0 +1,214 @@
+//! What operations complete with, by the kinds of their nodes.
+ghost use Rattle.std.specs.Prelude.{◌≡◌, IfOk, IfSome};
+ghost use Rattle.std.specs.Thread.{IsSync};
+ghost use Rattle.plan_kinds.specs.Runnable.{IsRunnable};
+ghost use Rattle.exec_recv.specs.Over.{IsOver};
+ghost use Rattle.run_loop.specs.Starts.{CanRun};
+ghost use Rattle.step_tests.specs.Ready.{IsFirst};
+
+use exec_adapt::OneChild;
+use exec_io::MemSink;
+use exec_recv::OpenGate;
+use exec_value::{Completion, Data, Datum, Outcome};
+use node_tree::ScopeKind;
+use op_table::{Hand, OpTable};
+use outcome_lines::put_line;
+use plan_reader::read_plan;
+use plan_shape::Plan;
+use run_loop::{Env, Item, Loop, Stepper};
+use std::alloc::Global;
+use std::sync::Wait;
+use std::test::Fail;
+
+// The plan of these bytes.
+fn read(alloc: Global, bytes: &[u8]) -> Option<Plan>
+    ensures { IfSome result (λ plan. IsRunnable plan) }
+{
+    match read_plan(alloc, bytes) {
+        Ok(plan) => {
+            // Asked for what it says of every plan.
+            let _ = plan.size();
+            Some(plan)
+        }
+        Err(_) => None,
+    }
+}
+
+// A table of one block over the plan, and its one hand.
+fn opened(alloc: Global, plan: &Plan) -> Result<(OpTable<Item>, Hand<Item>), Fail>
+    ensures over { IfOk result (λ t. IsOver t.0 plan.now) }
+    ensures hand { IfOk result (λ t. IsFirst t.0 t.1) }
+{
+    let tree = plan.tree();
+    let (table, mut hands) = OpTable::open(alloc, tree, plan, 1, 1, ScopeKind::Simple, 1)?;
+    // Asked for what they say of every tree and of every plan.
+    let over = table.tree();
+    let nodes = over.size();
+    let size = plan.size();
+    let _ = (nodes, size);
+    let hand = hands.swap_remove(0);
+    Ok((table, hand))
+}
+
+// The start of the plan's operation for the record `5`, of number 1.
+fn started(alloc: Global, plan: &Plan, table: &OpTable<Item>, asked: bool) -> Option<Env>
+    requires over { IsOver table.now plan.now }
+    ensures { IfSome result (λ env. CanRun table.now env) }
+{
+    let datum = Datum::Int(5);
+    if !datum.is_of(plan.settings().input) {
+        return None;
+    }
+    Some(Env::of_record(plan, Data::one(alloc, datum), 1, asked))
+}
+
+// Starts that operation, which is steps of this hand alone, and collects it.
+fn collected<T: Stepper, R: Wait + Sync>(
+    rt: &R,
+    alloc: Global,
+    plan: &Plan,
+    stepper: &T,
+    asked: bool,
+) -> Result<Option<Completion>, Fail>
+    requires sync { IsSync R.row }
+    requires kinds { IsRunnable plan.now }
+    requires stepper { T.plan stepper.now ≡ plan.now }
+{
+    let (table, hand) = opened(alloc, plan)?;
+    let Ok(mut looped) = Loop::open(alloc, plan, &table, hand) else {
+        return Ok(None);
+    };
+    let Some(env) = started(alloc, plan, &table, asked) else {
+        return Ok(None);
+    };
+    let Ok(block) = looped.start(rt, alloc, &table, stepper, env) else {
+        return Ok(None);
+    };
+    match looped.collect(&table, block) {
+        Some(found) => Ok(Some(found.completion)),
+        None => Ok(None),
+    }
+}
+
+// Whether the plan with this root runs on the table, and its operation completes with this line.
+fn completes<R: Wait + Sync>(
+    rt: &R,
+    alloc: Global,
+    root: &str,
+    asked: bool,
+    line: &str,
+) -> Result<bool, Fail>
+    requires sync { IsSync R.row }
+{
+    let text = format!(in alloc; "{{\"version\":1,\"input\":\"int\",\"root\":{root}}}")?;
+    let Some(plan) = read(alloc, text.as_bytes()) else {
+        return Ok(false);
+    };
+    let gate = OpenGate;
+    let Some(stepper) = OneChild::of(&plan, &gate) else {
+        return Ok(false);
+    };
+    let Some(done) = collected(rt, alloc, &plan, &stepper, asked)? else {
+        return Ok(false);
+    };
+    let mut told = MemSink::new(alloc, 4096, Vec::new(alloc));
+    let put = put_line(1, &Outcome::Done(done), &mut told);
+    Ok(put.is_ok() && told.bytes() == line.as_bytes())
+}
+
+#[test]
+fn factories_complete_by_themselves(rt: HostRuntime) -> Result<(), Fail> {
+    let alloc = rt.alloc();
+    for (root, line) in [
+        (r#"{"do":"input"}"#, "1 value 5\n"),
+        (
+            r#"{"do":"just","values":[7,"a",[2,3]]}"#,
+            "1 value 7 \"a\" [2,3]\n",
+        ),
+        (r#"{"do":"just_error","error":"late"}"#, "1 error late\n"),
+        (r#"{"do":"just_stopped"}"#, "1 stopped\n"),
+        (r#"{"do":"read_env","query":"record"}"#, "1 value 1\n"),
+        (r#"{"do":"read_env","query":"stop"}"#, "1 value 0\n"),
+    ] {
+        assert!(rt; completes(&rt, alloc, root, false, line)?);
+    }
+    Ok(())
+}
+
+#[test]
+fn read_env_tells_of_a_request_before_the_start(rt: HostRuntime) -> Result<(), Fail> {
+    let alloc = rt.alloc();
+    let root = r#"{"do":"read_env","query":"stop"}"#;
+    assert!(rt; completes(&rt, alloc, root, true, "1 value 1\n")?);
+    Ok(())
+}
+
+#[test]
+fn adaptors_take_what_is_on_their_channel(rt: HostRuntime) -> Result<(), Fail> {
+    let alloc = rt.alloc();
+    for (root, line) in [
+        (
+            r#"{"do":"then","child":{"do":"input"},"job":{"job":"add","n":1}}"#,
+            "1 value 6\n",
+        ),
+        (
+            r#"{"do":"upon_error","child":{"do":"just_error","error":"late"},"job":{"job":"length"}}"#,
+            "1 value 4\n",
+        ),
+        (
+            r#"{"do":"upon_stopped","child":{"do":"just_stopped"},"job":{"job":"give","values":[0]}}"#,
+            "1 value 0\n",
+        ),
+        (
+            r#"{"do":"stopped_as_optional","of":"int","child":{"do":"just_stopped"}}"#,
+            "1 value none\n",
+        ),
+        (
+            r#"{"do":"stopped_as_optional","of":"int","child":{"do":"input"}}"#,
+            "1 value some 5\n",
+        ),
+        (
+            r#"{"do":"stopped_as_error","child":{"do":"just_stopped"},"error":"early"}"#,
+            "1 error early\n",
+        ),
+    ] {
+        assert!(rt; completes(&rt, alloc, root, false, line)?);
+    }
+    Ok(())
+}
+
+#[test]
+fn adaptors_let_the_others_pass(rt: HostRuntime) -> Result<(), Fail> {
+    let alloc = rt.alloc();
+    for (root, line) in [
+        (
+            r#"{"do":"then","child":{"do":"just_stopped"},"job":{"job":"give","values":[1]}}"#,
+            "1 stopped\n",
+        ),
+        (
+            r#"{"do":"upon_error","child":{"do":"input"},"job":{"job":"length"}}"#,
+            "1 value 5\n",
+        ),
+        (
+            r#"{"do":"upon_stopped","child":{"do":"just_error","error":"late"},"job":{"job":"give","values":[0]}}"#,
+            "1 error late\n",
+        ),
+        (
+            r#"{"do":"stopped_as_error","child":{"do":"input"},"error":"early"}"#,
+            "1 value 5\n",
+        ),
+    ] {
+        assert!(rt; completes(&rt, alloc, root, false, line)?);
+    }
+    Ok(())
+}
+
+#[test]
+fn a_long_name_of_an_error_goes_up_through_a_chain(rt: HostRuntime) -> Result<(), Fail> {
+    let alloc = rt.alloc();
+    let root =
+        r#"{"do":"then","child":{"do":"then","child":{"do":"input"},"job":{"job":"fail","error":"a-name-of-sixty-four-letters-that-stands-in-memory-of-its-own-00"}},"job":{"job":"add","n":1}}"#;
+    let line = "1 error a-name-of-sixty-four-letters-that-stands-in-memory-of-its-own-00\n";
+    assert!(rt; completes(&rt, alloc, root, false, line)?);
+    Ok(())
+}
