@@ -10,7 +10,6 @@ use Rattle.plan_kinds.specs.Reached.{KindsMatch}
 use Rattle.plan_kinds.specs.Runnable.{IsRunnable}
 use Rattle.plan_reader.specs.PlanFile.{IsPlanOf}
 use Rattle.plan_shape.specs.Blueprint.{Blueprint, IsPlan}
-use Rattle.run_tally.specs.Tallied.{Tallied, IsSmallTally, new_tally}
 use Rattle.table_rules.specs.declared.view.View.{View}
 use Rattle.table_steps.specs.Views.{Board, AreFreshHands, IsHandOf, fresh_with, knows}
 use Rattle.exec_recv.specs.Over.{IsOver}
@@ -53,12 +52,6 @@ module _ (board : Board Blueprint) (hand : Seat (Option Item) (View Item Entry))
         rests = subst (λ (h : Seat (Option Item) (View Item Entry)). IsAtRest (knows h)) same is.rests;
         next = subst (λ (n : ℕ). n ≤ board.frame.layout.blocks) (sym opened.next) (omega arith);
       }
-
--- nothing was counted yet
-pub new-small : (tally : Tallied) → tally ≡ new_tally → IsSmallTally tally
-new-small tally is =
-    subst IsSmallTally (sym is)
-    (record { values = omega arith; errors = omega arith; stopped = omega arith; no_memory = omega arith })
 
 -- a record of the input's kind may be started
 pub record-runs : (board : Board Blueprint) (plan : Blueprint) → IsOver board plan → (datum : Datum) → HasKind datum plan.settings.input →
