@@ -92,71 +92,72 @@ pub record GoesOn {P E O : Type 0} (cargo : Ghosts P E O) (f : Frame O) (x : Nam
   pub fit : cargo.fits item x.node (has_seen f.tree m.0 x || held.told)
   pub goes_on : ¬ cargo.ends item
 
-module _ {P E O : Type 0} (cargo : Ghosts P E O) (f : Frame O) (x : Name) (m : Seated P E) (held : Held E) (kid : ℕ → Option P) (calm : IsCalm m) (empty : (n : ℕ) → is_child f.tree x.node n ≡ true → kid n ≡ None) where
-  -- with such an item in its home the hand can leave it at rest
-  pub tends-rests : (item : P) → Tends f x held (Some item) kid m → GoesOn cargo f x m held item → cargo.least item ≤ held.named →
-      cargo.rests item x.node → CanRest cargo f m x
-  tends-rests item has on bound rests =
-      record {
-        leave = leaves f x m held (Some item) kid has calm empty;
-        item = item;
-        home = has.own;
-        start = on.start;
-        fit = on.fit;
-        goes_on = on.goes_on;
-        bound = bound;
-        rests = rests;
-      }
+module _ {P E O : Type 0} (cargo : Ghosts P E O) (f : Frame O) (x : Name) (m : Seated P E) where
+  module _ (held : Held E) (kid : ℕ → Option P) (calm : IsCalm m) (empty : (n : ℕ) → is_child f.tree x.node n ≡ true → kid n ≡ None) where
+    -- with such an item in its home the hand can leave it at rest
+    pub tends-rests : (item : P) → Tends f x held (Some item) kid m → GoesOn cargo f x m held item → cargo.least item ≤ held.named →
+        cargo.rests item x.node → CanRest cargo f m x
+    tends-rests item has on bound rests =
+        record {
+          leave = leaves f x m held (Some item) kid has calm empty;
+          item = item;
+          home = has.own;
+          start = on.start;
+          fit = on.fit;
+          goes_on = on.goes_on;
+          bound = bound;
+          rests = rests;
+        }
 
-  -- or await children that it has read as not begun
-  pub tends-awaits : (item : P) (nodes : List ℕ) → Tends f x held (Some item) kid m → GoesOn cargo f x m held item →
-      cargo.least item ≤ length nodes → 1 ≤ length nodes → are_different nodes ≡ true →
-      list_all (λ n. is_child f.tree x.node n && list_any (λ q. q == n) held.idle) nodes ≡ true → CanAwait cargo f m x nodes
-  tends-awaits item nodes has on bound some different idle =
-      record {
-        leave = leaves f x m held (Some item) kid has calm empty;
-        item = item;
-        home = has.own;
-        start = on.start;
-        fit = on.fit;
-        goes_on = on.goes_on;
-        bound = bound;
-        some_child = some;
-        different = different;
-        idle = idle;
-      }
+    -- or await children that it has read as not begun
+    pub tends-awaits : (item : P) (nodes : List ℕ) → Tends f x held (Some item) kid m → GoesOn cargo f x m held item →
+        cargo.least item ≤ length nodes → 1 ≤ length nodes → are_different nodes ≡ true →
+        list_all (λ n. is_child f.tree x.node n && list_any (λ q. q == n) held.idle) nodes ≡ true → CanAwait cargo f m x nodes
+    tends-awaits item nodes has on bound some different idle =
+        record {
+          leave = leaves f x m held (Some item) kid has calm empty;
+          item = item;
+          home = has.own;
+          start = on.start;
+          fit = on.fit;
+          goes_on = on.goes_on;
+          bound = bound;
+          some_child = some;
+          different = different;
+          idle = idle;
+        }
 
-  -- or finish it with a completion, below the root
-  pub tends-finishes : (item : P) (phase : CallbackPhase) → Tends f x held (Some item) kid m → held.phase ≡ Some phase →
-      is_settled phase ≡ true → cargo.least item ≤ held.named → cargo.start item ≡ held.start →
-      cargo.fits item x.node (has_seen f.tree m.0 x || held.told) → cargo.ends item → CanFinish cargo f m x
-  tends-finishes item phase has read settled bound start fit ends =
-      let end : CanEnd cargo f m x = record {
-        leave = leaves f x m held (Some item) kid has calm empty;
-        phase = subst (λ p. MatchOption p ⊥ (λ known. is_settled known ≡ true)) (sym read) settled;
-        bound = λ other home.
-            subst (λ i. cargo.least i ≤ held.named) (inside-same item other (sym has.own ∙ home)) bound;
-      } in
-      record { end = end; completes = λ below. record { item = item; home = has.own; start = start; fit = fit; ends = ends } }
-    where
-      inside-same : (a b : P) → Some (Some a) ≡ Some (Some b) → a ≡ b
-      inside-same a b e = cc
-
-  -- or finish the root, whose home is empty
-  pub root-finishes : (phase : CallbackPhase) → Tends f x held None kid m → held.phase ≡ Some phase →
-      is_settled phase ≡ true → is_root f.tree x.node ≡ true → CanFinish cargo f m x
-  root-finishes phase has read settled root =
-      record {
-        end = record {
-          leave = leaves f x m held None kid has calm empty;
+    -- or finish it with a completion, below the root
+    pub tends-finishes : (item : P) (phase : CallbackPhase) → Tends f x held (Some item) kid m → held.phase ≡ Some phase →
+        is_settled phase ≡ true → cargo.least item ≤ held.named → cargo.start item ≡ held.start →
+        cargo.fits item x.node (has_seen f.tree m.0 x || held.told) → cargo.ends item → CanFinish cargo f m x
+    tends-finishes item phase has read settled bound start fit ends =
+        let end : CanEnd cargo f m x = record {
+          leave = leaves f x m held (Some item) kid has calm empty;
           phase = subst (λ p. MatchOption p ⊥ (λ known. is_settled known ≡ true)) (sym read) settled;
-          bound = λ other home. absurd (none-full other (sym has.own ∙ home));
-        };
-        completes = λ below. absurd (both_ways (is_root f.tree x.node) below root);
-      }
-    where
-      none-full : (a : P) → Some None ≡ Some (Some a) → ⊥
-      none-full a e = cc
+          bound = λ other home.
+              subst (λ i. cargo.least i ≤ held.named) (inside-same item other (sym has.own ∙ home)) bound;
+        } in
+        record { end = end; completes = λ below. record { item = item; home = has.own; start = start; fit = fit; ends = ends } }
+      where
+        inside-same : (a b : P) → Some (Some a) ≡ Some (Some b) → a ≡ b
+        inside-same a b e = cc
+
+    -- or finish the root, whose home is empty
+    pub root-finishes : (phase : CallbackPhase) → Tends f x held None kid m → held.phase ≡ Some phase →
+        is_settled phase ≡ true → is_root f.tree x.node ≡ true → CanFinish cargo f m x
+    root-finishes phase has read settled root =
+        record {
+          end = record {
+            leave = leaves f x m held None kid has calm empty;
+            phase = subst (λ p. MatchOption p ⊥ (λ known. is_settled known ≡ true)) (sym read) settled;
+            bound = λ other home. absurd (none-full other (sym has.own ∙ home));
+          };
+          completes = λ below. absurd (both_ways (is_root f.tree x.node) below root);
+        }
+      where
+        none-full : (a : P) → Some None ≡ Some (Some a) → ⊥
+        none-full a e = cc
 
 module _ {P E O : Type 0} (f : Frame O) (x : Name) (m m' : Seated P E) (i read left : ℕ) where
   pub rested-calm : RestsAt (aimed f x) i read left m m' → IsCalm m → IsCalm m'

@@ -37,19 +37,32 @@ pub searched-found : {P E O : Type 0} (board : Board O) (old new : Seat (Option 
     answer ≡ Some b → IsSearched board answer old new → IsFound board b old new
 searched-found board old new answer b some told = subst (λ r. IsSearched board r old new) some told
 
-module _ {P E O : Type 0} (board : Board O) (from step block : ℕ) (at : block ≡ block_round board.frame.layout.blocks from step) (old middle new : Seat (Option P) (View P E)) where
+-- a search that has missed so many blocks round from this one, and what a try of the next left
+pub record Round (P E : Type 0) {O : Type 0} (board : Board O) : Type 0 where
+  pub from : ℕ
+  pub step : ℕ
+  pub block : ℕ
+  pub at : block ≡ block_round board.frame.layout.blocks from step
+  pub old : Seat (Option P) (View P E)
+  pub middle : Seat (Option P) (View P E)
+  pub new : Seat (Option P) (View P E)
+  pub before : IsMissedFrom board from step old middle
+
+module _ (P E : Type 0) {O : Type 0} (board : Board O) (round : Round P E board) where
+  open round use {from, step, block, at, old, middle, new, before}
+
   -- one more block round was missed
-  pub missed-round : (answer : Option Block) → answer ≡ None → IsMissedFrom board from step old middle → IsAnswer board block answer middle new →
+  pub missed-round : (answer : Option Block) → answer ≡ None → IsAnswer board block answer middle new →
       IsMissedFrom board from (step + 1) old new
-  missed-round answer none before told =
+  missed-round answer none told =
       let missed : Missed board block middle new = subst (λ r. IsAnswer board block r middle new) none told in
       subst (λ k. IsMissedFrom board from k old new) (sym (add-one step))
       (middle, before, subst (λ k. Missed board k middle new) at missed)
 
   -- the block was claimed
   pub found-round : (answer : Option Block) (b : Block) → answer ≡ Some b → step < board.frame.layout.blocks → block < board.frame.layout.blocks →
-      IsMissedFrom board from step old middle → IsAnswer board block answer middle new → IsFoundFrom board from b old new
-  found-round answer b some few within before told =
+      IsAnswer board block answer middle new → IsFoundFrom board from b old new
+  found-round answer b some few within told =
       let claimed : Claimed board block b middle new = subst (λ r. IsAnswer board block r middle new) some told in
       let is = sym claimed.block_is in
       record {

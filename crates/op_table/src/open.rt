@@ -121,7 +121,8 @@ impl<P: Cargo> OpTable<P> {
 
     /// The number of blocks.
     pub fn blocks(&self) -> u32
-        ensures { result ≡ self.now.frame.layout.blocks }
+        ensures blocks { result ≡ self.now.frame.layout.blocks }
+        ensures most { result ≤ MOST_BLOCKS }
     {
         self.frame.layout.blocks
     }

@@ -46,7 +46,7 @@ use Rattle.table_kept.proofs.Counts.{counts-moved}
 use Rattle.table_kept.proofs.Noting.{count-at, seated-noted}
 use Rattle.table_kept.proofs.HeldNotes.{each-changed}
 use Rattle.table_kept.proofs.ViewMoves.{views-moved}
-use Rattle.table_kept.proofs.ControlRuns.{place_of, place-live, name-live, open-kept}
+use Rattle.table_kept.proofs.LiveNames.{place_of, place-live, name-live, open-kept}
 use Rattle.table_kept.proofs.FoundNow.{found-callback}
 use Rattle.table_kept.proofs.HeldNow.{Holding, shows, below, holds-now, held, phase-so, others-none}
 use Rattle.table_kept.proofs.Asides.{owning, homes-aside, starts-aside, items-aside, lots-aside, held-aside, known-aside}

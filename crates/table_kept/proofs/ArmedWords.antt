@@ -39,7 +39,18 @@ armed-later w n armed_w armed_n rises other =
     absurd (other (armed-written n armed_n ∙ ap (λ g. callback_written g Armed) same ∙ sym (armed-written w armed_w))))
     (λ f. leb-false (stamp_of n) (stamp_of w) f)
 
-module _ {P E O : Type 0} (cargo : Ghosts P E O) (f : Frame O) (s : table.State (Option P) (View P E)) (b m : ℕ) (r : Running cargo f s) (hb : b < f.layout.blocks) (hm : m < f.layout.nodes) where
+-- a place of the table, in a state in which the rule holds
+pub record PlaceNow {P E O : Type 0} (cargo : Ghosts P E O) (f : Frame O) : Type 0 where
+  pub state : table.State (Option P) (View P E)
+  pub running : Running cargo f state
+  pub block : ℕ
+  pub node : ℕ
+  pub in_blocks : block < f.layout.blocks
+  pub in_nodes : node < f.layout.nodes
+
+module _ {P E O : Type 0} (cargo : Ghosts P E O) (f : Frame O) (place : PlaceNow cargo f) where
+  open place use {state as s, running as r, block as b, node as m, in_blocks as hb, in_nodes as hm}
+
   abbrev now : State
   now = shown f s
 

@@ -36,7 +36,18 @@ beyond [] i most = refl
 beyond (x ∷ xs) zero most = absurd (omega (arith, most))
 beyond (x ∷ xs) (suc i) most = beyond xs i (omega (arith, most))
 
-module _ {P E O : Type 0} (cargo : Ghosts P E O) (board : Board O) (n : ℕ) (all : List (Seat (Option P) (View P E))) (fresh : AreFreshHands board n all) (s : table.State (Option P) (View P E)) (traced : Traced cargo board.frame s) (views : s.views ≡ map knows all) where
+-- the table's state where all its hands are fresh
+record Unstepped {P E O : Type 0} (cargo : Ghosts P E O) (board : Board O) : Type 0 where
+  pub count : ℕ
+  pub all : List (Seat (Option P) (View P E))
+  pub fresh : AreFreshHands board count all
+  pub state : table.State (Option P) (View P E)
+  pub traced : Traced cargo board.frame state
+  pub views : state.views ≡ map knows all
+
+module _ {P E O : Type 0} (cargo : Ghosts P E O) (board : Board O) (unstepped : Unstepped cargo board) where
+  open unstepped use {all, fresh, state as s, traced, views}
+
   -- each view is of a hand that has done nothing
   view-fresh : (h : ℕ) (v : View P E) → get_elem? s.views h ≡ some v → v ≡ fresh_with h v.splits
   view-fresh h v at =
@@ -67,7 +78,9 @@ module _ {P E O : Type 0} (cargo : Ghosts P E O) (board : Board O) (n : ℕ) (al
 pub stays-as-opened : {P E O : Type 0} (cargo : Ghosts P E O) (board : Board O) (n : ℕ) (all : List (Seat (Option P) (View P E))) →
     AreFreshHands board n all → StaysAsOpened cargo board.frame all
 stays-as-opened cargo board n all fresh s traced views =
-    let zero_at = dull cargo board n all fresh s traced views in
+    let unstepped : Unstepped cargo board =
+    record { count = n; all = all; fresh = fresh; state = s; traced = traced; views = views } in
+    let zero_at = dull cargo board unstepped in
     let l = board.frame.layout in
     record {
       block = block-first l s.words zero_at;
@@ -76,5 +89,5 @@ stays-as-opened cargo board n all fresh s traced views =
       source = said-first l s.words zero_at clear source_read OfSource refl;
       scope_source = ap source_read (zero_at 16);
       scope = ap scope_read (zero_at 0);
-      home = home-empty cargo board n all fresh s traced views;
+      home = home-empty cargo board unstepped;
     }

@@ -18,7 +18,19 @@ use Rattle.table_rules.specs.Scenes.{Scene}
 use Rattle.table_rules.specs.Items.{HasFailedChild, ItemsStand}
 use Rattle.table_kept.proofs.Asides as asides
 
-module _ {P E O : Type 0} (cargo : Ghosts P E O) (s : Scene P E) (c : ℕ → ℕ → CallbackPhase) (q : ℕ → ℕ → Bits) (z : Bits) (k : ScopeWord) (w : ℕ → PureView) (more : (t : SourceRef) → (bits_at s.state t).requested ≡ true → (bits_at (asides.aside_state s c q z k w) t).requested ≡ true) where
+-- what a step leaves that requests a stop, and takes no request back
+pub record Asks {P E : Type 0} (s : Scene P E) : Type 0 where
+  pub callback : ℕ → ℕ → CallbackPhase
+  pub source : ℕ → ℕ → Bits
+  pub scope_source : Bits
+  pub scope : ScopeWord
+  pub view : ℕ → PureView
+  pub more : (t : SourceRef) → (bits_at s.state t).requested ≡ true →
+      (bits_at (asides.aside_state s callback source scope_source scope view) t).requested ≡ true
+
+module _ {P E O : Type 0} (cargo : Ghosts P E O) (s : Scene P E) (asks : Asks s) where
+  open asks use {callback as c, source as q, scope_source as z, scope as k, view as w, more}
+
   abbrev base : State
   base = s.state
 

@@ -31,7 +31,7 @@ use Rattle.table_rules.specs.Homes.{named_below, seats_of, is_waiting}
 use Rattle.table_steps.specs.Slots.{slot_of, IsSeated}
 use Rattle.table_steps.specs.Awaits.{is_named, is_unnamed, CanAwait}
 use Rattle.table_kept.proofs.Standing.{Standing}
-use Rattle.table_kept.proofs.ControlRuns.{place_of, place-live, name-live}
+use Rattle.table_kept.proofs.LiveNames.{place_of, place-live, name-live}
 use Rattle.table_kept.proofs.HeldNow.{Holding, idle-so}
 use Rattle.table_kept.proofs.BeginSeats.{or-left, kid-any-number}
 use Rattle.table_kept.proofs.ShedHomes.{not-family}

@@ -49,7 +49,8 @@ use Rattle.table_kept.proofs.Loads.{known-listed}
 use Rattle.table_kept.proofs.Stamping.{newest-risen}
 use Rattle.table_kept.proofs.Counts.{counts-moved}
 use Rattle.table_kept.proofs.ViewMoves.{view-here, views-moved}
-use Rattle.table_kept.proofs.ControlRuns.{ToWriteControl, place_of, place-live, name-live, control-runs}
+use Rattle.table_kept.proofs.ControlRuns.{ToWriteControl, control-runs}
+use Rattle.table_kept.proofs.LiveNames.{place_of, place-live, name-live}
 use Rattle.table_kept.proofs.FoundNow.{found-control}
 use Rattle.table_kept.proofs.HomeMoves.{home_of_place, empty-home}
 use Rattle.table_kept.proofs.KidSlots.{take_each, each-out, each-valid, deep-after, carries, has-kid, kids-below, kids-descend}

@@ -28,7 +28,7 @@ use Rattle.table_kept.proofs.Stamping.{is_on, Lists, written-risen, unsaid-kept,
 use Rattle.table_kept.proofs.ViewMoves.{view-set, views-same}
 use Rattle.table_kept.proofs.WordMoves.{word-here}
 use Rattle.table_kept.proofs.Codes.{phase-rises}
-use Rattle.table_kept.proofs.ControlRuns.{open-kept}
+use Rattle.table_kept.proofs.LiveNames.{open-kept}
 use Rattle.table_kept.proofs.CallbackMoves.{WritesCallback, spot-same, blocks-same, others-same, callback-after}
 
 -- which node's callback word is written, and what it says then

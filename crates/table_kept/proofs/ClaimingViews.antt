@@ -27,7 +27,8 @@ use Rattle.table_rules.specs.Notes.{is_still, IsPast, IsPastSource, IsHeldSo, Is
 use Rattle.table_steps.specs.Claims.{with_step, owes_root}
 use Rattle.table_kept.proofs.Entries.{each-map}
 use Rattle.table_kept.proofs.ViewMoves.{views-moved}
-use Rattle.table_kept.proofs.Claiming.{MayClaim, later, root, control-same, phase-same, bits-same, nearest-same, last-root, claimed}
+use Rattle.table_kept.proofs.Claiming.{MayClaim, later, root, control-same, phase-same, bits-same, nearest-same, last-root}
+use Rattle.table_kept.proofs.ClaimingHomes.{claimed}
 
 pub free-kept : (w : BlockState) → is_free w ≡ true → is_retired w ≡ false
 free-kept Free h = refl

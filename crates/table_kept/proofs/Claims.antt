@@ -38,7 +38,8 @@ use Rattle.table_kept.proofs.Stamping.{is_on, written-risen, renewed-kept}
 use Rattle.table_kept.proofs.Counts.{counts-stepped}
 use Rattle.table_kept.proofs.OpenBlocks.{one-opened}
 use Rattle.table_kept.proofs.ViewMoves.{view-here, view-set, views-same}
-use Rattle.table_kept.proofs.Claiming.{MayClaim, later, root, closed, claimed, homes-claimed, starts-claimed, items-claimed, lots-claimed}
+use Rattle.table_kept.proofs.Claiming.{MayClaim, later, root, closed}
+use Rattle.table_kept.proofs.ClaimingHomes.{claimed, homes-claimed, starts-claimed, items-claimed, lots-claimed}
 use Rattle.table_kept.proofs.ClaimingViews.{views-claimed}
 use Rattle.table_kept.proofs.WordMoves.{block-after, generation-after, retired-after, place-after, said-after}
 use Rattle.table_kept.proofs.HomeMoves.{empty-home, taken}

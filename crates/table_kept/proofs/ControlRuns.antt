@@ -1,28 +1,24 @@
 -- A step that writes a node's control word at the node's generation keeps the rule where the scene that
 -- the words, views and homes then show does.
-use Rattle.std.proofs.Common.{◌≡◌, ℕ, ◌^◌, ◌<◌, ◌≤◌, true, false, not, ◌&&◌, ◌==◌, cond, List, length, set, refl, sym, ap, ◌∙◌, subst, arith, length-set}
+use Rattle.std.proofs.Common.{◌≡◌, ℕ, ◌^◌, ◌<◌, ◌≤◌, true, false, not, ◌&&◌, ◌==◌, cond, List, length, set, sym, ap, ◌∙◌, subst, arith, length-set}
 use Rattle.std.specs.Prelude.{Option}
 use Rattle.std.proofs.lemmas.Bool.{and_parts, and_from, both_ways, cond-true, cond-false, eqb-true, eq-eqb, lt-ltb}
 use mathlib.Core.Option as maybe
-use Rattle.life_rules.specs.declared.words.BlockState.{BlockState}
-use Rattle.life_rules.specs.declared.words.BlockState.TheVariants.{Free, Open, Retired}
 use Rattle.life_rules.specs.declared.words.ControlWord.{ControlWord}
 use Rattle.life_rules.specs.declared.words.ControlWord.TheVariants.{Idle, Done}
 use Rattle.life_rules.specs.declared.words.CallbackPhase.TheVariants.{Never}
 use Rattle.life_rules.specs.declared.event.Name.{Name}
-use Rattle.life_rules.specs.declared.event.Place.{Place}
 use Rattle.node_tree.specs.Tree.{has_source}
-use Rattle.life_rules.specs.Words.{is_open, is_idle, is_done, is_under_way, clear}
+use Rattle.life_rules.specs.Words.{is_idle, is_done, is_under_way, clear}
 use Rattle.life_rules.specs.Views.{View as PureView}
-use Rattle.life_rules.specs.States.{State, is_live, is_place, control_at, name_at}
+use Rattle.life_rules.specs.States.{State, is_live, control_at}
 use Rattle.common_lemmas.proofs.Bool.{either}
-use Rattle.life_rules.proofs.Readings.{lives, name_of-live}
+use Rattle.life_rules.proofs.Readings.{lives}
 use Rattle.life_kept.proofs.Puts.{put}
 use Rattle.table_words.specs.Stamps.{stamp_of}
 use Rattle.table_words.specs.Controls.{control_read, callback_read, source_read}
 use Rattle.table_words.specs.ScopeNumbers.{scope_read}
 use Rattle.table_words.specs.Layouts.{Spot, TheScope, TheScopeSource, OfControl, OfCallback, OfSource, IsSpot, index}
-use Rattle.atomic_table.specs.Table as table
 use Rattle.table_rules.specs.declared.cargo.Cargo.{Ghosts}
 use Rattle.table_rules.specs.declared.frame.Frame.{Frame}
 use Rattle.table_rules.specs.declared.view.View.{View}
@@ -37,35 +33,7 @@ use Rattle.table_kept.proofs.ViewMoves.{view-set, views-same}
 use Rattle.table_kept.proofs.WordMoves.{word-here}
 use Rattle.table_kept.proofs.ControlMoves.{WritesControl, spot-same, blocks-same, others-same, control-after}
 use Rattle.table_kept.proofs.HomeMoves.{home_of_place}
-
-pub open-kept : (w : BlockState) → is_open w ≡ true → is_retired w ≡ false
-open-kept Free o = refl
-open-kept Open o = refl
-open-kept Retired o = cc
-
--- the place of a name
-abbrev pub place_of : Name → Place
-place_of x = record { block = x.block; node = x.node }
-
-module _ (s : State) (x : Name) (live : is_live s x ≡ true) where
-  -- a live name is of a place, and is what the place has now
-  pub place-live : is_place s (place_of x) ≡ true
-  place-live = let l = lives s x live in and_from _ _ (lt-ltb _ _ l.block) (lt-ltb _ _ l.node)
-
-  pub name-live : name_at s (place_of x) ≡ x
-  name-live = name_of-live s x live
-
--- the source of a live node that has begun was renewed where it has one
-pub begun-renewed : {P E O : Type 0} (cargo : Ghosts P E O) (f : Frame O) (s : table.State (Option P) (View P E)) (x : Name) →
-    Running cargo f s → is_live (shown f s) x ≡ true → is_idle (control_at (shown f s) x) ≡ false → has_source f.tree x.node ≡ true →
-    stamp_of (word_of f.layout s.words (OfSource x.block x.node)) ≡ (block_of f.layout s.words x.block).generation
-begun-renewed cargo f s x r live begun has =
-    let now : State = shown f s in
-    let l = lives now x live in
-    let n = l.node in
-    let e = r.frame.nodes in
-    r.stamped.renewed x.block x.node l.block (omega (arith, n, e)) has
-    (ap is_idle (sym (cond-true (is_live now x) (now.control x.block x.node) Idle live)) ∙ begun)
+use Rattle.table_kept.proofs.LiveNames.{open-kept}
 
 -- which node's control word is written, and what it says then
 pub record ToWriteControl {P E O : Type 0} {cargo : Ghosts P E O} {f : Frame O}

@@ -33,7 +33,8 @@ use Rattle.table_kept.proofs.HeldNow.{Holding, held}
 use Rattle.table_kept.proofs.Shedding.{sheds, carries-shed}
 use Rattle.table_kept.proofs.ShedHomes.{ToShed, valid-shed}
 use Rattle.table_kept.proofs.ShedSeats.{each-shed, apart-shed, seated-shed}
-use Rattle.table_kept.proofs.FinishRuns.{ToEnd, ToFinish, finish-runs}
+use Rattle.table_kept.proofs.FinishRuns.{ToFinish, finish-runs}
+use Rattle.table_kept.proofs.EndRuns.{ToEnd}
 use Rattle.table_kept.proofs.FinishRoot.{ToFinishRoot, root-runs}
 
 -- a slot that isn't a child's is still given to the hand that has the finished root

@@ -38,7 +38,8 @@ use Rattle.table_kept.proofs.Among.{among}
 use Rattle.table_kept.proofs.Loads.{known-listed}
 use Rattle.table_kept.proofs.Counts.{counts-moved}
 use Rattle.table_kept.proofs.ViewMoves.{views-moved}
-use Rattle.table_kept.proofs.ControlRuns.{ToWriteControl, place_of, name-live, begun-renewed, control-runs}
+use Rattle.table_kept.proofs.ControlRuns.{ToWriteControl, control-runs}
+use Rattle.table_kept.proofs.LiveNames.{place_of, name-live, begun-renewed}
 use Rattle.table_kept.proofs.HeldNow.{Holding, others-none}
 use Rattle.table_kept.proofs.KidSlots.{has-kid}
 use Rattle.table_kept.proofs.BeginSeats.{kid-any}
@@ -46,7 +47,7 @@ use Rattle.table_kept.proofs.SlotsOut.{any-numbers}
 use Rattle.table_kept.proofs.Shedding.{deep-shed}
 use Rattle.table_kept.proofs.ShedHomes.{ToShed, not-family, shed_homes}
 use Rattle.table_kept.proofs.Leaving.{ToLeave, is-held, is-below, shows-old, place-n, home, kid-given, home-still, kid-left}
-use Rattle.table_kept.proofs.FinishRuns.{ToEnd, sound-done}
+use Rattle.table_kept.proofs.EndRuns.{ToEnd, sound-done}
 use Rattle.table_kept.proofs.Moving.{Moves, moved, parent-differs, some-seat}
 use Rattle.table_kept.proofs.MovingHomes.{homes-moved}
 use Rattle.table_kept.proofs.MovingItems.{Remembers, Leaves, starts-moved, items-moved, lots-moved}

@@ -1,21 +1,17 @@
 -- The store by which a node below the root is finished keeps the rule.
-use Rattle.std.proofs.Common.{◌≡◌, ℕ, ◌≤◌, Bool, true, false, not, ◌&&◌, ◌||◌, ◌==◌, cond, List, set, refl, sym, ap, ◌∙◌, subst, inl, arith, ◌∷◌}
-use Rattle.std.specs.Prelude.{Option, Some, None, MatchOption, slice_index}
-use Rattle.std.proofs.lemmas.Bool.{and_from, cond-true, cond-false, eq-eqb}
-use Rattle.life_rules.specs.declared.words.CallbackPhase.{CallbackPhase}
-use Rattle.life_rules.specs.declared.words.CallbackPhase.TheVariants.{Never, Armed, Running as Runs, Ran, Removed}
+use Rattle.std.proofs.Common.{◌≡◌, ℕ, ◌≤◌, Bool, true, false, ◌==◌, cond, set, refl, sym, ap, ◌∙◌, subst, inl, arith, ◌∷◌}
+use Rattle.std.specs.Prelude.{Some, slice_index}
+use Rattle.std.proofs.lemmas.Bool.{cond-true, cond-false, eq-eqb}
 use Rattle.life_rules.specs.declared.words.ControlWord.TheVariants.{Done}
 use Rattle.life_rules.specs.declared.event.Name.{Name}
 use Rattle.node_tree.specs.Tree.{is_child, is_root}
-use Rattle.life_rules.specs.Words.{is_armed, is_running, is_under_way, is_idle, is_done}
+use Rattle.life_rules.specs.Words.{is_under_way, is_idle, is_done}
 use Rattle.life_rules.specs.Views.{View as PureView, same, beside, gain, lose}
-use Rattle.life_rules.specs.States.{State, phase_at, name_at}
-use Rattle.life_rules.specs.LifeSteps.{may_leave_node, after_finish}
+use Rattle.life_rules.specs.States.{State, name_at}
 use Rattle.life_rules.specs.Callbacks.{nearest_is_requested}
 use Rattle.life_rules.specs.Sound.{Sound}
 use Rattle.life_rules.proofs.Names.{same-refl, same-other, gain-other}
 use Rattle.life_kept.proofs.Puts.{put, IsPut}
-use Rattle.life_kept.proofs.Finish.{sound-finish}
 use Rattle.table_words.specs.Stamps.{stamp_of}
 use Rattle.table_words.specs.Controls.{control_read}
 use Rattle.table_words.specs.Layouts.{OfControl, index}
@@ -27,12 +23,11 @@ use Rattle.table_rules.specs.Named.{without}
 use Rattle.table_rules.specs.ShownWords.{block_of}
 use Rattle.table_rules.specs.ShownViews.{shown_view}
 use Rattle.table_rules.specs.Scenes.{Home, Empty, Full, is_out, is_full, Past, Scene, shown, scene}
-use Rattle.table_rules.specs.Notes.{is_still}
 use Rattle.table_rules.specs.Running.{Stands, Running}
 use Rattle.table_rules.specs.Homes.{is_waiting}
 use Rattle.table_steps.specs.Claims.{with_step}
-use Rattle.table_steps.specs.Slots.{slot_of, is_of_family, IsSeated}
-use Rattle.table_steps.specs.Finishes.{is_settled, CanEnd, Completes, owes_report}
+use Rattle.table_steps.specs.Slots.{slot_of, is_of_family}
+use Rattle.table_steps.specs.Finishes.{Completes, owes_report}
 use Rattle.table_kept.proofs.MovingSeats.{Move}
 use Rattle.table_kept.proofs.Standing.{Standing}
 use Rattle.table_kept.proofs.Entries.{count-without}
@@ -40,64 +35,18 @@ use Rattle.table_kept.proofs.Among.{among}
 use Rattle.table_kept.proofs.Loads.{known-listed}
 use Rattle.table_kept.proofs.Counts.{counts-moved}
 use Rattle.table_kept.proofs.ViewMoves.{views-moved}
-use Rattle.table_kept.proofs.ControlRuns.{ToWriteControl, place_of, place-live, name-live, begun-renewed, control-runs}
-use Rattle.table_kept.proofs.HeldNow.{Holding, start-so, named-so, fit-now, phase-so, others-none}
+use Rattle.table_kept.proofs.ControlRuns.{ToWriteControl, control-runs}
+use Rattle.table_kept.proofs.LiveNames.{place_of, name-live, begun-renewed}
+use Rattle.table_kept.proofs.HeldNow.{Holding, start-so, named-so, fit-now, others-none}
 use Rattle.table_kept.proofs.BeginSeats.{or-left, kid-of-family}
 use Rattle.table_kept.proofs.Shedding.{deep-shed}
 use Rattle.table_kept.proofs.ShedHomes.{ToShed, not-family, shed_homes}
-use Rattle.table_kept.proofs.Leaving.{ToLeave, is-held, is-below, shows-old, may-leave, place-n, home, home-given, kid-given, home-still, kid-left}
+use Rattle.table_kept.proofs.Leaving.{ToLeave, is-held, is-below, shows-old, place-n, home, home-given, kid-given, home-still, kid-left}
 use Rattle.table_kept.proofs.Moving.{Moves, moved, parent-differs}
 use Rattle.table_kept.proofs.MovingHomes.{homes-moved}
 use Rattle.table_kept.proofs.MovingItems.{Remembers, Leaves, starts-moved, items-moved, lots-moved}
 use Rattle.table_kept.proofs.MovingViews.{known-moved, known-beside, others-held}
-
--- a callback that was read as settled isn't armed and doesn't run
-settled-still : (known phase : CallbackPhase) → is_settled known ≡ true → is_still known phase →
-    (is_armed phase || is_running phase) ≡ false
-settled-still Never phase settled still = ap (λ p. is_armed p || is_running p) still
-settled-still Armed phase settled still = cc
-settled-still Runs phase settled still = cc
-settled-still Ran phase settled still = ap (λ p. is_armed p || is_running p) still
-settled-still Removed phase settled still = ap (λ p. is_armed p || is_running p) still
-
-settled-option : (known : Option CallbackPhase) (phase : CallbackPhase) → MatchOption known ⊥ (λ p. is_settled p ≡ true) →
-    MatchOption known (Unit {0}) (λ p. is_still p phase) → (is_armed phase || is_running phase) ≡ false
-settled-option None phase settled still = absurd settled
-settled-option (Some known) phase settled still = settled-still known phase settled still
-
--- which node ends, and what the hand carries of it
-pub record ToEnd {P E O : Type 0} {cargo : Ghosts P E O} {f : Frame O}
-    (hand : Standing cargo f) : Type 0 where
-  pub name : Name
-  pub carried : List (ℕ × Option P)
-  pub seated : IsSeated f.tree f.layout (hand.view, carried)
-  pub end : CanEnd cargo f (hand.view, carried) name
-
-module _ {P E O : Type 0} (cargo : Ghosts P E O) (f : Frame O) (hand : Standing cargo f)
-    (task : ToEnd hand) where
-  open hand use {state as s, id, view as v, running as r, at}
-  open task use {name as x, carried as c, seated, end}
-
-  abbrev state : State
-  state = shown f s
-
-  abbrev leaving : ToLeave hand
-  leaving = record { name = x; carried = c; seated = seated; leave = end.leave }
-
-  abbrev holding : Holding hand
-  holding = record { name = x; entry = end.leave.held; holds = end.leave.holds }
-
-  -- the pure machine may finish the node, and its law keeps its sentences
-  pub sound-done : Sound (after_finish state id (place_of x))
-  sound-done =
-      let held = is-held cargo f hand leaving in
-      let name = name-live state x held.live in
-      let quiet : (is_armed (phase_at state x) || is_running (phase_at state x)) ≡ false =
-      settled-option end.leave.held.phase (phase_at state x) end.phase (phase-so cargo f hand holding) in
-      sound-finish state id (place_of x) r.stands.sound (is-below cargo f hand leaving)
-      (and_from _ _ (place-live state x held.live)
-      (subst (λ z. (may_leave_node (state.view id) z && not (is_armed (phase_at state z) || is_running (phase_at state z))) ≡ true) (sym name)
-      (and_from _ _ (may-leave cargo f hand leaving) (ap not quiet))))
+use Rattle.table_kept.proofs.EndRuns.{ToEnd, sound-done}
 
 -- the word by which a node below the root is finished
 pub record ToFinish {P E O : Type 0} {cargo : Ghosts P E O} {f : Frame O}

@@ -21,7 +21,7 @@ use Rattle.table_rules.specs.Scenes.{shown}
 use Rattle.table_rules.specs.Running.{Running}
 use Rattle.table_steps.specs.Lefts.{FoundAs, FoundControl, FoundCallback}
 use Rattle.table_steps.specs.Readings.{says_at, says_phase}
-use Rattle.table_kept.proofs.ControlRuns.{open-kept}
+use Rattle.table_kept.proofs.LiveNames.{open-kept}
 
 module _ {P E O : Type 0} (cargo : Ghosts P E O) (f : Frame O) (s : table.State (Option P) (View P E)) (r : Running cargo f s) (x : Name) (live : is_live (shown f s) x ≡ true) where
   abbrev now : State

@@ -18,7 +18,7 @@ use Rattle.table_rules.specs.Notes.{IsPastSource}
 use Rattle.table_rules.specs.ShownWords.{is_present_source}
 use Rattle.table_rules.specs.ShownViews.{shown_view, has_source_ref}
 use Rattle.table_steps.specs.Callbacks.{learns}
-use Rattle.table_kept.proofs.ControlRuns.{open-kept}
+use Rattle.table_kept.proofs.LiveNames.{open-kept}
 
 or-none : (b : Bool) → (b || false) ≡ b
 or-none true = refl

@@ -18,6 +18,7 @@ pub mod AnyOf
 pub mod Tracing
 pub mod Listing
 pub mod Claiming
+pub mod ClaimingHomes
 pub mod OpenBlocks
 pub mod ClaimingViews
 pub mod WordMoves
@@ -25,6 +26,7 @@ pub mod HomeMoves
 pub mod ClaimTold
 pub mod PlaceMoves
 pub mod ControlMoves
+pub mod LiveNames
 pub mod ControlRuns
 pub mod KidSlots
 pub mod SlotsOut
@@ -61,13 +63,18 @@ pub mod MovingViews
 pub mod Leaving
 pub mod ShedSeats
 pub mod RestRuns
+pub mod RestAllowed
+pub mod Takeable
+pub mod TakeHomes
 pub mod TakeRuns
 pub mod TakeSeats
 pub mod TakeAllowed
 pub mod RestTold
+pub mod EndRuns
 pub mod FinishRuns
 pub mod Awaiting
 pub mod AwaitRuns
+pub mod AwaitWrites
 pub mod AwaitAllowed
 pub mod AwaitSize
 pub mod Turning
@@ -87,8 +94,10 @@ pub mod Reporting
 pub mod ReportOn
 pub mod LastKids
 pub mod LastReported
+pub mod LastHomes
 pub mod ReportLast
 pub mod ReportWords
+pub mod ReportRuns
 pub mod ReportAllowed
 pub mod ReportTold
 pub mod Releasing
@@ -101,6 +110,7 @@ pub mod ReleaseAllowed
 pub mod FinishRoot
 pub mod FinishAllowed
 pub mod RouseRuns
+pub mod RouseAllowed
 pub mod Asides
 pub mod HeldNotes
 pub mod CallbackMoves
@@ -113,12 +123,15 @@ pub mod WithdrawRuns
 pub mod WithdrawAllowed
 pub mod Scans
 pub mod RunEndRuns
+pub mod RemoveOwnRuns
 pub mod RunEndAllowed
 pub mod Masks
 pub mod ScopeRuns
 pub mod ScopeKinds
+pub mod ScopeAllowed
 pub mod ScanOrders
 pub mod SkipRuns
+pub mod SourceSpots
 pub mod SourceRuns
 pub mod ScanSealRuns
 pub mod EnterRuns
@@ -128,6 +141,7 @@ pub mod Blaming
 pub mod RunRuns
 pub mod ArmedWords
 pub mod RunsLive
+pub mod MeetRuns
 pub mod RunAllowed
 pub mod RunTold
 pub mod RequestAllowed

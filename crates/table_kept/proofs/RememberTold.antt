@@ -47,7 +47,20 @@ of-named Q x y (n ∷ ns) all h =
     (λ here. subst Q (same-true (beside x n) y here) (all n (or-left (n == n) (is_named ns n) (eq-eqb n n refl))))
     (λ later. of-named Q x y ns (λ m named. all m (or-right (n == m) (is_named ns m) named)) later)
 
-module _ {P E O : Type 0} {runs : Marks} (board : Board O) (seat new : Seat (Option P) (View P E)) (set after : Marks) (old : Remembers seat set runs) (table : new.table_id ≡ seat.table_id) (layout : after.layout ≡ set.layout) where
+-- what a hand remembered before a step, and what the step left of its seat and of the set of starts that it owes
+pub record ToRemember (P E : Type 0) : Type 0 where
+  pub seat : Seat (Option P) (View P E)
+  pub set : Marks
+  pub runs : Marks
+  pub old : Remembers seat set runs
+  pub new : Seat (Option P) (View P E)
+  pub after : Marks
+  pub table : new.table_id ≡ seat.table_id
+  pub layout : after.layout ≡ set.layout
+
+module _ (P E : Type 0) {O : Type 0} (board : Board O) (hand : ToRemember P E) where
+  open hand use {seat, set, runs, old, new, after, table, layout}
+
   -- what is owed changed, and what is run didn't
   remembers-owed : HasExactly new.table_id (owing new.me.0) after → new.me.0.runs ≡ seat.me.0.runs → Remembers new after runs
   remembers-owed owed same_runs =

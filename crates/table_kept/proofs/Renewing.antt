@@ -41,7 +41,7 @@ use Rattle.table_kept.proofs.Counts.{counts-moved}
 use Rattle.table_kept.proofs.ViewMoves.{view-here, view-kept, views-same, views-moved}
 use Rattle.table_kept.proofs.WordMoves.{word-here}
 use Rattle.table_kept.proofs.PlaceMoves as places
-use Rattle.table_kept.proofs.ControlRuns.{open-kept}
+use Rattle.table_kept.proofs.LiveNames.{open-kept}
 use Rattle.table_kept.proofs.FoundNow.{found-as}
 
 -- which node's source is written as clear

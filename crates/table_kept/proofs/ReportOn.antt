@@ -41,7 +41,8 @@ use Rattle.table_kept.proofs.Among.{among}
 use Rattle.table_kept.proofs.Loads.{known-listed}
 use Rattle.table_kept.proofs.Counts.{counts-moved}
 use Rattle.table_kept.proofs.ViewMoves.{views-moved}
-use Rattle.table_kept.proofs.ControlRuns.{ToWriteControl, begun-renewed, control-runs}
+use Rattle.table_kept.proofs.ControlRuns.{ToWriteControl, control-runs}
+use Rattle.table_kept.proofs.LiveNames.{begun-renewed}
 use Rattle.table_kept.proofs.Reporting.{above, shows, below, waits, word-is, above-live, reporting, reporting_last, sound-after}
 use Rattle.table_kept.proofs.Moving.{Moves, KidMoves, moved, parent-differs, some-seat}
 use Rattle.table_kept.proofs.MovingHomes.{homes-moved}

@@ -30,7 +30,7 @@ use Rattle.table_kept.proofs.Standing.{Standing}
 use Rattle.table_kept.proofs.Entries.{found}
 use Rattle.table_kept.proofs.Seats.{at_within}
 use Rattle.table_kept.proofs.ViewMoves.{view-here}
-use Rattle.table_kept.proofs.ControlRuns.{place_of, place-live, name-live}
+use Rattle.table_kept.proofs.LiveNames.{place_of, place-live, name-live}
 
 module _ {P E O : Type 0} (cargo : Ghosts P E O) (f : Frame O) (hand : Standing cargo f) (c : Name)
     (can : CanReport f.tree hand.view c) where

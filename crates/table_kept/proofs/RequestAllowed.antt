@@ -43,12 +43,12 @@ use Rattle.table_kept.proofs.Listing.{AllowsListed, allows-listed, lists-one}
 use Rattle.table_kept.proofs.Seats.{at_within}
 use Rattle.table_kept.proofs.Entries.{found}
 use Rattle.table_kept.proofs.ViewMoves.{view-here}
-use Rattle.table_kept.proofs.ControlRuns.{open-kept}
+use Rattle.table_kept.proofs.LiveNames.{open-kept}
 use Rattle.table_kept.proofs.HeldNow.{held, holds-now}
 use Rattle.table_kept.proofs.SeenStands.{seen-stands}
 use Rattle.table_kept.proofs.PartsLive.{seen-stays}
 use Rattle.table_kept.proofs.SkipRuns.{some_below-from}
-use Rattle.table_kept.proofs.SourceRuns.{SaysOf, IsLiveSource}
+use Rattle.table_kept.proofs.SourceSpots.{SaysOf, IsLiveSource}
 use Rattle.table_kept.proofs.Blaming.{blamed}
 use Rattle.table_kept.proofs.RequestRuns.{request-runs}
 

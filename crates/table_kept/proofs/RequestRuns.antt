@@ -41,11 +41,12 @@ use Rattle.table_kept.proofs.Masks.{or-one}
 use Rattle.table_kept.proofs.Loads.{known-listed}
 use Rattle.table_kept.proofs.Counts.{counts-moved}
 use Rattle.table_kept.proofs.ViewMoves.{view-here, views-moved}
-use Rattle.table_kept.proofs.ControlRuns.{open-kept}
+use Rattle.table_kept.proofs.LiveNames.{open-kept}
 use Rattle.table_kept.proofs.Learning.{one-more}
 use Rattle.table_kept.proofs.Asides.{owning, homes-aside, starts-aside, lots-aside, known-aside}
 use Rattle.table_kept.proofs.AskedItems.{items-asked}
-use Rattle.table_kept.proofs.SourceRuns.{ToWriteSource, SaysOf, IsLiveSource, source-runs}
+use Rattle.table_kept.proofs.SourceRuns.{ToWriteSource, source-runs}
+use Rattle.table_kept.proofs.SourceSpots.{SaysOf, IsLiveSource}
 
 module _ (w : ℕ) where
   stamp-kept : (m : ℕ) → m / 2 ^ 32 ≡ 0 → stamp_of (bit_or w m) ≡ stamp_of w
@@ -223,7 +224,9 @@ module _ {P E O : Type 0} (cargo : Ghosts P E O) (f : Frame O) (hand : Standing 
         sound = sound-asking now id source failure new r.stands.sound hand_below grounds (not-twice (bits_at now source).requested);
         homes = homes-aside here now.callback q z now.scope w (related now id u (λ a b. owning a ≡ owning b) (λ _. refl) refl) r.stands.homes;
         starts = starts-aside here now.callback q z now.scope w cargo f.over.value r.stands.starts;
-        items = items-asked cargo here now.callback q z now.scope w more blame r.stands.items;
+        items = items-asked cargo here
+            (record { callback = now.callback; source = q; scope_source = z; scope = now.scope; view = w; more = more }) blame
+            r.stands.items;
         lots = lots-aside here now.callback q z now.scope w cargo r.stands.lots;
         views = views-moved here (record here { state = after_state }) s.views id v mine at (λ j y ne there old. known-still y old)
             (known-listed (record here { state = after_state }) i n value (asks source new v) (record {

@@ -20,7 +20,6 @@ use Rattle.life_kept.proofs.RestTake.{sound-rest}
 use Rattle.table_words.specs.Stamps.{stamp_of}
 use Rattle.table_words.specs.Controls.{control_read}
 use Rattle.table_words.specs.Layouts.{OfControl, index}
-use Rattle.atomic_table.specs.Table.{Allows}
 use Rattle.atomic_table.specs.Table as table
 use Rattle.listed_steps.specs.Lists.{entry}
 use Rattle.table_rules.specs.declared.cargo.Cargo.{Ghosts}
@@ -33,7 +32,7 @@ use Rattle.table_rules.specs.Scenes.{Home, Empty, Full, is_out, is_full, Scene, 
 use Rattle.table_rules.specs.Homes.{is_waiting}
 use Rattle.table_rules.specs.Running.{Stands, Running}
 use Rattle.table_steps.specs.Views.{aimed}
-use Rattle.table_steps.specs.Claims.{with_step, Seated}
+use Rattle.table_steps.specs.Claims.{with_step}
 use Rattle.table_steps.specs.Lefts.{FindsControl}
 use Rattle.table_steps.specs.Slots.{Aim, slot_of, is_of_family, IsSeated}
 use Rattle.table_steps.specs.Rests.{lets_go, CanRest, RestsAt}
@@ -44,7 +43,8 @@ use Rattle.table_kept.proofs.Among.{among}
 use Rattle.table_kept.proofs.Loads.{known-listed}
 use Rattle.table_kept.proofs.Counts.{counts-moved}
 use Rattle.table_kept.proofs.ViewMoves.{views-moved}
-use Rattle.table_kept.proofs.ControlRuns.{ToWriteControl, place_of, place-live, name-live, control-runs, begun-renewed}
+use Rattle.table_kept.proofs.ControlRuns.{ToWriteControl, control-runs}
+use Rattle.table_kept.proofs.LiveNames.{place_of, place-live, name-live, begun-renewed}
 use Rattle.table_kept.proofs.FoundNow.{found-control}
 use Rattle.table_kept.proofs.HeldNow.{Holding, start-so, named-so, fit-now, others-none}
 use Rattle.table_kept.proofs.BeginSeats.{or-left, kid-of-family}
@@ -290,22 +290,3 @@ module _ {P E O : Type 0} (cargo : Ghosts P E O) (f : Frame O) (hand : Standing 
           };
         },
       )
-
--- what the store owes
-pub rests_allowed : {P E O : Type 0} (cargo : Ghosts P E O) (f : Frame O) (slots id value : ℕ) (x : Name) (to : Resting) (m : Seated P E) →
-    IsSeated f.tree f.layout m → CanRest cargo f m x → stamp_of value ≡ x.generation → control_read value ≡ resting_at to →
-    Allows (Running cargo f) slots id m (index f.layout (OfControl x.block x.node)) (λ _. value)
-    (λ n. FindsControl (aimed f x) (Busy 0) (RestsAt (aimed f x)) (index f.layout (OfControl x.block x.node)) n value m)
-rests_allowed cargo f slots id value x to m seated can stamped reads s r deep at small =
-    let hand : Standing cargo f = record { state = s; id = id; view = m.0; running = r; at = at } in
-    let resting : ToRest hand = record {
-      value = value;
-      name = x;
-      to = to;
-      carried = m.1;
-      seated = seated;
-      can = can;
-      stamped = stamped;
-      reads = reads;
-    } in
-    rests-now cargo f hand resting

@@ -24,7 +24,7 @@ use Rattle.table_steps.specs.Rests.{CanRest, RestsAt}
 use Rattle.table_steps.specs.Takes.{MayServe, TakenAt, TakesAt, IsTaken, rest_word}
 use Rattle.table_kept.proofs.Listing.{AllowsListed, allows-listed, lists-one}
 use Rattle.table_kept.proofs.BeginSeats.{seated-logged}
-use Rattle.table_kept.proofs.RestRuns.{rests_allowed}
+use Rattle.table_kept.proofs.RestAllowed.{rests_allowed}
 use Rattle.table_kept.proofs.TakeAllowed.{takes_allowed}
 
 pub rest-pending : (to : Resting) → pending (resting_at to) ≡ 0

@@ -21,7 +21,8 @@ use Rattle.table_steps.specs.RunEnds.{CanEndRun, CanWithdrawOwn, ends_run, remov
 use Rattle.table_kept.proofs.Standing.{Standing}
 use Rattle.table_kept.proofs.Listing.{AllowsListed, allows-listed, lists-one}
 use Rattle.table_kept.proofs.Noting.{seated-noted}
-use Rattle.table_kept.proofs.RunEndRuns.{ToRemoveOwn, found-running, end-runs, remove-runs}
+use Rattle.table_kept.proofs.RunEndRuns.{found-running, end-runs}
+use Rattle.table_kept.proofs.RemoveOwnRuns.{ToRemoveOwn, remove-runs}
 
 module _ {P E O : Type 0} (cargo : Ghosts P E O) where
   -- what the stores owe, by the frame that the table shows

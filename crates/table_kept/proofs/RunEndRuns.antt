@@ -1,4 +1,4 @@
--- The store by which a callback's run ends keeps the rule, also where it removes the callback.
+-- The store by which a callback's run ends keeps the rule.
 use Rattle.std.proofs.Common.{◌≡◌, ℕ, ◌+◌, ◌<◌, ◌≤◌, true, not, ◌&&◌, List, set, refl, sym, ap, ◌∙◌, subst, arith, ◌∷◌}
 use Rattle.std.specs.Prelude.{Some, is_some, nat_le}
 use Rattle.std.specs.Option.{option_map_or}
@@ -11,18 +11,17 @@ use Rattle.life_rules.specs.declared.words.CallbackPhase.TheVariants.{Never, Arm
 use Rattle.life_rules.specs.declared.event.Name.{Name}
 use Rattle.life_rules.specs.declared.event.SourceRef.{SourceRef}
 use Rattle.life_rules.specs.declared.event.SourceRef.TheVariants.{Node}
-use Rattle.life_rules.specs.Words.{is_armed, is_running, is_held, is_under_way}
+use Rattle.life_rules.specs.Words.{is_armed, is_running, is_under_way}
 use Rattle.life_rules.specs.Views.{View as PureView, lose, scan_at, is_scanning}
 use Rattle.life_rules.specs.States.{State, is_live, control_at, phase_at, nearest_of, with_view, with_callback}
 use Rattle.life_rules.specs.Scans.{is_next, is_next_in}
 use Rattle.life_rules.specs.StopSteps.{run_over}
 use Rattle.life_rules.specs.Sound.{Sound}
-use Rattle.common_lemmas.proofs.Bool.{one-most}
 use Rattle.stop_kept.proofs.Standing.{runs-running}
 use Rattle.stop_kept.proofs.ScanAt.{map_or-some, running-live}
 use Rattle.life_rules.proofs.Names.{by_name}
 use Rattle.stop_kept.proofs.Phases.{running-is, Writes, writes}
-use Rattle.stop_kept.proofs.EndRun.{sound-end_run, sound-withdraw_own}
+use Rattle.stop_kept.proofs.EndRun.{sound-end_run}
 use Rattle.table_words.specs.Stamps.{stamp_of}
 use Rattle.table_words.specs.Controls.{callback_read, callback_code}
 use Rattle.table_words.specs.Layouts.{OfCallback, index}
@@ -39,21 +38,16 @@ use Rattle.table_rules.specs.Notes.{is_still, IsHeldSo, IsKnown}
 use Rattle.table_rules.specs.Running.{Running}
 use Rattle.table_steps.specs.Claims.{with_step}
 use Rattle.table_steps.specs.Lefts.{FoundCallback}
-use Rattle.table_steps.specs.Readings.{at_entry}
-use Rattle.table_steps.specs.RunEnds.{CanEndRun, CanWithdrawOwn, passes_to, number_of, ends_run, removes_own}
+use Rattle.table_steps.specs.RunEnds.{CanEndRun, passes_to, number_of, ends_run}
 use Rattle.table_kept.proofs.Standing.{Standing}
 use Rattle.table_kept.proofs.Seats.{at_within}
 use Rattle.table_kept.proofs.Entries.{count-without}
-use Rattle.table_kept.proofs.Among.{among}
 use Rattle.table_kept.proofs.Loads.{known-listed}
-use Rattle.table_kept.proofs.Noting.{count-at}
-use Rattle.table_kept.proofs.HeldNotes.{each-changed}
 use Rattle.table_kept.proofs.ViewMoves.{view-here}
-use Rattle.table_kept.proofs.ControlRuns.{place_of, place-live, name-live}
+use Rattle.table_kept.proofs.LiveNames.{place_of, place-live, name-live}
 use Rattle.table_kept.proofs.FoundNow.{found-callback}
-use Rattle.table_kept.proofs.HeldNow.{Holding, holds-now, others-none}
 use Rattle.table_kept.proofs.Scans.{scan-passed}
-use Rattle.table_kept.proofs.Asides.{held-aside, known-aside}
+use Rattle.table_kept.proofs.Asides.{known-aside}
 use Rattle.table_kept.proofs.AsideSteps.{ToStepAside, callback-keeps}
 
 -- what a hand noted of a callback that runs is so after its run
@@ -83,7 +77,7 @@ module _ {P E O : Type 0} (cargo : Ghosts P E O) (f : Frame O) (hand : Standing 
   is-shown : old_view ≡ shown_view blocks v
   is-shown = view-here blocks s.views id v at
 
-  hand_below : id < f.hands
+  pub hand_below : id < f.hands
   hand_below = let l = at_within s.views id v at in let m = r.sized.seats in omega (arith, l, m)
 
   runs-now : 1 ≤ old_view.runs x
@@ -106,7 +100,7 @@ module _ {P E O : Type 0} (cargo : Ghosts P E O) (f : Frame O) (hand : Standing 
   under_way = r.stands.sound.armed x (or_right (is_armed (phase_at now x)) (is_running (phase_at now x)) running)
 
   -- the hand scans the source that the node hears
-  near : (t : SourceRef) × (nearest_of now x ≡ Some t) × (is_next_in now old_view t x ≡ true)
+  pub near : (t : SourceRef) × (nearest_of now x ≡ Some t) × (is_next_in now old_view t x ≡ true)
   near = map_or-some (λ t. is_next_in now old_view t x) (nearest_of now x) (r.stands.sound.runs.next id x hand_below runs-now)
 
   abbrev source : SourceRef
@@ -128,7 +122,7 @@ module _ {P E O : Type 0} (cargo : Ghosts P E O) (f : Frame O) (hand : Standing 
       let w : PureView = record old_view { runs = lose x old_view.runs } in
       ap (λ o. option_map_or (λ t. record w { scan = scan_at t (Some next) w.scan }) o w) near.1
 
-  may-end : (nat_le 1 (old_view.runs x) && not (is_scanning old_view (Node x))) ≡ true
+  pub may-end : (nat_le 1 (old_view.runs x) && not (is_scanning old_view (Node x))) ≡ true
   may-end =
       and_from _ _ (le-leb 1 (old_view.runs x) runs-now)
       ((λ k. not (is_some ((is-shown k).scan (Node x)))) ∙ ap (λ o. not (is_some o)) can.unscanned)
@@ -160,15 +154,15 @@ module _ {P E O : Type 0} (cargo : Ghosts P E O) (f : Frame O) (hand : Standing 
     }
 
     module _ (phase : CallbackPhase) (stamped : stamp_of left ≡ x.generation) (reads : callback_read left ≡ phase) where
-      abbrev written : State
+      abbrev pub written : State
       written = with_view (with_callback now x.block x.node phase) id u
 
-      wrote : Writes now written x phase
+      pub wrote : Writes now written x phase
       wrote =
           subst (λ y. Writes now written y phase) (name-live now x live)
           (writes now (place_of x) phase written.view (subst (λ y. is_under_way (control_at now y) ≡ true) (sym (name-live now x live)) under_way))
 
-      ended-runs : callback_code Runs < callback_code phase → i ≡ index f.layout (OfCallback x.block x.node) → n ≡ word_of f.layout s.words (OfCallback x.block x.node) →
+      pub ended-runs : callback_code Runs < callback_code phase → i ≡ index f.layout (OfCallback x.block x.node) → n ≡ word_of f.layout s.words (OfCallback x.block x.node) →
           Sound (with_view (with_callback now x.block x.node phase) id (run_over now x old_view)) →
           ((j : ℕ) (z : View P E) → (j ≡ id → ⊥) → get_elem? s.views j ≡ some z → IsKnown here z → IsKnown (record here { state = written }) z) →
           Each (IsHeldSo (record here { state = written })) held →
@@ -226,96 +220,3 @@ module _ {P E O : Type 0} (cargo : Ghosts P E O) (f : Frame O) (hand : Standing 
         (and_from _ _ (place-live now x live)
         (subst (λ y. (nat_le 1 (old_view.runs y) && not (is_scanning old_view (Node y))) ≡ true) (sym name) may-end))))
         (λ j z ne there old. known-still z old) (known-still v (r.stands.views.each id v at)).held
-
--- the callback is removed from inside it
--- which callback is removed as its run ends, and by which word
-pub record ToRemoveOwn {P E O : Type 0} {cargo : Ghosts P E O} {f : Frame O}
-    (hand : Standing cargo f) : Type 0 where
-  pub name : Name
-  pub can : CanWithdrawOwn hand.view name
-  pub cell : ℕ
-  pub number : ℕ
-  pub value : ℕ
-  pub stamped : stamp_of value ≡ name.generation
-  pub reads : callback_read value ≡ Removed
-
-module _ {P E O : Type 0} (cargo : Ghosts P E O) (f : Frame O) (hand : Standing cargo f)
-    (task : ToRemoveOwn hand) where
-  open hand use {state as s, id, view as v, running as r, at}
-  open task use {name as x, can, cell as i, number as n, value, stamped, reads}
-
-  abbrev state : State
-  state = shown f s
-
-  abbrev base : Scene P E
-  base = scene f s r.past
-
-  abbrev noted : Held E → Held E
-  noted e = record e { phase = Some Removed }
-
-  abbrev notes : List (Held E)
-  notes = at_entry (λ (e : Held E). e.name) noted x v.held
-
-  noted-counts : (y : Name) → count_by (λ (e : Held E). e.name) notes y ≡ count_by (λ (e : Held E). e.name) v.held y
-  noted-counts = count-at (λ (e : Held E). e.name) noted (λ e. refl) x v.held
-
-  abbrev removed : State
-  removed = written cargo f hand x can.run notes noted-counts i n value Removed stamped reads
-
-  wrote-removed : Writes state removed x Removed
-  wrote-removed = wrote cargo f hand x can.run notes noted-counts i n value Removed stamped reads
-
-  other-still : (y : Name) → (x ≡ y → ⊥) → (known : CallbackPhase) → is_still known (phase_at state y) → is_still known (phase_at removed y)
-  other-still y ne known so = subst (is_still known) (sym (wrote-removed.there y (λ e. ne (sym e)))) so
-
-  few : count_by (λ (e : Held E). e.name) v.held x ≤ 1
-  few =
-      let most = (among f s id v r.sized.seats at).held x in
-      let fit = (r.stands.sound.owned.names x).held in
-      let single = one-most (is_held (control_at state x)) in
-      omega (arith, most, fit, single)
-
-  notes-so : Each (IsHeldSo (record base { state = removed })) notes
-  notes-so =
-      each-changed (λ (e : Held E). e.name) noted x (IsHeldSo base) (IsHeldSo (record base { state = removed }))
-      (λ e is so. record {
-        start = so.start;
-        named = so.named;
-        told = so.told;
-        told_children = so.told_children;
-        lot = so.lot;
-        phase = ap (phase_at removed) is ∙ wrote-removed.here;
-        idle = so.idle;
-      })
-      (λ e ne so.
-      held-aside base removed.callback state.source state.scope_source state.scope removed.view (λ t h. h) e
-      (other-still e.name (λ is. ne (sym is))) so)
-      v.held few (r.stands.views.each id v at).held
-
-  abbrev holding : Holding hand
-  holding = record { name = x; entry = can.held; holds = can.holds }
-
-  pub remove-runs : i ≡ index f.layout (OfCallback x.block x.node) → n ≡ word_of f.layout s.words (OfCallback x.block x.node) → Running cargo f record {
-    words = set s.words (index f.layout (OfCallback x.block x.node)) value;
-    homes = s.homes;
-    views = set s.views id (with_step i n value (removes_own f.tree x v));
-  }
-  remove-runs is was =
-      let alive = live cargo f hand x can.run in
-      let name = name-live state x alive in
-      let w = state.view id in
-      ended-runs cargo f hand x can.run notes noted-counts i n value Removed stamped reads (omega arith) is was
-      (subst (λ y. Sound (with_view (with_callback state x.block x.node Removed) id (run_over state y w))) name
-      (sound-withdraw_own state id (place_of x) r.stands.sound (hand_below cargo f hand x can.run)
-      (and_from _ _
-      (and_from _ _ (place-live state x alive)
-      (subst (λ y. (nat_le 1 (w.runs y) && not (is_scanning w (Node y))) ≡ true) (sym name) (may-end cargo f hand x can.run)))
-      (subst (λ y. nat_le 1 (w.holds y) ≡ true) (sym name) (le-leb 1 (w.holds x) (holds-now cargo f hand holding))))))
-      (λ j z ne there old.
-      known-aside base removed.callback state.source state.scope_source state.scope removed.view (λ t h. h) z
-      (λ y counts known so.
-      other-still y (λ is. absurd
-      (let none = others-none cargo f hand holding j z ne there in
-      let c : 1 ≤ count_by (λ (e : Held E). e.name) z.held x = subst (λ y. 1 ≤ count_by (λ (e : Held E). e.name) z.held y) (sym is) counts in
-      omega (arith, none, c))) known so) old)
-      notes-so

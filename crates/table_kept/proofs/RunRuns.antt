@@ -44,7 +44,7 @@ use Rattle.table_kept.proofs.Standing.{Standing}
 use Rattle.table_kept.proofs.Seats.{at_within}
 use Rattle.table_kept.proofs.Loads.{known-listed, known-logged}
 use Rattle.table_kept.proofs.ViewMoves.{view-here}
-use Rattle.table_kept.proofs.ControlRuns.{name-live}
+use Rattle.table_kept.proofs.LiveNames.{name-live}
 use Rattle.table_kept.proofs.Scans.{scan-passed}
 use Rattle.table_kept.proofs.ScanOrders.{IsPresentIn, next-place}
 use Rattle.table_kept.proofs.Asides.{known-aside}

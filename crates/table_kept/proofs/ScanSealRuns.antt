@@ -44,12 +44,13 @@ use Rattle.table_kept.proofs.Seats.{at_within}
 use Rattle.table_kept.proofs.Masks.{or-four}
 use Rattle.table_kept.proofs.Loads.{known-listed}
 use Rattle.table_kept.proofs.ViewMoves.{view-here}
-use Rattle.table_kept.proofs.ControlRuns.{open-kept, place_of, place-live, name-live}
+use Rattle.table_kept.proofs.LiveNames.{open-kept, place_of, place-live, name-live}
 use Rattle.table_kept.proofs.Scans.{scan-dropped}
 use Rattle.table_kept.proofs.ScanOrders.{IsPresentIn, none-heard}
 use Rattle.table_kept.proofs.Looking as looking
 use Rattle.table_kept.proofs.Asides.{known-aside}
-use Rattle.table_kept.proofs.SourceRuns.{ToWriteSource, SaysOf, IsLiveSource, source-runs, stands-calm}
+use Rattle.table_kept.proofs.SourceRuns.{ToWriteSource, source-runs, stands-calm}
+use Rattle.table_kept.proofs.SourceSpots.{SaysOf, IsLiveSource}
 
 -- the word with the scanned bit set
 module _ (w : ℕ) where

@@ -21,7 +21,7 @@ use Rattle.stop_kept.proofs.Sources.{words_with, scope_with, asked}
 use Rattle.table_words.specs.Stamps.{stamp_of}
 use Rattle.table_words.specs.Controls.{control_read, callback_read, source_read}
 use Rattle.table_words.specs.ScopeNumbers.{scope_read}
-use Rattle.table_words.specs.Layouts.{Spot, TheScope, TheScopeSource, OfBlock, OfControl, OfCallback, OfSource, IsSpot, index}
+use Rattle.table_words.specs.Layouts.{Spot, TheScope, TheScopeSource, OfControl, OfCallback, OfSource, IsSpot, index}
 use Rattle.table_rules.specs.declared.cargo.Cargo.{Ghosts}
 use Rattle.table_rules.specs.declared.frame.Frame.{Frame}
 use Rattle.table_rules.specs.declared.view.View.{View}
@@ -38,34 +38,9 @@ use Rattle.table_kept.proofs.PlaceMoves as places
 use Rattle.table_kept.proofs.Stamping.{is_on, Lists, written-risen, unsaid-kept, renewed-kept}
 use Rattle.table_kept.proofs.Counts.{tally, counts-moved}
 use Rattle.table_kept.proofs.ViewMoves.{view-set, views-same, views-moved}
-use Rattle.table_kept.proofs.ControlRuns.{open-kept}
+use Rattle.table_kept.proofs.LiveNames.{open-kept}
 use Rattle.table_kept.proofs.Asides.{owning, homes-aside, starts-aside, items-aside, lots-aside}
-
--- the word says these bits of the source: that of a node at its generation
-abbrev pub SaysOf : ℕ → Bits → SourceRef → Type 0
-SaysOf value bits Scope = source_read value ≡ bits
-SaysOf value bits (Node y) = (source_read value ≡ bits) × (stamp_of value ≡ y.generation)
-
--- the source is the scope's, or of a live node
-abbrev pub IsLiveSource : State → SourceRef → Type 0
-IsLiveSource s Scope = Unit {0}
-IsLiveSource s (Node y) = is_live s y ≡ true
-
-no-block : (source : SourceRef) (i : ℕ) → spot_of source ≡ OfBlock i → ⊥
-no-block Scope i e = cc
-no-block (Node y) i e = cc
-
-no-control : (source : SourceRef) (j m : ℕ) → spot_of source ≡ OfControl j m → ⊥
-no-control Scope j m e = cc
-no-control (Node y) j m e = cc
-
-no-callback : (source : SourceRef) (j m : ℕ) → spot_of source ≡ OfCallback j m → ⊥
-no-callback Scope j m e = cc
-no-callback (Node y) j m e = cc
-
-no-scope : (source : SourceRef) → spot_of source ≡ TheScope → ⊥
-no-scope Scope e = cc
-no-scope (Node y) e = cc
+use Rattle.table_kept.proofs.SourceSpots.{IsLiveSource, SaysOf, no-block, no-callback, no-control, no-scope}
 
 -- which source's word is written, and what it says then
 pub record ToWriteSource {P E O : Type 0} {cargo : Ghosts P E O} {f : Frame O}

@@ -36,7 +36,9 @@ use Rattle.table_kept.proofs.Hearing.{hears-as}
 use Rattle.table_kept.proofs.KidSlots.{take_each, carries}
 use Rattle.table_kept.proofs.WordsLive.{LiveWord, SaysLive, says-live}
 use Rattle.table_kept.proofs.TakeSeats.{seated-taken, take-valid}
-use Rattle.table_kept.proofs.TakeRuns.{ToTake, IsTakeable, takeable, lies, place-b, take-runs}
+use Rattle.table_kept.proofs.TakeRuns.{take-runs}
+use Rattle.table_kept.proofs.TakeHomes.{ToTake, lies, place-b}
+use Rattle.table_kept.proofs.Takeable.{IsTakeable, takeable}
 
 -- which node is taken, what its word says, and the word that says it is taken
 pub record ToTakeFrom {P E O : Type 0} {cargo : Ghosts P E O} {f : Frame O}

@@ -27,7 +27,7 @@ use Rattle.table_kept.proofs.KidSlots.{take_each, each-out, each-valid, kids-des
 use Rattle.table_kept.proofs.SlotsOut.{apart-home}
 use Rattle.table_kept.proofs.BeginSeats.{or-left, or-right, or-cases, kids-are, kid-of-family, each-slots, apart-slots}
 use Rattle.table_kept.proofs.Begins.{kids-tested}
-use Rattle.table_kept.proofs.TakeRuns.{ToTake, place-b, place-n, kid-empty, kids-within}
+use Rattle.table_kept.proofs.TakeHomes.{ToTake, place-b, place-n, kid-empty, kids-within}
 
 -- a home that is full is at home
 pub full-home : {P : Type 0} (homes : List (maybe.Option (Option P))) (i : ℕ) (item : P) → home_in (get_elem? homes i) ≡ Full item →

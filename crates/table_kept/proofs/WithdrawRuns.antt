@@ -40,7 +40,7 @@ use Rattle.table_kept.proofs.Loads.{known-listed, known-logged}
 use Rattle.table_kept.proofs.Noting.{count-at, each-at}
 use Rattle.table_kept.proofs.HeldNotes.{each-changed}
 use Rattle.table_kept.proofs.ReadAllowed.{still-refl}
-use Rattle.table_kept.proofs.ControlRuns.{place_of, place-live, name-live}
+use Rattle.table_kept.proofs.LiveNames.{place_of, place-live, name-live}
 use Rattle.table_kept.proofs.HeldNow.{Holding, shows, below, holds-now, held, phase-so, others-none}
 use Rattle.table_kept.proofs.Learning.{shows-learned, learned-past}
 use Rattle.table_kept.proofs.Asides.{held-aside, known-aside}

@@ -20,7 +20,7 @@ use Rattle.life_rules.specs.States.{State, is_live, control_at, phase_at, bits_a
 use Rattle.common_lemmas.proofs.Bool.{either}
 use Rattle.life_rules.proofs.Readings.{lives, is_live-from}
 use Rattle.stop_kept.proofs.Standing.{phase-live}
-use Rattle.table_kept.proofs.ControlRuns.{open-kept}
+use Rattle.table_kept.proofs.LiveNames.{open-kept}
 use Rattle.table_words.specs.Stamps.{stamp_of}
 use Rattle.table_words.specs.Controls.{control_read, source_read}
 use Rattle.table_words.specs.ScopeNumbers.{scope_read}

@@ -18,6 +18,7 @@ fresh-ready board count all fresh h hand at =
     let each = fresh.each h hand at in
     record {
       table = each.0;
+      member = record { hand_of = each.0; settled = subst MayEnter (sym each.2) refl };
       number_is = ap (λ (v : View Item Entry). v.number) each.2;
       idle = record { runs = ap (λ (v : View Item Entry). v.runs) each.2; scans = ap (λ (v : View Item Entry). v.scans) each.2 };
     }

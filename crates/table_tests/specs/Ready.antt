@@ -7,6 +7,7 @@ use Rattle.table_steps.specs.Views.{Board, IsHandOf}
 use Rattle.table_use.specs.declared.cargo.Entry.{Entry}
 use Rattle.table_use.specs.declared.cargo.Item.{Item}
 use Rattle.table_use.specs.Uses.{use_tree, IsIdle}
+use Rattle.table_use.specs.Members.{MayAssociate}
 
 -- what all starts of such a table say
 abbrev pub step : ℕ
@@ -22,5 +23,6 @@ pub record IsUse (board : Board ℕ) (blocks : ℕ) : Type 0 where
 -- the hand with this number is one of the table's, and has done nothing
 pub record IsReady (board : Board ℕ) (number : ℕ) (hand : Seat (Option Item) (View Item Entry)) : Type 0 where
   pub table : IsHandOf board hand
+  pub member : MayAssociate board hand
   pub number_is : hand.me.0.number ≡ number
   pub idle : IsIdle hand.me

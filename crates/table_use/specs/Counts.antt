@@ -1,5 +1,5 @@
 -- How many callbacks of a scan ran.
-use Rattle.std.specs.Prelude.{◌≡◌, ℕ, zero, suc, ◌-◌, ◌^◌, min, Option}
+use Rattle.std.specs.Prelude.{◌≡◌, ℕ, zero, suc, Option}
 use Rattle.life_rules.specs.declared.event.Name.{Name}
 use Rattle.atomic_table.specs.declared.shared.Seat.{Seat}
 use Rattle.table_rules.specs.declared.view.View.{View}
@@ -29,13 +29,11 @@ module _ (board : Board ℕ) where
       (scan : Scan) × (middle : Worker) × RunsSome count before scan old middle
       × ((place : Name) × RunsOne scan after place middle new)
 
-  -- so many of the scan ran, the scan came to no further one, and was sealed. A u32 counts them
+  -- so many of the scan ran, the scan came to no further one, and was sealed
   pub record RunsOut (count : ℕ) (scan : Scan) (old new : Worker) : Type 0 where
-    pub ran : ℕ
-    pub count_is : count ≡ min ran (2 ^ 32 - 1)
     pub last : Scan
     pub left : Worker
-    pub runs : RunsSome ran scan last old left
+    pub runs : RunsSome count scan last old left
     pub after : Scan
     pub end : Worker
     pub through : IsThrough board last left end after

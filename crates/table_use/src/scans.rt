@@ -53,9 +53,12 @@ pub fn runs_out(table: &Table, hand: &mut Worker, mut scan: Scan) -> u32
     ensures steps { GoesOn hand.old.me hand.new.me }
     ensures ran { RunsOut table.now result scan hand.old hand.new }
 {
+    // The table has few places, so a count of them fits.
+    let _blocks = table.blocks();
+    let _nodes = table.tree().size();
     let mut count = 0u32;
     while let Some(_place) = runs_one(table, hand, &mut scan) {
-        count = count.saturating_add(1);
+        count += 1;
     }
     scan.seal(table, hand);
     count

@@ -64,17 +64,28 @@ fn generations_of(table: &Table, hand: &mut Worker) -> Option<u32>
     Some(first.generation.wrapping_add(second.generation))
 }
 
+// The same by the hand that came back, if one did.
+fn generations_after(table: &Table, hand: Option<Worker>) -> Option<u32>
+    requires { IfSome hand (λ h. IsHandOf table.now h) }
+{
+    let Some(mut hand) = hand else {
+        return None;
+    };
+    let generations = generations_of(table, &mut hand);
+    drop(hand);
+    generations
+}
+
 // A hand that looks for a block begins at the first one, so both come to it at once, and neither
 // finds none. A block that was given back comes back at the next generation.
 #[test]
 fn two_threads_take_two_blocks_through_a_thousand_generations(rt: HostRuntime) -> Result<(), Fail> {
     let (table, first, second) = shared(rt.alloc(), 2)?;
     let (first, second) = answer_beside(&rt, &table, first, second, 500);
-    let mut generations = None;
-    if let Some(mut hand) = first {
-        generations = generations_of(&table, &mut hand);
-    }
-    assert!(rt; second.is_some());
-    assert!(rt; generations == Some(1000));
+    let generations = generations_after(&table, first);
+    let both = second.is_some();
+    drop(second);
+    drop(table);
+    assert!(rt; both && generations == Some(1000));
     Ok(())
 }

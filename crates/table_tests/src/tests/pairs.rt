@@ -9,8 +9,7 @@ ghost use Rattle.table_use.specs.Hearing.{HoldsRoot};
 ghost use Rattle.table_tests.specs.Ready.{IsUse, IsReady};
 
 use super::Wrong;
-use super::opening::shared;
-use super::stops::armed;
+use super::opening::{armed, shared};
 use life_rules::{CallbackPhase, Name};
 use std::alloc::Global;
 use std::sync::Wait;
@@ -41,24 +40,39 @@ fn requests(table: &Table, mut hand: Worker) -> u32
 }
 
 // Registers a callback and removes it, and ends the operation.
-fn holds<R: Wait>(rt: &R, table: &Table, mut hand: Worker) -> Result<Settled, Wrong>
+fn holds<R: Wait>(rt: &R, table: &Table, hand: &mut Worker) -> Result<Settled, Wrong>
     requires over { IsUse table.now 1 }
-    requires ready { IsReady table.now 1 hand }
+    requires ready { IsReady table.now 1 hand.old }
 {
-    let (root, _told) = armed(table, &mut hand)?;
-    let settled = removes(rt, table, &mut hand, root, CallbackPhase::Armed);
-    lets_go(table, &mut hand, root, settled);
+    let (root, _told) = armed(table, hand)?;
+    let settled = removes(rt, table, hand, root, CallbackPhase::Armed);
+    lets_go(table, hand, root, settled);
     Ok(settled)
 }
 
-// Both at once. Tells how often the callback ran, and what the removal found.
-pub(super) fn round<R: Threads + Wait + Sync>(
+// The same, after which the hand is left.
+fn holds_once<R: Wait>(rt: &R, table: &Table, mut hand: Worker) -> Result<Settled, Wrong>
+    requires over { IsUse table.now 1 }
+    requires ready { IsReady table.now 1 hand }
+{
+    let settled = holds(rt, table, &mut hand);
+    drop(hand);
+    settled
+}
+
+// Both at once on a table of their own. Whether the callback ran once where the removal found that it
+// ran, and else not.
+pub(super) fn counts_each_run<R: Threads + Wait + Sync>(
     rt: &R,
     alloc: Global,
-) -> Result<(u32, Settled), Fail> {
+) -> Result<bool, Fail> {
     let (table, first, second) = shared(alloc, 1)?;
     let (runs, settled) = beside(rt, &table, first, second);
-    Ok((runs, settled?))
+    drop(table);
+    Ok(match settled? {
+        Settled::Ran => runs == 1,
+        _ => runs == 0,
+    })
 }
 
 fn beside<R: Threads + Wait + Sync>(
@@ -78,7 +92,7 @@ fn beside<R: Threads + Wait + Sync>(
         { requests(table, first) },
         move || -> Result<Settled, Wrong>
             requires { IsSync R.row × IsUse table.now 1 × IsReady table.now 1 second }
-        { holds(rt, table, second) },
+        { holds_once(rt, table, second) },
     )
 }
 
@@ -95,26 +109,35 @@ fn comes(stage: &AtomicU64, far: u64) -> bool {
 
 // Requests a stop once the callback is registered, and ends its run after the other hand tried to
 // remove it.
-fn runs_slowly(table: &Table, mut hand: Worker, stage: &AtomicU64)
+fn runs_slowly(table: &Table, hand: &mut Worker, stage: &AtomicU64)
     requires over { IsUse table.now 1 }
-    requires ready { IsReady table.now 0 hand }
+    requires ready { IsReady table.now 0 hand.old }
 {
     comes(stage, ARMED);
-    if let Some(mut scan) = asks(table, &mut hand) {
-        if let Some(due) = scan.next(table, &mut hand) {
+    if let Some(mut scan) = asks(table, hand) {
+        if let Some(due) = scan.next(table, hand) {
             stage.store(RUNNING, Ordering::SeqCst);
             comes(stage, TRIED);
             stage.store(ENDING, Ordering::SeqCst);
-            due.finish(table, &mut hand);
-            runs_out(table, &mut hand, scan);
+            due.finish(table, hand);
+            runs_out(table, hand, scan);
         } else {
-            scan.seal(table, &mut hand);
+            scan.seal(table, hand);
         }
     }
 }
 
+// The same, after which the hand is left.
+fn runs_once(table: &Table, mut hand: Worker, stage: &AtomicU64)
+    requires over { IsUse table.now 1 }
+    requires ready { IsReady table.now 0 hand }
+{
+    runs_slowly(table, &mut hand, stage);
+    drop(hand);
+}
+
 // Tries to remove the callback while another hand runs it.
-fn finds_run(table: &Table, hand: &mut Worker, root: Name) -> Result<Withdrawn, Wrong>
+fn finds_run(table: &Table, hand: &mut Worker, root: Name) -> Result<(), Wrong>
     requires table { IsHandOf table.now hand.old }
     requires root { IsRoot table.now root }
     requires idle { IsIdle hand.old.me }
@@ -124,31 +147,46 @@ fn finds_run(table: &Table, hand: &mut Worker, root: Name) -> Result<Withdrawn, 
     ensures holds { IfOk result (λ _. HoldsRoot table.now.frame root Runs hand.new.me) }
 {
     match tries(table, hand, root) {
-        Withdrawn::Running => Ok(Withdrawn::Running),
+        Withdrawn::Running => Ok(()),
         _ => Err(Wrong("the callback didn't run")),
     }
 }
 
-// Tries to remove the callback while it runs, and then waits for its end. Tells what it found, and
-// whether the run was about to end.
+// Tries to remove the callback while it runs, and then waits for its end. Whether it found that the
+// callback ran, no sooner than its run was about to end.
 fn waits<R: Wait>(
+    rt: &R,
+    table: &Table,
+    hand: &mut Worker,
+    stage: &AtomicU64,
+) -> Result<bool, Wrong>
+    requires over { IsUse table.now 1 }
+    requires ready { IsReady table.now 1 hand.old }
+{
+    let (root, _told) = armed(table, hand)?;
+    stage.store(ARMED, Ordering::SeqCst);
+    comes(stage, RUNNING);
+    finds_run(table, hand, root)?;
+    stage.store(TRIED, Ordering::SeqCst);
+    let settled = removes(rt, table, hand, root, CallbackPhase::Running);
+    let over = stage.load(Ordering::SeqCst) == ENDING;
+    lets_go(table, hand, root, settled);
+    Ok(over && settled == Settled::Ran)
+}
+
+// The same, after which the hand is left.
+fn waits_once<R: Wait>(
     rt: &R,
     table: &Table,
     mut hand: Worker,
     stage: &AtomicU64,
-) -> Result<(Withdrawn, Settled, bool), Wrong>
+) -> Result<bool, Wrong>
     requires over { IsUse table.now 1 }
     requires ready { IsReady table.now 1 hand }
 {
-    let (root, _told) = armed(table, &mut hand)?;
-    stage.store(ARMED, Ordering::SeqCst);
-    comes(stage, RUNNING);
-    let found = finds_run(table, &mut hand, root)?;
-    stage.store(TRIED, Ordering::SeqCst);
-    let settled = removes(rt, table, &mut hand, root, CallbackPhase::Running);
-    let over = stage.load(Ordering::SeqCst) == ENDING;
-    lets_go(table, &mut hand, root, settled);
-    Ok((found, settled, over))
+    let told = waits(rt, table, &mut hand, stage);
+    drop(hand);
+    told
 }
 
 fn waits_beside<R: Threads + Wait + Sync>(
@@ -157,7 +195,7 @@ fn waits_beside<R: Threads + Wait + Sync>(
     first: Worker,
     second: Worker,
     stage: &AtomicU64,
-) -> Result<(Withdrawn, Settled, bool), Wrong>
+) -> Result<bool, Wrong>
     requires over { IsUse table.now 1 }
     requires first { IsReady table.now 0 first }
     requires second { IsReady table.now 1 second }
@@ -166,19 +204,22 @@ fn waits_beside<R: Threads + Wait + Sync>(
         rt,
         move ||
             requires { IsUse table.now 1 × IsReady table.now 0 first }
-        { runs_slowly(table, first, stage) },
-        move || -> Result<(Withdrawn, Settled, bool), Wrong>
+        { runs_once(table, first, stage) },
+        move || -> Result<bool, Wrong>
             requires { IsSync R.row × IsUse table.now 1 × IsReady table.now 1 second }
-        { waits(rt, table, second, stage) },
+        { waits_once(rt, table, second, stage) },
     );
     found
 }
 
-pub(super) fn waited<R: Threads + Wait + Sync>(
+// The same on a table of their own.
+pub(super) fn waits_for_the_run<R: Threads + Wait + Sync>(
     rt: &R,
     alloc: Global,
-) -> Result<(Withdrawn, Settled, bool), Fail> {
+) -> Result<bool, Fail> {
     let (table, first, second) = shared(alloc, 1)?;
     let stage = AtomicU64::new(0);
-    Ok(waits_beside(rt, &table, first, second, &stage)?)
+    let told = waits_beside(rt, &table, first, second, &stage);
+    drop(table);
+    Ok(told?)
 }

@@ -1,7 +1,7 @@
 //! Why an association is refused, from the first two to the end of the join.
 ghost use Rattle.table_use.specs.Members.{MayAssociate};
 
-use super::opening::{members, next_of};
+use super::opening::full_for_two;
 use count_scope::{JoinStart, Refused, ScopeState};
 use std::test::Fail;
 use table_use::{Table, Worker, enter, has_joined, join_now, leave, look, pass, shut};
@@ -82,26 +82,41 @@ fn turns_away_while(table: &Table, second: &mut Worker, third: &mut Worker) -> b
     }
 }
 
-// Whether all is refused in a joined scope.
+// Whether all is refused in a joined scope, which another join finds joined.
 fn is_over(table: &Table, hand: &mut Worker) -> bool
     requires { MayAssociate table.now hand.old }
-    ensures { MayAssociate table.now hand.new }
 {
     let joined = has_joined(table, hand);
     let refused = refuses(table, hand, Refused::Joined);
-    joined && refused
+    let state = look(table, hand);
+    let again = join_now(table, hand);
+    joined && refused && state == ScopeState::Joined && again == JoinStart::Joined
 }
 
-// The scope takes two associations.
+// Both, one after the other.
+fn turns_away_to_the_end(
+    table: &Table,
+    mut first: Worker,
+    mut second: Worker,
+    mut third: Worker,
+) -> bool
+    requires first { MayAssociate table.now first }
+    requires second { MayAssociate table.now second }
+    requires third { MayAssociate table.now third }
+{
+    let told = turns_away_beside(table, &mut first, &mut second, &mut third);
+    let over = is_over(table, &mut third);
+    drop(first);
+    drop(second);
+    drop(third);
+    told && over
+}
+
 #[test]
 fn the_first_reason_is_told(rt: HostRuntime) -> Result<(), Fail> {
-    let (table, mut hands) = members(rt.alloc(), 3, 2)?;
-    let mut first = next_of(&table, &mut hands)?;
-    let mut second = next_of(&table, &mut hands)?;
-    let mut third = next_of(&table, &mut hands)?;
-    assert!(rt; turns_away_beside(&table, &mut first, &mut second, &mut third));
-    assert!(rt; is_over(&table, &mut third));
-    assert!(rt; look(&table, &mut third) == ScopeState::Joined);
-    assert!(rt; join_now(&table, &mut third) == JoinStart::Joined);
+    let (table, first, second, third) = full_for_two(rt.alloc())?;
+    let told = turns_away_to_the_end(&table, first, second, third);
+    drop(table);
+    assert!(rt; told);
     Ok(())
 }

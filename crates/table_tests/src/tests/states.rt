@@ -1,13 +1,13 @@
 //! The seven states of a scope, and how each is closed.
 ghost use Rattle.table_use.specs.Members.{MayAssociate};
 
-use super::opening::{members, next_of};
+use super::opening::shared;
 use count_scope::ScopeState;
 use std::alloc::Global;
 use std::test::Fail;
 use table_use::{Table, Worker, enter, join_now, leave, look, shut};
 
-// How a state is reached from an unused scope, and which it is.
+// How a state is reached from an unused scope, which it is, and which follows when it is closed.
 #[derive(Clone, Copy)]
 struct Way {
     held: bool,
@@ -27,40 +27,19 @@ fn way_to(held: bool, closes: bool, joins: bool, reached: ScopeState, closed: Sc
     }
 }
 
-fn ways() -> [Way; 7] {
-    [
-        way_to(
-            false,
-            false,
-            false,
-            ScopeState::Unused,
-            ScopeState::UnusedAndClosed,
-        ),
-        way_to(true, false, false, ScopeState::Open, ScopeState::Closed),
-        way_to(
-            true,
-            false,
-            true,
-            ScopeState::OpenAndJoining,
-            ScopeState::ClosedAndJoining,
-        ),
-        way_to(true, true, false, ScopeState::Closed, ScopeState::Closed),
-        way_to(
-            true,
-            true,
-            true,
-            ScopeState::ClosedAndJoining,
-            ScopeState::ClosedAndJoining,
-        ),
-        way_to(
-            false,
-            true,
-            false,
-            ScopeState::UnusedAndClosed,
-            ScopeState::UnusedAndClosed,
-        ),
-        way_to(false, false, true, ScopeState::Joined, ScopeState::Joined),
-    ]
+// The way to each state.
+fn way_of(reached: ScopeState) -> Way {
+    let (unused, closed) = (ScopeState::UnusedAndClosed, ScopeState::Closed);
+    let joining = ScopeState::ClosedAndJoining;
+    match reached {
+        ScopeState::Unused => way_to(false, false, false, reached, unused),
+        ScopeState::UnusedAndClosed => way_to(false, true, false, reached, unused),
+        ScopeState::Open => way_to(true, false, false, reached, closed),
+        ScopeState::Closed => way_to(true, true, false, reached, closed),
+        ScopeState::OpenAndJoining => way_to(true, false, true, reached, joining),
+        ScopeState::ClosedAndJoining => way_to(true, true, true, reached, joining),
+        ScopeState::Joined => way_to(false, false, true, reached, ScopeState::Joined),
+    }
 }
 
 fn shuts_if(table: &Table, hand: &mut Worker, closes: bool)
@@ -116,22 +95,42 @@ fn closes_beside(table: &Table, hand: &mut Worker, holder: &mut Worker, way: Way
     }
 }
 
-// The same on a scope of its own.
-fn closes(alloc: Global, way: Way) -> Result<bool, Fail> {
-    let (table, mut hands) = members(alloc, 2, 3)?;
-    let mut hand = next_of(&table, &mut hands)?;
-    let mut holder = next_of(&table, &mut hands)?;
-    if way.held {
-        Ok(closes_beside(&table, &mut hand, &mut holder, way))
+// The same by these hands, where the way says whether one has an association.
+fn closes_by(table: &Table, mut hand: Worker, mut holder: Worker, way: Way) -> bool
+    requires hand { MayAssociate table.now hand }
+    requires holder { MayAssociate table.now holder }
+{
+    let told = if way.held {
+        closes_beside(table, &mut hand, &mut holder, way)
     } else {
-        Ok(closes_so(&table, &mut hand, way))
-    }
+        closes_so(table, &mut hand, way)
+    };
+    drop(hand);
+    drop(holder);
+    told
+}
+
+// The same in this state of a scope of its own.
+fn closes_in(alloc: Global, state: ScopeState) -> Result<bool, Fail> {
+    let (table, hand, holder) = shared(alloc, 1)?;
+    let told = closes_by(&table, hand, holder, way_of(state));
+    drop(table);
+    Ok(told)
 }
 
 #[test]
-fn a_scope_is_closed_in_each_of_its_states(rt: HostRuntime) -> Result<(), Fail> {
-    for way in ways() {
-        assert!(rt; closes(rt.alloc(), way)?);
-    }
+fn a_scope_that_no_hand_used_is_closed(rt: HostRuntime) -> Result<(), Fail> {
+    assert!(rt; closes_in(rt.alloc(), ScopeState::Unused)?);
+    assert!(rt; closes_in(rt.alloc(), ScopeState::UnusedAndClosed)?);
+    assert!(rt; closes_in(rt.alloc(), ScopeState::Joined)?);
+    Ok(())
+}
+
+#[test]
+fn a_scope_with_an_association_is_closed(rt: HostRuntime) -> Result<(), Fail> {
+    assert!(rt; closes_in(rt.alloc(), ScopeState::Open)?);
+    assert!(rt; closes_in(rt.alloc(), ScopeState::Closed)?);
+    assert!(rt; closes_in(rt.alloc(), ScopeState::OpenAndJoining)?);
+    assert!(rt; closes_in(rt.alloc(), ScopeState::ClosedAndJoining)?);
     Ok(())
 }

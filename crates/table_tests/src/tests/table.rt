@@ -1,13 +1,26 @@
 //! What a new table tells and leaves, and two hands of one table, each in a thread of its own.
 ghost use Rattle.std.specs.Prelude.{◌<◌};
 ghost use Rattle.table_steps.specs.Views.{IsHandOf};
+ghost use Rattle.table_tests.specs.Ready.{IsUse};
 
 use super::opening::{STEP, shared, use_nodes};
 use life_rules::{Name, ScopeState};
 use node_tree::ScopeKind;
+use op_table::Closing;
 use std::test::Fail;
 use std::thread::{Threads, join};
 use table_use::{Table, Worker};
+
+// Whether the table and its hands are those that were asked for.
+fn is_as_opened(table: &Table, hands: usize) -> bool {
+    let (kind, size) = (table.kind(), table.tree().size());
+    table.blocks() == 3 && table.most() == 5 && hands == 2 && kind == ScopeKind::Simple && size == 4
+}
+
+// Whether it was closed as it was opened.
+fn is_as_new(closing: &Closing) -> bool {
+    closing.free == 3 && closing.retired == 0 && closing.scope == ScopeState::Unused
+}
 
 #[test]
 fn a_table_tells_with_what_it_was_opened_and_leaves_all_blocks_free(
@@ -15,12 +28,11 @@ fn a_table_tells_with_what_it_was_opened_and_leaves_all_blocks_free(
 ) -> Result<(), Fail> {
     let tree = use_nodes(rt.alloc())?;
     let (table, hands) = Table::open(rt.alloc(), &tree, &STEP, 3, 2, ScopeKind::Simple, 5)?;
-    assert!(rt; table.blocks() == 3 && table.most() == 5);
-    assert!(rt; table.kind() == ScopeKind::Simple && table.tree().size() == 4);
-    assert!(rt; hands.len() == 2);
+    drop(tree);
+    let told = is_as_opened(&table, hands.len());
     let closing = table.close_table(hands);
-    assert!(rt; closing.free == 3 && closing.retired == 0);
-    assert!(rt; closing.scope == ScopeState::Unused);
+    assert!(rt; told);
+    assert!(rt; is_as_new(&closing));
     Ok(())
 }
 
@@ -41,12 +53,25 @@ fn owes_root(table: &Table, hand: &mut Worker, block: u32) -> bool
     }
 }
 
+// It owed nothing before, and another hand owes nothing after it.
+fn owes_it_alone(table: &Table, hand: &mut Worker, other: &Worker) -> bool
+    requires hand { IsHandOf table.now hand.old }
+    requires other { IsHandOf table.now other.now }
+    requires over { IsUse table.now 3 }
+{
+    let before = table.owed(hand).is_none();
+    let owes = owes_root(table, hand, 1);
+    before && owes && table.owed(other).is_none()
+}
+
 #[test]
 fn a_hand_that_claims_a_block_owes_its_root_and_runs_nothing(rt: HostRuntime) -> Result<(), Fail> {
     let (table, mut first, second) = shared(rt.alloc(), 3)?;
-    assert!(rt; table.owed(&first).is_none());
-    assert!(rt; owes_root(&table, &mut first, 1));
-    assert!(rt; table.owed(&second).is_none());
+    let told = owes_it_alone(&table, &mut first, &second);
+    drop(first);
+    drop(second);
+    drop(table);
+    assert!(rt; told);
     Ok(())
 }
 
@@ -78,6 +103,7 @@ fn claim_beside<R: Threads>(rt: &R, table: &Table, first: Worker, second: Worker
 fn two_threads_claim_each_block_once(rt: HostRuntime) -> Result<(), Fail> {
     let (table, first, second) = shared(rt.alloc(), 64)?;
     let (a, b) = claim_beside(&rt, &table, first, second);
+    drop(table);
     assert!(rt; a.wrapping_add(b) == 64);
     Ok(())
 }

@@ -16,8 +16,16 @@ returns-in-Some-clause-claimed g c =
     let blocks = board.frame.layout.blocks in
     let step = c.loop-step.step in
     let few : step < blocks = omega arith in
-    found-round board c.args.from step c.block_round-block.result
-    (◌∙◌ {b = block_round c.blocks-blocks.result c.args.from step} c.block_round-block.ensures.round
-    (ap (λ n. block_round n c.args.from step) c.blocks-blocks.ensures)) c.args.hand.now
-    c.loop-step.hand c.claim.new.hand c.claim.result c.in-Some.claimed c.in-Some.is few (omega arith) c.loop-step.invariant.missed
-    c.claim.ensures.claimed
+    found-round g.row.P.Denot g.row.P-Entry.Denot board
+    (record {
+      from = c.args.from;
+      step = step;
+      block = c.block_round-block.result;
+      at = ◌∙◌ {b = block_round c.blocks-blocks.result c.args.from step} c.block_round-block.ensures.round
+          (ap (λ n. block_round n c.args.from step) c.blocks-blocks.ensures.blocks);
+      old = c.args.hand.now;
+      middle = c.loop-step.hand;
+      new = c.claim.new.hand;
+      before = c.loop-step.invariant.missed;
+    })
+    c.claim.result c.in-Some.claimed c.in-Some.is few (omega arith) c.claim.ensures.claimed

@@ -1,4 +1,6 @@
-use Rattle.std.specs.Prelude.{◌≡◌, ℕ, ◌-◌, ◌^◌, min}
+use Rattle.std.specs.Prelude.{◌≡◌, ◌+◌, ◌*◌, ◌≤◌}
+use Rattle.node_tree.specs.declared.node.TheConstants.{MOST_NODES}
+use Rattle.life_rules.specs.declared.limits.TheConstants.{MOST_BLOCKS}
 use Rattle.table_steps.specs.Views.{IsHandOf}
 use Rattle.stop_calls.specs.Nestings.{Scans, places_left}
 use Rattle.table_use.specs.Uses.{KeepsReports, KeepsHoldings}
@@ -17,7 +19,8 @@ invariant-loop-place l = record {
   reports : KeepsReports l.fn.hand.me l.hand.me;
   holds : KeepsHoldings l.fn.hand.me l.hand.me;
   steps : GoesOn l.fn.hand.me l.hand.me;
-  ran : (ran : ℕ) × (l.count ≡ min ran (2 ^ 32 - 1)) × RunsSome l.table ran l.fn.scan l.scan l.fn.hand l.hand;
+  few : l.count + places_left l.table l.scan ≤ MOST_NODES * MOST_BLOCKS;
+  ran : RunsSome l.table l.count l.fn.scan l.scan l.fn.hand l.hand;
 }
 
 abbrev pub decreases-loop-place : goal.decreases-loop-place

@@ -20,7 +20,17 @@ add_children-requires-clause-generation g c =
 
 pub invariant_of-hand : goal.invariant_of-hand
 invariant_of-hand g c =
-    remembers-awaited c.args.self.now c.hand.inside.seat c.await_at.new.seat c.hand.inside.owed c.add_children.new.owed
-    c.hand.invariant c.await_at.ensures.stays.same.0 c.add_children.ensures.layout g.P.Cargo _ _ _ c.args.name c.args.children.now
+    remembers-awaited g.row.P.Denot g.row.P-Entry.Denot c.args.self.now
+    (record {
+      seat = c.hand.inside.seat;
+      set = c.hand.inside.owed;
+      runs = c.hand.inside.runs;
+      old = c.hand.invariant;
+      new = c.await_at.new.seat;
+      after = c.add_children.new.owed;
+      table = c.await_at.ensures.stays.same.0;
+      layout = c.add_children.ensures.layout;
+    })
+    g.P.Cargo _ _ _ c.args.name c.args.children.now
     (subst (λ s. CanAwait g.P.Cargo c.args.self.now.frame s.me c.args.name c.args.children.now) (sym c.hand.view_is) c.requires.needs)
     c.await_at.ensures.awaits.did c.add_children.ensures.added

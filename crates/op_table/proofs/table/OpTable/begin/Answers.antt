@@ -26,8 +26,18 @@ remove-requires g c =
 pub invariant_of-hand : goal.invariant_of-hand
 invariant_of-hand g c =
     let can = subst (λ s. CanBegin g.P.Cargo c.args.self.now.frame s.me c.args.name) (sym c.hand.view_is) c.requires.needs in
-    remembers-begun c.args.self.now c.hand.inside.seat c.begin_at.new.seat c.hand.inside.owed c.remove.new.self c.hand.invariant
-    (c.begin_at.ensures.stays.same.0 ∙ c.renew.ensures.stays.same.0) c.remove.ensures.layout g.P.Cargo _ _ _ c.args.name c.renew.new.seat.me
+    remembers-begun g.row.P.Denot g.row.P-Entry.Denot c.args.self.now
+    (record {
+      seat = c.hand.inside.seat;
+      set = c.hand.inside.owed;
+      runs = c.hand.inside.runs;
+      old = c.hand.invariant;
+      new = c.begin_at.new.seat;
+      after = c.remove.new.self;
+      table = c.begin_at.ensures.stays.same.0 ∙ c.renew.ensures.stays.same.0;
+      layout = c.remove.ensures.layout;
+    })
+    g.P.Cargo _ _ _ c.args.name c.renew.new.seat.me
     (has-owed c.hand.inside.seat c.hand.inside.owed c.hand.invariant c.args.name (record { owed = can.owed; owes = can.owes }))
     c.renew.ensures.renewed c.begin_at.ensures.begun.did c.remove.ensures.has
 

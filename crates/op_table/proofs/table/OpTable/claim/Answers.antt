@@ -17,8 +17,18 @@ insert-requires-clause-generation g c =
 
 pub invariant_of-hand-2 : goal.invariant_of-hand-2
 invariant_of-hand-2 g c =
-    remembers-claimed c.args.self.now c.hand.inside.seat c.claim_at.new.seat c.hand.inside.owed c.insert.new.self
-    c.hand.invariant c.claim_at.ensures.stays.same.0 c.insert.ensures.layout c.args.block c.in_ok-claimed.claimed c.root.result
+    remembers-claimed g.row.P.Denot g.row.P-Entry.Denot c.args.self.now
+    (record {
+      seat = c.hand.inside.seat;
+      set = c.hand.inside.owed;
+      runs = c.hand.inside.runs;
+      old = c.hand.invariant;
+      new = c.claim_at.new.seat;
+      after = c.insert.new.self;
+      table = c.claim_at.ensures.stays.same.0;
+      layout = c.insert.ensures.layout;
+    })
+    c.args.block c.in_ok-claimed.claimed c.root.result
     c.root.ensures.name c.in_ok-claimed.ensures.claimed
     (subst (OwesNoneThere c.hand.inside.seat.me.0) (sym c.root.ensures.name) c.in_ok-claimed.ensures.owed)
     c.insert.ensures.has

@@ -18,7 +18,7 @@ pub passes_block-requires-clause-next : goal.passes_block-requires-clause-next
 passes_block-requires-clause-next g c κs within =
     let board = c.args.table.now in
     let walk = c.loop-place.invariant.walk in
-    let n = next-in board c.tree.result.now c.blocks-in-loop-place.result c.loop-place.self c.in-Some.place c.tree.ensures.tree c.blocks-in-loop-place.ensures c.in-Some.ensures in
+    let n = next-in board c.tree.result.now c.blocks-in-loop-place.result c.loop-place.self c.in-Some.place c.tree.ensures.tree c.blocks-in-loop-place.ensures.blocks c.in-Some.ensures in
     λ scope. can-enter board c.args.self.now c.args.hand.now walk n
     (sym walk.source_is ∙ scope)
 
@@ -26,7 +26,7 @@ pub loop-place-preserved-then-passes_block : goal.loop-place-preserved-then-pass
 loop-place-preserved-then-passes_block g c =
     let board = c.args.table.now in
     let walk = c.loop-place.invariant.walk in
-    let n = next-in board c.tree.result.now c.blocks-in-loop-place.result c.loop-place.self c.in-Some.place c.tree.ensures.tree c.blocks-in-loop-place.ensures c.in-Some.ensures in
+    let n = next-in board c.tree.result.now c.blocks-in-loop-place.result c.loop-place.self c.in-Some.place c.tree.ensures.tree c.blocks-in-loop-place.ensures.blocks c.in-Some.ensures in
     let passed = subst (λ (t : SourceRef). PassesBlock board t c.loop-place.read c.passes_block.new.read c.loop-place.hand c.passes_block.new.hand c.in-Some.place.block)
     walk.source_is c.if-passes_block.ensures.met in
     record {
@@ -41,7 +41,7 @@ pub run_step-requires-clause-needs : goal.run_step-requires-clause-needs
 run_step-requires-clause-needs g c κs within =
     let board = c.args.table.now in
     let walk = c.loop-place.invariant.walk in
-    let n = next-in board c.tree.result.now c.blocks-in-loop-place.result c.loop-place.self c.in-Some.place c.tree.ensures.tree c.blocks-in-loop-place.ensures c.in-Some.ensures in
+    let n = next-in board c.tree.result.now c.blocks-in-loop-place.result c.loop-place.self c.in-Some.place c.tree.ensures.tree c.blocks-in-loop-place.ensures.blocks c.in-Some.ensures in
     let met = subst (λ (t : SourceRef). IsBlockMet board t c.in-Some.place.block c.loop-place.read c.passes_block.new.read c.loop-place.hand c.passes_block.new.hand false)
     walk.source_is c.if-passes_block.ensures.met in
     let on = entered board c.args.self.now c.args.hand.now walk
@@ -54,7 +54,7 @@ pub returns-in-Some-run_step-clause-scanned : goal.returns-in-Some-run_step-clau
 returns-in-Some-run_step-clause-scanned g c =
     let board = c.args.table.now in
     let walk = c.loop-place.invariant.walk in
-    let n = next-in board c.tree.result.now c.blocks-in-loop-place.result c.loop-place.self c.in-Some.place c.tree.ensures.tree c.blocks-in-loop-place.ensures c.in-Some.ensures in
+    let n = next-in board c.tree.result.now c.blocks-in-loop-place.result c.loop-place.self c.in-Some.place c.tree.ensures.tree c.blocks-in-loop-place.ensures.blocks c.in-Some.ensures in
     let met = subst (λ (t : SourceRef). IsBlockMet board t c.in-Some.place.block c.loop-place.read c.passes_block.new.read c.loop-place.hand c.passes_block.new.hand false)
     walk.source_is c.if-passes_block.ensures.met in
     let on = entered board c.args.self.now c.args.hand.now walk
@@ -68,7 +68,7 @@ pub loop-place-preserved : goal.loop-place-preserved
 loop-place-preserved g c =
     let board = c.args.table.now in
     let walk = c.loop-place.invariant.walk in
-    let n = next-in board c.tree.result.now c.blocks-in-loop-place.result c.loop-place.self c.in-Some.place c.tree.ensures.tree c.blocks-in-loop-place.ensures c.in-Some.ensures in
+    let n = next-in board c.tree.result.now c.blocks-in-loop-place.result c.loop-place.self c.in-Some.place c.tree.ensures.tree c.blocks-in-loop-place.ensures.blocks c.in-Some.ensures in
     let met = subst (λ (t : SourceRef). IsBlockMet board t c.in-Some.place.block c.loop-place.read c.passes_block.new.read c.loop-place.hand c.passes_block.new.hand false)
     walk.source_is c.if-passes_block.ensures.met in
     let on = entered board c.args.self.now c.args.hand.now walk
@@ -88,4 +88,4 @@ pub returns-clause-scanned : goal.returns-clause-scanned
 returns-clause-scanned g c =
     let board = c.args.table.now in
     through board c.args.self.now c.args.hand.now c.loop-place.invariant.walk
-    (none-in board c.tree.result.now c.blocks-in-loop-place.result c.loop-place.self c.tree.ensures.tree c.blocks-in-loop-place.ensures c.in_default.ensures)
+    (none-in board c.tree.result.now c.blocks-in-loop-place.result c.loop-place.self c.tree.ensures.tree c.blocks-in-loop-place.ensures.blocks c.in_default.ensures)
