@@ -14,3 +14,6 @@ pub mod Plans
 pub mod OneShape
 pub mod Runnable
 pub mod Trees
+pub mod Taken
+pub mod ShortNames
+pub mod Roots

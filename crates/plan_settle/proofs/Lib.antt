@@ -1,4 +1,3 @@
-pub mod Short
 pub mod ShortErrors
 pub mod InPlace
 pub mod Operands

@@ -23,7 +23,6 @@ use Rattle.plan_laws.proofs.Readings.{settled-by-case}
 use Rattle.plan_kinds.specs.Shapes.{Shape, HasShape, never_or}
 use Rattle.plan_kinds.specs.Gives.{gives, picks}
 use Rattle.plan_kinds.specs.Signatures.{sig_of, Fits}
-use Rattle.plan_kinds.specs.declared.sig.Sig.{Sig}
 use Rattle.plan_shape.specs.Blueprint.{Blueprint}
 use Rattle.plan_settle.specs.declared.evaluation.Evaluation.{Evaluation}
 use Rattle.plan_kinds.proofs.Plans.{plans-built}
@@ -31,28 +30,9 @@ use Rattle.node_images.specs.Makes.{CompletesInPlace}
 use Rattle.plan_kinds.specs.Runnable.{RunsWith, IsRunnable}
 use Rattle.plan_settle.specs.Runs.{MayPick, SettlesLong}
 use Rattle.plan_settle.specs.Settles.{settled_by, settled_case}
+use Rattle.plan_kinds.proofs.Taken.{fits-value, value-taken, error-taken, stopped-taken}
 use Rattle.plan_kinds.proofs.Runnable.{first, built, matched, child-fits, runs-child, before-body, bodies-run}
 use Rattle.plan_settle.proofs.InPlace.{none-in_place, one-in_place, shape-in_place, settled-place, pick-place}
-
-shape-taken : (job : Job) (shape : Shape) (values : List Datum) → IsTrue (never_or (takes job) shape) →
-    HasShape values shape → TakesData job values
-shape-taken job None values takes have = absurd have
-shape-taken job (Some kinds) values takes have = (kinds, have, takes)
-
-value-taken : (job : Job) (sig : Sig) (done : Completion) → IsTrue (never_or (takes job) sig.value) →
-    Fits sig done → IfSome (value_data done) (TakesData job)
-value-taken job sig (Value values) takes fits = shape-taken job sig.value values takes fits
-value-taken job sig done takes fits = tt
-
-error-taken : (job : Job) (done : Completion) → IsTrue (takes job (TextKind ∷ [])) →
-    IfSome (error_data done) (TakesData job)
-error-taken job (Error name) takes = (TextKind ∷ [], (tt, tt), takes)
-error-taken job done takes = tt
-
-stopped-taken : (job : Job) (done : Completion) → IsTrue (takes job []) →
-    IfSome (stopped_data done) (TakesData job)
-stopped-taken job Stopped takes = ([], tt, takes)
-stopped-taken job done takes = tt
 
 -- data of a shape have its kinds
 have-kinds : (test : List Kind → Bool) (shape : Shape) (values : List Datum) → IsTrue (never_or test shape) →
@@ -92,9 +72,10 @@ module _ (run : Evaluation) {n : ℕ} {args : List Datum} (runnable : IsRunnable
       slice_get run.plan.now.nodes n ≡ Some (Then k job) → done ≡ settled_by run k args → IfSome (value_data done) (TakesData job)
   then-taken {k} {job} {done} at same =
       subst (λ d. IfSome (value_data d) (TakesData job)) (sym same)
-      (value-taken job (sig_of plan.nodes k runs.shape) (settled_by run k args)
+      (value-taken job (sig_of plan.nodes k runs.shape).value (settled_by run k args)
       (matched plan runnable n args runs (Then k job) at)
-      (child-fits plan runnable n args runs (Then k job) at k (first k []) run.number run.asked))
+      (fits-value (sig_of plan.nodes k runs.shape) (settled_by run k args)
+      (child-fits plan runnable n args runs (Then k job) at k (first k []) run.number run.asked)))
 
   pub upon_error-taken : {k : ℕ} {job : Job} {done : Completion} →
       slice_get run.plan.now.nodes n ≡ Some (UponError k job) →

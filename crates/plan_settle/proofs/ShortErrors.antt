@@ -25,7 +25,7 @@ use Rattle.plan_shape.specs.Blueprint.{Blueprint, IsPlan}
 use Rattle.plan_kinds.specs.Small.{IsSmallNode, IsSmall, HasShortNames, own_name}
 use Rattle.plan_settle.specs.Runs.{SettlesLong}
 use Rattle.plan_kinds.proofs.Plans.{plans-built}
-use Rattle.plan_settle.proofs.Short.{ShortAnswer, IsShortJob, job-short}
+use Rattle.plan_kinds.proofs.ShortNames.{ShortAnswer, IsShortJob, job-short}
 
 -- an error's name is short
 abbrev pub IsShort : Completion → Type 0

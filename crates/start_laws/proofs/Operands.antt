@@ -1,5 +1,5 @@
 -- No operand is wrong: a node's job takes what its child completes with.
-use Rattle.std.specs.Prelude.{Contains, IsTrue, IfSome}
+use Rattle.std.specs.Prelude.{Contains, IsTrue}
 use Rattle.std.specs.Option.{option_map_or}
 use Rattle.std.proofs.Common.{◌≡◌, ℕ, true, List, [], ◌∷◌, Option, Some, None, refl, subst}
 use Rattle.std.proofs.lemmas.Bool.{and_parts}
@@ -7,17 +7,16 @@ use Rattle.exec_value.specs.declared.kinds.Kind.{Kind}
 use Rattle.exec_value.specs.declared.kinds.Kind.TheVariants.{Text as TextKind}
 use Rattle.exec_value.specs.declared.data.Datum.{Datum}
 use Rattle.exec_value.specs.declared.outcome.Completion.{Completion}
-use Rattle.exec_value.specs.declared.outcome.Completion.TheVariants.{Value, Error, Stopped, NoMemory}
-use Rattle.exec_job.specs.Apply.{TakesData}
+use Rattle.exec_value.specs.declared.outcome.Completion.TheVariants.{Value, NoMemory}
 use Rattle.exec_job.specs.Takes.{is_element, is_int, takes}
 use Rattle.exec_job.specs.declared.job.Job.{Job}
 use Rattle.plan_rules.specs.declared.node.Node.{Node}
 use Rattle.plan_rules.specs.declared.node.Node.TheVariants.{Then, UponError, UponStopped, LetValue, LetError, LetStopped, Bulk}
-use Rattle.plan_rules.specs.Images.{value_data, error_data, stopped_data}
 use Rattle.plan_rules.specs.Seen.{seen_state}
 use Rattle.plan_kinds.specs.Shapes.{Shape, HasShape, never_or}
 use Rattle.plan_kinds.specs.Gives.{gives, picks}
 use Rattle.plan_kinds.specs.Signatures.{sig_of, matches, Fits}
+use Rattle.plan_kinds.proofs.Taken.{HasValue, has-value, value-taken, error-taken, stopped-taken}
 use Rattle.plan_shape.specs.Blueprint.{Blueprint}
 use Rattle.exec_start.specs.declared.entry.Entry.{Entry}
 use Rattle.exec_start.specs.Entries.{plan_of, node_of, args_of, record_number, asked_of}
@@ -29,28 +28,6 @@ use Rattle.exec_start.proofs.KindsBelow.{run-ends}
 use Rattle.start_laws.specs.Nodes.{IsStartOf, plain_children, JobTakes}
 use Rattle.start_laws.specs.Laws.{JobsTakeTheirData}
 use Rattle.start_laws.proofs.Pairs.{sole, start-kinds, delivers-allowed, child-allowed, child-among, plain-run}
-
--- a value, where the completion is one, has this shape
-abbrev HasValue : Shape → Completion → Type 0
-HasValue shape done = (values : List Datum) → done ≡ Value values → HasShape values shape
-
-shape-taken : (job : Job) (shape : Shape) (values : List Datum) → IsTrue (never_or (takes job) shape) → HasShape values shape →
-    TakesData job values
-shape-taken job None values match have = absurd have
-shape-taken job (Some kinds) values match have = (kinds, have, match)
-
-value-taken : (job : Job) (shape : Shape) (done : Completion) → IsTrue (never_or (takes job) shape) → HasValue shape done →
-    IfSome (value_data done) (TakesData job)
-value-taken job shape (Value values) match has = shape-taken job shape values match (has values refl)
-value-taken job shape done match has = tt
-
-error-taken : (job : Job) (done : Completion) → IsTrue (takes job (TextKind ∷ [])) → IfSome (error_data done) (TakesData job)
-error-taken job (Error name) match = (TextKind ∷ [], (tt, tt), match)
-error-taken job done match = tt
-
-stopped-taken : (job : Job) (done : Completion) → IsTrue (takes job []) → IfSome (stopped_data done) (TakesData job)
-stopped-taken job Stopped match = ([], tt, match)
-stopped-taken job done match = tt
 
 -- what a job picks by, it takes
 picks-takes : (pick : Job) (kinds : List Kind) → IsTrue (picks pick kinds) → IsTrue (takes pick kinds)
@@ -107,7 +84,8 @@ module _ (start : List Entry) (node : Node) (at : IsStartOf start node) (parcel 
   among = child-among parcel.start start node at.node_is of
 
   -- a value of the child is of its signature
-  valued : HasValue (sig_of plan.nodes child has.shape).value parcel.completion
+  valued : (values : List Datum) → parcel.completion ≡ Value values →
+      HasShape values (sig_of plan.nodes child has.shape).value
   valued values is =
       let memory = value-memory parcel.completion values is in
       let allowed = delivers-allowed parcel.start parcel.saw parcel.completion delivers.may memory in
@@ -119,7 +97,9 @@ module _ (start : List Entry) (node : Node) (at : IsStartOf start node) (parcel 
       (seen_state (asked_below (Some node) (asked_of start)) parcel.saw) parcel.completion below.allowed)
 
   takes-it : JobTakes node parcel.completion
-  takes-it = taken plan.nodes has.shape parcel.completion node match child among valued
+  takes-it =
+      taken plan.nodes has.shape parcel.completion node match child among
+      (has-value (sig_of plan.nodes child has.shape).value parcel.completion valued)
 
 pub jobs-take : JobsTakeTheirData
 jobs-take = takes-it
