@@ -9,7 +9,7 @@ use std::alloc::{AllocError, Global};
 use std::marker::Model;
 
 /// A cell for each block (the rows) and node (the columns).
-#[derive(Debug, Drop)]
+#[derive(Drop)]
 pub struct Grid<T> {
     rows: u32,
     columns: u32,

@@ -19,7 +19,7 @@ use life_rules::{Bits, CallbackPhase, ControlWord, Place, SourceAt};
 use node_tree::{NearestSource, ScopeKind, Tree};
 
 /// The parts of a state.
-#[derive(Debug, Drop)]
+#[derive(Drop)]
 pub struct Parts {
     pub tree: Tree,
     pub kind: ScopeKind,

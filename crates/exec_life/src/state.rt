@@ -18,7 +18,7 @@ use std::alloc::{AllocError, Global};
 use std::marker::Model;
 
 /// The words of all operations, and what each hand knows. It is sound between any two steps.
-#[derive(Debug, Drop)]
+#[derive(Drop)]
 pub struct State {
     parts: Parts,
 }

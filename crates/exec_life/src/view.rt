@@ -34,7 +34,7 @@ pub enum Role {
 }
 
 /// What a hand knows of its own doings.
-#[derive(Debug, Drop)]
+#[derive(Drop)]
 pub struct View {
     blocks: u32,
     nodes: u32,

@@ -50,7 +50,7 @@ const UNUSED: ScopeWord = ScopeWord {
 };
 
 /// The words of a state, as they read.
-#[derive(Debug, Drop)]
+#[derive(Drop)]
 pub struct Words {
     nodes: u32,
     blocks: Vec<BlockWord>,

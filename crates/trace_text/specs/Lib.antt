@@ -8,6 +8,7 @@ pub mod ScheduleInside
 pub mod Texts
 pub mod Adding
 pub mod Words
+pub mod WordTable
 pub mod Cuts
 pub mod Reading
 pub mod Laws

@@ -7,7 +7,7 @@ use crate::words::{read_kind, read_number};
 use node_tree::ScopeKind;
 
 /// The numbers of an opening.
-#[derive(Clone, Copy, PartialEq, Eq)]
+#[derive(Clone, Copy)]
 pub struct Header {
     pub nodes: u32,
     pub blocks: u32,

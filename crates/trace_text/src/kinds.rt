@@ -5,7 +5,7 @@ ghost use Rattle.trace_text.specs.Kinds.{block_event, place_event, bare_event, b
 use life_rules::{Event, Place};
 
 /// The kinds of event that have only a block.
-#[derive(Clone, Copy, Debug, PartialEq, Eq)]
+#[derive(Clone, Copy)]
 pub enum BlockKind {
     Claim,
     Release,
@@ -13,7 +13,7 @@ pub enum BlockKind {
 }
 
 /// The kinds of event that have only a place.
-#[derive(Clone, Copy, Debug, PartialEq, Eq)]
+#[derive(Clone, Copy)]
 pub enum PlaceKind {
     Begin,
     Take,
@@ -27,7 +27,7 @@ pub enum PlaceKind {
 }
 
 /// The kinds of event that have nothing beside them.
-#[derive(Clone, Copy, Debug, PartialEq, Eq)]
+#[derive(Clone, Copy)]
 pub enum BareKind {
     Enter,
     MarkUsed,

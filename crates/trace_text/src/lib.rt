@@ -28,6 +28,7 @@ mod read_opening;
 mod reading;
 mod schedule;
 mod trace;
+mod word_table;
 mod words;
 mod writing;
 

@@ -8,7 +8,7 @@ use node_tree::NodeList;
 use std::alloc::{AllocError, Global};
 
 /// What an event consists of.
-#[derive(Clone, Copy, Debug)]
+#[derive(Clone, Copy)]
 pub enum Parts<'a> {
     Block(BlockKind, u32),
     Place(PlaceKind, Place),

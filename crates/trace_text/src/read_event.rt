@@ -8,6 +8,7 @@ ghost use Rattle.trace_text.specs.Words.{in_halves, number_in, place_in, childre
 
 use crate::cut::cut_at;
 use crate::kinds::{BareKind, BlockKind, PlaceKind};
+use crate::word_table::find_word;
 use crate::words::{
     read_cause, read_children, read_number, read_place, read_resting, read_scope, read_source,
 };
@@ -169,70 +170,48 @@ fn read_run(rest: &[u8]) -> Option<Event>
 fn read_block_kind(word: &[u8]) -> Option<BlockKind>
     ensures { result ≡ block_kind_in word.now }
 {
-    if word == b"claim".as_slice() {
-        return Some(BlockKind::Claim);
-    }
-    if word == b"release".as_slice() {
-        return Some(BlockKind::Release);
-    }
-    if word == b"skip".as_slice() {
-        return Some(BlockKind::Skip);
-    }
-    None
+    find_word(
+        &[
+            (b"claim".as_slice(), BlockKind::Claim),
+            (b"release".as_slice(), BlockKind::Release),
+            (b"skip".as_slice(), BlockKind::Skip),
+        ],
+        word,
+    )
 }
 
 #[tactic(auto, unfolding(crate::specs::Words::place_kind_in))]
 fn read_place_kind(word: &[u8]) -> Option<PlaceKind>
     ensures { result ≡ place_kind_in word.now }
 {
-    if word == b"begin".as_slice() {
-        return Some(PlaceKind::Begin);
-    }
-    if word == b"take".as_slice() {
-        return Some(PlaceKind::Take);
-    }
-    if word == b"finish".as_slice() {
-        return Some(PlaceKind::Finish);
-    }
-    if word == b"report".as_slice() {
-        return Some(PlaceKind::Report);
-    }
-    if word == b"arm".as_slice() {
-        return Some(PlaceKind::Arm);
-    }
-    if word == b"end_run".as_slice() {
-        return Some(PlaceKind::EndRun);
-    }
-    if word == b"withdraw".as_slice() {
-        return Some(PlaceKind::Withdraw);
-    }
-    if word == b"withdraw_own".as_slice() {
-        return Some(PlaceKind::WithdrawOwn);
-    }
-    if word == b"rouse".as_slice() {
-        return Some(PlaceKind::Rouse);
-    }
-    None
+    find_word(
+        &[
+            (b"begin".as_slice(), PlaceKind::Begin),
+            (b"take".as_slice(), PlaceKind::Take),
+            (b"finish".as_slice(), PlaceKind::Finish),
+            (b"report".as_slice(), PlaceKind::Report),
+            (b"arm".as_slice(), PlaceKind::Arm),
+            (b"end_run".as_slice(), PlaceKind::EndRun),
+            (b"withdraw".as_slice(), PlaceKind::Withdraw),
+            (b"withdraw_own".as_slice(), PlaceKind::WithdrawOwn),
+            (b"rouse".as_slice(), PlaceKind::Rouse),
+        ],
+        word,
+    )
 }
 
 #[tactic(auto, unfolding(crate::specs::Words::bare_kind_in))]
 fn read_bare_kind(word: &[u8]) -> Option<BareKind>
     ensures { result ≡ bare_kind_in word.now }
 {
-    if word == b"enter".as_slice() {
-        return Some(BareKind::Enter);
-    }
-    if word == b"mark_used".as_slice() {
-        return Some(BareKind::MarkUsed);
-    }
-    if word == b"leave".as_slice() {
-        return Some(BareKind::Leave);
-    }
-    if word == b"close".as_slice() {
-        return Some(BareKind::Close);
-    }
-    if word == b"join".as_slice() {
-        return Some(BareKind::Join);
-    }
-    None
+    find_word(
+        &[
+            (b"enter".as_slice(), BareKind::Enter),
+            (b"mark_used".as_slice(), BareKind::MarkUsed),
+            (b"leave".as_slice(), BareKind::Leave),
+            (b"close".as_slice(), BareKind::Close),
+            (b"join".as_slice(), BareKind::Join),
+        ],
+        word,
+    )
 }

@@ -1,9 +1,22 @@
-use Rattle.std.proofs.Common.{refl, ◌∙◌, ap, get_or, List, length}
+use Rattle.std.proofs.Common.{refl, ◌∙◌, ap, sym, get_or, List, length}
 use Rattle.std.proofs.lemmas.List.{length-replicate}
 use Rattle.life_rules.specs.declared.words.BlockWord.{BlockWord}
 use Rattle.exec_life.specs.WordLists.{first_word}
 use Rattle.common_lemmas.proofs.Lists.{get_or-replicate_same}
 use Rattle.exec_life.proofs.words.Words.new.Goals as goal
+
+pub invariant_of-result : goal.invariant_of-result
+invariant_of-result c =
+    let filled = c.in_ok-vec.ensures.items_if_clones_equal (λ y same. same) in
+    let blocks = sym (ap length filled ∙ length-replicate c.args.blocks first_word) in
+    let control = c.in_ok-new.ensures in
+    let callback = c.in_ok-new-2.ensures in
+    let source = c.in_ok-new-3.ensures in
+    record {
+      control_size = record { rows_are = control.rows_are ∙ blocks; columns_are = control.columns_are };
+      callback_size = record { rows_are = callback.rows_are ∙ blocks; columns_are = callback.columns_are };
+      source_size = record { rows_are = source.rows_are ∙ blocks; columns_are = source.columns_are };
+    }
 
 pub returns : goal.returns
 returns c =

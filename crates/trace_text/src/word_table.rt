@@ -1,0 +1,15 @@
+//! Tables of words.
+ghost use Rattle.std.specs.Prelude.{◌≡◌, map};
+ghost use Rattle.trace_text.specs.WordTable.{found_in};
+
+/// What a table has for a word: the value of the first row of that word.
+pub fn find_word<A: Copy>(rows: &[(&[u8], A)], word: &[u8]) -> Option<A>
+    ensures { result ≡ found_in (map (λ row. (row.0.now, row.1)) rows.now) word.now }
+{
+    'rows: for row in rows {
+        if word == row.0 {
+            return Some(row.1);
+        }
+    }
+    None
+}
