@@ -1,7 +1,7 @@
 -- The step of a `when_all` is opened: what is known of its children, where each has completed.
 use Rattle.std.proofs.Common.{◌≡◌, inl, inr, ℕ, ◌<◌, Bool, true, false, List, ◌∷◌, length, arith, refl, sym, ap, ◌∙◌, subst}
 use Rattle.std.specs.Prelude.{slice_get, slice_index, Option, Some, None, is_some}
-use Rattle.std.proofs.lemmas.Option.{IfSome_then}
+use Rattle.std.proofs.lemmas.Option.{same_Some, IfSome_then}
 use Rattle.life_rules.specs.declared.event.Name.{Name}
 use Rattle.node_tree.specs.Tree.{is_child}
 use Rattle.plan_rules.specs.declared.node.Node.TheVariants.{WhenAll}
@@ -31,19 +31,17 @@ use Rattle.node_steps.specs.Heard.{has_heard}
 use Rattle.node_steps.specs.Midway.{Emptying, Ready}
 use Rattle.node_steps.specs.TakenOut.{item_at, start_at, TakesOwn}
 use Rattle.node_steps.proofs.Frames.{others-on, emptying-less, emptying-none}
+use Rattle.node_steps.proofs.Places.{start-of}
 use Rattle.node_steps.proofs.Opened.{told-none}
 use Rattle.many_steps.specs.Kids.{AreKids}
 use Rattle.exec_all.specs.declared.joining.Joining.{Joining}
 use Rattle.exec_all.specs.Joined.{IsJoined}
 use Rattle.exec_all.specs.Opens.{emptied, ends_in, HaveEnded, has_begun, TakesAll, HaveJoined, Opens}
 use Rattle.exec_all.proofs.Emptied.{emptied-in}
-use Rattle.exec_all.proofs.Plans.{all-kids, among-kids, named-kids, some-kids, all-start, rest-all}
+use Rattle.exec_all.proofs.Plans.{all-kids, among-kids, named-kids, some-kids, rest-all}
 
 some-none : (item : Item) → Some item ≡ None → ⊥
 some-none item e = cc
-
-item-same : (a b : Item) → Some a ≡ Some b → a ≡ b
-item-same a b e = cc
 
 module _ (board : Board Blueprint) (plan : Blueprint) (x : Name) (children : List ℕ) (over : IsOver board plan)
     (at : slice_get plan.nodes x.node ≡ Some (WhenAll children)) (m m1 m2 : Seated Item Entry) (can : CanStep board x m) (own : AtHome)
@@ -111,7 +109,7 @@ module _ (board : Board Blueprint) (plan : Blueprint) (x : Name) (children : Lis
 
       done-is : done ≡ Done (ends among.0)
       done-is =
-          item-same done (Done (ends among.0))
+          same_Some done (Done (ends among.0))
           (sym lay ∙ ap can.kid (sym among.2) ∙ ended.lay among.0 among.1)
 
       fits-here : FitsHome (Done (ends among.0)) x.node false
@@ -149,7 +147,7 @@ module _ (board : Board Blueprint) (plan : Blueprint) (x : Name) (children : Lis
     is-start = subst IsStart env_is starts
 
     own-of : IsStartOf (start_at own) (WhenAll children)
-    own-of = all-start board plan x children over at (start_at own) (least_of (item_at own)) m2 runnable opened is-start
+    own-of = start-of board plan x (WhenAll children) over at (start_at own) (least_of (item_at own)) (λ _. None) m2 runnable opened is-start
 
     begun-ready : (h : AtHome) → IsStartOf (start_at h) (WhenAll children) → Ready board x (start_at h) (least_of (item_at h)) m2 →
         has_begun h ≡ true → Ready board x (start_at h) (length children) m2

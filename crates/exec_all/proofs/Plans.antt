@@ -1,40 +1,32 @@
 -- A `when_all` of a plan, in the table over it.
 use Rattle.std.specs.Prelude.{Contains, slice_get, slice_index}
-use Rattle.std.proofs.Common.{◌≡◌, ℕ, ◌+◌, ◌<◌, ◌≤◌, true, false, ◌&&◌, leb, eqb, List, [], ◌∷◌, length, Option, Some, None, arith, refl, sym, ap, ◌∙◌, subst}
-use Rattle.std.proofs.lemmas.Bool.{and_parts, eqb-true, eq-eqb, leb-true}
+use Rattle.std.proofs.Common.{◌≡◌, ℕ, ◌<◌, ◌≤◌, true, false, ◌&&◌, leb, eqb, List, [], ◌∷◌, length, Option, Some, None, arith, refl, sym, ap, ◌∙◌, subst}
+use Rattle.std.proofs.lemmas.Bool.{and_parts, eq-eqb, leb-true}
 use Rattle.std.proofs.lemmas.List.{append-nil, get_or_default}
 use Rattle.std.proofs.lemmas.List.Elements.{Contains-get_or}
-use Rattle.std.proofs.lemmas.Option.{slice_get_within}
 use Rattle.common_lemmas.specs.Lists.{are_different}
-use Rattle.common_lemmas.proofs.Bool.{either}
 use Rattle.exec_value.specs.declared.outcome.Completion.{Completion}
 use Rattle.exec_value.specs.declared.outcome.Completion.TheVariants.{Value, Error, Stopped, NoMemory}
 use Rattle.life_rules.specs.declared.event.Name.{Name}
-use Rattle.node_tree.specs.Tree.{is_root, is_child}
+use Rattle.node_tree.specs.Tree.{is_child}
 use Rattle.plan_rules.specs.declared.node.Node.{Node}
 use Rattle.plan_rules.specs.declared.node.Node.TheVariants.{WhenAll}
 use Rattle.plan_shape.specs.Blueprint.{Blueprint}
 use Rattle.plan_shape.specs.Children.{children_of}
 use Rattle.plan_shape.specs.declared.limits.TheConstants.{MOST_CHILDREN}
-use Rattle.plan_kinds.specs.Runnable.{IsRunnable}
 use Rattle.plan_kinds.specs.TreeLaws.{ShowsNode}
-use Rattle.plan_kinds.proofs.Trees.{trees-show}
 use Rattle.table_steps.specs.Awaits.{is_named}
-use Rattle.table_steps.specs.Claims.{Seated}
 use Rattle.table_steps.specs.Views.{Board}
 use Rattle.exec_start.specs.declared.entry.Entry.{Entry}
-use Rattle.exec_start.specs.declared.item.Item.{Item}
 use Rattle.exec_start.specs.declared.item.Item.TheVariants.{Rest, Done}
 use Rattle.exec_start.specs.Below.{run_below, asked_below}
 use Rattle.exec_start.specs.Bounds.{least_of, least_at_rest, least_when_done}
-use Rattle.exec_start.specs.Entries.{plan_of, node_of}
 use Rattle.exec_start.specs.Parcels.{Delivery}
-use Rattle.exec_start.specs.Starts.{IsStart}
 use Rattle.exec_recv.specs.Over.{IsOver}
 use Rattle.start_laws.specs.Nodes.{IsStartOf}
 use Rattle.start_laws.proofs.Pairs.{none-some, below-plain}
-use Rattle.node_steps.specs.Midway.{Ready}
 use Rattle.node_steps.specs.Starts.{asked_for_child}
+use Rattle.node_steps.proofs.Places.{node-shown}
 use Rattle.many_steps.specs.Kids.{AreKids}
 use Rattle.many_steps.proofs.Lists.{any-at}
 use Rattle.exec_all.specs.Starts.{AllRun}
@@ -44,25 +36,15 @@ children-are children n = append-nil children
 
 module _ (board : Board Blueprint) (plan : Blueprint) (x : Name) (children : List ℕ) (over : IsOver board plan)
     (at : slice_get plan.nodes x.node ≡ Some (WhenAll children)) where
-  shows : ShowsNode board.frame.tree x.node (WhenAll children)
-  shows = subst (λ t. ShowsNode t x.node (WhenAll children)) (sym over.tree) ((trees-show plan over.is_plan).each x.node (WhenAll children) at)
-
-  -- it isn't the receiver node
-  pub all-inner : is_root board.frame.tree x.node ≡ false
-  all-inner =
-      let size : length board.frame.tree ≡ length plan.nodes + 1 = ap length over.tree ∙ (trees-show plan over.is_plan).size in
-      let within = slice_get_within plan.nodes x.node (WhenAll children) at in
-      either (is_root board.frame.tree x.node)
-      (λ t. let last : x.node + 1 ≡ length board.frame.tree = eqb-true (x.node + 1) (length board.frame.tree) t in
-      absurd (omega (arith, size, within, last)))
-      (λ f. f)
+  shown : ShowsNode board.frame.tree x.node (WhenAll children)
+  shown = node-shown board plan x (WhenAll children) over at
 
   -- these are its children, and no others
   pub all-kids : AreKids board x children
   all-kids =
       record {
         each = λ i within.
-            (shows.children (slice_index children i)).1
+            (shown.children (slice_index children i)).1
             (subst (λ l. Contains l (slice_index children i)) (sym (children-are children x.node)) (Contains-get_or children i 0 within), refl);
         different = subst (λ l. are_different l ≡ true) (children-are children x.node)
             (over.is_plan.forest.each x.node (WhenAll children) at).distinct;
@@ -71,7 +53,7 @@ module _ (board : Board Blueprint) (plan : Blueprint) (x : Name) (children : Lis
   pub among-kids : (n : ℕ) → is_child board.frame.tree x.node n ≡ true → (i : ℕ) × (i < length children) × (slice_index children i ≡ n)
   among-kids n below =
       let there : Contains children n =
-      subst (λ l. Contains l n) (children-are children x.node) ((shows.children n).0 below).0 in
+      subst (λ l. Contains l n) (children-are children x.node) ((shown.children n).0 below).0 in
       (there.0, there.1, get_or_default children there.0 0 n there.1 ∙ there.2)
 
   pub named-kids : (n : ℕ) → is_child board.frame.tree x.node n ≡ true → is_named children n ≡ true
@@ -86,17 +68,6 @@ module _ (board : Board Blueprint) (plan : Blueprint) (x : Name) (children : Lis
       (over.is_plan.forest.each x.node (WhenAll children) at).count in
       let most = leb-true 2 (length children) (and_parts (leb 2 (length children)) (leb (length children) MOST_CHILDREN) count).0 in
       omega (arith, most)
-
-  -- the start of a `when_all` that is held is one of this node
-  pub all-start : (start : List Entry) (least : ℕ) (m : Seated Item Entry) → IsRunnable plan → Ready board x start least m → IsStart start →
-      IsStartOf start (WhenAll children)
-  all-start start least m runnable ready is =
-      let same : plan_of start ≡ plan = ready.key ∙ over.over in
-      record {
-        start_is = is;
-        runnable = subst IsRunnable (sym same) runnable;
-        node_is = ap (λ (b : Blueprint). slice_get b.nodes (node_of start)) same ∙ ap (slice_get plan.nodes) ready.node ∙ at;
-      }
 
 -- how many children it must have begun: all when it rests, and at most all when it is done
 least-rest : (children : List ℕ) (kept : Option Delivery) → least_at_rest (Some (WhenAll children)) kept ≡ length children

@@ -21,13 +21,14 @@ use Rattle.exec_recv.specs.Over.{IsOver}
 use Rattle.node_steps.specs.Leaves.{MayLeave, IsLeftAt}
 use Rattle.node_steps.specs.Midway.{Ready}
 use Rattle.node_steps.proofs.Wanted.{bare-leaves}
+use Rattle.node_steps.proofs.Places.{inner-is}
 use Rattle.exec_all.specs.declared.joining.Joining.{Joining}
 use Rattle.exec_all.specs.declared.opening.Opened.{Opened}
 use Rattle.exec_all.specs.Begins.{stopping, MayStop, MayBegin, BeginsAll}
 use Rattle.exec_all.specs.Ends.{MayEndAll, EndsAll}
 use Rattle.exec_all.specs.Opens.{HaveJoined, Opens}
 use Rattle.exec_all.specs.Steps.{StepsAll}
-use Rattle.exec_all.proofs.Plans.{all-inner, all-kids, some-kids, rest-all}
+use Rattle.exec_all.proofs.Plans.{all-kids, some-kids, rest-all}
 
 some-none : (joining : Joining) → Some joining ≡ None → ⊥
 some-none joining e = cc
@@ -68,7 +69,7 @@ module _ (board : Board Blueprint) (plan : Blueprint) (x : Name) (children : Lis
 
   pub then-rests : opened.begun ≡ true → MayLeave board x opened.env None m'
   then-rests begun =
-      bare-leaves board plan x opened.env m' over (all-inner board plan x children over at)
+      bare-leaves board plan x opened.env m' over (inner-is board plan x (WhenAll children) over at)
       (subst (λ k. Ready board x opened.env k m') (sym (rest-all opened.env children None opens.of)) (opens.begun begun))
 
   -- how it went on

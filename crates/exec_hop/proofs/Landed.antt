@@ -25,23 +25,18 @@ use Rattle.start_laws.proofs.ImageCases.{images-allowed}
 use Rattle.start_laws.proofs.LeafCases.{leaves-allowed, stops-allowed}
 use Rattle.start_laws.proofs.Pairs.{none-some, below-plain}
 use Rattle.node_steps.specs.Completes.{MayComplete}
-use Rattle.node_steps.specs.Heard.{MaySee, TellsRequest}
+use Rattle.node_steps.specs.Heard.{MaySee}
 use Rattle.node_steps.specs.Midway.{Ready, KeepsReady}
 use Rattle.node_steps.specs.Starts.{RunsBelow, asked_for_child, MayRun}
 use Rattle.node_steps.proofs.Completed.{or-left, unheard-before}
+use Rattle.node_steps.proofs.Places.{inner-is}
 use Rattle.node_steps.proofs.Frames.{emptying-less}
 use Rattle.node_steps.proofs.Telling.{from-keeps}
 use Rattle.node_steps.proofs.Wanted.{bare-leaves}
 use Rattle.exec_hop.specs.Ends.{stopped_with, passed, MayStop, MayHop, MayPass, MayLand, MayStart, HasStart}
 use Rattle.exec_hop.specs.Kinds.{hop_child}
 use Rattle.exec_hop.specs.Openings.{HasParcel}
-use Rattle.exec_hop.proofs.Places.{Hopping, hop-plain, hop-awaits, hop-runs, hop-image, hop-makes, inner-is}
-
--- what the node saw by a look
-pub look-sees : (board : Board Blueprint) (x : Name) (answer : Bool) (m : Seated Item Entry) → TellsRequest board x answer m →
-    MaySee board x answer m
-look-sees board x false m tells none = refl
-look-sees board x true m tells none = let seen = tells.yes refl in cc
+use Rattle.exec_hop.proofs.Places.{Hopping, hop-plain, hop-awaits, hop-runs, hop-image, hop-makes}
 
 -- after a call that keeps it, it has at hand what it had
 pub has-still : (board : Board Blueprint) (x : Name) (start : List Entry) (node : Node) (m m' : Seated Item Entry) → KeepsReady board x m m' →
@@ -89,7 +84,7 @@ module _ (board : Board Blueprint) (x : Name) (node : Node) (hops : Hopping boar
   -- it may hop with its start alone
   pub hop-bare : IsStoppable node → MayHop board x start None m
   hop-bare stops = record {
-    leaves = bare-leaves board hops.plan x start m hops.over (inner-is board x node hops) bare-ready;
+    leaves = bare-leaves board hops.plan x start m hops.over (inner-is board hops.plan x node hops.over hops.stands) bare-ready;
     stops = asked-stops stops;
   }
 

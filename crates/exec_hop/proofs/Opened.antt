@@ -5,7 +5,7 @@ use Rattle.std.proofs.Common.{◌≡◌, ℕ, Bool, true, false, List, Option, S
 use Rattle.std.proofs.lemmas.Option.{same_Some}
 use Rattle.common_lemmas.specs.Sums.{one}
 use Rattle.life_rules.specs.declared.event.Name.{Name}
-use Rattle.node_tree.specs.Tree.{is_unstoppable}
+use Rattle.node_tree.specs.Tree.{has_source, is_unstoppable}
 use Rattle.plan_rules.specs.declared.node.Node.{Node}
 use Rattle.plan_shape.specs.Blueprint.{Blueprint}
 use Rattle.table_steps.specs.Views.{Board}
@@ -34,7 +34,8 @@ use Rattle.exec_hop.specs.declared.opening.AtHand.{AtHand}
 use Rattle.exec_hop.specs.Hops.{IsUnbegun}
 use Rattle.exec_hop.specs.Kinds.{hop_child}
 use Rattle.exec_hop.specs.Openings.{item_of, TakesAll, HasParcel, Opens}
-use Rattle.exec_hop.proofs.Places.{Hopping, hop-runs, hop-keeps, source-none, start-of}
+use Rattle.node_steps.proofs.Places.{source-none, start-of}
+use Rattle.exec_hop.proofs.Places.{Hopping, hop-plain, hop-runs, hop-keeps}
 
 -- what was taken is what lay there
 module _ (board : Board Blueprint) (x : Name) (own : AtHome) (m m1 : Seated Item Entry) (can : CanStep board x m) (took : TakesOwn board x own m m1) where
@@ -64,7 +65,10 @@ module _ (board : Board Blueprint) (x : Name) (node : Node) (hops : Hopping boar
   start = start_at taken.own
 
   own-of : IsStartOf start node
-  own-of = start-of board x node hops start (least_known taken) m all.takes.ready starts
+  own-of = start-of board hops.plan x node hops.over hops.stands start (least_known taken) (λ _. None) m hops.runnable all.takes.ready starts
+
+  plain : has_source board.frame.tree x.node ≡ false
+  plain = source-none board hops.plan x node hops.over hops.stands (hop-plain node hops.is)
 
   own-ready : Ready board x start 0 m
   own-ready = emptying-less board x start m (least_known taken) 0 (λ _. None) (omega arith) all.takes.ready
@@ -88,7 +92,7 @@ module _ (board : Board Blueprint) (x : Name) (node : Node) (hops : Hopping boar
         (let full : one (is_some taken.below) ≡ 1 = ap (λ (o : Option Delivery). one (is_some o)) e in omega (arith, full))
         all.takes.ready;
     from = from-plain start parcel n _
-        (found-done board x start n m parcel (found-there n parcel names e) starts (source-none board x node hops)) node own-of
+        (found-done board x start n m parcel (found-there n parcel names e) starts plain) node own-of
         (hop-runs node hops.is n names);
   }
 
@@ -98,7 +102,7 @@ module _ (board : Board Blueprint) (x : Name) (node : Node) (hops : Hopping boar
   below-calm un o names None e = tt
   below-calm un None names (Some parcel) e = absurd (no-parcel parcel names e)
   below-calm un (Some n) names (Some parcel) e =
-      ((found-there n parcel names e).shelters (source-none board x node hops) un).saw
+      ((found-there n parcel names e).shelters plain un).saw
 
   -- and the one with which the node rested
   kept-here : (kept : Option Delivery) → parcel_in (item_at taken.own) ≡ kept → IfSome kept (HasParcel board x start m)

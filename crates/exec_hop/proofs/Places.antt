@@ -1,13 +1,12 @@
 -- Where the nodes stand that hop or shelter, and whose starts they have.
 use Rattle.std.specs.Prelude.{Contains, slice_get}
 use Rattle.std.specs.Option.{option_to_list}
-use Rattle.std.proofs.Common.{◌≡◌, ℕ, ◌+◌, ◌<◌, false, List, [], ◌∷◌, length, Option, Some, None, inl, inr, refl, sym, ap, ◌∙◌, subst, arith}
-use Rattle.std.proofs.lemmas.Bool.{eqb-true, cases_lt}
-use Rattle.std.proofs.lemmas.Option.{same_Some, slice_get_within, slice_get_past}
-use Rattle.common_lemmas.proofs.Bool.{either}
+use Rattle.std.proofs.Common.{◌≡◌, ℕ, ◌<◌, false, List, [], ◌∷◌, length, Option, Some, None, inl, inr, refl, subst, arith}
+use Rattle.std.proofs.lemmas.Bool.{cases_lt}
+use Rattle.std.proofs.lemmas.Option.{same_Some, slice_get_past}
 use Rattle.exec_value.specs.declared.outcome.Completion.{Completion}
 use Rattle.life_rules.specs.declared.event.Name.{Name}
-use Rattle.node_tree.specs.Tree.{is_root, has_source, is_unstoppable}
+use Rattle.node_tree.specs.Tree.{is_unstoppable}
 use Rattle.plan_rules.specs.declared.node.Node.{Node}
 use Rattle.plan_rules.specs.declared.node.Node.TheVariants.{Schedule, StartsOn, ContinuesOn, Unstoppable}
 use Rattle.plan_shape.specs.Blueprint.{Blueprint}
@@ -15,21 +14,14 @@ use Rattle.plan_shape.specs.Children.{children_of}
 use Rattle.plan_shape.specs.PlanTree.{is_when_all, spawns}
 use Rattle.plan_shape.specs.PlanTree as plan_tree
 use Rattle.plan_kinds.specs.Runnable.{IsRunnable}
-use Rattle.plan_kinds.specs.TreeLaws.{ShowsNode}
-use Rattle.plan_kinds.proofs.Trees.{trees-show}
 use Rattle.table_steps.specs.Views.{Board}
-use Rattle.table_steps.specs.Claims.{Seated}
-use Rattle.exec_start.specs.declared.entry.Entry.{Entry}
-use Rattle.exec_start.specs.declared.item.Item.{Item}
 use Rattle.exec_start.specs.Bounds.{least_at_rest}
-use Rattle.exec_start.specs.Entries.{plan_of, node_of}
 use Rattle.exec_start.specs.Parcels.{Delivery}
-use Rattle.exec_start.specs.Starts.{IsStart}
 use Rattle.exec_recv.specs.Over.{IsOver}
-use Rattle.start_laws.specs.Nodes.{IsStartOf, plain_children, image_of, AwaitsOne, MakesImage}
-use Rattle.node_steps.specs.Midway.{Ready}
+use Rattle.start_laws.specs.Nodes.{plain_children, image_of, AwaitsOne, MakesImage}
 use Rattle.node_steps.specs.TakenOut.{IsOnlyChild}
 use Rattle.node_steps.proofs.Only.{only-named}
+use Rattle.node_steps.proofs.Places.{node-shown}
 use Rattle.exec_hop.specs.Kinds.{HopsOrShelters, hop_child, CanHop}
 
 hop-children : (node : Node) → HopsOrShelters node → (n : ℕ) → children_of n node ≡ option_to_list (hop_child node)
@@ -125,38 +117,10 @@ hopping board plan x node over runnable stands is =
     record { plan = plan; over = over; runnable = runnable; stands = stands; is = is }
 
 module _ (board : Board Blueprint) (x : Name) (node : Node) (hops : Hopping board x node) where
-  shows : ShowsNode board.frame.tree x.node node
-  shows = subst (λ t. ShowsNode t x.node node) (sym hops.over.tree) ((trees-show hops.plan hops.over.is_plan).each x.node node hops.stands)
-
-  pub source-none : has_source board.frame.tree x.node ≡ false
-  source-none = shows.source ∙ hop-plain node hops.is
-
   pub shelter-is : is_unstoppable board.frame.tree x.node ≡ plan_tree.is_unstoppable node
-  shelter-is = shows.unstoppable
-
-  -- isn't the receiver node
-  pub inner-is : is_root board.frame.tree x.node ≡ false
-  inner-is =
-      let size : length board.frame.tree ≡ length hops.plan.nodes + 1 =
-      ap length hops.over.tree ∙ (trees-show hops.plan hops.over.is_plan).size in
-      let within = slice_get_within hops.plan.nodes x.node node hops.stands in
-      either (is_root board.frame.tree x.node)
-      (λ t. let last : x.node + 1 ≡ length board.frame.tree = eqb-true (x.node + 1) (length board.frame.tree) t in
-      absurd (omega (arith, size, within, last)))
-      (λ f. f)
+  shelter-is = (node-shown board hops.plan x node hops.over hops.stands).unstoppable
 
   pub hop-only : IsOnlyChild board x (hop_child node)
   hop-only =
       only-named board hops.plan x node (hop_child node) hops.over hops.stands (hop-children node hops.is x.node)
       (hop-spawns node hops.is)
-
-  -- the start of a node that is held is one of this node
-  pub start-of : (start : List Entry) (least : ℕ) (m : Seated Item Entry) → Ready board x start least m → IsStart start → IsStartOf start node
-  start-of start least m ready is =
-      let same : plan_of start ≡ hops.plan = ready.key ∙ hops.over.over in
-      record {
-        start_is = is;
-        runnable = subst IsRunnable (sym same) hops.runnable;
-        node_is = ap (λ (b : Blueprint). slice_get b.nodes (node_of start)) same
-            ∙ ap (slice_get hops.plan.nodes) ready.node ∙ hops.stands;
-      }

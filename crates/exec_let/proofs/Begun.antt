@@ -41,11 +41,13 @@ use Rattle.node_steps.specs.Leaves.{MayLeave}
 use Rattle.node_steps.specs.Midway.{KeepsReady}
 use Rattle.node_steps.specs.Starts.{MayAwait}
 use Rattle.node_steps.proofs.Completed.{unheard-before}
+use Rattle.node_steps.proofs.Places.{seen-below}
+use Rattle.node_steps.proofs.Reading.{child-above, child-place, begun-keeps, idle-keeps, idle-known}
 use Rattle.node_steps.proofs.Frames.{emptying-less}
 use Rattle.node_steps.proofs.Telling.{from-keeps}
 use Rattle.exec_let.specs.Ends.{MayPick, Picks}
-use Rattle.exec_let.proofs.Places.{Letting, let-plain, let-awaits, some-bodies, source-none, stoppable, body-below}
-use Rattle.exec_let.proofs.Reading.{look-hears, seen-below, child-above, child-place, begun-keeps, idle-keeps, idle-known}
+use Rattle.exec_let.proofs.Places.{Letting, let-plain, let-awaits, some-bodies, let-source, stoppable, body-below}
+use Rattle.exec_let.proofs.Reading.{look-hears}
 
 -- the pick takes the data
 pub let-takes : (node : Node) (done : Completion) (values : List Datum) → channel_of node done ≡ Some values → JobTakes node done →
@@ -194,7 +196,7 @@ module _ (board : Board Blueprint) (x : Name) (node : Node) (start : List Entry)
       saw-seen : has_seen board.frame.tree m2.0 (beside x body) ≡ false → parcel.saw ≡ false
       saw-seen none =
           let here : has_seen board.frame.tree m2.0 x ≡ false =
-          sym (seen-below board x body m2 b.lets.over.is_tree (source-none board x node b.lets) (stoppable board x node b.lets) child) ∙ none in
+          sym (seen-below board x body m2 b.lets.over.is_tree (let-source board x node b.lets) (stoppable board x node b.lets) child) ∙ none in
           either b.heard
           (λ t. absurd (both_ways (has_seen board.frame.tree m2.0 x) here
           (sees-more board.frame.tree m1 m2 x idle-after.beside.aside.sees (b.tells.yes t))))

@@ -42,6 +42,7 @@ use Rattle.start_laws.proofs.Bounding.{few-begun}
 use Rattle.start_laws.proofs.ImageCases.{images-allowed}
 use Rattle.start_laws.proofs.Pairs.{none-some, below-plain}
 use Rattle.node_steps.specs.Heard.{has_heard, MaySee, TellsRequest}
+use Rattle.node_steps.proofs.Asked.{look-sees}
 use Rattle.node_steps.specs.Midway.{Ready, KeepsReady}
 use Rattle.node_steps.specs.Starts.{RunsBelow, asked_for_child, MayRun}
 use Rattle.node_steps.proofs.Completed.{unheard-before}
@@ -50,7 +51,7 @@ use Rattle.exec_let.specs.Ends.{ends_with, MayEnd, MayPick}
 use Rattle.exec_let.specs.Kinds.{IsLet, let_child, is_small}
 use Rattle.exec_let.specs.Openings.{HasBody}
 use Rattle.exec_let.proofs.Places.{let-plain, let-awaits, let-runs}
-use Rattle.exec_let.proofs.Reading.{look-sees, look-hears}
+use Rattle.exec_let.proofs.Reading.{look-hears}
 
 -- a completion off the let's channel passes
 let-passes : (node : Node) → IsLet node → (done : Completion) → channel_of node done ≡ None → (asked : Bool) → image_of node asked done ≡ done

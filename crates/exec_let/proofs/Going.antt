@@ -1,5 +1,6 @@
 -- How a let goes on, by what it has at hand.
 use Rattle.std.proofs.Common.{◌≡◌, ◌⊎◌, inl, inr, ℕ, List, Option, Some, None, sym, ap, ◌∙◌, subst}
+use Rattle.std.proofs.lemmas.Option.{same_Some}
 use Rattle.common_lemmas.proofs.Options.{known}
 use Rattle.exec_value.specs.declared.data.Datum.{Datum}
 use Rattle.exec_value.specs.declared.outcome.Completion.{Completion}
@@ -23,9 +24,6 @@ use Rattle.exec_let.specs.Openings.{Opens}
 
 none-some : {G : Type 0} (o : Option Delivery) (parcel : Delivery) → o ≡ None → o ≡ Some parcel → G
 none-some o parcel none some = let e : None ≡ Some parcel = sym none ∙ some in cc
-
-parcel-same : (a b : Delivery) → Some a ≡ Some b → a ≡ b
-parcel-same a b e = cc
 
 module _ (board : Board Blueprint) (x : Name) (next : Next) (m' : Seated Item Entry) where
   -- the body that the pick names is awaited, or x goes on later
@@ -68,7 +66,7 @@ module _ (board : Board Blueprint) (x : Name) (next : Next) (m' : Seated Item En
     lets-body parcel is ends = record {
       child = λ can other done. none-some hand.body parcel (opens.child_is can other done).0 is;
       body = λ can other done.
-          subst (λ (p : Delivery). EndsWith board x next m' p.completion) (parcel-same parcel other (sym is ∙ opens.body_is can other done)) ends;
+          subst (λ (p : Delivery). EndsWith board x next m' p.completion) (same_Some parcel other (sym is ∙ opens.body_is can other done)) ends;
     }
 
     -- the child has
@@ -77,7 +75,7 @@ module _ (board : Board Blueprint) (x : Name) (next : Next) (m' : Seated Item En
     lets-child parcel none is goes = record {
       child = λ can other done.
           subst (λ (p : Delivery). GoesOn board x next m' node p.completion)
-          (parcel-same parcel other (sym is ∙ (opens.child_is can other done).1)) goes;
+          (same_Some parcel other (sym is ∙ (opens.child_is can other done).1)) goes;
       body = λ can other done. none-some hand.body other none (opens.body_is can other done);
     }
 

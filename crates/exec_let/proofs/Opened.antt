@@ -4,6 +4,7 @@ use Rattle.std.proofs.Common.{◌≡◌, inl, inr, ℕ, ◌*◌, ◌≤◌, ◌=
 use Rattle.std.specs.Option.{option_map}
 use Rattle.std.proofs.lemmas.Bool.{cond-true, cond-false, eq-eqb}
 use Rattle.std.proofs.lemmas.List.Elements.{All-contains}
+use Rattle.std.proofs.lemmas.Option.{same_Some}
 use Rattle.common_lemmas.specs.Sums.{one, total}
 use Rattle.common_lemmas.proofs.Options.{known}
 use Rattle.common_lemmas.proofs.Totals.{total-at}
@@ -35,19 +36,17 @@ use Rattle.node_steps.specs.Heard.{has_heard, MaySee}
 use Rattle.node_steps.specs.Midway.{Emptying, Ready, KeepsOthers}
 use Rattle.node_steps.specs.TakenOut.{item_at, start_at, IsFoundBelow, TakesOwn, TakesBelow}
 use Rattle.node_steps.proofs.Frames.{others-on, named-so, emptying-less, emptying-none}
+use Rattle.node_steps.proofs.Places.{start-of}
 use Rattle.node_steps.proofs.Telling.{found-done, kept-from}
 use Rattle.exec_let.specs.declared.opening.AtHand.{AtHand}
 use Rattle.exec_let.specs.Kinds.{let_child}
 use Rattle.exec_let.specs.Lets.{ChildIsDone, BodyIsDone}
 use Rattle.exec_let.specs.Openings.{first_of, Emptied, IsOfBody, TakesBodies, HasParcel, HasBody, Opens}
 use Rattle.exec_let.proofs.Emptied.{put-fewer, found-still}
-use Rattle.exec_let.proofs.Places.{Letting, let-keeps, let-runs, source-none, child-below, body-below, below-cases, child-other, start-of}
+use Rattle.exec_let.proofs.Places.{Letting, let-keeps, let-runs, let-source, child-below, body-below, below-cases, child-other}
 
 none-some : {G : Type 0} (item : Item) → None ≡ Some item → G
 none-some item e = cc
-
-held-same : (a b : Held Entry) → Some a ≡ Some b → a ≡ b
-held-same a b e = cc
 
 done-same : (below : Option Delivery) (parcel : Delivery) → option_map Done below ≡ Some (Done parcel) → below ≡ Some parcel
 done-same None parcel e = cc
@@ -128,14 +127,14 @@ module _ (board : Board Blueprint) (x : Name) (node : Node) (lets : Letting boar
   opened = emptying-none board x start m least emptied.left none-left emptied.is
 
   own-of : IsStartOf start node
-  own-of = start-of board x node lets start least m opened starts
+  own-of = start-of board lets.plan x node lets.over lets.stands start least (λ _. None) m lets.runnable opened starts
 
   -- and where one was full the last await named one
   one-named : (n : ℕ) → is_child board.frame.tree x.node n ≡ true → (item : Item) → took.can.kid n ≡ Some item → Ready board x start 1 m
   one-named n at item full =
       let few : 1 ≤ took.can.held.named = full-named board x m0 took.can n at item full in
       named-so board x start m 1 (λ _. None) least opened
-      (subst (λ (h : Held Entry). 1 ≤ h.named) (held-same took.can.held opened.held (sym holds ∙ opened.tends.holds)) few)
+      (subst (λ (h : Held Entry). 1 ≤ h.named) (same_Some took.can.held opened.held (sym holds ∙ opened.tends.holds)) few)
 
   heard-same : has_heard board x m ≡ has_heard board x took.second
   heard-same = took.last.heard
@@ -151,7 +150,7 @@ module _ (board : Board Blueprint) (x : Name) (node : Node) (lets : Letting boar
       record {
         ready = one-named child (child-below board x node lets) (Done parcel)
             (took.next.lay start least took.can.kid lies ∙ ap (option_map Done) e);
-        from = from-plain start parcel child _ (found-done board x start child m parcel here starts (source-none board x node lets)) node own-of
+        from = from-plain start parcel child _ (found-done board x start child m parcel here starts (let-source board x node lets)) node own-of
             (let-runs node lets.is);
       }
 
@@ -166,7 +165,7 @@ module _ (board : Board Blueprint) (x : Name) (node : Node) (lets : Letting boar
             (put-fewer (let_child node) took.can.kid one.body (Done parcel) one.lay);
         body = one.body;
         among = one.among;
-        done = found-done board x start one.body m parcel one.found starts (source-none board x node lets);
+        done = found-done board x start one.body m parcel one.found starts (let-source board x node lets);
       }
 
   -- and the one with which the let rested

@@ -1,12 +1,12 @@
 -- Where lets and their children stand, and whose starts they have.
 use Rattle.std.specs.Prelude.{Contains, All, MatchOption, slice_get}
-use Rattle.std.proofs.Common.{◌≡◌, ◌⊎◌, ℕ, ◌+◌, ◌<◌, ◌==◌, true, false, List, [], ◌∷◌, length, get_or, Option, Some, inl, inr, refl, sym, ap, ◌∙◌, subst, arith}
+use Rattle.std.proofs.Common.{◌≡◌, ◌⊎◌, ℕ, ◌<◌, ◌==◌, true, false, List, [], ◌∷◌, length, get_or, Option, Some, inl, inr, refl, sym, ◌∙◌, subst, arith}
 use Rattle.std.proofs.lemmas.Bool.{eqb-true, cases_lt}
 use Rattle.std.proofs.lemmas.List.Elements.{Contains-get_or, Contains-append_left, Contains-append_cases}
-use Rattle.std.proofs.lemmas.Option.{slice_get_within, slice_get_past}
+use Rattle.std.proofs.lemmas.Option.{slice_get_past}
 use Rattle.common_lemmas.proofs.Bool.{either}
 use Rattle.life_rules.specs.declared.event.Name.{Name}
-use Rattle.node_tree.specs.Tree.{is_root, is_child, has_source, is_unstoppable}
+use Rattle.node_tree.specs.Tree.{is_child, has_source, is_unstoppable}
 use Rattle.plan_rules.specs.declared.node.Node.{Node}
 use Rattle.plan_rules.specs.declared.node.Node.TheVariants.{LetValue, LetError, LetStopped}
 use Rattle.plan_rules.specs.Children.{named_by}
@@ -21,19 +21,13 @@ use Rattle.plan_kinds.specs.Runs.{run_by, bodies_of}
 use Rattle.plan_kinds.specs.TreeLaws.{ShowsNode}
 use Rattle.plan_kinds.proofs.Placing.{no-member, child-no_body, run-named, body-named, named-cases}
 use Rattle.plan_kinds.proofs.Plans.{plans-built}
-use Rattle.plan_kinds.proofs.Trees.{trees-show}
 use Rattle.table_steps.specs.Views.{Board}
-use Rattle.table_steps.specs.Claims.{Seated}
-use Rattle.exec_start.specs.declared.entry.Entry.{Entry}
-use Rattle.exec_start.specs.declared.item.Item.{Item}
 use Rattle.exec_start.specs.Bounds.{least_at_rest}
-use Rattle.exec_start.specs.Entries.{plan_of, node_of}
 use Rattle.exec_start.specs.Parcels.{Delivery}
-use Rattle.exec_start.specs.Starts.{IsStart}
 use Rattle.exec_recv.specs.Over.{IsOver}
-use Rattle.start_laws.specs.Nodes.{IsStartOf, plain_children, AwaitsOne}
+use Rattle.start_laws.specs.Nodes.{plain_children, AwaitsOne}
 use Rattle.start_laws.proofs.Pairs.{sole}
-use Rattle.node_steps.specs.Midway.{Ready}
+use Rattle.node_steps.proofs.Places.{node-shown, source-none}
 use Rattle.exec_let.specs.Kinds.{IsLet, let_child}
 
 pub let-plain : (node : Node) → IsLet node → is_when_all node ≡ false
@@ -131,29 +125,18 @@ letting board plan x node over runnable stands is =
     record { plan = plan; over = over; runnable = runnable; stands = stands; is = is }
 
 module _ (board : Board Blueprint) (x : Name) (node : Node) (lets : Letting board x node) where
-  shows : ShowsNode board.frame.tree x.node node
-  shows = subst (λ t. ShowsNode t x.node node) (sym lets.over.tree) ((trees-show lets.plan lets.over.is_plan).each x.node node lets.stands)
+  shown : ShowsNode board.frame.tree x.node node
+  shown = node-shown board lets.plan x node lets.over lets.stands
 
-  pub source-none : has_source board.frame.tree x.node ≡ false
-  source-none = shows.source ∙ let-plain node lets.is
+  pub let-source : has_source board.frame.tree x.node ≡ false
+  let-source = source-none board lets.plan x node lets.over lets.stands (let-plain node lets.is)
 
   pub stoppable : is_unstoppable board.frame.tree x.node ≡ false
-  stoppable = shows.unstoppable ∙ let-stoppable node lets.is
-
-  -- isn't the receiver node
-  pub inner-is : is_root board.frame.tree x.node ≡ false
-  inner-is =
-      let size : length board.frame.tree ≡ length lets.plan.nodes + 1 =
-      ap length lets.over.tree ∙ (trees-show lets.plan lets.over.is_plan).size in
-      let within = slice_get_within lets.plan.nodes x.node node lets.stands in
-      either (is_root board.frame.tree x.node)
-      (λ t. let last : x.node + 1 ≡ length board.frame.tree = eqb-true (x.node + 1) (length board.frame.tree) t in
-      absurd (omega (arith, size, within, last)))
-      (λ f. f)
+  stoppable = shown.unstoppable ∙ let-stoppable node lets.is
 
   -- its children are the one and the bodies
   named-below : (k : ℕ) → Contains (named_by node) k → is_child board.frame.tree x.node k ≡ true
-  named-below k among = (shows.children k).1 (Contains-append_left (named_by node) _ k among, let-spawns node lets.is k)
+  named-below k among = (shown.children k).1 (Contains-append_left (named_by node) _ k among, let-spawns node lets.is k)
 
   pub child-below : is_child board.frame.tree x.node (let_child node) ≡ true
   child-below = named-below (let_child node) (run-named node (let_child node) (child-run node lets.is))
@@ -166,7 +149,7 @@ module _ (board : Board Blueprint) (x : Name) (node : Node) (lets : Letting boar
 
   pub below-cases : (k : ℕ) → is_child board.frame.tree x.node k ≡ true → (k ≡ let_child node) ⊎ Contains (bodies_of node) k
   below-cases k below =
-      elim (named-cases node k (no-parts node lets.is x.node k ((shows.children k).0 below).0)) [
+      elim (named-cases node k (no-parts node lets.is x.node k ((shown.children k).0 below).0)) [
         | inl run ↦ inl (run-child node lets.is k run)
         | inr body ↦ inr body
       ]
@@ -175,17 +158,6 @@ module _ (board : Board Blueprint) (x : Name) (node : Node) (lets : Letting boar
   pub some-bodies : 0 < length (bodies_of node)
   some-bodies =
       let-whole lets.plan.nodes node lets.is ((plans-built lets.plan lets.over.is_plan).whole x.node node lets.stands)
-
-  -- the start of a let that is held is one of this let
-  pub start-of : (start : List Entry) (least : ℕ) (m : Seated Item Entry) → Ready board x start least m → IsStart start → IsStartOf start node
-  start-of start least m ready is =
-      let same : plan_of start ≡ lets.plan = ready.key ∙ lets.over.over in
-      record {
-        start_is = is;
-        runnable = subst IsRunnable (sym same) lets.runnable;
-        node_is = ap (λ (b : Blueprint). slice_get b.nodes (node_of start)) same
-            ∙ ap (slice_get lets.plan.nodes) ready.node ∙ lets.stands;
-      }
 
   -- the child isn't a body
   pub child-other : (n : ℕ) → Contains (bodies_of node) n → (let_child node == n) ≡ false

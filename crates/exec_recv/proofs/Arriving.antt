@@ -108,6 +108,7 @@ module _ (board : Board Blueprint) (x : Name) (child : Name) (i read left : ℕ)
           last = child.node;
           below = below;
           full = ap is_some (did.keeps entry owes);
+          lot = ap (λ l. Some l) (sym did.lot_is);
           failure = did.failure;
         }));
         elsewhere = owed-elsewhere board x m m' starts last-in-front;

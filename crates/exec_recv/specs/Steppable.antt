@@ -14,7 +14,7 @@ use Rattle.op_slot.specs.Tends.{IsCalm, Tends}
 use Rattle.exec_start.specs.declared.entry.Entry.{Entry}
 use Rattle.exec_start.specs.declared.item.Item.{Item}
 use Rattle.exec_start.specs.Entries.{plan_of, whole_row}
-use Rattle.exec_start.specs.Items.{start_in, HasCompleted}
+use Rattle.exec_start.specs.Items.{start_in, HasCompleted, lot_of}
 use Rattle.exec_start.specs.Bounds.{least_of}
 use Rattle.exec_start.specs.Fits.{FitsHome, MayRest}
 use Rattle.exec_recv.specs.Family.{AreOwedElsewhere}
@@ -48,6 +48,7 @@ module _ (board : Board Blueprint) (x : Name) (held : Held Entry) (item : Item) 
     pub most : held.named ≤ length (kids_of board.frame.tree x.node)
 
   -- by the last report of its children: as many homes are full as its last await named, and one is.
+  -- That await fixed what the item fixes.
   -- Where a stop was requested of the children and not above, and all their homes are full, a child
   -- failed without having seen a request.
   pub record IsBack : Type 0 where
@@ -56,6 +57,7 @@ module _ (board : Board Blueprint) (x : Name) (held : Held Entry) (item : Item) 
     pub last : ℕ
     pub below : is_child board.frame.tree x.node last ≡ true
     pub full : is_some (kid last) ≡ true
+    pub lot : held.lot ≡ Some (lot_of item)
     pub failure : held.told_children ≡ true → held.told ≡ false →
         ((n : ℕ) → is_child board.frame.tree x.node n ≡ true → is_some (kid n) ≡ true) →
         (n : ℕ) × (done : Item) × (is_child board.frame.tree x.node n ≡ true) × (kid n ≡ Some done)

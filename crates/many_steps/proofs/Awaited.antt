@@ -3,6 +3,7 @@ use Rattle.std.proofs.Common.{◌≡◌, ◌⊎◌, inl, inr, ℕ, suc, ◌+◌,
 use Rattle.std.specs.Prelude.{ℤ, Option, Some, None, slice_index}
 use Rattle.std.specs.List.{list_any}
 use Rattle.std.proofs.lemmas.Bool.{and_from, or_parts, cond-false, eq-eqb}
+use Rattle.std.proofs.lemmas.Option.{same_Some}
 use Rattle.common_lemmas.specs.Sums.{one}
 use Rattle.common_lemmas.proofs.Bool.{either, one-most}
 use Rattle.life_rules.specs.declared.event.Name.{Name}
@@ -46,9 +47,6 @@ use Rattle.node_steps.proofs.Left.{can-put, put-tends, put-calm, put-on, put-bes
 use Rattle.many_steps.specs.Awaits.{MayAwaitMany, AwaitsMany}
 use Rattle.many_steps.specs.Starting.{OwesBare, owed_below, IsAmong}
 use Rattle.many_steps.proofs.Lists.{any-at, all-at}
-
-held-same : (a b : Held Entry) → Some a ≡ Some b → a ≡ b
-held-same a b e = cc
 
 inside-same : (a b : Item) → Some (Some a) ≡ Some (Some b) → a ≡ b
 inside-same a b e = cc
@@ -114,7 +112,7 @@ module _ (board : Board Blueprint) (x : Name) (start : List Entry) (kept_one : O
     idle : (i : ℕ) → i < length children → list_any (λ q. q == slice_index children i) ready.held.idle ≡ true
     idle i within =
         subst (λ (h : Held Entry). list_any (λ q. q == slice_index children i) h.idle ≡ true)
-        (held-same may.idle.held ready.held (sym may.idle.holds ∙ ready.tends.holds)) (may.idle.idle i within)
+        (same_Some may.idle.held ready.held (sym may.idle.holds ∙ ready.tends.holds)) (may.idle.idle i within)
 
     -- the children can be awaited
     pub can-await-many : CanAwait ghosts board.frame m1 x children

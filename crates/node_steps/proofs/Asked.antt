@@ -1,5 +1,5 @@
 -- A look at the source that a node hears, in the middle of its step, and the registration of its callback there.
-use Rattle.std.proofs.Common.{◌≡◌, Bool, true, false, ◌||◌, List, [], ◌∷◌, sym, ap, ◌∙◌, subst}
+use Rattle.std.proofs.Common.{◌≡◌, Bool, true, false, ◌||◌, List, [], ◌∷◌, refl, sym, ap, ◌∙◌, subst}
 use Rattle.std.specs.Prelude.{Option, Some, None, is_some}
 use Rattle.std.specs.Option.{option_map_or}
 use Rattle.std.proofs.lemmas.Bool.{both_ways}
@@ -30,7 +30,7 @@ use Rattle.exec_start.specs.declared.entry.Entry.{Entry}
 use Rattle.exec_start.specs.declared.item.Item.{Item}
 use Rattle.exec_recv.specs.Asides.{aside_of, KeepsAside}
 use Rattle.exec_recv.proofs.Asiding.{aside-one}
-use Rattle.node_steps.specs.Heard.{was_told, has_heard, TellsRequest}
+use Rattle.node_steps.specs.Heard.{MaySee, was_told, has_heard, TellsRequest}
 use Rattle.node_steps.specs.Midway.{IsReady, KeepsReady}
 use Rattle.node_steps.proofs.Frames.{keeps-on}
 use Rattle.node_steps.proofs.Noting.{NotesEntry, notes-held, notes-keeps, looks-keeps, or-true}
@@ -160,3 +160,9 @@ none-tells board x m near =
     none-some : (o : Option SourceRef) → o ≡ None → is_some o ≡ true → ⊥
     none-some None e t = cc
     none-some (Some s) e t = cc
+
+-- what a look answers may be said of what was seen
+pub look-sees : (board : Board Blueprint) (x : Name) (answer : Bool) (m : Seated Item Entry) → TellsRequest board x answer m →
+    MaySee board x answer m
+look-sees board x false m tells none = refl
+look-sees board x true m tells none = let seen = tells.yes refl in cc

@@ -3,6 +3,7 @@ use Rattle.std.proofs.Common.{◌≡◌, inl, inr, ℕ, ◌+◌, Bool, true, fal
 use Rattle.std.specs.Prelude.{Some, None}
 use Rattle.std.specs.List.{list_any}
 use Rattle.std.proofs.lemmas.Bool.{and_from, cond-false, eq-eqb, eqb-true, both_ways}
+use Rattle.std.proofs.lemmas.Option.{same_Some}
 use Rattle.common_lemmas.specs.Sums.{one}
 use Rattle.common_lemmas.proofs.Bool.{either, one-most}
 use Rattle.life_rules.specs.declared.event.Name.{Name}
@@ -48,9 +49,6 @@ use Rattle.node_steps.specs.Starts.{MayAwait, IsAwaiting}
 use Rattle.node_steps.proofs.Left.{can-put, put-tends, put-calm, put-on, put-beside, put-held, put-starts, put-elsewhere}
 use Rattle.node_steps.proofs.Swapping.{kid-family}
 
-held-same : (a b : Held Entry) → Some a ≡ Some b → a ≡ b
-held-same a b e = cc
-
 none-known : None ≡ Some NoMemory → ⊥
 none-known e = cc
 
@@ -92,7 +90,7 @@ module _ (board : Board Blueprint) (x : Name) (start : List Entry) (n : ℕ) (be
     idle : list_any (λ q. q == n) ready.held.idle ≡ true
     idle =
         subst (λ (h : Held Entry). list_any (λ q. q == n) h.idle ≡ true)
-        (held-same may.idle.held ready.held (sym may.idle.holds ∙ ready.tends.holds)) may.idle.idle
+        (same_Some may.idle.held ready.held (sym may.idle.holds ∙ ready.tends.holds)) may.idle.idle
 
     -- the child can be awaited
     pub can-await : CanAwait ghosts board.frame m1 x (n ∷ [])

@@ -3,8 +3,8 @@ use Rattle.std.proofs.Common.{◌≡◌, Bool, true, false, ◌||◌, refl, sym,
 use Rattle.std.specs.Prelude.{Option, Some, None, MatchOption}
 use Rattle.std.specs.Option.{option_map_or}
 use Rattle.std.proofs.lemmas.Bool.{both_ways}
+use Rattle.std.proofs.lemmas.Option.{same_Some}
 use Rattle.common_lemmas.proofs.Bool.{either}
-use Rattle.exec_value.specs.declared.outcome.Completion.{Completion}
 use Rattle.exec_value.specs.declared.outcome.Completion.TheVariants.{NoMemory}
 use Rattle.life_rules.specs.declared.event.Name.{Name}
 use Rattle.node_tree.specs.Tree.{is_root}
@@ -35,12 +35,6 @@ pub or-right : (a b : Bool) → (a || b) ≡ false → b ≡ false
 or-right true b is = cc
 or-right false b is = is
 
-same-held : (a b : Held Entry) → Some a ≡ Some b → a ≡ b
-same-held a b e = cc
-
-same-completion : (a b : Completion) → Some a ≡ Some b → a ≡ b
-same-completion a b e = cc
-
 -- where the hand neither has seen a request nor was told of one, it heard of none
 pub unheard : (board : Board Blueprint) (x : Name) (m : Seated Item Entry) (held : Held Entry) → held_at m.0 x ≡ Some held →
     has_seen board.frame.tree m.0 x || held.told ≡ false → has_heard board x m ≡ false
@@ -70,13 +64,13 @@ module _ (board : Board Blueprint) (x : Name) (parcel : Delivery) (m m' : Seated
         held = still.held;
         tends = still.tends;
         settled = subst (λ (h : Held Entry). MatchOption h.phase ⊥ (λ phase. is_settled phase ≡ true))
-            (same-held settled.held still.held (sym settled.holds ∙ still.tends.holds)) settled.settled;
+            (same_Some settled.held still.held (sym settled.holds ∙ still.tends.holds)) settled.settled;
         shows = still.shows;
         of = record {
           node = still.node;
           kinds = still.kinds;
           keeps = tt;
-          small = λ small e. may.small small (same-completion parcel.completion NoMemory e);
+          small = λ small e. may.small small (same_Some parcel.completion NoMemory e);
         };
         calmly = λ none. record {
           start = still.calmly (or-right (has_seen board.frame.tree m'.0 x) still.held.told none);

@@ -10,6 +10,8 @@ pub mod Awaited
 pub mod Wanted
 pub mod Started
 pub mod Only
+pub mod Places
+pub mod Reading
 pub mod Asked
 pub mod Topped
 pub mod Telling

@@ -3,6 +3,7 @@ use Rattle.std.proofs.Common.{◌≡◌, ◌⊎◌, inl, inr, ℕ, ◌*◌, ◌<
 use Rattle.std.specs.Prelude.{Option, Some, None, is_some, IfSome}
 use Rattle.std.specs.Option.{option_map, option_map_or}
 use Rattle.std.proofs.lemmas.Bool.{cond-true, cond-false, eq-eqb}
+use Rattle.std.proofs.lemmas.Option.{same_Some}
 use Rattle.common_lemmas.specs.Sums.{one, total}
 use Rattle.common_lemmas.proofs.Bool.{either}
 use Rattle.common_lemmas.proofs.Totals.{total-at}
@@ -43,15 +44,6 @@ use Rattle.node_steps.proofs.Completed.{or-right}
 use Rattle.node_steps.proofs.Frames.{others-on, entry-here, elsewhere-still, emptying-on, emptying-less, emptying-none, named-so}
 use Rattle.node_steps.proofs.Swapping.{own-family, kid-family, swap-beside, swap-held, swap-heard, swap-homes}
 
-item-same : (a b : Item) → Some a ≡ Some b → a ≡ b
-item-same a b e = cc
-
-number-same : (a b : ℕ) → Some a ≡ Some b → a ≡ b
-number-same a b e = cc
-
-held-same : (a b : Held Entry) → Some a ≡ Some b → a ≡ b
-held-same a b e = cc
-
 -- where the hand heard of no request, it was told of none
 pub told-none : (board : Board Blueprint) (x : Name) (m : Seated Item Entry) (held : Held Entry) → held_at m.0 x ≡ Some held →
     has_heard board x m ≡ false → held.told ≡ false
@@ -74,7 +66,7 @@ module _ (board : Board Blueprint) (x : Name) (m m' : Seated Item Entry) (places
 
     module _ (own : AtHome) (is : answer ≡ Some (item_at own)) where
       own-item : can.item ≡ item_at own
-      own-item = item-same can.item (item_at own) (sym own-answer ∙ is)
+      own-item = same_Some can.item (item_at own) (sym own-answer ∙ is)
 
       own-of : IsItemOf (item_at own) x.node
       own-of = subst (λ (i : Item). IsItemOf i x.node) own-item (held-fits can.item x.node can.held.told can.fit can.goes_on)
@@ -229,7 +221,7 @@ ready-more : (board : Board Blueprint) (x : Name) (start : List Entry) (least mo
     more ≤ held.named → Ready board x start least m → Ready board x start more m
 ready-more board x start least more m held holds few is =
     named-so board x start m more (λ _. None) least is
-    (subst (λ (h : Held Entry). more ≤ h.named) (held-same held is.held (sym holds ∙ is.tends.holds)) few)
+    (subst (λ (h : Held Entry). more ≤ h.named) (same_Some held is.held (sym holds ∙ is.tends.holds)) few)
 
 most-of : (a b c : ℕ) → a ≤ c → b ≤ c → max a b ≤ c
 most-of a b c p q = omega arith
@@ -251,7 +243,7 @@ module _ (board : Board Blueprint) (x : Name) (own : AtHome) (m m1 : Seated Item
     holds = next.same_held ∙ took.held can
 
     emptied : (k : ℕ) → is_child board.frame.tree x.node k ≡ true → put_at n None can.kid k ≡ None
-    emptied k at = cond-true (n == k) None (can.kid k) (eq-eqb n k (number-same n k (only.only k at)))
+    emptied k at = cond-true (n == k) None (can.kid k) (eq-eqb n k (same_Some n k (only.only k at)))
 
     opened : Ready board x (start_at own) (least_of (item_at own)) m2
     opened =
@@ -294,7 +286,7 @@ module _ (board : Board Blueprint) (x : Name) (own : AtHome) (m m1 : Seated Item
           | inr later ↦ elim later [
             | inl was ↦ inr (subst (λ (i : Item). MayRest i x.node) (took.item can) was.rests)
             | inr back ↦
-                let same : n ≡ back.last = number-same n back.last (only.only back.last back.below) in
+                let same : n ≡ back.last = same_Some n back.last (only.only back.last back.below) in
                 absurd (full-none (can.kid n) empty (ap (λ k. is_some (can.kid k)) same ∙ back.full))
           ]
         ]

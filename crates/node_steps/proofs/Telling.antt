@@ -1,6 +1,7 @@
 -- What a hand has in the middle of a step, in the words of the laws of starts.
 use Rattle.std.proofs.Common.{◌≡◌, ℕ, false, List, [], ◌∷◌, sym, ap, ◌∙◌, subst}
 use Rattle.std.specs.Prelude.{Some}
+use Rattle.std.proofs.lemmas.Option.{same_Some}
 use Rattle.exec_value.specs.declared.outcome.Completion.{Completion}
 use Rattle.exec_value.specs.declared.outcome.Completion.TheVariants.{NoMemory}
 use Rattle.life_rules.specs.declared.event.Name.{Name}
@@ -23,9 +24,6 @@ use Rattle.node_steps.specs.Leaves.{MayKeep}
 use Rattle.node_steps.specs.Midway.{Ready}
 use Rattle.node_steps.specs.TakenOut.{IsFoundBelow}
 use Rattle.node_steps.proofs.Opened.{told-none}
-
-same-completion : (a b : Completion) → Some a ≡ Some b → a ≡ b
-same-completion a b e = cc
 
 -- what goes on below a start is of its plan
 plan-below : (e : Entry) (start : List Entry) → IsStart start → IsStart (e ∷ start) → e.plan ≡ plan_of start
@@ -78,5 +76,5 @@ from-keeps board x start m parcel ready from =
       ready = ready;
       child = from.child;
       saw = from.saw;
-      small = λ small e. from.small small (same-completion parcel.completion NoMemory e);
+      small = λ small e. from.small small (same_Some parcel.completion NoMemory e);
     }

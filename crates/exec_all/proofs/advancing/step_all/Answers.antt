@@ -1,12 +1,13 @@
 use Rattle.std.proofs.Common.{sym, ◌∙◌}
+use Rattle.plan_rules.specs.declared.node.Node.TheVariants.{WhenAll}
 use Rattle.node_steps.proofs.Frames.{stepped-after}
-use Rattle.exec_all.proofs.Plans.{all-inner}
+use Rattle.node_steps.proofs.Places.{inner-is}
 use Rattle.exec_all.proofs.Stepped.{then-stops, then-begins, then-ends, then-rests, did-stop, did-begin, did-end, did-wait}
 use Rattle.exec_all.proofs.advancing.step_all.Goals as goal
 
 pub stop_all-requires-clause-inner : goal.stop_all-requires-clause-inner
 stop_all-requires-clause-inner g c κs within =
-    all-inner c.args.table.now c.args.plan.now c.args.name c.args.children.now c.requires.over c.requires.node
+    inner-is c.args.table.now c.args.plan.now c.args.name (WhenAll c.args.children.now) c.requires.over c.requires.node
 
 pub stop_all-requires-clause-may : goal.stop_all-requires-clause-may
 stop_all-requires-clause-may g c κs within =
@@ -15,7 +16,7 @@ stop_all-requires-clause-may g c κs within =
 
 pub begin_all-requires-clause-inner : goal.begin_all-requires-clause-inner
 begin_all-requires-clause-inner g c κs within =
-    all-inner c.args.table.now c.args.plan.now c.args.name c.args.children.now c.requires.over c.requires.node
+    inner-is c.args.table.now c.args.plan.now c.args.name (WhenAll c.args.children.now) c.requires.over c.requires.node
 
 pub begin_all-requires-clause-may : goal.begin_all-requires-clause-may
 begin_all-requires-clause-may g c κs within =
@@ -24,7 +25,7 @@ begin_all-requires-clause-may g c κs within =
 
 pub end_all-requires-clause-inner : goal.end_all-requires-clause-inner
 end_all-requires-clause-inner g c κs within =
-    all-inner c.args.table.now c.args.plan.now c.args.name c.args.children.now c.requires.over c.requires.node
+    inner-is c.args.table.now c.args.plan.now c.args.name (WhenAll c.args.children.now) c.requires.over c.requires.node
 
 pub end_all-requires-clause-may : goal.end_all-requires-clause-may
 end_all-requires-clause-may g c κs within =

@@ -2,7 +2,8 @@ use Rattle.std.proofs.Common.{Bool, ◌||◌, [], ap, ◌∙◌}
 use Rattle.exec_value.specs.declared.outcome.Completion.TheVariants.{Value}
 use Rattle.plan_rules.specs.Settle.{unless_asked}
 use Rattle.node_steps.proofs.Frames.{ready-is, stepped-after}
-use Rattle.exec_hop.proofs.Landed.{look-sees, has-still, schedule-may, schedule-completes}
+use Rattle.node_steps.proofs.Asked.{look-sees}
+use Rattle.exec_hop.proofs.Landed.{has-still, schedule-may, schedule-completes}
 use Rattle.exec_hop.proofs.schedule.finish.Goals as goal
 
 pub hear-saw-requires-clause-ready : goal.hear-saw-requires-clause-ready

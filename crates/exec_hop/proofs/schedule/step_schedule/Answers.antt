@@ -2,11 +2,12 @@ use Rattle.std.proofs.Common.{Some, sym, ap, subst}
 use Rattle.plan_rules.specs.declared.node.Node.{Node}
 use Rattle.start_laws.specs.Leaves.{IsStoppable}
 use Rattle.node_steps.proofs.Frames.{stepped-after}
+use Rattle.node_steps.proofs.Places.{inner-is}
 use Rattle.exec_hop.specs.Hops.{HopsAs}
 use Rattle.exec_hop.specs.Kinds.{HopsOrShelters, hop_child}
 use Rattle.exec_hop.proofs.Landed.{hop-bare}
 use Rattle.exec_hop.proofs.Opened.{begun-not}
-use Rattle.exec_hop.proofs.Places.{hopping, inner-is}
+use Rattle.exec_hop.proofs.Places.{hopping}
 use Rattle.exec_hop.proofs.schedule.step_schedule.Goals as goal
 
 pub open-env-requires-clause-hops : goal.open-env-requires-clause-hops
@@ -17,15 +18,11 @@ open-env-requires-clause-child g c = sym (ap hop_child c.requires.is)
 
 pub hop-requires-clause-inner : goal.hop-requires-clause-inner
 hop-requires-clause-inner g c κs within =
-    inner-is c.args.table.now c.args.name c.args.node.now
-    (hopping c.args.table.now c.args.plan.now c.args.name c.args.node.now c.requires.over c.requires.kinds c.requires.node
-    (subst HopsOrShelters (sym c.requires.is) tt))
+    inner-is c.args.table.now c.args.plan.now c.args.name c.args.node.now c.requires.over c.requires.node
 
 pub finish-requires-clause-inner : goal.finish-requires-clause-inner
 finish-requires-clause-inner g c κs within =
-    inner-is c.args.table.now c.args.name c.args.node.now
-    (hopping c.args.table.now c.args.plan.now c.args.name c.args.node.now c.requires.over c.requires.kinds c.requires.node
-    (subst HopsOrShelters (sym c.requires.is) tt))
+    inner-is c.args.table.now c.args.plan.now c.args.name c.args.node.now c.requires.over c.requires.node
 
 pub hop-requires-clause-may : goal.hop-requires-clause-may
 hop-requires-clause-may g c κs within =

@@ -7,12 +7,14 @@ use Rattle.exec_start.specs.Parcels.{Delivery}
 use Rattle.start_laws.specs.Leaves.{IsStoppable}
 use Rattle.start_laws.specs.Nodes.{MayHaveSeen}
 use Rattle.node_steps.proofs.Frames.{ready-is, others-on, stepped-after}
+use Rattle.node_steps.proofs.Asked.{look-sees}
+use Rattle.node_steps.proofs.Places.{inner-is}
 use Rattle.exec_hop.specs.Hops.{HopsAs}
 use Rattle.exec_hop.specs.Kinds.{HopsOrShelters, hop_child}
 use Rattle.exec_hop.specs.Openings.{HasParcel}
-use Rattle.exec_hop.proofs.Landed.{look-sees, has-still, hop-bare, hop-lands, hop-starts}
+use Rattle.exec_hop.proofs.Landed.{has-still, hop-bare, hop-lands, hop-starts}
 use Rattle.exec_hop.proofs.Opened.{begun-not}
-use Rattle.exec_hop.proofs.Places.{hopping, inner-is}
+use Rattle.exec_hop.proofs.Places.{hopping}
 use Rattle.exec_hop.proofs.starts_on.step_starts_on.Goals as goal
 
 pub open-env-requires-clause-hops : goal.open-env-requires-clause-hops
@@ -23,21 +25,15 @@ open-env-requires-clause-child g c = sym (ap hop_child c.requires.is)
 
 pub hop-requires-clause-inner : goal.hop-requires-clause-inner
 hop-requires-clause-inner g c κs within =
-    inner-is c.args.table.now c.args.name c.args.node.now
-    (hopping c.args.table.now c.args.plan.now c.args.name c.args.node.now c.requires.over c.requires.kinds c.requires.node
-    (subst HopsOrShelters (sym c.requires.is) tt))
+    inner-is c.args.table.now c.args.plan.now c.args.name c.args.node.now c.requires.over c.requires.node
 
 pub pass_unless_stopped-requires-clause-inner : goal.pass_unless_stopped-requires-clause-inner
 pass_unless_stopped-requires-clause-inner g c κs within =
-    inner-is c.args.table.now c.args.name c.args.node.now
-    (hopping c.args.table.now c.args.plan.now c.args.name c.args.node.now c.requires.over c.requires.kinds c.requires.node
-    (subst HopsOrShelters (sym c.requires.is) tt))
+    inner-is c.args.table.now c.args.plan.now c.args.name c.args.node.now c.requires.over c.requires.node
 
 pub start_unless_stopped-requires-clause-inner : goal.start_unless_stopped-requires-clause-inner
 start_unless_stopped-requires-clause-inner g c κs within =
-    inner-is c.args.table.now c.args.name c.args.node.now
-    (hopping c.args.table.now c.args.plan.now c.args.name c.args.node.now c.requires.over c.requires.kinds c.requires.node
-    (subst HopsOrShelters (sym c.requires.is) tt))
+    inner-is c.args.table.now c.args.plan.now c.args.name c.args.node.now c.requires.over c.requires.node
 
 pub hear-saw-requires-clause-ready : goal.hear-saw-requires-clause-ready
 hear-saw-requires-clause-ready g c =

@@ -7,10 +7,11 @@ use Rattle.exec_start.specs.Entries.{asked_of}
 use Rattle.exec_start.specs.Parcels.{Delivery}
 use Rattle.start_laws.specs.Nodes.{image_of, MayHaveSeen}
 use Rattle.node_steps.proofs.Frames.{stepped-after}
+use Rattle.node_steps.proofs.Places.{inner-is}
 use Rattle.exec_hop.specs.Kinds.{HopsOrShelters, hop_child}
 use Rattle.exec_hop.specs.Openings.{HasParcel}
 use Rattle.exec_hop.proofs.Landed.{hop-passes, hop-runs-child}
-use Rattle.exec_hop.proofs.Places.{hopping, inner-is, shelter-is}
+use Rattle.exec_hop.proofs.Places.{hopping, shelter-is}
 use Rattle.exec_hop.proofs.unstoppable.step_unstoppable.Goals as goal
 
 pub open-env-requires-clause-hops : goal.open-env-requires-clause-hops
@@ -21,15 +22,11 @@ open-env-requires-clause-child g c = sym (ap hop_child c.requires.is)
 
 pub pass_on-requires-clause-inner : goal.pass_on-requires-clause-inner
 pass_on-requires-clause-inner g c κs within =
-    inner-is c.args.table.now c.args.name c.args.node.now
-    (hopping c.args.table.now c.args.plan.now c.args.name c.args.node.now c.requires.over c.requires.kinds c.requires.node
-    (subst HopsOrShelters (sym c.requires.is) tt))
+    inner-is c.args.table.now c.args.plan.now c.args.name c.args.node.now c.requires.over c.requires.node
 
 pub start_unbegun_child-requires-clause-inner : goal.start_unbegun_child-requires-clause-inner
 start_unbegun_child-requires-clause-inner g c κs within =
-    inner-is c.args.table.now c.args.name c.args.node.now
-    (hopping c.args.table.now c.args.plan.now c.args.name c.args.node.now c.requires.over c.requires.kinds c.requires.node
-    (subst HopsOrShelters (sym c.requires.is) tt))
+    inner-is c.args.table.now c.args.plan.now c.args.name c.args.node.now c.requires.over c.requires.node
 
 pub pass_on-requires-clause-may : goal.pass_on-requires-clause-may
 pass_on-requires-clause-may g c κs within =

@@ -2,26 +2,23 @@ use Rattle.std.specs.Prelude.{IfSome}
 use Rattle.std.proofs.Common.{Option, subst}
 use Rattle.exec_start.specs.Parcels.{Delivery}
 use Rattle.node_steps.proofs.Frames.{stepped-after}
+use Rattle.node_steps.proofs.Places.{inner-is}
 use Rattle.exec_let.specs.Openings.{HasParcel, HasBody}
 use Rattle.exec_let.proofs.Ended.{let-starts}
-use Rattle.exec_let.proofs.Places.{letting, inner-is}
 use Rattle.exec_let.proofs.Going.{lets-body, lets-child, lets-neither}
 use Rattle.exec_let.proofs.dispatching.step_let.Goals as goal
 
 pub end_as_body-requires-clause-inner : goal.end_as_body-requires-clause-inner
 end_as_body-requires-clause-inner g c κs within =
-    inner-is c.args.table.now c.args.name c.args.node.now
-    (letting c.args.table.now c.args.plan.now c.args.name c.args.node.now c.requires.over c.requires.kinds c.requires.node c.requires.is_let)
+    inner-is c.args.table.now c.args.plan.now c.args.name c.args.node.now c.requires.over c.requires.node
 
 pub go_on-requires-clause-inner : goal.go_on-requires-clause-inner
 go_on-requires-clause-inner g c κs within =
-    inner-is c.args.table.now c.args.name c.args.node.now
-    (letting c.args.table.now c.args.plan.now c.args.name c.args.node.now c.requires.over c.requires.kinds c.requires.node c.requires.is_let)
+    inner-is c.args.table.now c.args.plan.now c.args.name c.args.node.now c.requires.over c.requires.node
 
 pub start_unbegun_child-requires-clause-inner : goal.start_unbegun_child-requires-clause-inner
 start_unbegun_child-requires-clause-inner g c κs within =
-    inner-is c.args.table.now c.args.name c.args.node.now
-    (letting c.args.table.now c.args.plan.now c.args.name c.args.node.now c.requires.over c.requires.kinds c.requires.node c.requires.is_let)
+    inner-is c.args.table.now c.args.plan.now c.args.name c.args.node.now c.requires.over c.requires.node
 
 pub end_as_body-requires-clause-at : goal.end_as_body-requires-clause-at
 end_as_body-requires-clause-at g c κs within =

@@ -2,7 +2,7 @@ use Rattle.std.proofs.Common.{Bool, true, false, subst}
 use Rattle.life_rules.specs.Views.{beside}
 use Rattle.table_steps.specs.Readings.{IsBegunAs}
 use Rattle.node_steps.proofs.Frames.{stepped-after}
-use Rattle.node_steps.proofs.Started.{run-above, run-place, begun-keeps, idle-keeps, idle-known, run-still}
+use Rattle.node_steps.proofs.Started.{run-above, run-place, begun-runs, idle-runs, idle-read, run-still}
 use Rattle.node_steps.proofs.Wanted.{bare-leaves}
 use Rattle.node_steps.proofs.starting.start_unbegun_child.Goals as goal
 
@@ -20,7 +20,7 @@ pub leave_at_rest-requires-clause-may : goal.leave_at_rest-requires-clause-may
 leave_at_rest-requires-clause-may g c =
     let read = subst (λ (b : Bool). IsBegunAs c.args.table.now.frame (beside c.args.name c.args.child) b c.args.hand.now.me c.has_begun.new.hand.me)
     c.if-has_begun.true c.has_begun.ensures.begun in
-    let keeps = begun-keeps c.args.table.now c.args.plan.now c.args.name c.args.env c.args.child c.args.asked c.args.hand.now.me c.requires.over
+    let keeps = begun-runs c.args.table.now c.args.plan.now c.args.name c.args.env c.args.child c.args.asked c.args.hand.now.me c.requires.over
     c.requires.runnable c.known.ensures c.requires.may c.has_begun.new.hand.me read in
     bare-leaves c.args.table.now c.args.plan.now c.args.name c.args.env c.has_begun.new.hand.me c.requires.over c.requires.inner
     (run-still c.args.table.now c.args.name c.args.env c.args.child c.args.asked c.args.hand.now.me c.has_begun.new.hand.me keeps
@@ -30,7 +30,7 @@ pub returns-then-has_begun-clause-stepped : goal.returns-then-has_begun-clause-s
 returns-then-has_begun-clause-stepped g c =
     let read = subst (λ (b : Bool). IsBegunAs c.args.table.now.frame (beside c.args.name c.args.child) b c.args.hand.now.me c.has_begun.new.hand.me)
     c.if-has_begun.true c.has_begun.ensures.begun in
-    let keeps = begun-keeps c.args.table.now c.args.plan.now c.args.name c.args.env c.args.child c.args.asked c.args.hand.now.me c.requires.over
+    let keeps = begun-runs c.args.table.now c.args.plan.now c.args.name c.args.env c.args.child c.args.asked c.args.hand.now.me c.requires.over
     c.requires.runnable c.known.ensures c.requires.may c.has_begun.new.hand.me read in
     stepped-after c.args.table.now c.args.name c.args.hand.now.me c.has_begun.new.hand.me c.leave_at_rest.new.hand.me keeps.beside
     c.leave_at_rest.result c.leave_at_rest.ensures.stepped
@@ -39,7 +39,7 @@ pub start_child-requires-clause-may : goal.start_child-requires-clause-may
 start_child-requires-clause-may g c κs within =
     let read = subst (λ (b : Bool). IsBegunAs c.args.table.now.frame (beside c.args.name c.args.child) b c.args.hand.now.me c.has_begun.new.hand.me)
     c.if-has_begun.false c.has_begun.ensures.begun in
-    let keeps = idle-keeps c.args.table.now c.args.plan.now c.args.name c.args.env c.args.child c.args.asked c.args.hand.now.me c.requires.over
+    let keeps = idle-runs c.args.table.now c.args.plan.now c.args.name c.args.env c.args.child c.args.asked c.args.hand.now.me c.requires.over
     c.requires.runnable c.known.ensures c.requires.may c.has_begun.new.hand.me read in
     run-still c.args.table.now c.args.name c.args.env c.args.child c.args.asked c.args.hand.now.me c.has_begun.new.hand.me keeps
     c.requires.may
@@ -48,14 +48,14 @@ pub start_child-requires-clause-idle : goal.start_child-requires-clause-idle
 start_child-requires-clause-idle g c κs within =
     let read = subst (λ (b : Bool). IsBegunAs c.args.table.now.frame (beside c.args.name c.args.child) b c.args.hand.now.me c.has_begun.new.hand.me)
     c.if-has_begun.false c.has_begun.ensures.begun in
-    idle-known c.args.table.now c.args.plan.now c.args.name c.args.env c.args.child c.args.asked c.args.hand.now.me c.requires.over
+    idle-read c.args.table.now c.args.plan.now c.args.name c.args.env c.args.child c.args.asked c.args.hand.now.me c.requires.over
     c.requires.runnable c.known.ensures c.requires.may c.has_begun.new.hand.me read
 
 pub returns-clause-stepped : goal.returns-clause-stepped
 returns-clause-stepped g c =
     let read = subst (λ (b : Bool). IsBegunAs c.args.table.now.frame (beside c.args.name c.args.child) b c.args.hand.now.me c.has_begun.new.hand.me)
     c.if-has_begun.false c.has_begun.ensures.begun in
-    let keeps = idle-keeps c.args.table.now c.args.plan.now c.args.name c.args.env c.args.child c.args.asked c.args.hand.now.me c.requires.over
+    let keeps = idle-runs c.args.table.now c.args.plan.now c.args.name c.args.env c.args.child c.args.asked c.args.hand.now.me c.requires.over
     c.requires.runnable c.known.ensures c.requires.may c.has_begun.new.hand.me read in
     stepped-after c.args.table.now c.args.name c.args.hand.now.me c.has_begun.new.hand.me c.start_child.new.hand.me keeps.beside
     c.start_child.result c.start_child.ensures.stepped

@@ -1,0 +1,44 @@
+-- What a job makes of the elements of a share, one after the other.
+use Rattle.std.proofs.Common.{◌≡◌, ℕ, ◌+◌, ◌<◌, ℤ, List, [], ◌∷◌, ◌++◌, length, get_or, drop, Result, Ok, Err, refl, sym, ap, ◌∙◌, arith}
+use Rattle.std.proofs.lemmas.List.{append_assoc, at_drop_more}
+use Rattle.exec_job.specs.declared.fault.JobFault.{JobFault}
+use Rattle.exec_job.specs.declared.job.Job.{Job}
+use Rattle.exec_job.specs.Element.{at_index}
+use Rattle.exec_job.specs.Fault.{name_of}
+use Rattle.plan_rules.specs.Bulks.{error_at, in_front, each_of}
+
+-- results that stand before others
+abbrev pub after : List ℤ → Result (List ℤ) (List ℕ) → Result (List ℤ) (List ℕ)
+after made (Ok behind) = Ok (made ++ behind)
+after made (Err name) = Err name
+
+after-one : (made : List ℤ) (index : ℕ) (y : ℤ) (behind : Result (List ℤ) (List ℕ)) →
+    after made (in_front index (Ok y) behind) ≡ after (made ++ y ∷ []) behind
+after-one made index y (Ok ys) = ap Ok (sym (append_assoc made (y ∷ []) ys))
+after-one made index y (Err name) = refl
+
+-- the elements up to a place are done, where the first has this index
+abbrev pub IsDoneTo : Job → ℕ → List ℤ → ℕ → List ℤ → Type 0
+IsDoneTo job first xs place made = each_of job first xs ≡ after made (each_of job (first + place) (drop place xs))
+
+module _ (job : Job) (first : ℕ) (xs made : List ℤ) (place : ℕ) (d : ℤ) (done : IsDoneTo job first xs place made)
+    (within : place < length xs) where
+  here : each_of job first xs
+      ≡ after made (in_front (first + place) (at_index job (first + place) (get_or xs place d))
+      (each_of job (first + place + 1) (drop (place + 1) xs)))
+  here = done ∙ at_drop_more (λ rest. after made (each_of job (first + place) rest)) xs place d within
+
+  pub done-more : (y : ℤ) → at_index job (first + place) (get_or xs place d) ≡ Ok y →
+      IsDoneTo job first xs (place + 1) (made ++ y ∷ [])
+  done-more y same =
+      let on : first + place + 1 ≡ first + (place + 1) = omega arith in
+      let rest : List ℤ = drop (place + 1) xs in
+      let behind : Result (List ℤ) (List ℕ) = each_of job (first + place + 1) rest in
+      here ∙ ap (λ answer. after made (in_front (first + place) answer behind)) same ∙ after-one made (first + place) y behind
+      ∙ ap (λ i. after (made ++ y ∷ []) (each_of job i rest)) on
+
+  pub done-fault : (fault : JobFault) → at_index job (first + place) (get_or xs place d) ≡ Err fault →
+      each_of job first xs ≡ Err (error_at (name_of fault) (first + place))
+  done-fault fault same =
+      let behind : Result (List ℤ) (List ℕ) = each_of job (first + place + 1) (drop (place + 1) xs) in
+      here ∙ ap (λ answer. after made (in_front (first + place) answer behind)) same

@@ -1,0 +1,12 @@
+pub mod Applying
+pub mod Making
+pub mod Ranges
+pub mod Places
+pub mod Starting
+pub mod Emptied
+pub mod Opened
+pub mod Ended
+pub mod Begun
+pub mod Putting
+pub mod Parted
+pub mod Going

@@ -1,0 +1,128 @@
+-- What is made of a row, share by share.
+use Rattle.std.proofs.Common.{◌≡◌, inl, inr, ℕ, suc, ◌+◌, ◌*◌, ◌<◌, ◌≤◌, min, ℤ, List, [], ◌∷◌, ◌++◌, length, take, take_all, Some, Result, Ok, Err, refl, sym, ap, ap₂, ◌∙◌, arith}
+use Rattle.std.specs.Prelude.{◌/◌, ◌%◌}
+use Rattle.std.proofs.lemmas.Bool.{cases_lt}
+use Rattle.exec_value.specs.declared.data.Datum.TheVariants.{Row}
+use Rattle.exec_value.specs.declared.outcome.Completion.{Completion}
+use Rattle.exec_value.specs.declared.outcome.Completion.TheVariants.{Value, Error, Stopped, NoMemory}
+use Rattle.exec_job.specs.Element.{at_index}
+use Rattle.exec_job.specs.declared.fault.JobFault.{JobFault}
+use Rattle.exec_job.specs.declared.job.Job.{Job}
+use Rattle.plan_rules.specs.Bulks.{in_front, each_of, row_ending, bulk_of}
+use Rattle.plan_rules.specs.declared.node.Node.TheVariants.{Bulk}
+use Rattle.plan_shape.specs.declared.limits.TheConstants.{BULK_PARTS}
+use Rattle.exec_start.specs.Bounds.{least_when_done}
+use Rattle.exec_start.specs.Shares.{first_index}
+use Rattle.start_laws.specs.BulkLaws.{share_made, front_made, made_behind}
+use Rattle.start_laws.proofs.Rows.{shares-made}
+use Rattle.exec_bulk.specs.Rows.{numbers_in, parts_for}
+
+-- the name of an error
+name_in : Completion → List ℕ
+name_in (Error name) = name
+name_in done = []
+
+pub ok-of : (made : Result (List ℤ) (List ℕ)) (ys : List ℤ) → row_ending made ≡ Value (Row ys ∷ []) → made ≡ Ok ys
+ok-of (Ok zs) ys e = ap Ok (ap numbers_in e)
+ok-of (Err name) ys e = cc
+
+pub err-of : (made : Result (List ℤ) (List ℕ)) (name : List ℕ) → row_ending made ≡ Error name → made ≡ Err name
+unfolding name_in
+err-of (Ok zs) name e = cc
+err-of (Err other) name e = ap Err (ap name_in e)
+
+-- one share more
+module _ (job : Job) (whole : List ℤ) (part : ℕ) (within : part < BULK_PARTS) where
+  pub numbers-more : (front ys : List ℤ) → front_made job whole part ≡ Ok front →
+      row_ending (share_made job whole part) ≡ Value (Row ys ∷ []) → front_made job whole (part + 1) ≡ Ok (front ++ ys)
+  numbers-more front ys before share =
+      shares-made.goes_on job whole part within ∙ ap₂ made_behind before (ok-of (share_made job whole part) ys share)
+
+  pub fault-more : (front : List ℤ) (name : List ℕ) → front_made job whole part ≡ Ok front →
+      row_ending (share_made job whole part) ≡ Error name → front_made job whole (part + 1) ≡ Err name
+  fault-more front name before share =
+      shares-made.goes_on job whole part within ∙ ap₂ made_behind before (err-of (share_made job whole part) name share)
+
+  pub fault-stays : (name : List ℕ) → front_made job whole part ≡ Err name → front_made job whole (part + 1) ≡ Err name
+  fault-stays name before =
+      shares-made.goes_on job whole part within ∙ ap (λ front. made_behind front (share_made job whole part)) before
+
+-- a row shorter than eight has shares of one number each
+first-few : (n : ℕ) → n < BULK_PARTS → first_index n n ≡ n
+first-few n few =
+    let none : n / BULK_PARTS ≡ 0 = omega (arith, few) in
+    let all : n % BULK_PARTS ≡ n = omega (arith, few) in
+    ap₂ (λ a b. n * a + min n b) none all ∙ omega arith
+
+-- the shares of the parts that are begun make the row
+pub whole-made : (job : Job) (whole : List ℤ) → front_made job whole (parts_for whole) ≡ each_of job 0 whole
+whole-made job whole =
+    elim (cases_lt (length whole) BULK_PARTS) [
+      | inl few ↦
+          let count : parts_for whole ≡ length whole = omega (arith, few) in
+          ap (front_made job whole) count
+          ∙ ap (λ i. each_of job 0 (take i whole)) (first-few (length whole) few)
+          ∙ ap (each_of job 0) (take_all (length whole) whole (omega arith))
+      | inr many ↦
+          let count : parts_for whole ≡ BULK_PARTS = omega (arith, many) in
+          ap (front_made job whole) count ∙ shares-made.ends job whole
+    ]
+
+-- so many numbers were made
+ok_length : Result (List ℤ) (List ℕ) → ℕ
+ok_length (Ok ys) = length ys
+ok_length (Err name) = 0
+
+front-length : (index : ℕ) (answer : Result ℤ JobFault) (behind : Result (List ℤ) (List ℕ)) (n : ℕ) →
+    ((zs : List ℤ) → behind ≡ Ok zs → length zs ≡ n) → (ys : List ℤ) → in_front index answer behind ≡ Ok ys → length ys ≡ suc n
+unfolding ok_length
+front-length index (Err fault) behind n all ys e = cc
+front-length index (Ok y) (Err name) n all ys e = cc
+front-length index (Ok y) (Ok zs) n all ys e =
+    let same : suc (length zs) ≡ length ys = ap ok_length e in
+    let rest = all zs refl in
+    omega (arith, same, rest)
+
+each-length : (job : Job) (index : ℕ) (xs ys : List ℤ) → each_of job index xs ≡ Ok ys → length ys ≡ length xs
+unfolding ok_length
+each-length job index [] ys e = sym (ap ok_length e)
+each-length job index (x ∷ xs) ys e =
+    front-length index (at_index job index x) (each_of job (index + 1) xs) (length xs) (λ zs is. each-length job (index + 1) xs zs is) ys e
+
+-- a bulk that is done with what was made of a row has begun as many parts as the row asks for
+least-made : (job : Job) (child n : ℕ) (made : Result (List ℤ) (List ℕ)) → 1 ≤ n → ((ys : List ℤ) → made ≡ Ok ys → length ys ≡ n) →
+    least_when_done (Some (Bulk child job)) (row_ending made) ≤ min BULK_PARTS n
+least-made job child n (Ok ys) some all = let size = all ys refl in omega (arith, size, some)
+least-made job child n (Err name) some all = omega (arith, some)
+
+pub least-row : (job : Job) (child : ℕ) (whole : List ℤ) → 1 ≤ length whole →
+    least_when_done (Some (Bulk child job)) (row_ending (each_of job 0 whole)) ≤ parts_for whole
+least-row job child whole some = least-made job child (length whole) (each_of job 0 whole) some (λ ys e. each-length job 0 whole ys e)
+
+-- what is no row with numbers passes
+pub passes-none : (job : Job) (done : Completion) → numbers_in done ≡ [] → bulk_of job done ≡ done
+passes-none job (Value []) none = refl
+passes-none job (Value (Row [] ∷ [])) none = refl
+passes-none job (Value (Row (x ∷ xs) ∷ [])) none = cc
+passes-none job (Value (datum ∷ values)) none = refl
+passes-none job (Error name) none = refl
+passes-none job Stopped none = refl
+passes-none job NoMemory none = refl
+
+pub least-none : (job : Job) (child : ℕ) (done : Completion) → numbers_in done ≡ [] → least_when_done (Some (Bulk child job)) done ≤ 1
+least-none job child (Value []) none = omega arith
+least-none job child (Value (Row [] ∷ [])) none = omega arith
+least-none job child (Value (Row (x ∷ xs) ∷ [])) none = cc
+least-none job child (Value (datum ∷ values)) none = omega arith
+least-none job child (Error name) none = omega arith
+least-none job child Stopped none = omega arith
+least-none job child NoMemory none = omega arith
+
+-- a completion with numbers is the row of them
+pub row-is : (done : Completion) → 1 ≤ length (numbers_in done) → done ≡ Value (Row (numbers_in done) ∷ [])
+row-is (Value []) some = absurd (omega (arith, some))
+row-is (Value (Row xs ∷ [])) some = refl
+row-is (Value (datum ∷ values)) some = absurd (omega (arith, some))
+row-is (Error name) some = absurd (omega (arith, some))
+row-is Stopped some = absurd (omega (arith, some))
+row-is NoMemory some = absurd (omega (arith, some))

@@ -1,0 +1,106 @@
+-- Where a bulk and its parts stand, and whose starts they have.
+use Rattle.std.specs.Prelude.{IsTrue, slice_get}
+use Rattle.std.specs.List.{range_with_len}
+use Rattle.std.proofs.Common.{◌≡◌, ◌⊎◌, inl, inr, ℕ, ◌+◌, ◌<◌, ◌≤◌, true, false, List, [], ◌∷◌, Some, refl, ap, ◌∙◌, arith}
+use Rattle.std.proofs.lemmas.List.Elements.{Contains-append_cases, Contains-append_left, Contains-append_right}
+use Rattle.std.proofs.lemmas.Option.{slice_get_within}
+use Rattle.exec_value.specs.declared.limits.TheConstants.{NUMBERS}
+use Rattle.exec_job.specs.Takes.{is_element}
+use Rattle.exec_job.specs.declared.job.Job.{Job}
+use Rattle.life_rules.specs.declared.event.Name.{Name}
+use Rattle.node_tree.specs.Tree.{is_child, is_unstoppable, has_source}
+use Rattle.plan_rules.specs.declared.node.Node.{Node}
+use Rattle.plan_rules.specs.declared.node.Node.TheVariants.{Bulk, Part}
+use Rattle.plan_shape.specs.Blueprint.{Blueprint, IsPlan}
+use Rattle.plan_shape.specs.Forest.{IsPlaced, IsPartOf}
+use Rattle.plan_shape.specs.declared.limits.TheConstants.{BULK_PARTS}
+use Rattle.plan_kinds.specs.Small.{IsSmall}
+use Rattle.plan_kinds.specs.TreeLaws.{ShowsNode}
+use Rattle.plan_kinds.proofs.Placing.{no-member}
+use Rattle.table_steps.specs.Views.{Board}
+use Rattle.exec_start.specs.declared.entry.Entry.{Entry}
+use Rattle.exec_start.specs.Entries.{plan_of, node_of}
+use Rattle.exec_recv.specs.Over.{IsOver}
+use Rattle.start_laws.specs.Nodes.{IsStartOf}
+use Rattle.start_laws.proofs.Pairs.{sole}
+use Rattle.node_steps.proofs.Places.{node-shown}
+use Rattle.exec_bulk.specs.Opens.{HasParts}
+use Rattle.exec_bulk.specs.Rows.{first_part}
+use Rattle.exec_bulk.proofs.Ranges.{range-place, place-range}
+
+-- in a plan
+module _ (plan : Blueprint) (is_plan : IsPlan plan) (n child : ℕ) (job : Job) (at : slice_get plan.nodes n ≡ Some (Bulk child job)) where
+  abbrev placed : IsPlaced plan.nodes n (Bulk child job)
+  placed = is_plan.forest.each n (Bulk child job) at
+
+  -- the eight nodes before a bulk are its parts
+  pub part-at : (part : ℕ) → part < BULK_PARTS → slice_get plan.nodes (first_part n + part) ≡ Some (Part n part)
+  part-at part within = placed.parts part within
+
+  pub bulk-behind : BULK_PARTS ≤ n
+  bulk-behind =
+      let first = part-at 0 (omega arith) in
+      let made : IsPartOf plan.nodes (first_part n + 0) n 0 = (is_plan.forest.each (first_part n + 0) (Part n 0) first).made in
+      let place = made.place in
+      omega (arith, place)
+
+  pub bulk-within : n ≤ NUMBERS
+  bulk-within =
+      let within = slice_get_within plan.nodes n (Bulk child job) at in
+      let few = is_plan.forest.few in
+      omega (arith, within, few)
+
+  pub bulk-element : IsTrue (is_element job)
+  bulk-element = placed.made
+
+pub job-element : (plan : Blueprint) → IsPlan plan → (n : ℕ) (node : Node) → slice_get plan.nodes n ≡ Some node → (child : ℕ) (job : Job) →
+    node ≡ Bulk child job → IsTrue (is_element job)
+job-element plan is_plan n node at child job is = bulk-element plan is_plan n child job (at ∙ ap (λ (d : Node). Some d) is)
+
+-- a plan with a bulk, or a part of one, isn't small
+pub bulk-large : (start : List Entry) (child : ℕ) (job : Job) → IsStartOf start (Bulk child job) → ¬ IsSmall (plan_of start)
+bulk-large start child job of small = small.nodes_are (node_of start) (Bulk child job) of.node_is
+
+pub part-large : (start : List Entry) (bulk part : ℕ) → IsStartOf start (Part bulk part) → ¬ IsSmall (plan_of start)
+part-large start bulk part of small = small.nodes_are (node_of start) (Part bulk part) of.node_is
+
+-- a bulk
+module _ (board : Board Blueprint) (plan : Blueprint) (x : Name) (child : ℕ) (job : Job) (over : IsOver board plan)
+    (at : slice_get plan.nodes x.node ≡ Some (Bulk child job)) where
+  abbrev node : Node
+  node = Bulk child job
+
+  abbrev its : ShowsNode board.frame.tree x.node node
+  its = node-shown board plan x node over at
+
+  pub bulk-plain : has_source board.frame.tree x.node ≡ false
+  bulk-plain = its.source
+
+  pub bulk-open : is_unstoppable board.frame.tree x.node ≡ false
+  bulk-open = its.unstoppable
+
+  pub bulk-child : is_child board.frame.tree x.node child ≡ true
+  bulk-child =
+      (its.children child).1 (Contains-append_left (child ∷ []) (range_with_len (first_part x.node) BULK_PARTS) child (0, omega arith, refl), refl)
+
+  pub bulk-parts : HasParts board x
+  bulk-parts part within =
+      let k = first_part x.node + part in
+      (its.children k).1
+      (Contains-append_right (child ∷ []) (range_with_len (first_part x.node) BULK_PARTS) k (place-range (first_part x.node) BULK_PARTS part within), refl)
+
+  -- its children are these
+  pub bulk-kids : (k : ℕ) → is_child board.frame.tree x.node k ≡ true →
+      (k ≡ child) ⊎ ((part : ℕ) × (part < BULK_PARTS) × (k ≡ first_part x.node + part))
+  bulk-kids k below =
+      elim (Contains-append_cases (child ∷ []) (range_with_len (first_part x.node) BULK_PARTS) k ((its.children k).0 below).0) [
+        | inl first ↦ inl (sole child k first)
+        | inr rest ↦ inr (range-place (first_part x.node) BULK_PARTS k rest)
+      ]
+
+-- a part has none
+pub part-kids : (board : Board Blueprint) (plan : Blueprint) (x : Name) (bulk part : ℕ) (over : IsOver board plan) →
+    slice_get plan.nodes x.node ≡ Some (Part bulk part) → (k : ℕ) → is_child board.frame.tree x.node k ≡ true → ⊥
+part-kids board plan x bulk part over at k below =
+    let both = ((node-shown board plan x (Part bulk part) over at).children k).0 below in
+    no-member k both.0

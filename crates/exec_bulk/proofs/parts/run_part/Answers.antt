@@ -1,0 +1,21 @@
+use Rattle.exec_bulk.proofs.Parted.{share-may, share-completes, its-bulk}
+use Rattle.exec_bulk.proofs.Places.{part-large}
+use Rattle.exec_bulk.proofs.parts.run_part.Goals as goal
+
+pub make_share-requires-clause-bulk : goal.make_share-requires-clause-bulk
+make_share-requires-clause-bulk g c =
+    its-bulk c.args.table.now c.args.plan.now c.args.name c.args.env c.args.bulk c.args.hand.now.me c.requires.has c.requires.over
+
+pub of-parcel-requires : goal.of-parcel-requires
+of-parcel-requires g c =
+    share-may c.args.table.now c.args.plan.now c.args.name c.args.env c.args.bulk c.args.hand.now.me c.requires.has c.requires.over
+    c.in-Some.done c.in-Some.ensures
+
+pub complete-requires-clause-may : goal.complete-requires-clause-may
+complete-requires-clause-may g c κs within =
+    share-completes c.args.table.now c.args.plan.now c.args.name c.args.env c.args.bulk c.args.hand.now.me c.requires.has c.requires.over
+    c.in-Some.done c.in-Some.ensures c.of-parcel.result c.of-parcel.ensures
+
+pub deliver_no_memory-requires-clause-large : goal.deliver_no_memory-requires-clause-large
+deliver_no_memory-requires-clause-large g c κs within =
+    part-large c.args.env c.args.bulk c.requires.has.part c.requires.has.of

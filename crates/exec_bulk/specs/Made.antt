@@ -1,0 +1,29 @@
+-- What the parts of a bulk come to, one after the other.
+use Rattle.std.specs.Prelude.{◌≡◌, ◌≢◌, ⊤, ℕ, ◌+◌, ◌<◌, ℤ, List, Option, Ok, Err, IfSome}
+use Rattle.exec_value.specs.declared.outcome.Completion.{Completion}
+use Rattle.exec_value.specs.declared.outcome.Completion.TheVariants.{NoMemory}
+use Rattle.exec_job.specs.declared.job.Job.{Job}
+use Rattle.plan_rules.specs.Bulks.{row_ending}
+use Rattle.plan_shape.specs.declared.limits.TheConstants.{BULK_PARTS}
+use Rattle.exec_start.specs.Parcels.{Delivery}
+use Rattle.start_laws.specs.BulkLaws.{share_made, front_made}
+use Rattle.exec_bulk.specs.declared.joining.Made.{Made}
+use Rattle.exec_bulk.specs.declared.joining.Made.TheVariants.{Numbers, Failed, Want}
+
+-- This is what the job makes of the shares before this one. Nothing is said where memory is wanted.
+abbrev pub IsMade : Made → Job → List ℤ → ℕ → Type 0
+IsMade (Numbers made) job whole part = front_made job whole part ≡ Ok made.items
+IsMade (Failed name) job whole part = front_made job whole part ≡ Err name
+IsMade Want job whole part = ⊤
+
+-- the completion is what the job makes of the share of this number, where it isn't want of memory
+abbrev pub IsOfShare : Job → List ℤ → ℕ → Completion → Type 0
+IsOfShare job whole part done =
+    done ≢ NoMemory → done ≡ row_ending (share_made job whole part)
+
+-- the next part was added: its parcel, where it is done
+abbrev pub AddsPart : Option Delivery → Made → Made → Type 0
+AddsPart found before after =
+    (job : Job) (whole : List ℤ) (part : ℕ) → part < BULK_PARTS →
+    IfSome found (λ parcel. IsOfShare job whole part parcel.completion) →
+    IsMade before job whole part → IsMade after job whole (part + 1)
