@@ -41,13 +41,14 @@ use Rattle.node_steps.specs.Midway.{Ready}
 use Rattle.node_steps.specs.Starts.{RunsBelow, asked_for_child, MayRun}
 use Rattle.node_steps.specs.TakenOut.{item_at, start_at, least_known, IsFoundBelow, TakesOut}
 use Rattle.node_steps.proofs.Frames.{emptying-less}
+use Rattle.node_steps.proofs.Places.{source-none, start-of}
 use Rattle.node_steps.proofs.Telling.{found-done, kept-from, from-keeps}
 use Rattle.exec_adapt.specs.Ends.{MayPass, MayName}
 use Rattle.exec_adapt.specs.Images.{names_error, adapted_to, StandsButForName}
 use Rattle.exec_adapt.specs.Kinds.{IsAdaptor, adapted}
 use Rattle.exec_adapt.specs.Openings.{newest, parcel_at}
 use Rattle.exec_adapt.proofs.Making.{image-any, image-named}
-use Rattle.exec_adapt.proofs.Places.{adaptor-is, adaptor-runs, adaptor-plain, adaptor-awaits, adaptor-makes, adaptor-sees, source-none, start-of}
+use Rattle.exec_adapt.proofs.Places.{adaptor-is, adaptor-runs, adaptor-plain, adaptor-awaits, adaptor-makes, adaptor-sees}
 
 -- a rest of an adaptor that keeps a parcel has begun a child
 keeps-one : (node : Node) → IsAdaptor node → (parcel : Delivery) → least_at_rest (Some node) (Some parcel) ≡ 1
@@ -114,7 +115,7 @@ module _ (board : Board Blueprint) (plan : Blueprint) (x : Name) (node : Node) (
     own-starts = subst IsStart env_is starts
 
     own-of : IsStartOf (start_at taken.own) node
-    own-of = start-of board plan x node over at (start_at taken.own) (least_known taken) m runnable takes.ready own-starts
+    own-of = start-of board plan x node over at (start_at taken.own) (least_known taken) (λ _. None) m runnable takes.ready own-starts
 
     pub env-of : IsStartOf env node
     env-of = subst (λ (s : List Entry). IsStartOf s node) (sym env_is) own-of

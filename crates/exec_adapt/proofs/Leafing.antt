@@ -31,20 +31,15 @@ use Rattle.start_laws.proofs.LeafCases.{leaves-allowed}
 use Rattle.start_laws.proofs.Rooms.{room-there}
 use Rattle.node_steps.specs.declared.taken.TakenOut.{TakenOut}
 use Rattle.node_steps.specs.Completes.{MayComplete}
-use Rattle.node_steps.specs.Heard.{MaySee, TellsRequest}
+use Rattle.node_steps.specs.Heard.{MaySee}
 use Rattle.node_steps.specs.Midway.{Ready, KeepsReady}
 use Rattle.node_steps.specs.TakenOut.{start_at, least_known, TakesOut}
 use Rattle.node_steps.proofs.Frames.{emptying-less}
+use Rattle.node_steps.proofs.Places.{start-of}
 use Rattle.node_steps.proofs.Wanted.{bare-leaves}
 use Rattle.exec_adapt.specs.Ends.{MakesLeaf, MayName}
 use Rattle.exec_adapt.specs.Kinds.{IsFactory, is_error}
-use Rattle.exec_adapt.proofs.Places.{factory-leaf, factory-plain, start-of}
-
--- a look that answers so tells what the node may say that it saw
-pub look-sees : (board : Board Blueprint) (x : Name) (answer : Bool) (m : Seated Item Entry) → TellsRequest board x answer m →
-    MaySee board x answer m
-look-sees board x false m tells none = refl
-look-sees board x true m tells none = let seen = tells.yes refl in cc
+use Rattle.exec_adapt.proofs.Places.{factory-leaf, factory-plain}
 
 -- what a factory makes isn't want of memory
 shown-memory : (query : Query) (number : ℕ) (found : Bool) → shown_of query number found ≢ NoMemory
@@ -87,7 +82,7 @@ module _ (board : Board Blueprint) (plan : Blueprint) (x : Name) (node : Node) (
       record {
         ready = keeps.ready env 0 (λ _. None) taken-empty;
         factory = is;
-        at = start-of board plan x node over at env 0 m runnable taken-empty starts;
+        at = start-of board plan x node over at env 0 (λ _. None) m runnable taken-empty starts;
         sees = sees;
       }
 

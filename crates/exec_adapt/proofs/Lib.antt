@@ -1,7 +1,5 @@
-pub mod Names
 pub mod Making
 pub mod Places
 pub mod Adapting
 pub mod Leafing
 pub mod Receiving
-pub mod Stepping

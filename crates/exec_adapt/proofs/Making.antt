@@ -18,7 +18,7 @@ use Rattle.start_laws.specs.Nodes.{image_of}
 use Rattle.start_laws.specs.RoomLaws.{IsLongError}
 use Rattle.exec_adapt.specs.Kinds.{IsAdaptor}
 use Rattle.exec_adapt.specs.Images.{acts_on, is_fail, has_own_name, names_error, adapted_to, StandsButForName}
-use Rattle.exec_adapt.proofs.Names.{ShortAnswer, job-short}
+use Rattle.plan_kinds.proofs.ShortNames.{ShortAnswer, IsShortJob, job-short}
 
 -- an adaptor makes the same, whatever was asked
 pub image-any : (node : Node) → IsAdaptor node → (asked : Bool) (done : Completion) → image_of node asked done ≡ adapted_to node done
@@ -69,6 +69,11 @@ image-named (StoppedAsOptional child of) Stopped is = cc
 image-named (StoppedAsOptional child of) NoMemory is = cc
 image-named node done is = cc
 
+-- a job that isn't the error of a name has none of its own
+no-own_name : (job : Job) → is_fail job ≡ false → IsShortJob job
+no-own_name (Fail name) is = cc
+no-own_name job is = omega arith
+
 ending-short : (answer : Answer) → ShortAnswer answer → IsLongError (ending answer) → ⊥
 ending-short (Ok values) short long = long
 ending-short (Err name) short long = omega (arith, short, long)
@@ -76,10 +81,10 @@ ending-short (Err name) short long = omega (arith, short, long)
 -- else where it acts it makes no error with a long name
 pub image-short : (node : Node) (done : Completion) → IsAdaptor node → acts_on node done ≡ true → has_own_name node ≡ false →
     IsLongError (adapted_to node done) → ⊥
-image-short (Then child job) (Value values) is acts unnamed long = ending-short (apply_of job values) (job-short job unnamed values) long
+image-short (Then child job) (Value values) is acts unnamed long = ending-short (apply_of job values) (job-short job (no-own_name job unnamed) values) long
 image-short (UponError child job) (Error name) is acts unnamed long =
-    ending-short (apply_of job (Text name ∷ [])) (job-short job unnamed (Text name ∷ [])) long
-image-short (UponStopped child job) Stopped is acts unnamed long = ending-short (apply_of job []) (job-short job unnamed []) long
+    ending-short (apply_of job (Text name ∷ [])) (job-short job (no-own_name job unnamed) (Text name ∷ [])) long
+image-short (UponStopped child job) Stopped is acts unnamed long = ending-short (apply_of job []) (job-short job (no-own_name job unnamed) []) long
 image-short (StoppedAsOptional child of) (Value []) is acts unnamed long = long
 image-short (StoppedAsOptional child of) (Value (x ∷ [])) is acts unnamed long = long
 image-short (StoppedAsOptional child of) (Value (x ∷ y ∷ values)) is acts unnamed long = long

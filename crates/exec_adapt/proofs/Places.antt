@@ -1,31 +1,19 @@
 -- Where the nodes stand that are stepped here, and whose starts they have.
 use Rattle.std.specs.Prelude.{Contains, slice_get}
 use Rattle.std.specs.Option.{option_to_list}
-use Rattle.std.proofs.Common.{◌≡◌, ℕ, ◌+◌, Bool, false, List, [], ◌∷◌, length, Some, None, refl, sym, ap, ◌∙◌, subst, arith}
-use Rattle.std.proofs.lemmas.Bool.{eqb-true}
-use Rattle.std.proofs.lemmas.Option.{same_Some, slice_get_within}
-use Rattle.common_lemmas.proofs.Bool.{either}
+use Rattle.std.proofs.Common.{◌≡◌, ℕ, Bool, false, [], ◌∷◌, Some, None, refl, ap, arith}
+use Rattle.std.proofs.lemmas.Option.{same_Some}
 use Rattle.life_rules.specs.declared.event.Name.{Name}
-use Rattle.node_tree.specs.Tree.{is_root, has_source}
 use Rattle.plan_rules.specs.declared.node.Node.{Node}
 use Rattle.plan_rules.specs.declared.node.Node.TheVariants.{Input, Just, JustError, JustStopped, ReadEnv, Then, UponError, UponStopped, StoppedAsOptional, StoppedAsError}
 use Rattle.plan_shape.specs.Blueprint.{Blueprint}
 use Rattle.plan_shape.specs.Children.{children_of}
 use Rattle.plan_shape.specs.PlanTree.{is_when_all, spawns}
-use Rattle.plan_kinds.specs.Runnable.{IsRunnable}
-use Rattle.plan_kinds.specs.TreeLaws.{ShowsNode}
-use Rattle.plan_kinds.proofs.Trees.{trees-show}
 use Rattle.table_steps.specs.Views.{Board}
-use Rattle.table_steps.specs.Claims.{Seated}
-use Rattle.exec_start.specs.declared.entry.Entry.{Entry}
-use Rattle.exec_start.specs.declared.item.Item.{Item}
-use Rattle.exec_start.specs.Entries.{plan_of, node_of}
-use Rattle.exec_start.specs.Starts.{IsStart}
 use Rattle.exec_recv.specs.Over.{IsOver}
-use Rattle.start_laws.specs.Nodes.{IsStartOf, plain_children, AwaitsOne, MakesImage, MayHaveSeen}
+use Rattle.start_laws.specs.Nodes.{plain_children, AwaitsOne, MakesImage, MayHaveSeen}
 use Rattle.start_laws.specs.Leaves.{IsLeaf}
 use Rattle.exec_value.specs.declared.outcome.Completion.{Completion}
-use Rattle.node_steps.specs.Midway.{Ready}
 use Rattle.node_steps.specs.TakenOut.{IsOnlyChild}
 use Rattle.node_steps.proofs.Only.{only-named}
 use Rattle.exec_adapt.specs.Kinds.{IsFactory, IsAdaptor, adapted, CanAdvance}
@@ -148,22 +136,6 @@ factory-is plan node can none = absurd can
 -- a node of the plan, in the table over it
 module _ (board : Board Blueprint) (plan : Blueprint) (x : Name) (node : Node) (over : IsOver board plan)
     (at : slice_get plan.nodes x.node ≡ Some node) where
-  shows : ShowsNode board.frame.tree x.node node
-  shows = subst (λ t. ShowsNode t x.node node) (sym over.tree) ((trees-show plan over.is_plan).each x.node node at)
-
-  pub source-none : is_when_all node ≡ false → has_source board.frame.tree x.node ≡ false
-  source-none plain = shows.source ∙ plain
-
-  -- isn't the receiver node
-  pub inner-is : is_root board.frame.tree x.node ≡ false
-  inner-is =
-      let size : length board.frame.tree ≡ length plan.nodes + 1 = ap length over.tree ∙ (trees-show plan over.is_plan).size in
-      let within = slice_get_within plan.nodes x.node node at in
-      either (is_root board.frame.tree x.node)
-      (λ t. let last : x.node + 1 ≡ length board.frame.tree = eqb-true (x.node + 1) (length board.frame.tree) t in
-      absurd (omega (arith, size, within, last)))
-      (λ f. f)
-
   pub adaptor-only : (child : ℕ) → adapted node ≡ Some child → IsOnlyChild board x (Some child)
   adaptor-only child adapts =
       only-named board plan x node (Some child) over at (adaptor-children node child x.node adapts)
@@ -171,15 +143,3 @@ module _ (board : Board Blueprint) (plan : Blueprint) (x : Name) (node : Node) (
 
   pub factory-only : IsFactory node → IsOnlyChild board x None
   factory-only is = only-named board plan x node None over at (factory-children node x.node is) (factory-spawns node is)
-
-  -- the start of a node that is held is one of this node
-  pub start-of : (start : List Entry) (least : ℕ) (m : Seated Item Entry) → IsRunnable plan → Ready board x start least m →
-      IsStart start → IsStartOf start node
-  start-of start least m runnable ready is =
-      let same : plan_of start ≡ plan = ready.key ∙ over.over in
-      record {
-        start_is = is;
-        runnable = subst IsRunnable (sym same) runnable;
-        node_is = ap (λ (b : Blueprint). slice_get b.nodes (node_of start)) same
-            ∙ ap (slice_get plan.nodes) ready.node ∙ at;
-      }

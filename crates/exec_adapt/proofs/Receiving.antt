@@ -1,27 +1,32 @@
 -- How the step of the receiver node goes on, where the plan's root alone stands below it.
 use Rattle.std.specs.Prelude.{Contains, slice_get, max, is_some, IfSome}
 use Rattle.std.specs.Option.{option_map_or}
-use Rattle.std.proofs.Common.{◌≡◌, inl, inr, ℕ, ◌+◌, ◌-◌, ◌≤◌, Bool, true, false, List, [], ◌∷◌, length, Option, Some, None, sym, ap, ◌∙◌, subst, arith}
-use Rattle.std.proofs.lemmas.Bool.{eq-eqb}
+use Rattle.std.proofs.Common.{◌≡◌, inl, inr, ℕ, ◌+◌, ◌-◌, ◌≤◌, Bool, true, false, List, [], ◌∷◌, length, Option, Some, None, refl, sym, ap, ◌∙◌, subst, arith}
+use Rattle.std.proofs.lemmas.Bool.{both_ways, eq-eqb}
 use Rattle.std.proofs.lemmas.Option.{same_Some}
 use Rattle.common_lemmas.specs.Sums.{one}
+use Rattle.exec_value.specs.declared.outcome.Completion.TheVariants.{NoMemory}
 use Rattle.life_rules.specs.declared.event.Name.{Name}
+use Rattle.life_rules.specs.Views.{beside}
 use Rattle.node_tree.specs.declared.node.TreeNode.{TreeNode}
 use Rattle.node_tree.specs.Tree.{is_root, is_child, has_source}
 use Rattle.plan_shape.specs.Blueprint.{Blueprint, IsPlan}
 use Rattle.plan_shape.specs.PlanTree.{tree_of}
 use Rattle.plan_shape.proofs.TreeLemmas.{tree_of-receiver}
+use Rattle.plan_kinds.specs.Runnable.{IsRunnable}
+use Rattle.plan_kinds.specs.Small.{IsSmall}
 use Rattle.plan_kinds.specs.TreeLaws.{ShowsPlan, IsTop}
 use Rattle.plan_kinds.proofs.Trees.{trees-show}
 use Rattle.table_steps.specs.Views.{Board, IsPlaceIn}
 use Rattle.table_steps.specs.Claims.{Seated}
+use Rattle.table_steps.specs.Readings.{KnowsIdle, IsIdleStill}
 use Rattle.exec_start.specs.declared.entry.Entry.{Entry}
 use Rattle.exec_start.specs.declared.item.Item.{Item}
 use Rattle.exec_start.specs.declared.item.Item.TheVariants.{Rest}
 use Rattle.exec_start.specs.Below.{run_below, asked_below}
 use Rattle.exec_start.specs.Bounds.{least_of, least_at_rest}
 use Rattle.exec_start.specs.Entries.{plan_of, asked_of, child_of}
-use Rattle.exec_start.specs.Fits.{IsItemOf}
+use Rattle.exec_start.specs.Fits.{IsItemOf, KeepsParcel}
 use Rattle.exec_start.specs.Items.{parcel_in, saw_in}
 use Rattle.exec_start.specs.Parcels.{Delivery, IsDelivery}
 use Rattle.exec_start.specs.Starts.{IsReceiverStart, IsStart}
@@ -36,10 +41,12 @@ use Rattle.node_steps.specs.declared.taken.AtHome.TheVariants.{Start as Unbegun,
 use Rattle.node_steps.specs.declared.taken.TakenOut.{TakenOut}
 use Rattle.node_steps.specs.Heard.{MaySee}
 use Rattle.node_steps.specs.Leaves.{MayLeave}
-use Rattle.node_steps.specs.Midway.{Ready}
+use Rattle.node_steps.specs.Midway.{Ready, KeepsReady}
 use Rattle.node_steps.specs.Starts.{RunsBelow, asked_for_child, MayRun}
 use Rattle.node_steps.specs.TakenOut.{item_at, start_at, least_known, IsFoundBelow, IsOnlyChild, TakesOut}
 use Rattle.node_steps.proofs.Frames.{emptying-less}
+use Rattle.node_steps.proofs.Reading.{above-is, begun-idle}
+use Rattle.node_steps.proofs.Started.{run-stands, run-still}
 use Rattle.node_steps.proofs.Telling.{found-done, kept-from, from-keeps}
 use Rattle.exec_adapt.specs.Ends.{MayPass}
 use Rattle.exec_adapt.specs.Kinds.{SpawnsNone}
@@ -49,6 +56,45 @@ use Rattle.exec_adapt.specs.Openings.{newest, parcel_at}
 top-root : (plan : Blueprint) → SpawnsNone plan → (n : ℕ) → IsTop plan.nodes n → n ≡ length plan.nodes - 1
 top-root plan spawns n (inl last) = omega (arith, last)
 top-root plan spawns n (inr spawned) = absurd (spawns spawned.ahead n spawned.second spawned.node)
+
+-- no parcel is at hand where none lay in either home
+none-below : (below kept : Option Delivery) → newest below kept ≡ None → below ≡ None
+none-below None kept none = refl
+none-below (Some parcel) kept none = cc
+
+none-parcel : (below kept : Option Delivery) → newest below kept ≡ None → kept ≡ None
+none-parcel None kept none = none
+none-parcel (Some parcel) kept none = cc
+
+none-kept : (own : AtHome) → parcel_in (item_at own) ≡ None → KeepsParcel (item_at own) → ⊥
+none-kept (Unbegun start) none keeps = absurd keeps
+none-kept (Rested start None) none keeps = absurd keeps
+none-kept (Rested start (Some parcel)) none keeps = cc
+
+none-known : None ≡ Some NoMemory → ⊥
+none-known e = cc
+
+-- The root was read as begun: that doesn't come in a small plan. In another the receiver node may be
+-- left with its start alone.
+pub begun-leaves : (board : Board Blueprint) (plan : Blueprint) (x : Name) (start : List Entry) (n : ℕ) (asked : Bool) (m m' : Seated Item Entry) →
+    IsOver board plan → IsRunnable plan → IsStart start → (may : MayRun board x start n asked m) → (IsSmall (plan_of start) → KnowsIdle x n m) →
+    (answer : Bool) → answer ≡ true → IsIdleStill board.frame (beside x n) answer m → KeepsReady board x m m' → MayLeave board x start None m'
+begun-leaves board plan x start n asked m m' over runnable is may idle answer begun still keeps =
+    let child = run-stands board plan x start n asked m over runnable is may in
+    let above = above-is board x start n (least_of (Rest start None)) m may.ready child in
+    record {
+      keep = record {
+        ready = (run-still board x start n asked m m' keeps may).ready;
+        child = tt;
+        saw = λ none. refl;
+        small = λ small. none-known;
+      };
+      rests = record {
+        rest = tt;
+        kept = λ small last.
+            absurd (both_ways answer (still (subst (λ (y : Name). KnowsIdle y n m) (sym above) (idle small))) begun);
+      };
+    }
 
 -- The receiver node, in a table over a plan.
 module _ (board : Board Blueprint) (plan : Blueprint) (x : Name) (root : ℕ) (over : IsOver board plan) (spawns : SpawnsNone plan)
@@ -154,6 +200,19 @@ module _ (board : Board Blueprint) (plan : Blueprint) (x : Name) (root : ℕ) (o
 
     own-top : IsReceiverStart env
     own-top = top-start env (least_known taken) m own-ready starts
+
+    -- where no parcel is at hand, and the plan is small, it was just begun: the root hasn't begun
+    pub top-idle : parcel_at taken ≡ None → IsSmall (plan_of env) → KnowsIdle x root m
+    top-idle none small =
+        let kind : plan_of (start_at taken.own) ≡ plan_of env = ap (λ (s : List Entry). plan_of s) (sym env_is) in
+        let last : x.node ≡ length (plan_of (start_at taken.own)).nodes =
+        last-node ∙ ap (λ (b : Blueprint). length b.nodes) (sym (own-ready.key ∙ over.over) ∙ sym kind) in
+        elim (takes.alone (none-below taken.below (parcel_in (item_at taken.own)) none)) [
+          | inl begun ↦ begun-idle board x root m (top-only.is root refl) begun
+          | inr rests ↦
+              absurd (none-kept taken.own (none-parcel taken.below (parcel_in (item_at taken.own)) none)
+              (rests.kept (subst (λ (b : Blueprint). IsSmall b) (sym kind) small) last))
+        ]
 
     taken-passes : (parcel : Delivery) → parcel_at taken ≡ Some parcel → MayPass board x env parcel m
     taken-passes parcel e =

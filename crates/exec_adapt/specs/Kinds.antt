@@ -55,22 +55,3 @@ CanAdvance plan (Some (UponStopped child job)) = ⊤
 CanAdvance plan (Some (StoppedAsOptional child of)) = ⊤
 CanAdvance plan (Some (StoppedAsError child name)) = ⊤
 CanAdvance plan (Some node) = ⊥
-
--- the node is a factory, or an adaptor with one child
-abbrev pub has_step : Node → Bool
-has_step Input = true
-has_step (Just values) = true
-has_step (JustError name) = true
-has_step JustStopped = true
-has_step (ReadEnv query) = true
-has_step (Then child job) = true
-has_step (UponError child job) = true
-has_step (UponStopped child job) = true
-has_step (StoppedAsOptional child of) = true
-has_step (StoppedAsError child name) = true
-has_step node = false
-
--- A plan runs on the table where each of its nodes is a factory or an adaptor with one child.
-abbrev pub RunsOnTable : Blueprint → Type 0
-RunsOnTable plan =
-    (n : ℕ) (node : Node) → slice_get plan.nodes n ≡ Some node → has_step node ≡ true

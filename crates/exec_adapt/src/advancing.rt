@@ -64,7 +64,7 @@ pub fn advance<G: Gate, R: Wait + Sync>(
     ensures stepped { IsStepped table.now name hand.old.me hand.new.me result }
 {
     if name.node >= plan.size() {
-        return step_receiver(rt, alloc, plan, table, hand, name);
+        return step_receiver(alloc, plan, table, hand, name);
     }
     let node = plan.node(name.node);
     match adapted(node) {

@@ -19,9 +19,7 @@ mod advancing;
 mod errors;
 mod factories;
 mod images;
-mod one_child;
 mod opening;
 mod receiver;
 
 pub use advancing::advance;
-pub use one_child::OneChild;

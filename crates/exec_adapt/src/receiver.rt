@@ -1,15 +1,15 @@
 //! The step of the receiver node, under which the operation of a record runs ([exec.recv]).
-ghost use Rattle.std.specs.Prelude.{◌≡◌, ◌≤◌, ◌-◌, length};
-ghost use Rattle.std.specs.Thread.{IsSync};
+ghost use Rattle.std.specs.Prelude.{◌≡◌, ◌≤◌, ◌-◌, true, length};
+ghost use Rattle.node_tree.specs.Tree.{is_root};
+ghost use Rattle.plan_kinds.specs.Small.{IsSmall};
 ghost use Rattle.plan_kinds.specs.Runnable.{IsRunnable};
 ghost use Rattle.table_steps.specs.Readings.{KnowsIdle};
 ghost use Rattle.table_steps.specs.Views.{IsHandOf, Stays};
-ghost use Rattle.exec_start.specs.Starts.{IsStart};
+ghost use Rattle.exec_start.specs.Entries.{plan_of};
 ghost use Rattle.exec_recv.specs.Over.{IsOver};
 ghost use Rattle.exec_recv.specs.Beginnings.{AllCanStart};
 ghost use Rattle.exec_recv.specs.Steppable.{CanStep};
 ghost use Rattle.exec_recv.specs.Nexts.{IsStepped};
-ghost use Rattle.node_steps.specs.Midway.{KeepsReady};
 ghost use Rattle.node_steps.specs.Starts.{MayRun};
 ghost use Rattle.exec_adapt.specs.Kinds.{SpawnsNone};
 
@@ -21,8 +21,6 @@ use op_slot::{Hand, OpTable};
 use plan_rules::NodeId;
 use plan_shape::Plan;
 use std::alloc::Global;
-use std::sync::Wait;
-use std::thread::yield_now;
 
 // The plan's root.
 fn root_of(plan: &Plan) -> NodeId
@@ -31,52 +29,48 @@ fn root_of(plan: &Plan) -> NodeId
     plan.size() - 1
 }
 
-// Reads whether the child has begun, until it reads that it hasn't. That it has doesn't come; what
-// is promised holds if this returns.
-fn read_idle<R: Wait + Sync>(
-    rt: &R,
+// Reads whether the child has begun, and starts it where it hasn't. When the receiver node was just
+// begun it hasn't; that it has doesn't come later either. Then the node is left ready in the loop,
+// with no parcel.
+fn start_unbegun_top(
+    alloc: Global,
     plan: &Plan,
     table: &OpTable<Item>,
     hand: &mut Hand<Item>,
     name: Name,
-    env: &Env,
+    env: Env,
     child: NodeId,
     asked: bool,
-)
-    requires sync { IsSync R.row }
+) -> Next
     requires hand { IsHandOf table.now hand.old }
     requires over { IsOver table.now plan.now }
     requires runnable { IsRunnable plan.now }
-    requires is { IsStart env.now }
-    requires may { MayRun table.now name env.now child asked hand.old.me }
+    requires root { is_root table.now.frame.tree name.node ≡ true }
+    requires may { MayRun table.now name env child asked hand.old.me }
+    requires small { IsSmall (plan_of env) → KnowsIdle name child hand.old.me }
     ensures stays { Stays table.now hand.old hand.new }
-    ensures keeps { KeepsReady table.now name hand.old.me hand.new.me }
-    ensures idle { KnowsIdle name child hand.new.me }
+    ensures stepped { IsStepped table.now name hand.old.me hand.new.me result }
 {
+    env.known();
     let node = Name {
         node: child,
         ..name
     };
-    for _ in rt.forever() {
-        if !table.has_begun(hand, node) {
-            return;
-        }
-        yield_now();
+    if table.has_begun(hand, node) {
+        return leave_at_rest(table, hand, name, env, None, Context::Loop);
     }
-    unreachable!()
+    start_top(alloc, plan, table, hand, name, env, child, asked)
 }
 
 /// Steps the receiver node: starts the child that its start names, or where that has completed
 /// leaves the node ready in the loop with the child's parcel, which is collected there.
-pub(crate) fn step_receiver<R: Wait + Sync>(
-    rt: &R,
+pub(crate) fn step_receiver(
     alloc: Global,
     plan: &Plan,
     table: &OpTable<Item>,
     hand: &mut Hand<Item>,
     name: Name,
 ) -> Next
-    requires sync { IsSync R.row }
     requires hand { IsHandOf table.now hand.old }
     requires over { IsOver table.now plan.now }
     requires kinds { IsRunnable plan.now }
@@ -94,8 +88,7 @@ pub(crate) fn step_receiver<R: Wait + Sync>(
         Some(parcel) => leave_at_rest(table, hand, name, env, Some(parcel), Context::Loop),
         None => {
             let asked = env.asked();
-            read_idle(rt, plan, table, hand, name, &env, root, asked);
-            start_top(alloc, plan, table, hand, name, env, root, asked)
+            start_unbegun_top(alloc, plan, table, hand, name, env, root, asked)
         }
     }
 }

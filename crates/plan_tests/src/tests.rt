@@ -1,7 +1,6 @@
 //! The tests, by what they use, and the settings that they share.
 mod building;
 mod examples;
-mod layers;
 mod reading;
 mod runs;
 mod signatures;

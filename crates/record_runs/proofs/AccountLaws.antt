@@ -6,7 +6,7 @@ use Rattle.plan_shape.specs.Blueprint.{Blueprint}
 use Rattle.record_loop.specs.declared.ending.Ending.{Ending}
 use Rattle.record_loop.specs.Tallies.{TalliesWith}
 use Rattle.run_tally.specs.Tallied.{Tallied}
-use Rattle.exec_adapt.specs.Kinds.{RunsOnTable}
+use Rattle.exec_steps.specs.Kinds.{AllAdvance}
 use Rattle.table_steps.specs.declared.closing.Closing.{Closing}
 use Rattle.record_runs.specs.declared.account.Account.{Account}
 use Rattle.record_runs.specs.declared.account.Layer.{Layer}
@@ -43,16 +43,16 @@ layer-is answer tally layer result is =
     subst (λ (r : Result Account AllocError). IfOk r (λ (a : Account). a.layer ≡ layer)) (sym is) (layer-of answer tally layer)
 
 -- a plan that doesn't run on the table was run plainly
-pub run-plainly : (plan : Blueprint) (window : ℕ) (result : Result Account AllocError) → ¬ RunsOnTable plan → IfOk result (λ (a : Account). a.layer ≡ Plain) → IfOk result (λ (a : Account). IsRunBy plan window a.layer)
+pub run-plainly : (plan : Blueprint) (window : ℕ) (result : Result Account AllocError) → ¬ AllAdvance plan → IfOk result (λ (a : Account). a.layer ≡ Plain) → IfOk result (λ (a : Account). IsRunBy plan window a.layer)
 run-plainly plan window (Ok account) never plain = subst (λ (layer : Layer). IsRunBy plan window layer) (sym plain) never
 run-plainly plan window (Err e) never plain = tt
 
 -- and one that does, on a table that was closed
-closed-of : (plan : Blueprint) (window : ℕ) (answer : Result Ending AllocError) (tally : Tallied) (closing : Closing) → RunsOnTable plan → IsClosedAfter answer window closing → IfOk (account_with answer tally (Table closing)) (λ (a : Account). IsRunBy plan window a.layer)
+closed-of : (plan : Blueprint) (window : ℕ) (answer : Result Ending AllocError) (tally : Tallied) (closing : Closing) → AllAdvance plan → IsClosedAfter answer window closing → IfOk (account_with answer tally (Table closing)) (λ (a : Account). IsRunBy plan window a.layer)
 closed-of plan window (Ok ending) tally closing runs closed = record { runs = runs; joined = closed.joined; back = closed.back }
 closed-of plan window (Err e) tally closing runs closed = tt
 
-pub run-on-table : (plan : Blueprint) (blocks window : ℕ) (answer : Result Ending AllocError) (tally : Tallied) (closing : Closing) (result : Result Account AllocError) → result ≡ account_with answer tally (Table closing) → blocks ≡ window → RunsOnTable plan
+pub run-on-table : (plan : Blueprint) (blocks window : ℕ) (answer : Result Ending AllocError) (tally : Tallied) (closing : Closing) (result : Result Account AllocError) → result ≡ account_with answer tally (Table closing) → blocks ≡ window → AllAdvance plan
     → IsClosedAfter answer blocks closing → IfOk result (λ (a : Account). IsRunBy plan window a.layer)
 run-on-table plan blocks window answer tally closing result is sized runs closed =
     subst (λ (r : Result Account AllocError). IfOk r (λ (a : Account). IsRunBy plan window a.layer)) (sym is)

@@ -1,7 +1,7 @@
 -- By which layer a plan's records are run.
 use Rattle.std.specs.Prelude.{◌≡◌, ◌+◌, ℕ, Result, Ok, Err}
 use Rattle.std.specs.declared.alloc.AllocError.{AllocError}
-use Rattle.exec_adapt.specs.Kinds.{RunsOnTable}
+use Rattle.exec_steps.specs.Kinds.{AllAdvance}
 use Rattle.life_rules.specs.declared.scope.ScopeState.TheVariants.{Joined}
 use Rattle.plan_shape.specs.Blueprint.{Blueprint}
 use Rattle.record_loop.specs.declared.ending.Ending.{Ending}
@@ -25,11 +25,11 @@ ending_in (Err e) = Err e
 -- The plan has steps on the table, which was closed with its scope joined (P3149, [exec.scope]) and
 -- each of its blocks given back: one for each record that is worked on at once.
 pub record IsRunOnTable (plan : Blueprint) (window : ℕ) (closing : Closing) : Type 0 where
-  pub runs : RunsOnTable plan
+  pub runs : AllAdvance plan
   pub joined : closing.scope ≡ Joined
   pub back : closing.free + closing.retired ≡ window
 
 -- A plan is run on the table where all of its nodes have steps there, and plainly otherwise.
 abbrev pub IsRunBy : Blueprint → ℕ → Layer → Type 0
-IsRunBy plan window Plain = ¬ RunsOnTable plan
+IsRunBy plan window Plain = ¬ AllAdvance plan
 IsRunBy plan window (Table closing) = IsRunOnTable plan window closing

@@ -15,9 +15,9 @@ ghost use Rattle.run_rules.specs.PlanTerms.{MayRun};
 use crate::account::{Account, Layer, give_account};
 use crate::opened::open_run;
 use crate::over_table::counted_on_table;
-use exec_adapt::OneChild;
 use exec_io::Sink;
 use exec_recv::OpenGate;
+use exec_steps::NodeSteps;
 use plain_runs::PlainRuns;
 use plan_shape::Plan;
 use record_loop::run_generated;
@@ -76,7 +76,7 @@ pub fn run_counted<R: Wait + Sync, K: Sink>(
     ensures layer { IfOk result (λ a. IsRunBy plan.now window a.layer) }
 {
     let gate = OpenGate;
-    let Some(steps) = OneChild::of(plan, &gate) else {
+    let Some(steps) = NodeSteps::of(plan, &gate) else {
         return counted_plainly(rt, alloc, plan, window, count, out);
     };
     let opened = open_run(alloc, plan, window)?;

@@ -12,9 +12,9 @@ ghost use Rattle.run_rules.specs.PlanTerms.{MayRun};
 use crate::account::{Account, Layer, give_account};
 use crate::opened::open_run;
 use crate::over_table::lines_on_table;
-use exec_adapt::OneChild;
 use exec_io::Sink;
 use exec_recv::OpenGate;
+use exec_steps::NodeSteps;
 use plain_runs::PlainRuns;
 use plan_shape::Plan;
 use record_loop::{Form, RecordSource, run_records};
@@ -75,7 +75,7 @@ pub fn run_lines<R: Wait + Sync, S: RecordSource, K: Sink>(
     ensures layer { IfOk result (λ a. IsRunBy plan.now window a.layer) }
 {
     let gate = OpenGate;
-    let Some(steps) = OneChild::of(plan, &gate) else {
+    let Some(steps) = NodeSteps::of(plan, &gate) else {
         return lines_plainly(rt, alloc, plan, window, form, records, out);
     };
     let opened = open_run(alloc, plan, window)?;

@@ -2,6 +2,7 @@
 //!
 //! Between the opening of a table and its closing no call returns early: where there is no memory
 //! for the run, or none for the loop over its records, the hand comes back all the same.
+//! No worker serves the pool, so the run helps there.
 ghost use Rattle.std.specs.Prelude.{◌≡◌, ◌≤◌, IfOk, IsErr};
 ghost use Rattle.std.specs.Thread.{IsSync};
 ghost use Rattle.record_lines.specs.declared.limits.TheConstants.{MOST_RECORDS};
@@ -83,6 +84,7 @@ pub(crate) fn work_on_lines<B: OnTable, T: Stepper, R: Wait + Sync, S: RecordSou
     );
     match opened {
         Ok(mut run) => {
+            run.help_pool(true);
             let answer = run_records(rt, alloc, settings, window, form, &mut run, records, out);
             let tally = run.tally();
             let hand = run.end(rt, alloc);
@@ -130,6 +132,7 @@ pub(crate) fn work_on_counted<B: OnTable, T: Stepper, R: Wait + Sync, K: Sink>(
     );
     match opened {
         Ok(mut run) => {
+            run.help_pool(true);
             let answer = run_generated(rt, alloc, settings, window, count, &mut run, out);
             let tally = run.tally();
             let hand = run.end(rt, alloc);

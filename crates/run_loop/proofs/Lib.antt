@@ -6,5 +6,10 @@ pub mod Settled
 pub mod Emptied
 pub mod Completed
 pub mod Turned
+pub mod Meeting
+pub mod DelayLists
+pub mod Becoming
+pub mod Looking
+pub mod Due
 pub mod OneRun
 pub mod Served

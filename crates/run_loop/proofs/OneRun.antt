@@ -6,7 +6,7 @@ use Rattle.life_rules.specs.declared.event.Name.{Name}
 use Rattle.life_rules.specs.Views.{same}
 use Rattle.life_rules.proofs.Names.{same-refl}
 use Rattle.plan_shape.specs.Blueprint.{Blueprint}
-use Rattle.run_tally.specs.Tallied.{raised}
+use Rattle.run_tally.specs.Tallied.{Tallied}
 use Rattle.table_rules.specs.declared.view.Rooted.{Rooted}
 use Rattle.table_rules.specs.Named.{find_by, without}
 use Rattle.table_steps.specs.declared.block.Block.{Block}
@@ -20,7 +20,7 @@ use Rattle.run_loop.specs.declared.collecting.Collected.{Collected}
 use Rattle.run_loop.specs.declared.looped.Loop.{Loop as Looped}
 use Rattle.run_loop.specs.Collects.{Collects, IsFor, IsListed}
 use Rattle.run_loop.specs.Emptied.{with_released}
-use Rattle.run_loop.specs.Loops.{KeepsCounts, LeavesAside}
+use Rattle.run_loop.specs.Loops.{KeepsCounts, LeavesAside, Raises}
 use Rattle.run_loop.specs.Starts.{CanRun, Starts, with_started}
 use Rattle.run_loop.specs.Waits.{IsCollected, HasRun, with_used}
 use Rattle.run_loop.proofs.Growing.{aside-leaves, leaves-then}
@@ -52,7 +52,7 @@ collected-later board b old between new c aside counts did =
           (aside-leaves old.hand.me between.hand.me aside) did.leaves;
       counts = record {
         helps = did.helps ∙ counts.helps;
-        tally = did.tally ∙ ap (raised c.completion) counts.tally;
+        tally = subst (λ (t : Tallied). Raises c.completion t new.tally) counts.tally did.tally;
       };
     }
 
@@ -90,6 +90,6 @@ module _ (board : Board Blueprint) (b : Block) (start : List Entry) (old between
             collected.leaves);
         counts = record {
           helps = collected.counts.helps ∙ counts.helps;
-          tally = collected.counts.tally ∙ ap (raised c.completion) counts.tally;
+          tally = subst (λ (t : Tallied). Raises c.completion t new.tally) counts.tally collected.counts.tally;
         };
       }

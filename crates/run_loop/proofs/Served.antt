@@ -20,7 +20,7 @@ module _ (does : Doing) (board : Board Blueprint) where
         before = one.before;
         kept = aside-on m between one.before aside one.kept;
         name = one.name;
-        on = one.on;
+        from = one.from;
         held = one.held;
         took = one.took;
         stepped = one.stepped;
@@ -32,7 +32,7 @@ module _ (does : Doing) (board : Board Blueprint) where
         before = one.before;
         kept = one.kept;
         name = one.name;
-        on = one.on;
+        from = one.from;
         held = one.held;
         took = one.took;
         stepped = stepped-on does board one.name one.held between m' one.stepped aside;

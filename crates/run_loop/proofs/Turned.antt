@@ -6,6 +6,8 @@ use Rattle.std.proofs.lemmas.List.Elements.{Contains-append_left, Contains-appen
 use Rattle.common_lemmas.proofs.Bool.{either}
 use Rattle.atomic_table.specs.declared.shared.Seat.{Seat}
 use Rattle.life_rules.specs.declared.event.Name.{Name}
+use Rattle.life_rules.specs.declared.event.Resting.{Resting}
+use Rattle.life_rules.specs.declared.event.Resting.TheVariants as rest
 use Rattle.life_rules.specs.Views.{same}
 use Rattle.life_rules.proofs.Names.{same-refl}
 use Rattle.listed_steps.specs.declared.seen.Seen.{Seen}
@@ -27,7 +29,7 @@ use Rattle.table_steps.specs.Looks.{is_ready_in, IsReadAs}
 use Rattle.table_steps.specs.Owing.{Owes}
 use Rattle.table_steps.specs.Slots.{IsSeated}
 use Rattle.table_steps.specs.Steps.{control_index}
-use Rattle.table_steps.specs.Takes.{rest_word, resting_in, MayServe, TakenAt}
+use Rattle.table_steps.specs.Takes.{rest_word, MayServe, TakenAt}
 use Rattle.op_slot.proofs.Tending.{held_as}
 use Rattle.exec_start.specs.contracts.item.ItemCargo.TheImpl.{ghosts}
 use Rattle.exec_start.specs.declared.entry.Entry.{Entry}
@@ -47,10 +49,11 @@ none-some e is = cc
 some-same : {A : Type 0} (a b : A) → Some a ≡ Some b → a ≡ b
 some-same a b e = cc
 
--- hand 0 may take what is ready in any context
-pub may-serve : (on : Context) (v : View Item Entry) → v.number ≡ 0 → MayServe (resting_in on) v
-may-serve Loop v first = ap (λ n. n == 0) first
-may-serve Pool v first = refl
+-- hand 0 may take what rests anywhere
+pub may-serve : (from : Resting) (v : View Item Entry) → v.number ≡ 0 → MayServe from v
+may-serve rest.Loop v first = ap (λ n. n == 0) first
+may-serve rest.Pool v first = refl
+may-serve rest.Parked v first = ap (λ n. n == 0) first
 
 -- a hand that owes nothing
 module _ (board : Board Blueprint) (m : Seated Item Entry) (none : m.0.owed ≡ []) where
@@ -225,10 +228,10 @@ nothing-later board helps m between m' aside all block within node below inner =
     passed-before board helps block m between m' node aside (all block within node below inner)
 
 -- a take that lost read another word than that of a node that rests there
-pub lost-missed : (board : Board Blueprint) (on : Context) (x : Name) (m m' : Seated Item Entry) →
-    ((found : ℕ) × (found ≢ rest_word x (resting_in on)) × (m' ≡ (logged (control_index board x) found m.0, m.1))) →
-    WasMissed board m m' on x
-lost-missed board on x m m' lost =
+pub lost-missed : (board : Board Blueprint) (from : Resting) (x : Name) (m m' : Seated Item Entry) →
+    ((found : ℕ) × (found ≢ rest_word x from) × (m' ≡ (logged (control_index board x) found m.0, m.1))) →
+    WasMissed board m m' from x
+lost-missed board from x m m' lost =
     record {
       fresh = entry (control_index board x) lost.0 lost.0 ∷ [];
       grown = ap (λ (z : Seated Item Entry). z.0.steps) lost.2;
@@ -243,16 +246,16 @@ module _ (board : Board Blueprint) (helps : Bool) (m between m' : Seated Item En
   left-before name aside left =
       let i = control_index board name in
       record {
-        loop = since-before i (λ word. word ≢ rest_word name (resting_in Loop)) m between m' aside left.loop;
-        pool = λ help. since-before i (λ word. word ≢ rest_word name (resting_in Pool)) m between m' aside (left.pool help);
+        loop = since-before i (λ word. word ≢ rest_word name rest.Loop) m between m' aside left.loop;
+        pool = λ help. since-before i (λ word. word ≢ rest_word name rest.Pool) m between m' aside (left.pool help);
       }
 
   pub left-after : (name : Name) → WasLeft board m between helps name → KeepsAside between m' → WasLeft board m m' helps name
   left-after name left aside =
       let i = control_index board name in
       record {
-        loop = since-after i (λ word. word ≢ rest_word name (resting_in Loop)) m between m' left.loop aside;
-        pool = λ help. since-after i (λ word. word ≢ rest_word name (resting_in Pool)) m between m' (left.pool help) aside;
+        loop = since-after i (λ word. word ≢ rest_word name rest.Loop) m between m' left.loop aside;
+        pool = λ help. since-after i (λ word. word ≢ rest_word name rest.Pool) m between m' (left.pool help) aside;
       }
 
   -- one name more
@@ -268,3 +271,9 @@ module _ (board : Board Blueprint) (helps : Bool) (m between m' : Seated Item En
             subst (λ (x : Name). WasLeft board m m' helps x) same_name
             (left-before name first (one (subst (λ (x : Name). IsInner board x) (sym same_name) inner)))
       ]
+
+-- all names that were left, and something else after them
+pub left-later : (board : Board Blueprint) (helps : Bool) (m between m' : Seated Item Entry) (names : List Name) →
+    AreLeft board m between helps names (length names) → KeepsAside between m' → AreLeft board m m' helps names (length names)
+left-later board helps m between m' names all next k name below at inner =
+    left-after board helps m between m' name (all k name below at inner) next

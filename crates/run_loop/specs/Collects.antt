@@ -4,7 +4,6 @@ use Rattle.exec_value.specs.declared.outcome.Completion.{Completion}
 use Rattle.exec_value.specs.declared.outcome.Completion.TheVariants.{NoMemory}
 use Rattle.plan_kinds.specs.Small.{IsSmall}
 use Rattle.plan_shape.specs.Blueprint.{Blueprint}
-use Rattle.run_tally.specs.Tallied.{raised}
 use Rattle.table_rules.specs.declared.view.Rooted.{Rooted}
 use Rattle.table_steps.specs.declared.block.Block.{Block}
 use Rattle.table_steps.specs.Views.{Board}
@@ -20,7 +19,7 @@ use Rattle.exec_start.specs.Starts.{IsReceiverStart}
 use Rattle.exec_recv.specs.Asides.{aside_of}
 use Rattle.run_loop.specs.declared.collecting.Collected.{Collected}
 use Rattle.run_loop.specs.declared.looped.Loop.{Loop as Looped}
-use Rattle.run_loop.specs.Loops.{LeavesAside}
+use Rattle.run_loop.specs.Loops.{KeepsDelays, LeavesAside, Raises}
 use Rattle.run_loop.specs.Emptied.{with_released, WasNotReady}
 
 -- The hand has noted the start with which the root of this block began: a start of the receiver node.
@@ -72,7 +71,8 @@ pub record Collects (board : Board Blueprint) (b : Block) (old new : Looped) (c 
   pub leaves : LeavesAside (with_released (root_name board b.index b.generation) (aside_of old.hand.me.0)) old.hand.me new.hand.me
   pub helps : new.helps ≡ old.helps
   pub names : new.names ≡ old.names
-  pub tally : new.tally ≡ raised c.completion old.tally
+  pub delays : KeepsDelays old new
+  pub tally : Raises c.completion old.tally new.tally
 
 -- The root wasn't ready in the loop, and nothing changed.
 pub record CollectsNothing (board : Board Blueprint) (b : Block) (old new : Looped) : Type 0 where

@@ -1,8 +1,10 @@
+pub mod DelayNodes
 pub mod Loops
 pub mod Starts
 pub mod Emptied
 pub mod Collects
 pub mod Turns
+pub mod Delayed
 pub mod Serves
 pub mod Waits
 -- the definitions that the public contracts cite

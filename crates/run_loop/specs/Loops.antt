@@ -1,10 +1,12 @@
 -- A loop as its callers see it, and what its calls leave of its hand's view.
-use Rattle.std.specs.Prelude.{◌≡◌, ◌≤◌, false, List, [], ◌∷◌, ◌++◌, Option}
+use Rattle.std.specs.Prelude.{◌≡◌, ℕ, ◌≤◌, false, List, [], ◌∷◌, ◌++◌, Option, None}
+use Rattle.exec_value.specs.declared.outcome.Completion.{Completion}
 use Rattle.life_rules.specs.declared.event.Name.{Name}
 use Rattle.listed_steps.specs.declared.seen.Seen.{Seen}
 use Rattle.atomic_table.specs.declared.shared.Seat.{Seat}
+use Rattle.loop_delays.specs.Delays.{DelayList, places, delay_at}
 use Rattle.plan_shape.specs.Blueprint.{Blueprint}
-use Rattle.run_tally.specs.Tallied.{new_tally}
+use Rattle.run_tally.specs.Tallied.{Tallied, IsSmallTally, new_tally, raised}
 use Rattle.table_rules.specs.declared.view.View.{View}
 use Rattle.table_steps.specs.Views.{Board, IsHandOf, knows}
 use Rattle.table_steps.specs.Claims.{Seated}
@@ -13,14 +15,31 @@ use Rattle.exec_start.specs.declared.item.Item.{Item}
 use Rattle.exec_recv.specs.Asides.{Aside, aside_of, SeesMore}
 use Rattle.loop_walk.specs.Resting.{IsAtRest}
 use Rattle.run_loop.specs.declared.looped.Loop.{Loop as Looped}
+use Rattle.run_loop.specs.declared.delay_node.DelayNode.{DelayNode}
+use Rattle.run_loop.specs.DelayNodes.{AreDelaysOf, nodes_of, places_of}
 
--- A new loop on this hand knows no names, doesn't help the pool, and has collected nothing.
-pub record IsOpened (hand : Seat (Option Item) (View Item Entry)) (loop : Looped) : Type 0 where
+-- The list of parked delays has room for one in each place, and these are the plan's delays.
+pub record HasDelays (board : Board Blueprint) (list : DelayList) (nodes : List DelayNode)
+    : Type 0 where
+  pub room : places_of board ≤ places list
+  pub are : AreDelaysOf (nodes_of board) nodes
+
+-- No delay waits, and no turn is over.
+pub record HasNoDelay (list : DelayList) : Type 0 where
+  pub turn : list.turn ≡ 0
+  pub none : (place : ℕ) → delay_at list place ≡ None
+
+-- A new loop on this hand knows no names, doesn't help the pool, and has collected nothing. No delay
+-- waits, and no turn is over.
+pub record IsOpened (board : Board Blueprint) (hand : Seat (Option Item) (View Item Entry)) (loop : Looped)
+    : Type 0 where
   pub hand_is : loop.hand ≡ hand
   pub names : loop.names.list.items ≡ []
   pub next : loop.next ≡ 0
   pub helps : loop.helps ≡ false
   pub tally : loop.tally ≡ new_tally
+  pub delays : HasDelays board loop.delays loop.delay_nodes.items
+  pub waiting : HasNoDelay loop.delays
 
 -- The names that it was told of, and with one more at the back.
 abbrev pub told : Looped → List Name
@@ -34,17 +53,28 @@ pub record IsTold (names : List Name) (old new : Looped) : Type 0 where
   pub names_are : told new ≡ names
   pub rest : new ≡ record old { names = new.names }
 
--- The loop's hand is hand 0 of this table, and at rest.
+-- The loop's hand is hand 0 of this table, and at rest. It has room for the delays of the table's plan.
 pub record IsReady (board : Board Blueprint) (loop : Looped) : Type 0 where
   pub hand : IsHandOf board loop.hand
   pub first : (knows loop.hand).number ≡ 0
   pub rests : IsAtRest (knows loop.hand)
   pub next : loop.next ≤ board.frame.layout.blocks
+  pub delays : HasDelays board loop.delays loop.delay_nodes.items
 
 -- It helps as before, and has collected nothing more.
 pub record KeepsCounts (old new : Looped) : Type 0 where
   pub helps : new.helps ≡ old.helps
   pub tally : new.tally ≡ old.tally
+
+-- All of its delays wait as before, and no turn is over.
+pub record KeepsDelays (old new : Looped) : Type 0 where
+  pub delays : new.delays ≡ old.delays
+  pub nodes : new.delay_nodes ≡ old.delay_nodes
+
+-- The tally counts one completion more where it is small. Where it isn't, it is as before.
+pub record Raises (completion : Completion) (old new : Tallied) : Type 0 where
+  pub small : IsSmallTally old → new ≡ raised completion old
+  pub full : ¬ IsSmallTally old → new ≡ old
 
 -- Beside nodes and starts this is what the hand's view says afterwards. Its list of steps only grew,
 -- and a request that was seen is seen still.

@@ -1,7 +1,6 @@
 -- What waiting for one operation comes to ([exec.sync.wait]).
 use Rattle.std.specs.Prelude.{◌≡◌, ◌+◌, List, Some}
 use Rattle.plan_shape.specs.Blueprint.{Blueprint}
-use Rattle.run_tally.specs.Tallied.{raised}
 use Rattle.table_rules.specs.declared.view.Rooted.{Rooted}
 use Rattle.table_steps.specs.declared.block.Block.{Block}
 use Rattle.table_steps.specs.Views.{Board}
@@ -15,13 +14,13 @@ use Rattle.run_loop.specs.declared.waiting.Waited.{Waited}
 use Rattle.run_loop.specs.declared.waiting.Waited.TheVariants.{Completed, NoBlock}
 use Rattle.run_loop.specs.Collects.{IsFor}
 use Rattle.run_loop.specs.Emptied.{with_released}
-use Rattle.run_loop.specs.Loops.{KeepsCounts, LeavesAside}
+use Rattle.run_loop.specs.Loops.{KeepsCounts, LeavesAside, Raises}
 use Rattle.run_loop.specs.Starts.{FindsNoBlock}
 
 -- The loop collected one operation more, which completed so. It helps as before.
 pub record CountsOne (old new : Looped) (c : Collected) : Type 0 where
   pub helps : new.helps ≡ old.helps
-  pub tally : new.tally ≡ raised c.completion old.tally
+  pub tally : Raises c.completion old.tally new.tally
 
 -- The operation in the block was collected, for the start that the hand noted of its root.
 pub record IsCollected (board : Board Blueprint) (b : Block) (old new : Looped) (c : Collected) : Type 0 where

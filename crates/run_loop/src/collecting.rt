@@ -1,19 +1,21 @@
 //! How an operation is collected.
 ghost use Rattle.std.specs.Prelude.{◌≡◌, false, Some, IfSome, IfNone};
+ghost use Rattle.std.specs.Thread.{IsSync};
 ghost use Rattle.exec_start.specs.declared.item.Item.TheVariants.{Rest};
 ghost use Rattle.exec_value.specs.declared.outcome.Completion.TheVariants.{NoMemory};
 ghost use Rattle.table_steps.specs.Views.{IsSameHand};
 ghost use Rattle.exec_recv.specs.Over.{IsOver};
-ghost use Rattle.run_tally.specs.Tallied.{IsSmallTally};
-ghost use Rattle.run_loop.specs.Loops.{IsReady};
+ghost use Rattle.run_loop.specs.Loops.{IsReady, Raises};
 ghost use Rattle.run_loop.specs.Collects.{IsListed, IsOfRoot, CompletesAs, Collects, CollectsNothing};
 
 use crate::emptying::empty_root;
 use crate::looped::Loop;
-use exec_recv::{Env, Item, Parcel};
+use exec_recv::{Env, Gate, Item, Parcel};
 use exec_start::collected_is_allowed;
 use exec_value::Completion;
 use op_slot::{Block, OpTable};
+use run_tally::Tally;
+use std::sync::Wait;
 
 /// What an operation completed with.
 #[derive(Drop)]
@@ -69,30 +71,46 @@ fn completed(item: Item) -> Collected
     }
 }
 
+// Counts the completion, where the tally is small.
+fn count(tally: &mut Tally, completion: &Completion)
+    ensures raises { Raises completion.now tally.old tally.new }
+{
+    if tally.is_small() {
+        tally.raise(completion);
+    }
+}
+
 impl Loop {
     /// Collects the operation in this block, and gives the block back. None only where the word of
     /// the block's root that was read didn't say that it is ready in the loop.
     ///
     /// Step: that of `take`, and where it took the root those of `take_home`, `finish` and
-    /// `release`. It wants no memory.
+    /// `release`, before which the gate is passed. It wants no memory.
     /// Needs: the loop is ready. The operation is one that it started and hasn't collected: its
     /// hand has noted the start of the block's root.
     /// Afterwards: the loop is ready, and has the operation no more. What it completed with is want
-    /// of memory, or allowed for that start, and is of its number. The tally is raised by it.
-    pub fn collect(&mut self, table: &OpTable<Item>, block: Block) -> Option<Collected>
+    /// of memory, or allowed for that start, and is of its number. The tally is raised by it, where
+    /// each of its numbers is below 2^62.
+    pub fn collect<G: Gate, R: Wait + Sync>(
+        &mut self,
+        rt: &R,
+        table: &OpTable<Item>,
+        block: Block,
+        gate: &G,
+    ) -> Option<Collected>
+        requires sync { IsSync R.row }
         requires ready { IsReady table.now self.old }
         requires over { IsOver table.now table.now.frame.over.value }
         requires listed { IsListed table.now block self.old.hand.me }
-        requires small { IsSmallTally self.old.tally }
         ensures ready { IsReady table.now self.new }
         ensures same { IsSameHand self.old.hand self.new.hand }
         ensures none { IfNone result (CollectsNothing table.now block self.old self.new) }
         ensures collected { IfSome result (Collects table.now block self.old self.new) }
     {
-        let item = empty_root(table, &mut self.hand, block)?;
+        let item = empty_root(rt, table, &mut self.hand, block, gate)?;
         self.next = block.index;
         let collected = completed(item);
-        self.tally.raise(&collected.completion);
+        count(&mut self.tally, &collected.completion);
         Some(collected)
     }
 }

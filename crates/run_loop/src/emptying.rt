@@ -1,5 +1,6 @@
 //! How a root that is ready in the loop is ended: its item comes out, and its block is given back.
 ghost use Rattle.std.specs.Prelude.{◌≡◌, ◌<◌, true, false, None, IfSome, IfNone};
+ghost use Rattle.std.specs.Thread.{IsSync};
 ghost use Rattle.life_rules.specs.declared.words.CallbackPhase.TheVariants.{Armed, Running};
 ghost use Rattle.table_steps.specs.Views.{IsHandOf, IsPlaceIn, Stays, knows};
 ghost use Rattle.table_steps.specs.Callbacks.{is_registered};
@@ -8,10 +9,11 @@ ghost use Rattle.exec_recv.specs.Over.{IsOver};
 ghost use Rattle.loop_walk.specs.Resting.{IsAtRest};
 ghost use Rattle.run_loop.specs.Emptied.{HasEmptyRoot, IsSettledIn, SettlesRoot, IsOut, IsGivenBack, IsEmptied, WasNotReady};
 
-use exec_recv::Item;
+use exec_recv::{Gate, Item, Point};
 use life_rules::{CallbackPhase, Name};
 use node_tree::Context;
 use op_slot::{Block, Hand, OpTable, release, take_home};
+use std::sync::Wait;
 use stop_calls::{Withdrawn, try_withdraw};
 
 // A callback that was read so may run still.
@@ -62,7 +64,14 @@ fn take_root(table: &OpTable<Item>, hand: &mut Hand<Item>, block: Block) -> Opti
 }
 
 // Finishes the block's root, whose callback is settled, and gives the block back.
-fn give_back(table: &OpTable<Item>, hand: &mut Hand<Item>, block: Block)
+fn give_back<G: Gate, R: Wait + Sync>(
+    rt: &R,
+    table: &OpTable<Item>,
+    hand: &mut Hand<Item>,
+    block: Block,
+    gate: &G,
+)
+    requires sync { IsSync R.row }
     requires hand { IsHandOf table.now hand.old }
     requires block { block.index < table.now.frame.layout.blocks }
     requires settled { IsSettledIn table.now block hand.old.me }
@@ -71,12 +80,20 @@ fn give_back(table: &OpTable<Item>, hand: &mut Hand<Item>, block: Block)
 {
     let root = table.root(block);
     table.finish(hand, root);
+    gate.pass(rt, Point::Release(block));
     release(table, hand, block);
 }
 
 /// Takes the block's root, takes out what lies in its home, finishes it and gives the block back.
-/// None only where the root wasn't ready in the loop.
-pub fn empty_root(table: &OpTable<Item>, hand: &mut Hand<Item>, block: Block) -> Option<Item>
+/// None only where the root wasn't ready in the loop. The gate is passed just before the release.
+pub fn empty_root<G: Gate, R: Wait + Sync>(
+    rt: &R,
+    table: &OpTable<Item>,
+    hand: &mut Hand<Item>,
+    block: Block,
+    gate: &G,
+) -> Option<Item>
+    requires sync { IsSync R.row }
     requires hand { IsHandOf table.now hand.old }
     requires over { IsOver table.now table.now.frame.over.value }
     requires first { (knows hand.old).number ≡ 0 }
@@ -88,6 +105,6 @@ pub fn empty_root(table: &OpTable<Item>, hand: &mut Hand<Item>, block: Block) ->
 {
     let item = take_root(table, hand, block)?;
     settle_root(table, hand, table.root(block));
-    give_back(table, hand, block);
+    give_back(rt, table, hand, block, gate);
     Some(item)
 }

@@ -5,9 +5,12 @@ ghost use Rattle.table_steps.specs.Views.{IsHandOf, knows};
 ghost use Rattle.exec_recv.specs.Over.{IsOver};
 ghost use Rattle.run_loop.specs.Loops.{IsOpened, IsTold, told, told_also};
 
+use crate::delay_node::DelayNode;
+use crate::listing::{delays_of, room_of};
 use crate::names::Names;
 use exec_recv::Item;
 use life_rules::Name;
+use loop_delays::Delays;
 use op_slot::{Hand, OpTable};
 use plan_shape::Plan;
 use run_tally::Tally;
@@ -27,13 +30,18 @@ pub struct Loop {
     pub(crate) next: u32,
     pub(crate) helps: bool,
     pub(crate) tally: Tally,
+    /// The plan's delays.
+    pub(crate) delay_nodes: Vec<DelayNode>,
+    /// Those of them that were seen parked.
+    pub(crate) delays: Delays,
 }
 
 impl Loop {
     /// A loop on the hand. The hand comes back on want of memory alone.
     ///
     /// Needs: the hand is hand 0 of the table, which was opened over the plan, whose kinds match.
-    /// Afterwards: the loop knows no names, doesn't help the pool, and has collected nothing.
+    /// Afterwards: the loop knows no names, doesn't help the pool, and has collected nothing. No delay
+    /// waits, and no turn is over.
     pub fn open(
         alloc: Global,
         plan: &Plan,
@@ -44,15 +52,20 @@ impl Loop {
         requires first { (knows hand).number ≡ 0 }
         requires over { IsOver table.now plan.now }
         requires kinds { IsRunnable plan.now }
-        ensures opened { IfOk result (IsOpened hand) }
+        ensures opened { IfOk result (IsOpened table.now hand) }
         ensures back { IfErr result (λ back. back ≡ hand) }
     {
-        let _ = plan;
         let (blocks, nodes) = (table.blocks(), table.tree().size());
         let Ok(names) = Names::with_room(alloc, blocks, nodes) else {
             return Err(hand);
         };
         let Ok(served) = Names::with_room(alloc, blocks, nodes) else {
+            return Err(hand);
+        };
+        let Ok(delay_nodes) = delays_of(alloc, plan) else {
+            return Err(hand);
+        };
+        let Ok(delays) = Delays::open(alloc, room_of(table)) else {
             return Err(hand);
         };
         Ok(Loop {
@@ -62,6 +75,8 @@ impl Loop {
             next: 0,
             helps: false,
             tally: Tally::new(),
+            delay_nodes,
+            delays,
         })
     }
 

@@ -2,16 +2,17 @@
 ghost use Rattle.std.specs.Prelude.{◌≡◌, ◌⊎◌, ◌+◌, ◌<◌, ◌≤◌, true, false};
 ghost use Rattle.std.specs.Thread.{IsSync};
 ghost use Rattle.plan_kinds.specs.Runnable.{IsRunnable};
+ghost use Rattle.table_steps.specs.Takes.{resting_in};
 ghost use Rattle.table_steps.specs.Views.{IsHandOf, IsPlaceIn, Stays, knows};
 ghost use Rattle.exec_recv.specs.Asides.{KeepsAside};
 ghost use Rattle.exec_recv.specs.Over.{IsOver};
 ghost use Rattle.loop_walk.specs.Resting.{IsAtRest};
-ghost use Rattle.run_loop.specs.Serves.{ServesOne, ServesOn};
-ghost use Rattle.run_loop.specs.Turns.{WasMissed, WasUnready, CountsNode};
+ghost use Rattle.run_loop.specs.Serves.{TakesUp, ServesOne, ServesOn};
+ghost use Rattle.run_loop.specs.Turns.{WasTaken, WasMissed, WasUnready, CountsNode};
 
 use crate::names::Names;
 use exec_recv::{Item, Point, Stepper};
-use life_rules::Name;
+use life_rules::{Name, Resting};
 use loop_walk::go_on;
 use node_tree::Context;
 use op_slot::{Hand, OpTable};
@@ -26,8 +27,33 @@ pub fn one_more(count: u32) -> u32
     if count < u32::MAX { count + 1 } else { count }
 }
 
-/// Takes the node where it is ready in the context, and goes on with it. False only where its word
-/// that was read said something else.
+// What is ready in the context rests there.
+fn resting(on: Context) -> Resting
+    ensures { result ≡ resting_in on }
+{
+    match on {
+        Context::Loop => Resting::Loop,
+        Context::Pool => Resting::Pool,
+    }
+}
+
+// Takes the node where it rests there. False only where its word that was read said something else.
+fn take_up(table: &OpTable<Item>, hand: &mut Hand<Item>, name: Name, from: Resting) -> bool
+    requires hand { IsHandOf table.now hand.old }
+    requires place { IsPlaceIn table.now name }
+    requires first { (knows hand.old).number ≡ 0 }
+    ensures stays { Stays table.now hand.old hand.new }
+    ensures taken { TakesUp table.now name from result hand.old.me hand.new.me }
+{
+    match from {
+        Resting::Loop => table.take(hand, name, Context::Loop),
+        Resting::Pool => table.take(hand, name, Context::Pool),
+        Resting::Parked => table.take_parked(hand, name),
+    }
+}
+
+/// Takes the node where it rests there, and goes on with it. False only where its word that was read
+/// said something else.
 pub fn serve<T: Stepper, R: Wait + Sync>(
     rt: &R,
     alloc: Global,
@@ -36,7 +62,7 @@ pub fn serve<T: Stepper, R: Wait + Sync>(
     stepper: &T,
     names: &mut Names,
     name: Name,
-    on: Context,
+    from: Resting,
 ) -> bool
     requires sync { IsSync R.row }
     requires hand { IsHandOf table.now hand.old }
@@ -50,10 +76,11 @@ pub fn serve<T: Stepper, R: Wait + Sync>(
     ensures aside { KeepsAside hand.old.me hand.new.me }
     ensures served { result ≡ true →
         ServesOne (T.does stepper.now) table.now hand.old.me hand.new.me }
-    ensures missed { result ≡ false → WasMissed table.now hand.old.me hand.new.me on name }
+    ensures taken { result ≡ true → WasTaken table.now hand.old.me hand.new.me from name }
+    ensures missed { result ≡ false → WasMissed table.now hand.old.me hand.new.me from name }
 {
     stepper.pass(rt, Point::Take(name));
-    if !table.take(hand, name, on) {
+    if !take_up(table, hand, name, from) {
         return false;
     }
     go_on(rt, alloc, table, hand, stepper, name, names);
@@ -90,11 +117,12 @@ fn take_ready<T: Stepper, R: Wait + Sync>(
     ensures unready { result ≡ false →
         WasUnready table.now hand.old.me hand.new.me on block node }
 {
+    let from = resting(on);
     for _ in rt.forever() {
         match table.ready_at(hand, block, node, on) {
             None => return false,
             Some(name) => {
-                if serve(rt, alloc, table, hand, stepper, names, name, on) {
+                if serve(rt, alloc, table, hand, stepper, names, name, from) {
                     return true;
                 }
             }

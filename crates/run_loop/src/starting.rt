@@ -5,7 +5,7 @@ ghost use Rattle.plan_kinds.specs.Runnable.{IsRunnable};
 ghost use Rattle.table_steps.specs.Views.{IsHandOf, IsSameHand, Stays, knows};
 ghost use Rattle.exec_recv.specs.Over.{IsOver};
 ghost use Rattle.loop_walk.specs.Resting.{IsAtRest};
-ghost use Rattle.run_loop.specs.Loops.{IsReady, KeepsCounts};
+ghost use Rattle.run_loop.specs.Loops.{IsReady, KeepsCounts, KeepsDelays};
 ghost use Rattle.run_loop.specs.Starts.{CanRun, IsPlaced, MissesEach, Starts, WentOn, FindsNoBlock};
 
 use crate::looped::Loop;
@@ -63,6 +63,7 @@ impl Loop {
         ensures ready { IsReady table.now self.new }
         ensures same { IsSameHand self.old.hand self.new.hand }
         ensures counts { KeepsCounts self.old self.new }
+        ensures delays { KeepsDelays self.old self.new }
         ensures started { IfOk result (λ b. Starts table.now b env self.old self.new) }
         ensures first { IfOk result (λ b. WentOn (T.does stepper.now) table.now b env self.old self.new) }
         ensures back { IfErr result (λ back. back ≡ env) }

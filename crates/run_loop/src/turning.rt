@@ -6,17 +6,18 @@ ghost use Rattle.table_steps.specs.Views.{IsHandOf, IsSameHand, Stays, knows};
 ghost use Rattle.exec_recv.specs.Asides.{KeepsAside};
 ghost use Rattle.exec_recv.specs.Over.{IsOver};
 ghost use Rattle.loop_walk.specs.Resting.{IsAtRest};
-ghost use Rattle.run_loop.specs.Loops.{IsReady, KeepsCounts};
+ghost use Rattle.run_loop.specs.Delayed.{HasTurned};
+ghost use Rattle.run_loop.specs.Loops.{IsReady, KeepsCounts, KeepsDelays};
 ghost use Rattle.run_loop.specs.Serves.{ServesOne, Serves};
-ghost use Rattle.run_loop.specs.Turns.{IsInner, IsLeft, AreAllLeft, MissesAll, FindsNothing};
+ghost use Rattle.run_loop.specs.Turns.{IsInner, WasTakenSomewhere, IsLeft, AreAllMet, AreAllLeft, MeetsAll, MissesAll, FindsNothing};
 
+use crate::delaying::serve_delays;
 use crate::looped::Loop;
 use crate::names::Names;
 use crate::scanning::scan_blocks;
 use crate::serving::{one_more, serve};
 use exec_recv::{Item, Stepper};
-use life_rules::Name;
-use node_tree::Context;
+use life_rules::{Name, Resting};
 use op_slot::{Hand, OpTable};
 use std::alloc::Global;
 use std::mem;
@@ -55,18 +56,19 @@ fn serve_name<T: Stepper, R: Wait + Sync>(
     ensures aside { KeepsAside hand.old.me hand.new.me }
     ensures served { result ≡ true →
         ServesOne (T.does stepper.now) table.now hand.old.me hand.new.me }
+    ensures taken { result ≡ true → WasTakenSomewhere table.now hand.old.me hand.new.me name }
     ensures left { result ≡ false → IsLeft table.now hand.old.me hand.new.me helps name }
 {
     if !is_inner(table, name) {
         return false;
     }
-    if serve(rt, alloc, table, hand, stepper, names, name, Context::Loop) {
+    if serve(rt, alloc, table, hand, stepper, names, name, Resting::Loop) {
         return true;
     }
     if !helps {
         return false;
     }
-    serve(rt, alloc, table, hand, stepper, names, name, Context::Pool)
+    serve(rt, alloc, table, hand, stepper, names, name, Resting::Pool)
 }
 
 // Takes the nodes of these names, from the front.
@@ -90,6 +92,7 @@ fn serve_each<T: Stepper, R: Wait + Sync>(
     ensures rests { IsAtRest (knows hand.new) }
     ensures aside { KeepsAside hand.old.me hand.new.me }
     ensures served { Serves (T.does stepper.now) table.now result hand.old.me hand.new.me }
+    ensures met { AreAllMet table.now hand.old.me hand.new.me helps told.now }
     ensures none { result ≡ 0 → AreAllLeft table.now hand.old.me hand.new.me helps told.now }
 {
     let mut taken = 0;
@@ -102,13 +105,56 @@ fn serve_each<T: Stepper, R: Wait + Sync>(
 }
 
 impl Loop {
-    /// Takes the nodes of the names that it was told of, and goes on with each. What they leave
-    /// ready is told for the next call. The answer is how many it took, each of which the stepper
-    /// stepped; 0 only where the word of each node that it was told of, but of roots, at its own step
+    // Takes the nodes of the names that it was told of, and goes on with each.
+    fn poll_names<T: Stepper, R: Wait + Sync>(
+        &mut self,
+        rt: &R,
+        alloc: Global,
+        table: &OpTable<Item>,
+        stepper: &T,
+    ) -> u32
+        requires sync { IsSync R.row }
+        requires ready { IsReady table.now self.old }
+        requires over { IsOver table.now (T.plan stepper.now) }
+        requires kinds { IsRunnable (T.plan stepper.now) }
+        ensures ready { IsReady table.now self.new }
+        ensures same { IsSameHand self.old.hand self.new.hand }
+        ensures counts { KeepsCounts self.old self.new }
+        ensures delays { KeepsDelays self.old self.new }
+        ensures aside { KeepsAside self.old.hand.me self.new.hand.me }
+        ensures served { Serves (T.does stepper.now) table.now result self.old.hand.me self.new.hand.me }
+        ensures met { MeetsAll table.now self.old self.new }
+        ensures none { result ≡ 0 → MissesAll table.now self.old self.new }
+    {
+        mem::swap(&mut self.names, &mut self.served);
+        let taken = serve_each(
+            rt,
+            alloc,
+            table,
+            &mut self.hand,
+            stepper,
+            &mut self.names,
+            self.helps,
+            &self.served.list,
+        );
+        self.served.list.clear();
+        taken
+    }
+
+    /// One turn of the delays, after it has taken the nodes of the names that it was told of, and gone
+    /// on with each: the list of parked delays goes on to the next turn, each delay of the plan is
+    /// looked at in each block, and those that are due are taken. A delay of so many turns is due in
+    /// the turn that comes so many turns after the one in which it was first seen parked, and is taken
+    /// out of the list in none before; none that is due is left in it. What the nodes leave
+    /// ready is told for the next call. Each node that it was told of, but of roots, is taken, or its
+    /// word, at its own step of this call, said that it isn't ready at the name's generation in the
+    /// loop, nor where the loop helps in the pool. The answer is how many it took, each of which the
+    /// stepper stepped; 0 only where the word of each node that it was told of, but of roots, at its own step
     /// of this call, said that it isn't ready at the name's generation in the loop, nor where the
     /// loop helps in the pool.
     ///
-    /// Step: those of `take` for each name, and those of the steps of its nodes.
+    /// Step: those of `take` for each name; for each delay of the plan in each block one load of its
+    /// control word, and that of `take_parked` where it is due; and those of the steps of its nodes.
     /// Needs: the loop is ready. The table is over the stepper's plan, whose kinds match.
     /// Afterwards: the loop is ready. Its operations are as before.
     pub fn poll<T: Stepper, R: Wait + Sync>(
@@ -127,27 +173,29 @@ impl Loop {
         ensures counts { KeepsCounts self.old self.new }
         ensures aside { KeepsAside self.old.hand.me self.new.hand.me }
         ensures served { Serves (T.does stepper.now) table.now result self.old.hand.me self.new.hand.me }
+        ensures met { MeetsAll table.now self.old self.new }
+        ensures turn { HasTurned table.now result self.old self.new }
         ensures none { result ≡ 0 → MissesAll table.now self.old self.new }
     {
-        mem::swap(&mut self.names, &mut self.served);
-        let taken = serve_each(
+        let taken = self.poll_names(rt, alloc, table, stepper);
+        serve_delays(
             rt,
             alloc,
             table,
             &mut self.hand,
             stepper,
             &mut self.names,
-            self.helps,
-            &self.served.list,
-        );
-        self.served.list.clear();
-        taken
+            &mut self.delays,
+            &self.delay_nodes,
+            taken,
+        )
     }
 
     /// One turn: polls, and where that took no node, looks at each node of the table but the roots,
-    /// and goes on with each that it takes. The answer is how many it took, each of which the stepper
-    /// stepped; 0 only where the word of each node but the roots, at its own step of this call, said
-    /// that it isn't ready in the loop, nor where the loop helps in the pool.
+    /// and goes on with each that it takes. What is said of `poll` is said of this. The answer is how
+    /// many it took, each of which the stepper stepped; 0 only where the word of each node but the
+    /// roots, at its own step of this call, said that it isn't ready in the loop, nor where the loop
+    /// helps in the pool.
     ///
     /// Step: those of `poll`; then for each node one load of its control word, and where that says
     /// that it is ready, those of `take`; and those of the steps of its nodes.
@@ -169,6 +217,8 @@ impl Loop {
         ensures counts { KeepsCounts self.old self.new }
         ensures aside { KeepsAside self.old.hand.me self.new.hand.me }
         ensures served { Serves (T.does stepper.now) table.now result self.old.hand.me self.new.hand.me }
+        ensures met { MeetsAll table.now self.old self.new }
+        ensures turn { HasTurned table.now result self.old self.new }
         ensures none { result ≡ 0 → FindsNothing table.now self.old self.new }
     {
         let taken = self.poll(rt, alloc, table, stepper);

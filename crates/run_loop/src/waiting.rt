@@ -4,7 +4,6 @@ ghost use Rattle.std.specs.Thread.{IsSync};
 ghost use Rattle.plan_kinds.specs.Runnable.{IsRunnable};
 ghost use Rattle.table_steps.specs.Views.{IsSameHand};
 ghost use Rattle.exec_recv.specs.Over.{IsOver};
-ghost use Rattle.run_tally.specs.Tallied.{IsSmallTally};
 ghost use Rattle.run_loop.specs.Loops.{IsReady};
 ghost use Rattle.run_loop.specs.Starts.{CanRun};
 ghost use Rattle.run_loop.specs.Collects.{IsListed};
@@ -41,13 +40,12 @@ impl Loop {
         requires over { IsOver table.now (T.plan stepper.now) }
         requires kinds { IsRunnable (T.plan stepper.now) }
         requires listed { IsListed table.now block self.old.hand.me }
-        requires small { IsSmallTally self.old.tally }
         ensures ready { IsReady table.now self.new }
         ensures same { IsSameHand self.old.hand self.new.hand }
         ensures collected { IsCollected table.now block self.old self.new result }
     {
         for _ in rt.forever() {
-            if let Some(collected) = self.collect(table, block) {
+            if let Some(collected) = self.collect(rt, table, block, stepper) {
                 return collected;
             }
             let _taken = self.turn(rt, alloc, table, stepper);
@@ -60,10 +58,11 @@ impl Loop {
     /// call. What is promised holds if it returns.
     ///
     /// Step: those of `start`, of turns and of `collect`.
-    /// Needs: as `start`, and a small tally.
+    /// Needs: as `start`.
     /// Afterwards: the loop is ready. Its operations are as before. What the operation completed
     /// with is want of memory, or allowed for the start that the environment shows, and is of its
-    /// number; it saw a stop request only where the scope's stood. The tally is raised by it.
+    /// number; it saw a stop request only where the scope's stood. The tally is raised by it, where
+    /// each of its numbers is below 2^62.
     pub fn sync_wait<T: Stepper, R: Wait + Sync>(
         &mut self,
         rt: &R,
@@ -77,7 +76,6 @@ impl Loop {
         requires over { IsOver table.now (T.plan stepper.now) }
         requires kinds { IsRunnable (T.plan stepper.now) }
         requires start { CanRun table.now env }
-        requires small { IsSmallTally self.old.tally }
         ensures ready { IsReady table.now self.new }
         ensures same { IsSameHand self.old.hand self.new.hand }
         ensures waits { Waits table.now env self.old self.new result }

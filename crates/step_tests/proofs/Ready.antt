@@ -43,7 +43,7 @@ module _ (board : Board Blueprint) (hand : Seat (Option Item) (View Item Entry))
       record { hand_of = each.0; first = ap (λ (v : View Item Entry). v.number) each.2; rests = fresh-rests each.2 }
 
   -- and a loop on it
-  pub opens-ready : IsFirst board hand → (looped : Looped) → IsOpened hand looped → IsReady board looped
+  pub opens-ready : IsFirst board hand → (looped : Looped) → IsOpened board hand looped → IsReady board looped
   opens-ready is looped opened =
       let same = sym opened.hand_is in
       record {
@@ -51,7 +51,21 @@ module _ (board : Board Blueprint) (hand : Seat (Option Item) (View Item Entry))
         first = subst (λ (h : Seat (Option Item) (View Item Entry)). (knows h).number ≡ 0) same is.first;
         rests = subst (λ (h : Seat (Option Item) (View Item Entry)). IsAtRest (knows h)) same is.rests;
         next = subst (λ (n : ℕ). n ≤ board.frame.layout.blocks) (sym opened.next) (omega arith);
+        delays = opened.delays;
       }
+
+-- as it is where it helps the pool
+pub helps-ready : (board : Board Blueprint) (old new : Looped) (helps : Bool) → IsReady board old →
+    new ≡ record old { helps = helps } → IsReady board new
+helps-ready board old new helps ready is =
+    subst (IsReady board) (sym is)
+    (record {
+      hand = ready.hand;
+      first = ready.first;
+      rests = ready.rests;
+      next = ready.next;
+      delays = ready.delays;
+    })
 
 -- a record of the input's kind may be started
 pub record-runs : (board : Board Blueprint) (plan : Blueprint) → IsOver board plan → (datum : Datum) → HasKind datum plan.settings.input →

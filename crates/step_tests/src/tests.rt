@@ -6,16 +6,16 @@ ghost use Rattle.exec_recv.specs.Over.{IsOver};
 ghost use Rattle.run_loop.specs.Starts.{CanRun};
 ghost use Rattle.step_tests.specs.Ready.{IsFirst};
 
-use exec_adapt::OneChild;
 use exec_io::MemSink;
 use exec_recv::OpenGate;
+use exec_steps::NodeSteps;
 use exec_value::{Completion, Data, Datum, Outcome};
 use node_tree::ScopeKind;
 use op_table::{Hand, OpTable};
 use outcome_lines::put_line;
 use plan_reader::read_plan;
 use plan_shape::Plan;
-use run_loop::{Env, Item, Loop, Stepper};
+use run_loop::{Env, Item, Loop, Stepper, Waited};
 use std::alloc::Global;
 use std::sync::Wait;
 use std::test::Fail;
@@ -62,7 +62,7 @@ fn started(alloc: Global, plan: &Plan, table: &OpTable<Item>, asked: bool) -> Op
     Some(Env::of_record(plan, Data::one(alloc, datum), 1, asked))
 }
 
-// Starts that operation, which is steps of this hand alone, and collects it.
+// Starts that operation, and collects it where that is all that it takes.
 fn collected<T: Stepper, R: Wait + Sync>(
     rt: &R,
     alloc: Global,
@@ -84,13 +84,47 @@ fn collected<T: Stepper, R: Wait + Sync>(
     let Ok(block) = looped.start(rt, alloc, &table, stepper, env) else {
         return Ok(None);
     };
-    match looped.collect(&table, block) {
+    match looped.collect(rt, &table, block, stepper) {
         Some(found) => Ok(Some(found.completion)),
         None => Ok(None),
     }
 }
 
-// Whether the plan with this root runs on the table, and its operation completes with this line.
+// Starts it, and takes turns, in the pool too, until it can be collected.
+fn waited<T: Stepper, R: Wait + Sync>(
+    rt: &R,
+    alloc: Global,
+    plan: &Plan,
+    stepper: &T,
+    asked: bool,
+) -> Result<Option<Completion>, Fail>
+    requires sync { IsSync R.row }
+    requires kinds { IsRunnable plan.now }
+    requires stepper { T.plan stepper.now ≡ plan.now }
+{
+    let (table, hand) = opened(alloc, plan)?;
+    let Ok(mut looped) = Loop::open(alloc, plan, &table, hand) else {
+        return Ok(None);
+    };
+    looped.help_pool(true);
+    let Some(env) = started(alloc, plan, &table, asked) else {
+        return Ok(None);
+    };
+    match looped.sync_wait(rt, alloc, &table, stepper, env) {
+        Waited::Completed(found) => Ok(Some(found.completion)),
+        Waited::NoBlock(_) => Ok(None),
+    }
+}
+
+// The plan with this root.
+fn plan_of(alloc: Global, root: &str) -> Result<Option<Plan>, Fail>
+    ensures { IfOk result (λ read. IfSome read (λ plan. IsRunnable plan)) }
+{
+    let text = format!(in alloc; "{{\"version\":2,\"input\":\"int\",\"root\":{root}}}")?;
+    Ok(read(alloc, text.as_bytes()))
+}
+
+// Whether the plan with this root has steps, and its operation completes with this line.
 fn completes<R: Wait + Sync>(
     rt: &R,
     alloc: Global,
@@ -100,20 +134,33 @@ fn completes<R: Wait + Sync>(
 ) -> Result<bool, Fail>
     requires sync { IsSync R.row }
 {
-    let text = format!(in alloc; "{{\"version\":1,\"input\":\"int\",\"root\":{root}}}")?;
-    let Some(plan) = read(alloc, text.as_bytes()) else {
+    let Some(plan) = plan_of(alloc, root)? else {
         return Ok(false);
     };
     let gate = OpenGate;
-    let Some(stepper) = OneChild::of(&plan, &gate) else {
+    let Some(stepper) = NodeSteps::of(&plan, &gate) else {
         return Ok(false);
     };
-    let Some(done) = collected(rt, alloc, &plan, &stepper, asked)? else {
+    let Some(done) = waited(rt, alloc, &plan, &stepper, asked)? else {
         return Ok(false);
     };
     let mut told = MemSink::new(alloc, 4096, Vec::new(alloc));
     let put = put_line(1, &Outcome::Done(done), &mut told);
     Ok(put.is_ok() && told.bytes() == line.as_bytes())
+}
+
+// Whether the plan with this root has steps, and its operation is complete once it is started.
+fn needs_no_turn<R: Wait + Sync>(rt: &R, alloc: Global, root: &str) -> Result<bool, Fail>
+    requires sync { IsSync R.row }
+{
+    let Some(plan) = plan_of(alloc, root)? else {
+        return Ok(false);
+    };
+    let gate = OpenGate;
+    let Some(stepper) = NodeSteps::of(&plan, &gate) else {
+        return Ok(false);
+    };
+    Ok(collected(rt, alloc, &plan, &stepper, false)?.is_some())
 }
 
 #[test]
@@ -210,5 +257,80 @@ fn a_long_name_of_an_error_goes_up_through_a_chain(rt: HostRuntime) -> Result<()
         r#"{"do":"then","child":{"do":"then","child":{"do":"input"},"job":{"job":"fail","error":"a-name-of-sixty-four-letters-that-stands-in-memory-of-its-own-00"}},"job":{"job":"add","n":1}}"#;
     let line = "1 error a-name-of-sixty-four-letters-that-stands-in-memory-of-its-own-00\n";
     assert!(rt; completes(&rt, alloc, root, false, line)?);
+    Ok(())
+}
+
+#[test]
+fn hops_are_taken_in_turns(rt: HostRuntime) -> Result<(), Fail> {
+    let alloc = rt.alloc();
+    for (root, line) in [
+        (r#"{"do":"schedule","on":"pool"}"#, "1 value\n"),
+        (
+            r#"{"do":"starts_on","on":"loop","child":{"do":"input"}}"#,
+            "1 value 5\n",
+        ),
+        (
+            r#"{"do":"continues_on","on":"pool","child":{"do":"just_error","error":"late"}}"#,
+            "1 error late\n",
+        ),
+    ] {
+        assert!(rt; completes(&rt, alloc, root, false, line)?);
+        assert!(rt; completes(&rt, alloc, root, true, "1 stopped\n")?);
+        // before a turn the root isn't ready
+        assert!(rt; !needs_no_turn(&rt, alloc, root)?);
+    }
+    assert!(rt; needs_no_turn(&rt, alloc, r#"{"do":"input"}"#)?);
+    Ok(())
+}
+
+#[test]
+fn an_unstoppable_shelters_its_child(rt: HostRuntime) -> Result<(), Fail> {
+    let root = r#"{"do":"unstoppable","child":{"do":"schedule","on":"loop"}}"#;
+    assert!(rt; completes(&rt, rt.alloc(), root, true, "1 value\n")?);
+    Ok(())
+}
+
+#[test]
+fn lets_run_the_body_that_is_picked(rt: HostRuntime) -> Result<(), Fail> {
+    let alloc = rt.alloc();
+    for (root, line) in [
+        (
+            r#"{"do":"let_value","child":{"do":"input"},"pick":{"job":"sub","n":4},"bodies":[{"do":"just","values":[10]},{"do":"input"}]}"#,
+            "1 value 5\n",
+        ),
+        (
+            r#"{"do":"let_error","child":{"do":"just_error","error":"late"},"pick":{"job":"give","values":[-1]},"bodies":[{"do":"input"}]}"#,
+            "1 value \"late\"\n",
+        ),
+        (
+            r#"{"do":"let_stopped","child":{"do":"just_stopped"},"pick":{"job":"give","values":[9]},"bodies":[{"do":"just","values":[1]},{"do":"just","values":[2]}]}"#,
+            "1 value 2\n",
+        ),
+    ] {
+        assert!(rt; completes(&rt, alloc, root, false, line)?);
+    }
+    Ok(())
+}
+
+#[test]
+fn all_of_a_when_all_are_awaited(rt: HostRuntime) -> Result<(), Fail> {
+    let alloc = rt.alloc();
+    for (root, line) in [
+        (
+            r#"{"do":"when_all","children":[{"do":"starts_on","on":"pool","child":{"do":"input"}},{"do":"just","values":["x"]}]}"#,
+            "1 value 5 \"x\"\n",
+        ),
+        (
+            r#"{"do":"when_all","children":[{"do":"just_stopped"},{"do":"just_error","error":"b"}]}"#,
+            "1 error b\n",
+        ),
+        (
+            r#"{"do":"when_all","children":[{"do":"schedule","on":"loop"},{"do":"just_error","error":"b"}]}"#,
+            "1 error b\n",
+        ),
+    ] {
+        assert!(rt; completes(&rt, alloc, root, false, line)?);
+        assert!(rt; completes(&rt, alloc, root, true, "1 stopped\n")?);
+    }
     Ok(())
 }

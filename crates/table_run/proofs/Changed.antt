@@ -178,13 +178,13 @@ module _ (on : Board Blueprint → Type 0) (run : Run) (stepped : Blueprint) (ne
   pub has-left-sound : IsSound on (shrunk left.operations) stepped next
   has-left-sound =
       subst (λ (l : List (Option Operation)). IsSound on (shrunk l) stepped next) (sym left.items)
-      (left-sound on run stepped next sound looped (moved-ready run.board made left.between looped left.ready refl left.hand_of left.moved)
+      (left-sound on run stepped next sound looped (moved-ready run.board made left.between looped left.ready refl left.ready.delays left.hand_of left.moved)
       t left.within left.o left.has leaves)
 
   collects : Collects WantsMemory (work_of run) (work_of (shrunk left.operations)) t c.completion
   collects =
       subst (λ (l : List (Option Operation)). Collects WantsMemory (work_of run) (work_of (shrunk l)) t c.completion) (sym left.items)
-      (collects-work run sound.listed t left.within looped left.o left.has leaves c sound.asked.made left.did.is_for left.did.tally)
+      (collects-work run sound.listed t left.within looped left.o left.has leaves c sound.asked.made left.did.is_for left.did.tally.small)
 
   pub has-left-run : LeavesRun run (shrunk left.operations) t c.completion
   has-left-run = record { board = refl; operations = left.items; collects = collects }

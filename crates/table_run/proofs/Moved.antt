@@ -23,7 +23,7 @@ use Rattle.exec_start.specs.declared.item.Item.{Item}
 use Rattle.exec_recv.specs.Asides.{aside_of}
 use Rattle.loop_walk.specs.Resting.{IsAtRest}
 use Rattle.run_loop.specs.declared.looped.Loop.{Loop as Looped}
-use Rattle.run_loop.specs.Loops.{IsReady}
+use Rattle.run_loop.specs.Loops.{HasDelays, IsReady}
 use Rattle.table_run.specs.Calls.{LeavesSame}
 
 -- the hand has so many associations now, and made steps
@@ -54,13 +54,14 @@ module _ (made : ℕ) (v w : View Item Entry) (did : Moves made v w) where
 
 -- a loop whose hand moved so is ready still
 pub moved-ready : (board : Board Blueprint) (made : ℕ) (old new : Looped) → IsReady board old → new.next ≡ old.next →
-    IsHandOf board new.hand → Moves made (knows old.hand) (knows new.hand) → IsReady board new
-moved-ready board made old new ready next hand did =
+    HasDelays board new.delays new.delay_nodes.items → IsHandOf board new.hand → Moves made (knows old.hand) (knows new.hand) → IsReady board new
+moved-ready board made old new ready next delays hand did =
     record {
       hand = hand;
       first = ap (λ (z : View Item Entry). z.number) did.is ∙ ready.first;
       rests = moved-rests made (knows old.hand) (knows new.hand) did ready.rests;
       next = let before = ready.next in omega (arith, next, before);
+      delays = delays;
     }
 
 -- one that has as many associations as before says the same

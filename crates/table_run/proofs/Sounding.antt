@@ -17,7 +17,7 @@ use Rattle.exec_recv.specs.Asides.{Aside, aside_of}
 use Rattle.exec_recv.specs.Over.{IsOver}
 use Rattle.loop_walk.specs.Resting.{IsAtRest}
 use Rattle.run_loop.specs.declared.looped.Loop.{Loop as Looped}
-use Rattle.run_loop.specs.Loops.{IsReady}
+use Rattle.run_loop.specs.Loops.{HasDelays, IsReady}
 use Rattle.table_run.specs.declared.tickets.Operation.{Operation}
 use Rattle.table_run.specs.Calls.{with_entered, with_left, LeavesWith, LeavesSame, Enters, AsksScope}
 use Rattle.table_run.specs.Opened.{IsUnused}
@@ -111,23 +111,38 @@ module _ (on : Board Blueprint → Type 0) (run : Run) (stepped : Blueprint) (ne
         asked = record { seen = λ _. asks.seen; made = λ _. refl };
       }
 
+-- a loop that helps the pool, or no more
+pub helped-sound : (on : Board Blueprint → Type 0) (run : Run) (stepped : Blueprint) (next : ℕ) (helps : Bool) → IsSound on run stepped next →
+    IsSound on (record run { looped = record run.looped { helps = helps } }) stepped next
+helped-sound on run stepped next helps sound =
+    turned-sound on run stepped next sound (record run.looped { helps = helps })
+    (record {
+      hand = sound.ready.hand;
+      first = sound.ready.first;
+      rests = sound.ready.rests;
+      next = sound.ready.next;
+      delays = sound.ready.delays;
+    })
+    (record { is = refl; sees = λ source seen. seen })
+
 -- a loop that requested a stop is ready
-pub asked-ready : (board : Board Blueprint) (old new : Looped) → IsReady board old → new.next ≡ old.next → IsHandOf board new.hand →
-    IsAtRest (knows new.hand) → AsksScope old.hand.me new.hand.me → IsReady board new
-asked-ready board old new ready next hand rests asks =
+pub asked-ready : (board : Board Blueprint) (old new : Looped) → IsReady board old → new.next ≡ old.next →
+    HasDelays board new.delays new.delay_nodes.items → IsHandOf board new.hand → IsAtRest (knows new.hand) → AsksScope old.hand.me new.hand.me → IsReady board new
+asked-ready board old new ready next delays hand rests asks =
     record {
       hand = hand;
       first = ap (λ (a : Aside). a.number) asks.same ∙ ready.first;
       rests = rests;
       next = let before = ready.next in omega (arith, next, before);
+      delays = delays;
     }
 
 -- a new run
 pub opened-sound : (on : Board Blueprint → Type 0) (board : Board Blueprint) (plan stepped : Blueprint) (tickets : ℕ) (looped : Looped) →
     on board → IsOver board plan → IsRunnable plan → stepped ≡ plan → board.frame.kind ≡ plan.settings.scope → 0 < tickets → tickets ≤ 2 ^ 16 →
-    IsUnused board looped.hand → looped.next ≡ 0 → (operations : List (Option Operation)) → operations ≡ replicate tickets None →
+    IsUnused board looped.hand → looped.next ≡ 0 → HasDelays board looped.delays looped.delay_nodes.items → (operations : List (Option Operation)) → operations ≡ replicate tickets None →
     IsSound on (run_of board plan looped operations false) stepped 0
-opened-sound on board plan stepped tickets looped is_on over kinds steps scope some few unused next operations free =
+opened-sound on board plan stepped tickets looped is_on over kinds steps scope some few unused next delays operations free =
     record {
       table = record { is_on = is_on; over = over; kinds = kinds; stepped_is = steps; scope = scope };
       tickets = record { within = omega (arith, count, some); few = omega (arith, count, few) };
@@ -143,6 +158,7 @@ opened-sound on board plan stepped tickets looped is_on over kinds steps scope s
           scans = unused.nothing.scans;
         };
         next = omega (arith, next);
+        delays = delays;
       };
       settled = let making = unused.nothing.making in let refused = unused.nothing.refused in omega (arith, making, refused);
       listed = record {

@@ -9,6 +9,7 @@ use Rattle.plan_rules.specs.declared.node.Node.TheVariants.{Bulk, Part}
 use Rattle.plan_kinds.specs.Built.{IsNoPart}
 use Rattle.plan_kinds.specs.Reached.{Reaches}
 use Rattle.plan_kinds.proofs.Kept.{plain-arguments}
+use Rattle.plan_kinds.proofs.Roots.{last-no_part}
 use Rattle.plan_shape.specs.Blueprint.{Blueprint, IsPlan}
 use Rattle.plan_shape.specs.Forest.{IsPartOf}
 use Rattle.table_steps.specs.Views.{Board}
@@ -17,18 +18,6 @@ use Rattle.exec_start.specs.HasKinds.{HasKinds}
 use Rattle.exec_start.specs.Starts.{IsReceiverStart}
 use Rattle.exec_recv.specs.Over.{IsOver}
 use Rattle.run_loop.specs.Starts.{CanRun}
-
--- the root is no part, since a part stands before its bulk
-root-whole : (plan : Blueprint) → IsPlan plan → (n : ℕ) → length plan.nodes ≡ n + 1 → (found : Option Node) →
-    slice_get plan.nodes n ≡ found → IsNoPart found
-root-whole plan is n last (Some (Part bulk part)) at =
-    let made : IsPartOf plan.nodes n bulk part = (is.forest.each n (Part bulk part) at).made in
-    let it = made.bulk_stands in
-    let stands = slice_get_within plan.nodes bulk (Bulk it.0 it.1) it.2 in
-    let place = made.place in
-    let small = made.within in
-    absurd (omega (arith, stands, place, small, last))
-root-whole plan is n last found at = tt
 
 module _ (plan : Blueprint) (is : IsPlan plan) (datum : Datum) (number : ℕ) (asked : Bool) where
   abbrev root : ℕ
@@ -47,7 +36,7 @@ module _ (plan : Blueprint) (is : IsPlan plan) (datum : Datum) (number : ℕ) (a
         shape = Some (plan.settings.input ∷ []);
         reached = Reaches.root root-last;
         kinds = plain-arguments (slice_get plan.nodes root)
-            (root-whole plan is root root-last (slice_get plan.nodes root) refl)
+            (last-no_part plan is root root-last (slice_get plan.nodes root) refl)
             (Some (plan.settings.input ∷ [])) (datum ∷ []) (kind, tt);
       }
 

@@ -8,7 +8,7 @@ use Rattle.std.proofs.lemmas.Option.{same_Some}
 use Rattle.exec_value.specs.declared.data.Datum.{Datum}
 use Rattle.exec_value.specs.declared.outcome.Completion.{Completion}
 use Rattle.plan_shape.specs.Blueprint.{Blueprint}
-use Rattle.run_tally.specs.Tallied.{raised}
+use Rattle.run_tally.specs.Tallied.{IsSmallTally, raised}
 use Rattle.record_loop.specs.Works.{Begun, Keeps, Begins, Collects, MayComplete}
 use Rattle.table_rules.specs.declared.view.Rooted.{Rooted}
 use Rattle.table_rules.specs.Named.{find_by}
@@ -158,13 +158,13 @@ module _ (run : Run) (listed : AreListed run.board run.plan (aside_of (knows run
           (collected-may (work_of run) (record { number = of.number; datum = of.datum; asked = of.asked })
           (knows run.looped.hand).requested c (is_for _ of.start) made)
 
-      pub collects-work : looped.tally ≡ raised c.completion run.looped.tally →
+      pub collects-work : (IsSmallTally run.looped.tally → looped.tally ≡ raised c.completion run.looped.tally) →
           Collects WantsMemory (work_of run) (work_of shrunk) t c.completion
       collects-work tally =
           record {
             plan = refl;
             requested = refl;
-            tally = λ _. tally;
+            tally = tally;
             free = gone-here;
             others = λ u begun apart is. gone-there u apart ∙ is;
             ends = ends-so;

@@ -1,9 +1,13 @@
 -- What a run's own calls leave of its operations.
-use Rattle.std.specs.Prelude.{◌≡◌, ℕ, length, None, slice_index_or, slice_set}
+use Rattle.std.specs.Prelude.{◌≡◌, ◌⊎◌, ℕ, length, None, slice_index_or, slice_set}
 use Rattle.exec_value.specs.declared.outcome.Completion.{Completion}
 use Rattle.record_loop.specs.Works.{Collects}
 use Rattle.table_steps.specs.Views.{knows}
+use Rattle.run_loop.specs.Emptied.{WasNotReady}
+use Rattle.run_loop.specs.Turns.{MeetsAll}
+use Rattle.table_run.specs.declared.tickets.Operation.{Operation}
 use Rattle.table_run.specs.Runs.{Run, WantsMemory, work_of}
+use Rattle.table_run.specs.Sound.{Has}
 
 -- All operations are as they were.
 pub record KeepsRun (old new : Run) : Type 0 where
@@ -13,6 +17,21 @@ pub record KeepsRun (old new : Run) : Type 0 where
   pub requested : new.requested ≡ old.requested
   pub tally : new.looped.tally ≡ old.looped.tally
   pub noted : (knows new.looped.hand).noted ≡ (knows old.looped.hand).noted
+
+-- The ticket has an operation whose root's word was read, and didn't say that it is ready in the loop.
+pub record WasIncomplete (old new : Run) (ticket : ℕ) : Type 0 where
+  pub operation : Operation
+  pub has : Has old.operations ticket operation
+  pub read : WasNotReady old.board operation.block old.looped.hand.me new.looped.hand.me
+
+-- So it was, or the ticket has no operation.
+abbrev pub LeavesNone : Run → Run → ℕ → Type 0
+LeavesNone old new ticket =
+    (slice_index_or old.operations ticket None ≡ None) ⊎ WasIncomplete old new ticket
+
+-- Each node that the loop was told of was taken, or its word said that it isn't ready.
+abbrev pub MeetsTold : Run → Run → Type 0
+MeetsTold old new = MeetsAll old.board old.looped new.looped
 
 -- The operation of the ticket was collected, and the ticket is free.
 pub record LeavesRun (old new : Run) (ticket : ℕ) (completion : Completion) : Type 0 where

@@ -113,4 +113,13 @@ impl<'a, T: Stepper, B: OnTable> TableRun<'a, T, B> {
     {
         self.looped.tally()
     }
+
+    /// Whether turns from now on take nodes that are ready in the pool, too. Where no worker serves
+    /// the pool they must: nobody else takes these.
+    pub fn help_pool(&mut self, helps: bool)
+        ensures { self.new ≡
+            record self.old { looped = record self.old.looped { helps = helps } } }
+    {
+        self.looped.help_pool(helps);
+    }
 }

@@ -1,12 +1,12 @@
 //! What a run does with the operations that it has.
-ghost use Rattle.std.specs.Prelude.{◌≡◌, ◌<◌, MatchOption, is_none, length, None, slice_index_or};
+ghost use Rattle.std.specs.Prelude.{◌≡◌, ◌<◌, IfNone, MatchOption, is_none, length, None, slice_index_or};
 ghost use Rattle.std.specs.Thread.{IsSync};
-ghost use Rattle.table_run.specs.Moves.{KeepsRun, LeavesRun, Clears};
+ghost use Rattle.table_run.specs.Moves.{KeepsRun, LeavesRun, LeavesNone, MeetsTold, Clears};
 
 use crate::running::{OnTable, TableRun};
 use crate::tickets::{block_of, is_free, take};
 use count_scope::disassociate;
-use exec_recv::{Gate, Point, Stepper};
+use exec_recv::Stepper;
 use exec_value::Completion;
 use std::alloc::Global;
 use std::sync::Wait;
@@ -20,7 +20,8 @@ impl<'a, T: Stepper, B: OnTable> TableRun<'a, T, B> {
     /// many polls that took none looks at each node.
     pub(crate) fn go_round<R: Wait + Sync>(&mut self, rt: &R, alloc: Global)
         requires sync { IsSync R.row }
-        ensures { KeepsRun self.old self.new }
+        ensures keeps { KeepsRun self.old self.new }
+        ensures met { MeetsTold self.old self.new }
     {
         if self.idle >= IDLE_POLLS {
             self.idle = 0;
@@ -31,20 +32,18 @@ impl<'a, T: Stepper, B: OnTable> TableRun<'a, T, B> {
         self.idle = if taken > 0 { 0 } else { self.idle + 1 };
     }
 
-    /// What the operation of a ticket completed with, where it has one that is complete. Its block is
+    /// What the operation of a ticket completed with, where it has one that is complete. None only where
+    /// the word of its root that was read didn't say that it is ready in the loop. Its block is
     /// given back, and then its association is left: an association lasts as long as its work.
     pub(crate) fn leave<R: Wait + Sync>(&mut self, rt: &R, ticket: usize) -> Option<Completion>
         requires sync { IsSync R.row }
         requires within { ticket < length self.old.operations }
-        ensures { MatchOption result (KeepsRun self.old self.new)
+        ensures leaves { MatchOption result (KeepsRun self.old self.new)
             (LeavesRun self.old self.new ticket) }
+        ensures none { IfNone result (LeavesNone self.old self.new ticket) }
     {
         let block = block_of(&self.operations, ticket)?;
-        if !self.looped.tally().is_small() {
-            return None;
-        }
-        self.stepper.pass(rt, Point::Release(block));
-        let collected = self.looped.collect(self.table, block)?;
+        let collected = self.looped.collect(rt, self.table, block, self.stepper)?;
         let left = take(&mut self.operations, ticket);
         disassociate(self.table, &mut self.looped.hand, left.into_association());
         Some(collected.completion)

@@ -1,7 +1,8 @@
 use Rattle.std.proofs.Common.{sym, ◌∙◌}
 use Rattle.exec_recv.proofs.Places.{over-places}
 use Rattle.node_steps.proofs.Frames.{stepped-after}
-use Rattle.exec_adapt.proofs.Places.{adaptor-is, adaptor-only, inner-is}
+use Rattle.node_steps.proofs.Places.{inner-is}
+use Rattle.exec_adapt.proofs.Places.{adaptor-is, adaptor-only}
 use Rattle.exec_adapt.proofs.Adapting.{env-of, taken-passes, taken-runs}
 use Rattle.exec_adapt.proofs.adaptors.step_adaptor.Goals as goal
 

@@ -5,7 +5,7 @@ use Rattle.exec_adapt.proofs.Places.{factory-is}
 use Rattle.exec_adapt.proofs.advancing.advance.Goals as goal
 
 pub step_receiver-requires-clause-spawns : goal.step_receiver-requires-clause-spawns
-step_receiver-requires-clause-spawns g c κs within =
+step_receiver-requires-clause-spawns g c =
     subst (CanAdvance c.args.plan.now) (slice_get_past c.args.plan.now.nodes c.args.name.node (omega arith)) c.requires.kind
 
 pub step_factory-requires-clause-factory : goal.step_factory-requires-clause-factory

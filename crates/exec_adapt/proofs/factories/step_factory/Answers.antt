@@ -1,6 +1,7 @@
 use Rattle.exec_recv.proofs.Places.{over-places}
 use Rattle.node_steps.proofs.Frames.{ready-is, others-on, stepped-after}
-use Rattle.exec_adapt.proofs.Places.{factory-only, inner-is}
+use Rattle.node_steps.proofs.Places.{inner-is}
+use Rattle.exec_adapt.proofs.Places.{factory-only}
 use Rattle.exec_adapt.proofs.Leafing.{taken-empty, taken-leaf, leaf-names, no-error}
 use Rattle.exec_adapt.proofs.factories.step_factory.Goals as goal
 

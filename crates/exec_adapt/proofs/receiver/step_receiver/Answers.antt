@@ -1,52 +1,47 @@
 use Rattle.std.proofs.Common.{sym, ◌∙◌}
 use Rattle.exec_recv.proofs.Places.{over-places}
-use Rattle.node_steps.proofs.Frames.{others-on, stepped-after}
-use Rattle.node_steps.proofs.Started.{run-still}
-use Rattle.exec_adapt.proofs.Receiving.{root-is, top-only, top-leaves, top-may}
+use Rattle.node_steps.proofs.Frames.{stepped-after}
+use Rattle.exec_adapt.proofs.Receiving.{root-is, top-only, top-leaves, top-may, top-idle}
 use Rattle.exec_adapt.proofs.receiver.step_receiver.Goals as goal
 
 pub take_out-requires-clause-places : goal.take_out-requires-clause-places
-take_out-requires-clause-places g c =
+take_out-requires-clause-places c =
     over-places c.args.table.now c.args.plan.now c.args.name c.requires.over c.requires.can.place
 
 pub take_out-requires-clause-only : goal.take_out-requires-clause-only
-take_out-requires-clause-only g c =
+take_out-requires-clause-only c =
     top-only c.args.table.now c.args.plan.now c.args.name c.root_of-root.result c.requires.over c.requires.spawns c.root_of-root.ensures
     c.requires.behind c.requires.can.place
 
 pub leave_at_rest-requires-clause-may : goal.leave_at_rest-requires-clause-may
-leave_at_rest-requires-clause-may g c =
+leave_at_rest-requires-clause-may c =
     top-leaves c.args.table.now c.args.plan.now c.args.name c.root_of-root.result c.requires.over c.requires.spawns c.root_of-root.ensures
     c.requires.behind c.requires.can.place c.take_out.result c.args.hand.now.me c.take_out.new.hand.me c.take_out.ensures.takes
     c.at_hand-env.result.0 c.at_hand-env.ensures.env c.known.ensures c.in-Some.parcel (sym c.at_hand-env.ensures.parcel ∙ c.in-Some.is)
 
-pub read_idle-requires-clause-may : goal.read_idle-requires-clause-may
-read_idle-requires-clause-may g c κs within =
+pub start_unbegun_top-requires-clause-root : goal.start_unbegun_top-requires-clause-root
+start_unbegun_top-requires-clause-root c =
+    root-is c.args.table.now c.args.plan.now c.args.name c.root_of-root.result c.requires.over c.requires.spawns c.root_of-root.ensures
+    c.requires.behind c.requires.can.place
+
+pub start_unbegun_top-requires-clause-may : goal.start_unbegun_top-requires-clause-may
+start_unbegun_top-requires-clause-may c =
     top-may c.args.table.now c.args.plan.now c.args.name c.root_of-root.result c.requires.over c.requires.spawns c.root_of-root.ensures
     c.requires.behind c.requires.can.place c.take_out.result c.args.hand.now.me c.take_out.new.hand.me c.take_out.ensures.takes
     c.at_hand-env.result.0 c.at_hand-env.ensures.env c.known.ensures c.asked-asked.result c.asked-asked.ensures
 
-pub start_top-requires-clause-root : goal.start_top-requires-clause-root
-start_top-requires-clause-root g c =
-    root-is c.args.table.now c.args.plan.now c.args.name c.root_of-root.result c.requires.over c.requires.spawns c.root_of-root.ensures
-    c.requires.behind c.requires.can.place
-
-pub start_top-requires-clause-may : goal.start_top-requires-clause-may
-start_top-requires-clause-may g c =
-    run-still c.args.table.now c.args.name c.at_hand-env.result.0 c.root_of-root.result c.asked-asked.result c.take_out.new.hand.me
-    c.read_idle.new.hand.me c.read_idle.ensures.keeps
-    (top-may c.args.table.now c.args.plan.now c.args.name c.root_of-root.result c.requires.over c.requires.spawns c.root_of-root.ensures
+pub start_unbegun_top-requires-clause-small : goal.start_unbegun_top-requires-clause-small
+start_unbegun_top-requires-clause-small c =
+    top-idle c.args.table.now c.args.plan.now c.args.name c.root_of-root.result c.requires.over c.requires.spawns c.root_of-root.ensures
     c.requires.behind c.requires.can.place c.take_out.result c.args.hand.now.me c.take_out.new.hand.me c.take_out.ensures.takes
-    c.at_hand-env.result.0 c.at_hand-env.ensures.env c.known.ensures c.asked-asked.result c.asked-asked.ensures)
+    c.at_hand-env.result.0 c.at_hand-env.ensures.env c.known.ensures (sym c.at_hand-env.ensures.parcel ∙ c.in-None.is)
 
 pub returns-in-Some-clause-stepped : goal.returns-in-Some-clause-stepped
-returns-in-Some-clause-stepped g c =
+returns-in-Some-clause-stepped c =
     stepped-after c.args.table.now c.args.name c.args.hand.now.me c.take_out.new.hand.me c.leave_at_rest.new.hand.me
     c.take_out.ensures.takes.beside c.leave_at_rest.result c.leave_at_rest.ensures.stepped
 
 pub returns-in-None-clause-stepped : goal.returns-in-None-clause-stepped
-returns-in-None-clause-stepped g c =
-    stepped-after c.args.table.now c.args.name c.args.hand.now.me c.read_idle.new.hand.me c.start_top.new.hand.me
-    (others-on c.args.table.now c.args.name c.args.hand.now.me c.take_out.new.hand.me c.read_idle.new.hand.me
-    c.take_out.ensures.takes.beside c.read_idle.ensures.keeps.beside)
-    c.start_top.result c.start_top.ensures.stepped
+returns-in-None-clause-stepped c =
+    stepped-after c.args.table.now c.args.name c.args.hand.now.me c.take_out.new.hand.me c.start_unbegun_top.new.hand.me
+    c.take_out.ensures.takes.beside c.start_unbegun_top.result c.start_unbegun_top.ensures.stepped

@@ -7,17 +7,17 @@ use Rattle.run_loop.proofs.Emptied.{settled-out, emptied}
 use Rattle.run_loop.proofs.emptying.empty_root.Goals as goal
 
 pub settle_root-requires-clause-empty : goal.settle_root-requires-clause-empty
-settle_root-requires-clause-empty c =
+settle_root-requires-clause-empty g c =
     let board = c.args.table.now in
     let root = root_name board c.args.block.index c.args.block.generation in
     subst (λ (x : Name). HasEmptyRoot board x c.take_root.new.hand.me) (sym {b = root} c.root.ensures.name) c.in_ok-item.ensures.out.empty
 
 pub give_back-requires-clause-settled : goal.give_back-requires-clause-settled
-give_back-requires-clause-settled c =
+give_back-requires-clause-settled g c κs within =
     subst (λ (x : Name). IsSettledRoot c.args.table.now x c.settle_root.new.hand.me) c.root.ensures.name c.settle_root.ensures.settles.is
 
 pub returns-clause-stays : goal.returns-clause-stays
-returns-clause-stays c =
+returns-clause-stays g c =
     let board = c.args.table.now in
     let old = c.args.hand.now in
     stays-on board old c.settle_root.new.hand c.give_back.new.hand
@@ -25,7 +25,7 @@ returns-clause-stays c =
     c.give_back.ensures.stays
 
 pub returns-clause-emptied : goal.returns-clause-emptied
-returns-clause-emptied c =
+returns-clause-emptied g c =
     let board = c.args.table.now in
     let old = c.args.hand.now.me in
     let out = c.take_root.new.hand.me in

@@ -1,4 +1,4 @@
-use Rattle.std.proofs.Common.{◌+◌, arith, sym, ap, ◌∙◌, subst}
+use Rattle.std.proofs.Common.{inl, inr, ◌+◌, arith, sym, ap, ◌∙◌, subst}
 use Rattle.std.proofs.lemmas.Option.{slice_get-get_or}
 use Rattle.op_slot.proofs.Staying.{stays-here, stays-on}
 use Rattle.exec_recv.specs.Asides.{Aside}
@@ -7,6 +7,7 @@ use Rattle.run_loop.specs.Serves.{Serves}
 use Rattle.run_loop.specs.Turns.{AreLeft}
 use Rattle.run_loop.proofs.Served.{serves-after, serves-more}
 use Rattle.run_loop.proofs.Turned.{left-more}
+use Rattle.run_loop.proofs.Meeting.{met-more}
 use Rattle.run_loop.proofs.turning.serve_each.Goals as goal
 use Rattle.run_loop.proofs.turning.serve_each.Goals.{then-serve_name, else-serve_name}
 
@@ -17,6 +18,7 @@ loop-name-init g c =
       rests = c.requires.rests;
       aside = aside-here c.args.hand.now.me;
       served = aside-here c.args.hand.now.me;
+      met = λ k name below. absurd (omega (arith, below));
       none = λ zero k name below. absurd (omega (arith, below));
     }
 
@@ -44,6 +46,13 @@ loop-name-preserved g c =
             subst (λ n. Serves does board n old.me new.me) (sym w.taken-is)
             (serves-after does board c.loop-name.taken old.me between.me new.me before.served c.serve_name.ensures.aside)
       ];
+      met = met-more board c.args.helps old.me between.me new.me c.args.told.now c.loop-name.name-index _
+          (slice_get-get_or c.args.told.now c.loop-name.name-index _ c.loop-name-test.true) before.aside c.serve_name.ensures.aside before.met
+          (λ inner.
+          elim c.if-serve_name.branch [
+            | then-serve_name w ↦ inl (c.serve_name.ensures.taken w.if-serve_name.true)
+            | else-serve_name w ↦ inr (c.serve_name.ensures.left w.if-serve_name.false inner)
+          ]);
       none = λ zero.
           elim c.if-serve_name.branch [
             | then-serve_name w ↦
@@ -61,3 +70,7 @@ loop-name-preserved g c =
 pub returns-clause-none : goal.returns-clause-none
 returns-clause-none g c zero k name below =
     let past = c.loop-name-test.false in c.loop-name.invariant.none zero k name (omega (arith, below, past))
+
+pub returns-clause-met : goal.returns-clause-met
+returns-clause-met g c k name below =
+    let past = c.loop-name-test.false in c.loop-name.invariant.met k name (omega (arith, below, past))

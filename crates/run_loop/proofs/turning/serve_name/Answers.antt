@@ -1,14 +1,16 @@
 use Rattle.std.proofs.Common.{sym, ap, ◌∙◌, subst}
 use Rattle.std.specs.Prelude.{◌≢◌}
 use Rattle.std.proofs.lemmas.Bool.{both_ways}
-use Rattle.node_tree.specs.declared.context.Context.TheVariants.{Loop, Pool}
+use Rattle.life_rules.specs.declared.event.Resting.TheVariants as rest
 use Rattle.table_steps.specs.Steps.{control_index}
-use Rattle.table_steps.specs.Takes.{rest_word, resting_in}
+use Rattle.table_steps.specs.Takes.{rest_word}
 use Rattle.op_slot.proofs.Staying.{stays-here, stays-on}
 use Rattle.exec_recv.specs.Asides.{Aside}
 use Rattle.exec_recv.specs.Over.{IsOver}
 use Rattle.exec_recv.proofs.Asiding.{aside-here, aside-on}
+use Rattle.run_loop.specs.Turns.{TakesWord}
 use Rattle.run_loop.proofs.Turned.{since-before, since-after}
+use Rattle.run_loop.proofs.Meeting.{moved-before}
 use Rattle.run_loop.proofs.Served.{one-later}
 use Rattle.run_loop.proofs.turning.serve_name.Goals as goal
 
@@ -51,13 +53,23 @@ returns-clause-left g c left inner =
     let between = c.serve.new.hand.me in
     let new = c.serve-2.new.hand.me in
     record {
-      loop = since-after i (λ word. word ≢ rest_word x (resting_in Loop)) old between new (c.serve.ensures.missed c.if-serve.false)
+      loop = since-after i (λ word. word ≢ rest_word x rest.Loop) old between new (c.serve.ensures.missed c.if-serve.false)
           c.serve-2.ensures.aside;
       pool = λ help.
-          since-before i (λ word. word ≢ rest_word x (resting_in Pool)) old between new c.serve.ensures.aside (c.serve-2.ensures.missed left);
+          since-before i (λ word. word ≢ rest_word x rest.Pool) old between new c.serve.ensures.aside (c.serve-2.ensures.missed left);
     }
 
 pub returns-clause-served : goal.returns-clause-served
 returns-clause-served g c served =
     one-later (g.T.Stepper.does c.args.stepper.now) c.args.table.now c.args.hand.now.me c.serve.new.hand.me c.serve-2.new.hand.me
     c.serve.ensures.aside (c.serve-2.ensures.served served)
+
+pub returns-then-serve-clause-taken : goal.returns-then-serve-clause-taken
+returns-then-serve-clause-taken g c taken = (rest.Loop, c.serve.ensures.taken c.if-serve.true)
+
+pub returns-clause-taken : goal.returns-clause-taken
+returns-clause-taken g c taken = (
+  rest.Pool,
+  moved-before (control_index c.args.table.now c.args.name) (TakesWord rest.Pool c.args.name) c.args.hand.now.me c.serve.new.hand.me
+      c.serve-2.new.hand.me c.serve.ensures.aside (c.serve-2.ensures.taken taken),
+)

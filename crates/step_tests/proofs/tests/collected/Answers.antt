@@ -18,6 +18,6 @@ pub start-requires-clause-kinds : goal.start-requires-clause-kinds
 start-requires-clause-kinds g c κs within = subst (λ (plan : Blueprint). IsRunnable plan) (sym c.requires.stepper) c.requires.kinds
 
 pub collect-requires-clause-listed : goal.collect-requires-clause-listed
-collect-requires-clause-listed g c =
+collect-requires-clause-listed g c κs within =
     started-listed c.in_ok-table.table c.in-Ok-start.block c.in-Some.env c.in-Ok.looped c.start.new.self
     c.in-Ok-start.ensures.started c.in-Some.ensures

@@ -1,8 +1,56 @@
-use Rattle.std.proofs.Common.{ap, ◌∙◌, subst}
-use Rattle.run_loop.specs.Turns.{AreAllLeft}
+use Rattle.std.proofs.Common.{arith, sym, ap, ◌∙◌, subst}
+use Rattle.exec_recv.specs.Asides.{Aside}
+use Rattle.exec_recv.proofs.Asiding.{aside-on}
+use Rattle.loop_delays.specs.Delays.{DelayList}
+use Rattle.run_loop.specs.Delayed.{PassesTurn}
+use Rattle.run_loop.specs.DelayNodes.{AreDelaysOf, nodes_of}
+use Rattle.run_loop.specs.Loops.{told}
+use Rattle.run_loop.proofs.Due.{passes-before}
+use Rattle.run_loop.proofs.Meeting.{met-later}
+use Rattle.run_loop.proofs.Turned.{left-later}
 use Rattle.run_loop.proofs.looped.Loop.poll.Goals as goal
+
+pub returns-clause-ready : goal.returns-clause-ready
+returns-clause-ready g c =
+    let ready = c.poll_names-taken.ensures.ready in
+    let places = c.serve_delays.ensures.places in
+    let room = ready.delays.room in
+    record {
+      hand = c.serve_delays.ensures.stays.hand;
+      first = ap (λ (a : Aside). a.number) c.serve_delays.ensures.aside.same ∙ ready.first;
+      rests = c.serve_delays.ensures.rests;
+      next = ready.next;
+      delays = record { room = omega (arith, places, room); are = ready.delays.are };
+    }
+
+pub returns-clause-aside : goal.returns-clause-aside
+returns-clause-aside g c =
+    aside-on c.args.self.now.hand.me c.poll_names-taken.new.self.hand.me c.serve_delays.new.hand.me c.poll_names-taken.ensures.aside
+    c.serve_delays.ensures.aside
+
+pub returns-clause-served : goal.returns-clause-served
+returns-clause-served g c = c.serve_delays.ensures.served c.args.self.now.hand.me c.poll_names-taken.ensures.served
+
+pub returns-clause-met : goal.returns-clause-met
+returns-clause-met g c =
+    let old = c.args.self.now in
+    met-later c.args.table.now old.helps old.hand.me c.poll_names-taken.new.self.hand.me c.serve_delays.new.hand.me (told old)
+    c.poll_names-taken.ensures.met c.serve_delays.ensures.aside
 
 pub returns-clause-none : goal.returns-clause-none
 returns-clause-none g c zero =
-    subst (AreAllLeft c.args.table.now c.args.self.now.hand.me c.serve_each-taken.new.hand.me c.args.self.now.helps)
-    (c.deref.ensures.value ∙ ap (λ names. names.list.items) c.swap.ensures.y_after) (c.serve_each-taken.ensures.none zero)
+    let old = c.args.self.now in
+    let more = c.serve_delays.ensures.more in
+    left-later c.args.table.now old.helps old.hand.me c.poll_names-taken.new.self.hand.me c.serve_delays.new.hand.me (told old)
+    (c.poll_names-taken.ensures.none (omega (arith, more, zero))) c.serve_delays.ensures.aside
+
+pub returns-clause-turn : goal.returns-clause-turn
+returns-clause-turn g c =
+    let board = c.args.table.now in
+    let old = c.args.self.now in
+    let between = c.poll_names-taken.new.self in
+    let new = c.serve_delays.new.hand.me in
+    subst (λ (d : DelayList). PassesTurn board old.hand.me new c.serve_delays.result d c.serve_delays.new.delays)
+    c.poll_names-taken.ensures.delays.delays
+    (passes-before board c.serve_delays.result old.hand.me between.hand.me new between.delays c.serve_delays.new.delays
+    c.poll_names-taken.ensures.aside c.serve_delays.ensures.turn c.serve_delays.ensures.aside)

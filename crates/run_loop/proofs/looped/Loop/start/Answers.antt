@@ -63,6 +63,7 @@ returns-clause-ready g c =
       first = ap (λ (a : Aside). a.number) leaves.is ∙ c.requires.ready.first;
       rests = c.go_on.ensures.rests;
       next = c.requires.ready.next;
+      delays = c.requires.ready.delays;
     }
 
 pub returns-clause-same : goal.returns-clause-same
@@ -118,4 +119,5 @@ returns-in-Err-clause-ready g c =
       first = missed-number board loop.next board.frame.layout.blocks loop.hand c.place.new.hand missed ∙ c.requires.ready.first;
       rests = missed-rests board loop.next board.frame.layout.blocks loop.hand c.place.new.hand missed c.requires.ready.rests;
       next = c.requires.ready.next;
+      delays = c.requires.ready.delays;
     }

@@ -1,8 +1,11 @@
-use Rattle.std.proofs.Common.{subst}
+use Rattle.std.proofs.Common.{arith, subst}
 use Rattle.exec_recv.proofs.Asiding.{aside-on}
+use Rattle.run_loop.specs.Loops.{told}
 use Rattle.run_loop.specs.Turns.{TakesNothing}
 use Rattle.run_loop.proofs.Served.{serves-later}
 use Rattle.run_loop.proofs.Turned.{nothing-later}
+use Rattle.run_loop.proofs.Due.{passes-after}
+use Rattle.run_loop.proofs.Meeting.{met-later}
 use Rattle.run_loop.proofs.looped.Loop.turn.Goals as goal
 
 pub returns-clause-aside : goal.returns-clause-aside
@@ -23,3 +26,16 @@ pub returns-clause-served : goal.returns-clause-served
 returns-clause-served g c =
     serves-later (g.T.Stepper.does c.args.stepper.now) c.args.table.now c.scan_blocks.result c.args.self.now.hand.me
     c.poll-taken.new.self.hand.me c.scan_blocks.new.hand.me c.poll-taken.ensures.aside c.scan_blocks.ensures.served
+
+pub returns-clause-met : goal.returns-clause-met
+returns-clause-met g c =
+    let old = c.args.self.now in
+    met-later c.args.table.now old.helps old.hand.me c.poll-taken.new.self.hand.me c.scan_blocks.new.hand.me (told old)
+    c.poll-taken.ensures.met c.scan_blocks.ensures.aside
+
+pub returns-clause-turn : goal.returns-clause-turn
+returns-clause-turn g c =
+    let none = c.if-taken-gt0.false in
+    passes-after c.args.table.now c.poll-taken.result c.scan_blocks.result c.args.self.now.hand.me c.poll-taken.new.self.hand.me
+    c.scan_blocks.new.hand.me c.args.self.now.delays c.poll-taken.new.self.delays (omega (arith, none)) c.poll-taken.ensures.turn
+    c.scan_blocks.ensures.aside

@@ -17,7 +17,7 @@ loop-init g c =
     }
 
 pub collect-requires-clause-listed : goal.collect-requires-clause-listed
-collect-requires-clause-listed g c =
+collect-requires-clause-listed g c κs within =
     listed-still c.args.table.now c.args.block c.args.self.now.hand.me c.loop.self.hand.me c.loop.invariant.aside c.requires.listed
 
 pub loop-preserved : goal.loop-preserved

@@ -11,6 +11,6 @@ invariant_of-self g c =
     asked-sound g.B.OnTable.is
     (run_of inside.table.now inside.plan.now inside.looped inside.operations.items inside.requested)
     (g.T.Stepper.plan inside.stepper.now) inside.next sound looped
-    (asked-ready inside.table.now inside.looped looped sound.ready refl c.ask_scope.ensures.stays.hand c.ask_scope.ensures.rests
+    (asked-ready inside.table.now inside.looped looped sound.ready refl sound.ready.delays c.ask_scope.ensures.stays.hand c.ask_scope.ensures.rests
     c.ask_scope.ensures.asked)
     c.ask_scope.ensures.asked

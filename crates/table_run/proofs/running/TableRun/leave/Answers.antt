@@ -5,7 +5,7 @@ use Rattle.table_run.proofs.Changed.{shown-block, block-listed, left-by, has-lef
 use Rattle.table_run.proofs.running.TableRun.leave.Goals as goal
 
 pub collect-requires-clause-listed : goal.collect-requires-clause-listed
-collect-requires-clause-listed g c =
+collect-requires-clause-listed g c κs within =
     let inside = c.self.inside in
     let run = run_of inside.table.now inside.plan.now inside.looped inside.operations.items inside.requested in
     let lent : c.deref.result.now ≡ inside.operations.items = cc in
@@ -27,8 +27,8 @@ invariant_of-self-2 g c =
     c.collect.new.self c.in_ok-collected.ensures.ready c.in_ok-collected.ensures.collected c.disassociate.new.hand
     c.disassociate.ensures.stays.hand c.disassociate.ensures.left c.take-left.new.operations.items c.take-left.ensures.items)
 
-pub returns : goal.returns
-returns g c =
+pub returns-clause-leaves : goal.returns-clause-leaves
+returns-clause-leaves g c =
     let inside = c.self.inside in
     let run = run_of inside.table.now inside.plan.now inside.looped inside.operations.items inside.requested in
     let lent : c.deref.result.now ≡ inside.operations.items = cc in

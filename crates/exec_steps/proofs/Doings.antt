@@ -1,0 +1,61 @@
+-- A step does what its call says.
+use Rattle.std.proofs.Common.{◌≡◌, refl, sym, subst}
+use Rattle.std.specs.Prelude.{Option, Some, slice_get}
+use Rattle.atomic_table.specs.declared.shared.Seat.{Seat}
+use Rattle.life_rules.specs.declared.event.Name.{Name}
+use Rattle.plan_shape.specs.Blueprint.{Blueprint}
+use Rattle.table_rules.specs.declared.view.View.{View}
+use Rattle.table_steps.specs.Views.{Board}
+use Rattle.table_steps.specs.Claims.{Seated}
+use Rattle.exec_start.specs.declared.entry.Entry.{Entry}
+use Rattle.exec_start.specs.declared.item.Item.{Item}
+use Rattle.exec_recv.specs.declared.next.Next.{Next}
+use Rattle.exec_recv.specs.Nexts.{IsStepped}
+use Rattle.exec_hop.specs.Hops.{HopsAs}
+use Rattle.exec_let.specs.Lets.{AsLet}
+use Rattle.exec_all.specs.Steps.{AdvancesAll}
+use Rattle.exec_bulk.specs.Steps.{BulkSteps}
+use Rattle.exec_delay.specs.Steps.{StepsDelay}
+use Rattle.exec_steps.specs.declared.choosing.Advance.{Advance}
+use Rattle.exec_steps.specs.declared.choosing.Advance.TheVariants.{Plain, Hop, Let, Join, Row, Wait}
+use Rattle.exec_steps.specs.Kinds.{advance_at}
+use Rattle.exec_steps.specs.Does.{DoesBy, Does}
+
+module _ (plan : Blueprint) (board : Board Blueprint) (x : Name) (next : Next) where
+  module _ (m m' : Seated Item Entry) (stepped : IsStepped board x m m' next) where
+    did : (a : Option Advance) → advance_at (slice_get plan.nodes x.node) ≡ a → DoesBy plan board x next m m' a →
+        Does plan board x next m m'
+    did a is does =
+        record {
+          stepped = stepped;
+          by_kind = subst (λ (o : Option Advance). DoesBy plan board x next m m' o) (sym is) does;
+        }
+
+    pub did-plain : advance_at (slice_get plan.nodes x.node) ≡ Some Plain → Does plan board x next m m'
+    did-plain is = did (Some Plain) is tt
+
+    pub did-hop : advance_at (slice_get plan.nodes x.node) ≡ Some Hop →
+        HopsAs board x (slice_get plan.nodes x.node) next m m' → Does plan board x next m m'
+    did-hop is hops = did (Some Hop) is hops
+
+    pub did-let : advance_at (slice_get plan.nodes x.node) ≡ Some Let →
+        AsLet board x (slice_get plan.nodes x.node) next m m' → Does plan board x next m m'
+    did-let is lets = did (Some Let) is lets
+
+    pub did-row : advance_at (slice_get plan.nodes x.node) ≡ Some Row →
+        BulkSteps board x (slice_get plan.nodes x.node) next m m' → Does plan board x next m m'
+    did-row is steps = did (Some Row) is steps
+
+  pub did-join : (old new : Seat (Option Item) (View Item Entry)) → IsStepped board x old.me new.me next →
+      advance_at (slice_get plan.nodes x.node) ≡ Some Join → AdvancesAll plan board x next old new →
+      Does plan board x next old.me new.me
+  did-join old new stepped is advances =
+      did old.me new.me stepped (Some Join) is
+      (record { old = old; new = new; old_is = refl; new_is = refl; is = advances })
+
+  pub did-wait : (old new : Seat (Option Item) (View Item Entry)) → IsStepped board x old.me new.me next →
+      advance_at (slice_get plan.nodes x.node) ≡ Some Wait → StepsDelay board x next old new →
+      Does plan board x next old.me new.me
+  did-wait old new stepped is steps =
+      did old.me new.me stepped (Some Wait) is
+      (record { old = old; new = new; old_is = refl; new_is = refl; is = steps })

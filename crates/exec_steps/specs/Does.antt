@@ -1,0 +1,45 @@
+-- What a step of a node does, by the node's kind.
+use Rattle.std.specs.Prelude.{◌≡◌, ⊤, Option, Some, slice_get}
+use Rattle.atomic_table.specs.declared.shared.Seat.{Seat}
+use Rattle.life_rules.specs.declared.event.Name.{Name}
+use Rattle.plan_shape.specs.Blueprint.{Blueprint}
+use Rattle.table_rules.specs.declared.view.View.{View}
+use Rattle.table_steps.specs.Views.{Board}
+use Rattle.table_steps.specs.Claims.{Seated}
+use Rattle.exec_start.specs.declared.entry.Entry.{Entry}
+use Rattle.exec_start.specs.declared.item.Item.{Item}
+use Rattle.exec_recv.specs.declared.next.Next.{Next}
+use Rattle.exec_recv.specs.Nexts.{IsStepped}
+use Rattle.exec_hop.specs.Hops.{HopsAs}
+use Rattle.exec_let.specs.Lets.{AsLet}
+use Rattle.exec_all.specs.Steps.{AdvancesAll}
+use Rattle.exec_bulk.specs.Steps.{BulkSteps}
+use Rattle.exec_delay.specs.Steps.{StepsDelay}
+use Rattle.exec_steps.specs.declared.choosing.Advance.{Advance}
+use Rattle.exec_steps.specs.declared.choosing.Advance.TheVariants.{Hop, Let, Join, Row, Wait}
+use Rattle.exec_steps.specs.Kinds.{advance_at}
+
+module _ (plan : Blueprint) (board : Board Blueprint) (x : Name) (next : Next)
+    (m m' : Seated Item Entry) where
+  -- This was done to a hand that knows this before and afterwards.
+  pub record OnHand (done : Seat (Option Item) (View Item Entry) → Seat (Option Item) (View Item Entry) → Type 0) :
+      Type 0 where
+    pub old : Seat (Option Item) (View Item Entry)
+    pub new : Seat (Option Item) (View Item Entry)
+    pub old_is : old.me ≡ m
+    pub new_is : new.me ≡ m'
+    pub is : done old new
+
+  -- of a factory, an adaptor and the receiver node no more is said than of each node
+  abbrev pub DoesBy : Option Advance → Type 0
+  DoesBy (Some Hop) = HopsAs board x (slice_get plan.nodes x.node) next m m'
+  DoesBy (Some Let) = AsLet board x (slice_get plan.nodes x.node) next m m'
+  DoesBy (Some Join) = OnHand (AdvancesAll plan board x next)
+  DoesBy (Some Row) = BulkSteps board x (slice_get plan.nodes x.node) next m m'
+  DoesBy (Some Wait) = OnHand (StepsDelay board x next)
+  DoesBy other = ⊤
+
+  -- It is a step, which leaves what each step leaves, and does what the node's kind asks for.
+  pub record Does : Type 0 where
+    pub stepped : IsStepped board x m m' next
+    pub by_kind : DoesBy (advance_at (slice_get plan.nodes x.node))

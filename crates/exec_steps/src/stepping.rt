@@ -1,0 +1,90 @@
+//! What steps the nodes of a plan, each by its kind.
+ghost use Rattle.std.specs.Prelude.{◌≡◌, ◌↔◌, IsSome, IfSome};
+ghost use Rattle.exec_steps.specs.Kinds.{AllAdvance};
+
+use crate::choosing::{Advance, advance_at, all_advance};
+use exec_adapt::advance;
+use exec_all::advance_all;
+use exec_bulk::advance_bulk;
+use exec_delay::advance_delay;
+use exec_hop::advance_hop;
+use exec_let::advance_let;
+use exec_recv::{Gate, Item, Next, Point, Stepper};
+use life_rules::Name;
+use op_slot::{Hand, OpTable};
+use plan_shape::Plan;
+use std::alloc::Global;
+use std::marker::Model;
+use std::sync::Wait;
+
+/// What steps the nodes of a plan all of whose nodes have steps over hands. It is seen as the plan.
+#[derive(Drop)]
+pub struct NodeSteps<'a, G> {
+    plan: &'a Plan,
+    gate: &'a G,
+}
+
+impl<'a, G> Model for NodeSteps<'a, G> {
+    ghost use Rattle.plan_shape.specs.Blueprint.{Blueprint};
+    ghost use Rattle.exec_steps.specs.Kinds.{AllAdvance};
+
+    ghost Value = { Blueprint };
+
+    ghost view = { λ s. s.plan.now };
+
+    ghost invariant = { λ s. AllAdvance s.plan.now };
+}
+
+impl<'a, G: Gate> NodeSteps<'a, G> {
+    /// What steps the nodes of this plan, past this gate. None where a node of the plan is an
+    /// `ahead`, which has no step over hands.
+    pub fn of(plan: &'a Plan, gate: &'a G) -> Option<NodeSteps<'a, G>>
+        ensures plan { IfSome result (λ stepper. stepper ≡ plan.now) }
+        ensures runs { IsSome result ↔ AllAdvance plan.now }
+    {
+        if all_advance(plan) {
+            return Some(NodeSteps { plan, gate });
+        }
+        None
+    }
+
+    /// The plan.
+    pub fn plan(&self) -> &'a Plan
+        ensures is { result.now ≡ self.now }
+        ensures runs { AllAdvance self.now }
+    {
+        self.plan
+    }
+}
+
+impl<'a, G: Gate> Gate for NodeSteps<'a, G> {
+    fn pass<R: Wait + Sync>(&self, rt: &R, point: Point) {
+        self.gate.pass(rt, point);
+    }
+}
+
+impl<'a, G: Gate> Stepper for NodeSteps<'a, G> {
+    ghost use Rattle.exec_steps.specs.Does.{Does};
+
+    ghost plan = { λ plan. plan };
+
+    ghost does = { λ plan board x next m m'. Does plan board x next m m' };
+
+    fn step<R: Wait + Sync>(
+        &self,
+        rt: &R,
+        alloc: Global,
+        table: &OpTable<Item>,
+        hand: &mut Hand<Item>,
+        name: Name,
+    ) -> Next {
+        match advance_at(self.plan, name.node) {
+            Advance::Plain => advance(rt, alloc, self.plan, table, hand, name, self.gate),
+            Advance::Hop => advance_hop(rt, alloc, self.plan, table, hand, name, self.gate),
+            Advance::Let => advance_let(rt, alloc, self.plan, table, hand, name, self.gate),
+            Advance::Join => advance_all(rt, alloc, self.plan, table, hand, name, self.gate),
+            Advance::Row => advance_bulk(rt, alloc, self.plan, table, hand, name, self.gate),
+            Advance::Wait => advance_delay(rt, alloc, self.plan, table, hand, name, self.gate),
+        }
+    }
+}

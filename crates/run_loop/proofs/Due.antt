@@ -1,0 +1,162 @@
+-- Delays that are due are taken out of the list; and a whole turn.
+use Rattle.std.proofs.Common.{◌≡◌, ◌≢◌, ◌⊎◌, inl, inr, ℕ, ◌<◌, ◌≤◌, List, length, refl, sym, ap, ◌∙◌, subst, arith}
+use Rattle.std.specs.Prelude.{Option, Some, None, slice_get}
+use Rattle.std.proofs.lemmas.Bool.{cases_eq}
+use Rattle.std.proofs.lemmas.List.{length-set}
+use Rattle.std.proofs.lemmas.Option.{none-some, slice_get_within}
+use Rattle.loop_delays.specs.declared.waiting.Waiting.{Waiting}
+use Rattle.loop_delays.specs.Delays.{DelayList, delay_at, turn_due, forgotten, at_next_turn, IsDue}
+use Rattle.plan_rules.specs.declared.node.Node.TheVariants.{Delay}
+use Rattle.plan_shape.specs.Blueprint.{Blueprint}
+use Rattle.table_steps.specs.Views.{Board}
+use Rattle.table_steps.specs.Claims.{Seated}
+use Rattle.exec_start.specs.declared.entry.Entry.{Entry}
+use Rattle.exec_start.specs.declared.item.Item.{Item}
+use Rattle.exec_recv.specs.Asides.{KeepsAside}
+use Rattle.exec_recv.specs.Over.{IsOver}
+use Rattle.run_loop.specs.declared.delay_node.DelayNode.{DelayNode}
+use Rattle.run_loop.specs.DelayNodes.{AreDelaysOf, nodes_of, place_of}
+use Rattle.run_loop.specs.Delayed.{Becomes, IsLookedAt, WasTriedAt, WasDue, WasTakenOut, LooksBelow, TakesOut, TakesDue, PassesTurn}
+use Rattle.run_loop.proofs.Becoming.{becomes-on, becomes-after, looked-before, looked-after, looked-out, tried-before, tried-after}
+use Rattle.run_loop.proofs.DelayLists.{forgotten-here, forgotten-other}
+use Rattle.run_loop.proofs.Looking.{delay-within}
+
+-- none is taken out
+pub takes-none : (board : Board Blueprint) (count : ℕ) (m : Seated Item Entry) (list : DelayList) → TakesOut board count m m list list
+takes-none board count m list = record { turn = refl; places_are = refl; each = λ place. inl refl }
+
+-- one more is
+module _ (board : Board Blueprint) (count more : ℕ) (m between m' : Seated Item Entry) (before middle after : DelayList) (place generation : ℕ)
+    (le : count ≤ more) (first : TakesOut board count m between before middle) (due : IsDue middle place generation)
+    (is : after ≡ forgotten middle place) (tried : WasTriedAt board between m' more place generation) (aside : KeepsAside m between)
+    (next : KeepsAside between m') where
+  turn-is : after.turn ≡ middle.turn
+  turn-is = ap (λ (d : DelayList). d.turn) is
+
+  -- it waited there before
+  there : (delay_at middle place ≡ delay_at before place) ⊎ ((delay_at middle place ≡ None)
+      × WasTakenOut board middle.turn count place m between (delay_at before place)) → delay_at before place ≡ Some due.waiting
+  there (inl same) = sym same ∙ due.there
+  there (inr out) = absurd (none-some due.waiting (sym out.0 ∙ due.there))
+
+  here : WasTakenOut board after.turn more place m m' (delay_at before place)
+  here =
+      record {
+        waiting = due.waiting;
+        there = there (first.each place);
+        due = let come = due.come in let turn = turn-is in omega (arith, come, turn);
+        tried = λ within.
+            tried-before board m between m' more _ aside
+            (subst (λ g. WasTriedAt board between m' more place g) (sym due.generation_is) tried within);
+      }
+
+  other : (p : ℕ) → p ≢ place → delay_at after p ≡ delay_at middle p
+  other p apart = ap (λ (d : DelayList). delay_at d p) is ∙ forgotten-other middle place p apart
+
+  out-after : (p : ℕ) → WasTakenOut board middle.turn count p m between (delay_at before p) →
+      WasTakenOut board after.turn more p m m' (delay_at before p)
+  out-after p out =
+      record {
+        waiting = out.waiting;
+        there = out.there;
+        due = let come = out.due in let turn = turn-is in omega (arith, come, turn);
+        tried = λ within. tried-after board m between m' count more _ le (out.tried within) next;
+      }
+
+  each : (p : ℕ) → (delay_at after p ≡ delay_at before p)
+      ⊎ ((delay_at after p ≡ None) × WasTakenOut board after.turn more p m m' (delay_at before p))
+  each p = elim (cases_eq p place) [
+    | inl same ↦
+        subst
+        (λ k. (delay_at after k ≡ delay_at before k)
+        ⊎ ((delay_at after k ≡ None) × WasTakenOut board after.turn more k m m' (delay_at before k)))
+        (sym same)
+        (inr (ap (λ (d : DelayList). delay_at d place) is ∙ forgotten-here middle place due.waiting due.there, here))
+    | inr apart ↦ elim (first.each p) [
+      | inl kept ↦ inl (other p apart ∙ kept)
+      | inr out ↦ inr (other p apart ∙ out.0, out-after p out.1)
+    ]
+  ]
+
+  pub takes-more : TakesOut board more m m' before after
+  takes-more =
+      record {
+        turn = turn-is ∙ first.turn;
+        places_are = ap (λ (d : DelayList). length d.waiting) is ∙ length-set middle.waiting place None ∙ first.places_are;
+        each = each;
+      }
+
+-- a turn: all delays are looked at, and those that are due are taken out
+module _ (board : Board Blueprint) (over : IsOver board board.frame.over.value) (delays : List DelayNode) (are : AreDelaysOf (nodes_of board) delays)
+    (count : ℕ) (m between m' : Seated Item Entry) (before middle after : DelayList)
+    (looks : LooksBelow board delays board.frame.layout.blocks m between (at_next_turn before) middle)
+    (takes : TakesDue board count between m' middle after) (aside : KeepsAside m between) (next : KeepsAside between m') where
+  out-becomes : (place : ℕ) → (delay_at after place ≡ delay_at middle place)
+      ⊎ ((delay_at after place ≡ None) × WasTakenOut board after.turn count place between m' (delay_at middle place)) →
+      Becomes board between m' after.turn count place (delay_at middle place) (delay_at after place)
+  out-becomes place (inl same) = inl same
+  out-becomes place (inr out) =
+      inr
+      (inr (
+        out.0,
+        record { waiting = out.1.waiting; came = inl out.1.there; due = out.1.due; tried = out.1.tried },
+      ))
+
+  look : (block node : ℕ) → block < board.frame.layout.blocks → node < board.frame.layout.nodes →
+      IsLookedAt board m between middle 0 block node →
+      (delay_at after (place_of board block node) ≡ delay_at middle (place_of board block node))
+      ⊎ ((delay_at after (place_of board block node) ≡ None)
+      × WasTakenOut board after.turn count (place_of board block node) between m' (delay_at middle (place_of board block node))) →
+      IsLookedAt board m m' after count block node
+  look block node in_blocks in_nodes looked (inl same) =
+      looked-after board m between m' middle after 0 count block node (omega arith) looked next same
+  look block node in_blocks in_nodes looked (inr out) =
+      looked-out board m between m' middle after after.turn 0 count block node in_blocks in_nodes (omega arith) looked aside next out.1
+
+  pub passes : PassesTurn board m m' count before after
+  passes =
+      record {
+        turn = takes.takes.turn ∙ looks.turn;
+        each = λ place.
+            becomes-on board m between m' after.turn 0 count place (delay_at before place) (delay_at middle place) (delay_at after place)
+            (omega arith)
+            (subst (λ t. Becomes board m between t 0 place (delay_at before place) (delay_at middle place)) (sym takes.takes.turn)
+            (looks.each place))
+            (out-becomes place (takes.takes.each place)) aside next;
+        looked = λ block node turns in_blocks at.
+            let found = are.named node turns (slice-within node turns at) at in
+            look block node in_blocks (delay-within board over (record { node = node; turns = turns }) at)
+            (looks.looked block found.0 (record { node = node; turns = turns }) in_blocks found.1)
+            (takes.takes.each (place_of board block node));
+        none = takes.none;
+      }
+    where
+      slice-within : (node turns : ℕ) → slice_get (nodes_of board) node ≡ Some (Delay turns) → node < length (nodes_of board)
+      slice-within node turns at = slice_get_within (nodes_of board) node (Delay turns) at
+
+-- and something else after it
+pub passes-after : (board : Board Blueprint) (count more : ℕ) (m between m' : Seated Item Entry) (before after : DelayList) → count ≤ more →
+    PassesTurn board m between count before after → KeepsAside between m' → PassesTurn board m m' more before after
+passes-after board count more m between m' before after le passes next =
+    record {
+      turn = passes.turn;
+      each = λ place. becomes-after board m between m' after.turn count more place (delay_at before place) (delay_at after place) le
+          (passes.each place) next;
+      looked = λ block node turns within at.
+          looked-after board m between m' after after count more block node le (passes.looked block node turns within at) next refl;
+      none = passes.none;
+    }
+
+-- and something else before it
+pub passes-before : (board : Board Blueprint) (count : ℕ) (m between m' : Seated Item Entry) (before after : DelayList) → KeepsAside m between →
+    PassesTurn board between m' count before after → KeepsAside between m' → PassesTurn board m m' count before after
+passes-before board count m between m' before after aside passes next =
+    record {
+      turn = passes.turn;
+      each = λ place.
+          becomes-on board m between m' after.turn count count place (delay_at before place) (delay_at before place) (delay_at after place)
+          (omega arith) (inl refl) (passes.each place) aside next;
+      looked = λ block node turns within at.
+          looked-before board m between m' after count block node aside (passes.looked block node turns within at);
+      none = passes.none;
+    }

@@ -1,0 +1,29 @@
+use Rattle.std.proofs.Common.{arith}
+use Rattle.op_slot.proofs.Staying.{stays-here, stays-on}
+use Rattle.exec_recv.proofs.Asiding.{aside-here, aside-on}
+use Rattle.run_loop.proofs.Looking.{below-none, below-more}
+use Rattle.run_loop.proofs.delaying.look_round.Goals as goal
+
+pub loop-block-init : goal.loop-block-init
+loop-block-init c =
+    record {
+      stays = stays-here c.args.table.now c.args.hand.now c.requires.hand;
+      rests = c.requires.rests;
+      aside = aside-here c.args.hand.now.me;
+      looks = below-none c.args.table.now c.requires.over c.args.nodes.now c.requires.nodes c.args.hand.now.me c.args.delays.now;
+    }
+
+pub loop-block-preserved : goal.loop-block-preserved
+loop-block-preserved c =
+    let board = c.args.table.now in
+    let before = c.loop-block.invariant in
+    let old = c.args.hand.now in
+    let between = c.loop-block.hand in
+    let new = c.look_through.new.hand in
+    record {
+      stays = stays-on board old between new before.stays c.look_through.ensures.stays;
+      rests = c.look_through.ensures.rests;
+      aside = aside-on old.me between.me new.me before.aside c.look_through.ensures.aside;
+      looks = below-more board c.requires.over c.args.nodes.now c.requires.nodes c.loop-block.block old.me between.me new.me c.args.delays.now
+          c.loop-block.delays c.look_through.new.delays before.looks c.look_through.ensures.looks before.aside c.look_through.ensures.aside;
+    }

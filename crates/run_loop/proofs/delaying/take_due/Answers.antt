@@ -1,0 +1,37 @@
+use Rattle.std.proofs.Common.{arith, ap, ◌∙◌}
+use Rattle.op_slot.proofs.Staying.{stays-here, stays-on}
+use Rattle.exec_recv.specs.Asides.{Aside}
+use Rattle.exec_recv.proofs.Asiding.{aside-here, aside-on}
+use Rattle.run_loop.proofs.Due.{takes-none, takes-more}
+use Rattle.run_loop.proofs.delaying.take_due.Goals as goal
+
+pub out-init : goal.out-init
+out-init g c =
+    record {
+      stays = stays-here c.args.table.now c.args.hand.now c.requires.hand;
+      rests = c.requires.rests;
+      aside = aside-here c.args.hand.now.me;
+      served = λ first serves. serves;
+      more = omega arith;
+      takes = takes-none c.args.table.now c.args.taken c.args.hand.now.me c.args.delays.now;
+    }
+
+pub out-preserved : goal.out-preserved
+out-preserved g c =
+    let board = c.args.table.now in
+    let before = c.out.invariant in
+    let old = c.args.hand.now in
+    let between = c.out.hand in
+    let new = c.try_due-taken.new.hand in
+    let more = c.try_due-taken.ensures.more in
+    let earlier = before.more in
+    record {
+      stays = stays-on board old between new before.stays c.try_due-taken.ensures.stays;
+      rests = c.try_due-taken.ensures.rests;
+      aside = aside-on old.me between.me new.me before.aside c.try_due-taken.ensures.aside;
+      served = λ first serves. c.try_due-taken.ensures.served first (before.served first serves);
+      more = omega (arith, more, earlier);
+      takes = takes-more board c.out.taken c.try_due-taken.result old.me between.me new.me c.args.delays.now c.out.delays c.due.new.self
+          c.in-Some.out.place c.in-Some.out.generation more before.takes c.in-Some.ensures.some c.in-Some.ensures.taken
+          c.try_due-taken.ensures.tried before.aside c.try_due-taken.ensures.aside;
+    }

@@ -1,0 +1,21 @@
+use Rattle.std.proofs.Common.{◌≤◌}
+use Rattle.table_steps.specs.Views.{Stays}
+use Rattle.exec_recv.specs.Asides.{KeepsAside}
+use Rattle.loop_delays.specs.Delays.{count_of}
+use Rattle.loop_walk.specs.Resting.{IsAtRest}
+use Rattle.run_loop.specs.Delayed.{TakesOut}
+use Rattle.run_loop.specs.Serves.{ServesOn}
+use Rattle.run_loop.proofs.delaying.take_due.Given as goal
+
+abbrev pub invariant-out : goal.invariant-out
+invariant-out g l = record {
+  stays : Stays l.table l.fn.hand l.hand;
+  rests : IsAtRest l.hand.me.0;
+  aside : KeepsAside l.fn.hand.me l.hand.me;
+  served : ServesOn (g.T.Stepper.does l.stepper) l.table l.fn.taken l.taken l.fn.hand.me l.hand.me;
+  more : l.fn.taken ≤ l.taken;
+  takes : TakesOut l.table l.taken l.fn.hand.me l.hand.me l.fn.delays l.delays;
+}
+
+abbrev pub decreases-out : goal.decreases-out
+decreases-out g l = count_of l.delays

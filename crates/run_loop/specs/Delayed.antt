@@ -1,0 +1,148 @@
+-- What a turn makes of the parked delays of the plan.
+use Rattle.std.specs.Prelude.{◌≡◌, ◌≢◌, ◌⊎◌, ℕ, ◌<◌, ◌≤◌, true, List, length, slice_get, Option, Some, None, if◌then◌else◌}
+use Rattle.life_rules.specs.declared.event.Name.{Name}
+use Rattle.life_rules.specs.declared.event.Resting.TheVariants as rest
+use Rattle.life_rules.specs.Words.{is_parked}
+use Rattle.loop_delays.specs.declared.waiting.Waiting.{Waiting}
+use Rattle.loop_delays.specs.Delays.{DelayList, places, delay_at, turn_due, is_known, seen_parked, turn_after, NoneIsDue}
+use Rattle.plan_rules.specs.declared.node.Node.TheVariants.{Delay}
+use Rattle.plan_shape.specs.Blueprint.{Blueprint}
+use Rattle.table_words.specs.Controls.{control_read}
+use Rattle.table_words.specs.Layouts.{OfControl, index}
+use Rattle.table_words.specs.Stamps.{stamp_of}
+use Rattle.table_steps.specs.Views.{Board}
+use Rattle.table_steps.specs.Claims.{Seated, logged}
+use Rattle.exec_start.specs.declared.entry.Entry.{Entry}
+use Rattle.exec_start.specs.declared.item.Item.{Item}
+use Rattle.run_loop.specs.declared.delay_node.DelayNode.{DelayNode}
+use Rattle.run_loop.specs.declared.looped.Loop.{Loop as Looped}
+use Rattle.run_loop.specs.DelayNodes.{nodes_of, place_of, name_at}
+use Rattle.run_loop.specs.Turns.{HasReadSince, WasTaken, WasMissed}
+
+-- The word says that its node is parked, at this generation.
+abbrev pub SaysParked : ℕ → ℕ → Type 0
+SaysParked generation word = (is_parked (control_read word) ≡ true) × (stamp_of word ≡ generation)
+
+-- The index of a place's control word.
+abbrev pub word_at : Board Blueprint → ℕ → ℕ → ℕ
+word_at board block node = index board.frame.layout (OfControl block node)
+
+module _ (board : Board Blueprint) (m m' : Seated Item Entry) where
+  -- The delay that waits at the place is one of the plan, and was first seen in this turn: since then its
+  -- word was read, and said that it is parked, at its generation.
+  pub record IsSeenNow (turn place : ℕ) (waiting : Waiting) : Type 0 where
+    pub block : ℕ
+    pub node : ℕ
+    pub within : block < board.frame.layout.blocks
+    pub place_is : place ≡ place_of board block node
+    pub delay : slice_get (nodes_of board) node ≡ Some (Delay waiting.turns)
+    pub since : waiting.since ≡ turn
+    pub read : HasReadSince (word_at board block node) (SaysParked waiting.generation) m m'
+
+  -- An exchange of the named node's word was tried, which lost; or where something was counted, it won.
+  abbrev pub WasTried : ℕ → Name → Type 0
+  WasTried count name =
+      WasMissed board m m' rest.Parked name ⊎ ((1 ≤ count) × WasTaken board m m' rest.Parked name)
+
+  -- The delay that waited at the place, which was of a block of the table, was tried.
+  abbrev pub WasTriedAt : ℕ → ℕ → ℕ → Type 0
+  WasTriedAt count place generation =
+      (name_at board place generation).block < board.frame.layout.blocks
+      → WasTried count (name_at board place generation)
+
+  -- A delay that waited there, or was seen in this turn, was due, and was tried.
+  pub record WasDue (turn count place : ℕ) (before : Option Waiting) : Type 0 where
+    pub waiting : Waiting
+    pub came : (before ≡ Some waiting) ⊎ IsSeenNow turn place waiting
+    pub due : turn_due waiting ≤ turn
+    pub tried : WasTriedAt count place waiting.generation
+
+  -- The place has a delay that was first seen in this turn; or none more, since that which waited there
+  -- was due.
+  abbrev pub Changes : ℕ → ℕ → ℕ → Option Waiting → Option Waiting → Type 0
+  Changes turn count place before after =
+      ((waiting : Waiting) × (after ≡ Some waiting) × IsSeenNow turn place waiting)
+      ⊎ ((after ≡ None) × WasDue turn count place before)
+
+  -- It has the delay that it had, or changed so.
+  abbrev pub Becomes : ℕ → ℕ → ℕ → Option Waiting → Option Waiting → Type 0
+  Becomes turn count place before after =
+      (after ≡ before) ⊎ Changes turn count place before after
+
+  -- The node's word was read. Where it said that the node is parked, the list has it, at the generation
+  -- of the word, or it was taken out and tried.
+  pub record IsLookedAt (list : DelayList) (count block node : ℕ) : Type 0 where
+    pub word : ℕ
+    pub read : HasReadSince (word_at board block node) (λ w. w ≡ word) m m'
+    pub known : is_parked (control_read word) ≡ true
+        → (is_known list (place_of board block node) (stamp_of word) ≡ true)
+        ⊎ WasTried count (record { block = block; generation = stamp_of word; node = node })
+
+  -- One turn: the list goes on to the next turn. Each delay of the plan is looked at in each block, and
+  -- takes its place in the list. Each that is due is taken out, and tried.
+  pub record PassesTurn (count : ℕ) (before after : DelayList) : Type 0 where
+    pub turn : after.turn ≡ turn_after before.turn
+    pub each : (place : ℕ)
+        → Becomes after.turn count place (delay_at before place) (delay_at after place)
+    pub looked : (block node turns : ℕ) → block < board.frame.layout.blocks
+        → slice_get (nodes_of board) node ≡ Some (Delay turns) → IsLookedAt after count block node
+    pub none : NoneIsDue after
+
+abbrev pub HasTurned : Board Blueprint → ℕ → Looped → Looped → Type 0
+HasTurned board count old new =
+    PassesTurn board old.hand.me new.hand.me count old.delays new.delays
+
+-- A look at one place: its word was read, and where that says that the node is parked, the list takes
+-- note of it.
+pub record LooksAt (board : Board Blueprint) (block : ℕ) (delay : DelayNode) (m m' : Seated Item Entry)
+    (before after : DelayList) : Type 0 where
+  pub word : ℕ
+  pub me_is : m' ≡ (logged (word_at board block delay.node) word m.0, m.1)
+  pub list : after ≡ (if is_parked (control_read word)
+      then seen_parked before (place_of board block delay.node) (stamp_of word) delay.turns
+      else before)
+
+-- Looks at the first so many of these delays in one block.
+pub record LooksThrough (board : Board Blueprint) (block : ℕ) (delays : List DelayNode) (count : ℕ)
+    (m m' : Seated Item Entry) (before after : DelayList) : Type 0 where
+  pub turn : after.turn ≡ before.turn
+  pub places_are : places after ≡ places before
+  pub each : (place : ℕ)
+      → Becomes board m m' after.turn 0 place (delay_at before place) (delay_at after place)
+  pub looked : (k : ℕ) (delay : DelayNode) → k < count → slice_get delays k ≡ Some delay
+      → IsLookedAt board m m' after 0 block delay.node
+  pub others : (b n : ℕ) → b ≢ block → n < board.frame.layout.nodes
+      → delay_at after (place_of board b n) ≡ delay_at before (place_of board b n)
+
+-- Looks at these delays in the first so many blocks.
+pub record LooksBelow (board : Board Blueprint) (delays : List DelayNode) (blocks : ℕ)
+    (m m' : Seated Item Entry) (before after : DelayList) : Type 0 where
+  pub turn : after.turn ≡ before.turn
+  pub places_are : places after ≡ places before
+  pub each : (place : ℕ)
+      → Becomes board m m' after.turn 0 place (delay_at before place) (delay_at after place)
+  pub looked : (b k : ℕ) (delay : DelayNode) → b < blocks → slice_get delays k ≡ Some delay
+      → IsLookedAt board m m' after 0 b delay.node
+
+-- A delay that waited at the place was due, and was tried.
+pub record WasTakenOut (board : Board Blueprint) (turn count place : ℕ) (m m' : Seated Item Entry)
+    (before : Option Waiting) : Type 0 where
+  pub waiting : Waiting
+  pub there : before ≡ Some waiting
+  pub due : turn_due waiting ≤ turn
+  pub tried : WasTriedAt board m m' count place waiting.generation
+
+-- Delays were taken out that were due, and no others.
+pub record TakesOut (board : Board Blueprint) (count : ℕ) (m m' : Seated Item Entry)
+    (before after : DelayList) : Type 0 where
+  pub turn : after.turn ≡ before.turn
+  pub places_are : places after ≡ places before
+  pub each : (place : ℕ) → (delay_at after place ≡ delay_at before place)
+      ⊎ ((delay_at after place ≡ None)
+      × WasTakenOut board after.turn count place m m' (delay_at before place))
+
+-- and all that were
+pub record TakesDue (board : Board Blueprint) (count : ℕ) (m m' : Seated Item Entry)
+    (before after : DelayList) : Type 0 where
+  pub takes : TakesOut board count m m' before after
+  pub none : NoneIsDue after

@@ -1,0 +1,219 @@
+//! How a loop sees the parked delays of the plan, and takes those that are due.
+ghost use Rattle.std.specs.Prelude.{◌≡◌, ◌<◌, ◌≤◌, length};
+ghost use Rattle.std.specs.Thread.{IsSync};
+ghost use Rattle.loop_delays.specs.Delays.{places};
+ghost use Rattle.plan_kinds.specs.Runnable.{IsRunnable};
+ghost use Rattle.table_steps.specs.Views.{IsHandOf, Stays, knows};
+ghost use Rattle.exec_recv.specs.Asides.{KeepsAside};
+ghost use Rattle.exec_recv.specs.Over.{IsOver};
+ghost use Rattle.loop_walk.specs.Resting.{IsAtRest};
+ghost use Rattle.run_loop.specs.Delayed.{WasTriedAt, LooksAt, LooksThrough, LooksBelow, TakesDue, PassesTurn};
+ghost use Rattle.run_loop.specs.DelayNodes.{IsDelay, AreDelaysOf, nodes_of, place_of, places_of};
+ghost use Rattle.run_loop.specs.Serves.{ServesOn};
+
+use crate::delay_node::DelayNode;
+use crate::names::Names;
+use crate::serving::{one_more, serve};
+use exec_recv::{Item, Stepper};
+use life_rules::{Name, Resting};
+use loop_delays::{Delays, DueDelay};
+use op_slot::{Hand, OpTable};
+use std::alloc::Global;
+use std::sync::Wait;
+
+// The number of the node's place.
+fn place_at(table: &OpTable<Item>, block: u32, node: u32) -> u32
+    requires over { IsOver table.now table.now.frame.over.value }
+    requires block { block < table.now.frame.layout.blocks }
+    requires node { node < table.now.frame.layout.nodes }
+    ensures { result ≡ place_of table.now block node }
+{
+    // Asked for how many there are at most.
+    let _ = table.blocks();
+    block * table.tree().size() + node
+}
+
+// Looks at a delay of the plan in the block, and tells the list where it is parked.
+fn look_at(
+    table: &OpTable<Item>,
+    hand: &mut Hand<Item>,
+    delays: &mut Delays,
+    block: u32,
+    delay: DelayNode,
+)
+    requires hand { IsHandOf table.now hand.old }
+    requires over { IsOver table.now table.now.frame.over.value }
+    requires places { places_of table.now ≤ places delays.old }
+    requires block { block < table.now.frame.layout.blocks }
+    requires delay { IsDelay (nodes_of table.now) delay }
+    ensures stays { Stays table.now hand.old hand.new }
+    ensures looks { LooksAt table.now block delay hand.old.me hand.new.me delays.old delays.new }
+{
+    let Some(name) = table.parked_at(hand, block, delay.node) else {
+        return;
+    };
+    let place = place_at(table, block, delay.node);
+    delays.saw_parked(place, name.generation, delay.turns);
+}
+
+// Looks at the delays of the plan in the block.
+fn look_through(
+    table: &OpTable<Item>,
+    hand: &mut Hand<Item>,
+    delays: &mut Delays,
+    nodes: &[DelayNode],
+    block: u32,
+)
+    requires hand { IsHandOf table.now hand.old }
+    requires over { IsOver table.now table.now.frame.over.value }
+    requires places { places_of table.now ≤ places delays.old }
+    requires block { block < table.now.frame.layout.blocks }
+    requires nodes { AreDelaysOf (nodes_of table.now) nodes.now }
+    requires rests { IsAtRest (knows hand.old) }
+    ensures stays { Stays table.now hand.old hand.new }
+    ensures rests { IsAtRest (knows hand.new) }
+    ensures aside { KeepsAside hand.old.me hand.new.me }
+    ensures looks { LooksThrough table.now block nodes.now (length nodes.now)
+        hand.old.me hand.new.me delays.old delays.new }
+{
+    for delay in nodes {
+        look_at(table, hand, delays, block, *delay);
+    }
+}
+
+// Looks at the delays of the plan in each block.
+fn look_round(
+    table: &OpTable<Item>,
+    hand: &mut Hand<Item>,
+    delays: &mut Delays,
+    nodes: &[DelayNode],
+)
+    requires hand { IsHandOf table.now hand.old }
+    requires over { IsOver table.now table.now.frame.over.value }
+    requires places { places_of table.now ≤ places delays.old }
+    requires nodes { AreDelaysOf (nodes_of table.now) nodes.now }
+    requires rests { IsAtRest (knows hand.old) }
+    ensures stays { Stays table.now hand.old hand.new }
+    ensures rests { IsAtRest (knows hand.new) }
+    ensures aside { KeepsAside hand.old.me hand.new.me }
+    ensures looks { LooksBelow table.now nodes.now table.now.frame.layout.blocks
+        hand.old.me hand.new.me delays.old delays.new }
+{
+    for block in 0..table.blocks() {
+        look_through(table, hand, delays, nodes, block);
+    }
+}
+
+// Takes a delay that was due, where it is of a block of the table, and parked still. It counts it.
+fn try_due<T: Stepper, R: Wait + Sync>(
+    rt: &R,
+    alloc: Global,
+    table: &OpTable<Item>,
+    hand: &mut Hand<Item>,
+    stepper: &T,
+    names: &mut Names,
+    due: DueDelay,
+    taken: u32,
+) -> u32
+    requires sync { IsSync R.row }
+    requires hand { IsHandOf table.now hand.old }
+    requires over { IsOver table.now (T.plan stepper.now) }
+    requires kinds { IsRunnable (T.plan stepper.now) }
+    requires first { (knows hand.old).number ≡ 0 }
+    requires rests { IsAtRest (knows hand.old) }
+    ensures stays { Stays table.now hand.old hand.new }
+    ensures rests { IsAtRest (knows hand.new) }
+    ensures aside { KeepsAside hand.old.me hand.new.me }
+    ensures served { ServesOn (T.does stepper.now) table.now taken result hand.old.me hand.new.me }
+    ensures more { taken ≤ result }
+    ensures tried { WasTriedAt table.now hand.old.me hand.new.me result due.place due.generation }
+{
+    let nodes = table.tree().size();
+    let name = Name {
+        block: due.place / nodes,
+        generation: due.generation,
+        node: due.place % nodes,
+    };
+    if name.block >= table.blocks() {
+        return taken;
+    }
+    if serve(
+        rt,
+        alloc,
+        table,
+        hand,
+        stepper,
+        names,
+        name,
+        Resting::Parked,
+    ) {
+        return one_more(taken);
+    }
+    taken
+}
+
+// Takes the delays that are due out of the list, and goes on with each that is parked still. It
+// counts what it takes.
+fn take_due<T: Stepper, R: Wait + Sync>(
+    rt: &R,
+    alloc: Global,
+    table: &OpTable<Item>,
+    hand: &mut Hand<Item>,
+    stepper: &T,
+    names: &mut Names,
+    delays: &mut Delays,
+    taken: u32,
+) -> u32
+    requires sync { IsSync R.row }
+    requires hand { IsHandOf table.now hand.old }
+    requires over { IsOver table.now (T.plan stepper.now) }
+    requires kinds { IsRunnable (T.plan stepper.now) }
+    requires first { (knows hand.old).number ≡ 0 }
+    requires rests { IsAtRest (knows hand.old) }
+    ensures stays { Stays table.now hand.old hand.new }
+    ensures rests { IsAtRest (knows hand.new) }
+    ensures aside { KeepsAside hand.old.me hand.new.me }
+    ensures served { ServesOn (T.does stepper.now) table.now taken result hand.old.me hand.new.me }
+    ensures more { taken ≤ result }
+    ensures due { TakesDue table.now result hand.old.me hand.new.me delays.old delays.new }
+{
+    let mut taken = taken;
+    'out: while let Some(out) = delays.due() {
+        taken = try_due(rt, alloc, table, hand, stepper, names, out, taken);
+    }
+    taken
+}
+
+/// One turn of the delays: goes on to the next turn of the list, looks at the plan's delays in each
+/// block, and takes those that are due, as far as they are parked still. It counts what it takes.
+pub fn serve_delays<T: Stepper, R: Wait + Sync>(
+    rt: &R,
+    alloc: Global,
+    table: &OpTable<Item>,
+    hand: &mut Hand<Item>,
+    stepper: &T,
+    names: &mut Names,
+    delays: &mut Delays,
+    nodes: &[DelayNode],
+    taken: u32,
+) -> u32
+    requires sync { IsSync R.row }
+    requires hand { IsHandOf table.now hand.old }
+    requires over { IsOver table.now (T.plan stepper.now) }
+    requires kinds { IsRunnable (T.plan stepper.now) }
+    requires first { (knows hand.old).number ≡ 0 }
+    requires rests { IsAtRest (knows hand.old) }
+    requires places { places_of table.now ≤ places delays.old }
+    requires nodes { AreDelaysOf (nodes_of table.now) nodes.now }
+    ensures stays { Stays table.now hand.old hand.new }
+    ensures rests { IsAtRest (knows hand.new) }
+    ensures aside { KeepsAside hand.old.me hand.new.me }
+    ensures served { ServesOn (T.does stepper.now) table.now taken result hand.old.me hand.new.me }
+    ensures more { taken ≤ result }
+    ensures places { places delays.new ≡ places delays.old }
+    ensures turn { PassesTurn table.now hand.old.me hand.new.me result delays.old delays.new }
+{
+    delays.next_turn();
+    look_round(table, hand, delays, nodes);
+    take_due(rt, alloc, table, hand, stepper, names, delays, taken)
+}

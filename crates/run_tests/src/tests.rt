@@ -1,0 +1,38 @@
+//! The tests, and what they share.
+ghost use Rattle.std.specs.Prelude.{IfOk};
+ghost use Rattle.plan_kinds.specs.Reached.{KindsMatch};
+
+mod bodies;
+mod closings;
+mod layers;
+
+use life_rules::ScopeState;
+use plan_reader::read_plan;
+use plan_shape::Plan;
+use record_runs::{Account, Layer};
+use sig_check::check;
+use std::alloc::Global;
+use std::test::Fail;
+
+/// One more than the record.
+const ADDING: &str = r#"{"do":"then","child":{"do":"input"},"job":{"job":"add","n":1}}"#;
+
+/// The plan with this root, for records of numbers, with these further settings.
+fn plan_of(alloc: Global, settings: &str, root: &str) -> Result<Plan, Fail>
+    ensures { IfOk result (λ plan. KindsMatch plan.nodes plan.settings.input) }
+{
+    let text = format!(in alloc; r#"{{"version":2,"input":"int",{settings}"root":{root}}}"#)?;
+    let plan = read_plan(alloc, text.as_bytes())?;
+    check(alloc, &plan)?;
+    Ok(plan)
+}
+
+/// Whether it was run over a table, which was closed with its scope joined and so many blocks free.
+fn is_by_table(account: &Account, blocks: u32) -> bool {
+    match account.layer {
+        Layer::Plain => false,
+        Layer::Table(closing) => {
+            closing.scope == ScopeState::Joined && closing.free == blocks && closing.retired == 0
+        }
+    }
+}

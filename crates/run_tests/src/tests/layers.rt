@@ -1,0 +1,173 @@
+//! The same records through both layers.
+ghost use Rattle.std.specs.Prelude.{◌<◌, ◌≤◌};
+ghost use Rattle.std.specs.Thread.{IsSync};
+ghost use Rattle.life_rules.specs.declared.limits.TheConstants.{MOST_BLOCKS};
+ghost use Rattle.plan_kinds.specs.Reached.{KindsMatch};
+ghost use Rattle.run_rules.specs.PlanTerms.{MayRun};
+
+use super::{ADDING, is_by_table, plan_of};
+use exec_io::{MemSink, MemSource};
+use plain_runs::PlainRuns;
+use plan_shape::Plan;
+use record_loop::{Form, run_records};
+use record_runs::{Layer, run_lines};
+use run_rules::may_run;
+use std::alloc::Global;
+use std::process::Abort;
+use std::sync::Wait;
+use std::test::Fail;
+
+/// Further settings and a root, of each kind of node that has a step on the table.
+const CASES: [(&str, &str); 20] = [
+    ("", r#"{"do":"input"}"#),
+    ("", r#"{"do":"just","values":[7]}"#),
+    ("", r#"{"do":"just_error","error":"odd"}"#),
+    ("", r#"{"do":"just_stopped"}"#),
+    ("", r#"{"do":"read_env","query":"record"}"#),
+    (r#""stop_after":1,"#, r#"{"do":"read_env","query":"stop"}"#),
+    ("", ADDING),
+    (
+        r#""on_error":"stop","#,
+        r#"{"do":"then","child":{"do":"input"},"job":{"job":"fail","error":"e"}}"#,
+    ),
+    (
+        "",
+        r#"{"do":"upon_error","child":{"do":"just_error","error":"odd"},"job":{"job":"length"}}"#,
+    ),
+    (
+        "",
+        r#"{"do":"upon_stopped","child":{"do":"just_stopped"},"job":{"job":"give","values":[0]}}"#,
+    ),
+    (
+        "",
+        r#"{"do":"stopped_as_optional","child":{"do":"just_stopped"},"of":"int"}"#,
+    ),
+    (
+        "",
+        r#"{"do":"stopped_as_error","child":{"do":"just_stopped"},"error":"halt"}"#,
+    ),
+    ("", r#"{"do":"schedule","on":"pool"}"#),
+    (
+        "",
+        r#"{"do":"starts_on","on":"pool","child":{"do":"read_env","query":"record"}}"#,
+    ),
+    (
+        "",
+        r#"{"do":"continues_on","on":"loop","child":{"do":"input"}}"#,
+    ),
+    (
+        r#""stop_after":1,"#,
+        r#"{"do":"unstoppable","child":{"do":"schedule","on":"loop"}}"#,
+    ),
+    (
+        "",
+        r#"{"do":"let_value","child":{"do":"input"},"pick":{"job":"pass"},"bodies":[{"do":"input"},{"do":"just","values":[1]}]}"#,
+    ),
+    (
+        "",
+        r#"{"do":"let_error","child":{"do":"just_error","error":"odd"},"pick":{"job":"length"},"bodies":[{"do":"just","values":[1]}]}"#,
+    ),
+    (
+        "",
+        r#"{"do":"let_stopped","child":{"do":"just_stopped"},"pick":{"job":"give","values":[9]},"bodies":[{"do":"just","values":[1]}]}"#,
+    ),
+    (
+        "",
+        r#"{"do":"when_all","children":[{"do":"starts_on","on":"pool","child":{"do":"input"}},{"do":"read_env","query":"record"}]}"#,
+    ),
+];
+
+/// A source of the records 0, 1, .. up to so many, and then of one that is bad.
+fn records(alloc: Global, count: u32) -> Result<MemSource, Fail> {
+    let mut text = String::new(alloc);
+    for number in 0..count {
+        text.push_str(&format!(in alloc; "{number}\n")?)?;
+    }
+    text.push_str("x\n")?;
+    Ok(MemSource::new(text.as_bytes().to_vec(alloc)?, Vec::new(alloc)))
+}
+
+/// What plain runs write of so many records.
+fn plainly<R: Wait + Sync>(
+    rt: &R,
+    alloc: Global,
+    plan: &Plan,
+    window: usize,
+    count: u32,
+) -> Result<MemSink, Fail>
+    requires sync { IsSync R.row }
+    requires some { 0 < window }
+    requires few { window ≤ MOST_BLOCKS }
+    requires kinds { KindsMatch plan.now.nodes plan.now.settings.input }
+    requires may_run { MayRun plan.now.settings }
+{
+    let mut out = MemSink::new(alloc, 4096, Vec::new(alloc));
+    let mut source = records(alloc, count)?;
+    let mut runs = PlainRuns::open(alloc, plan, window)?;
+    let settings = *plan.settings();
+    run_records(
+        rt,
+        alloc,
+        settings,
+        window,
+        Form::Lines,
+        &mut runs,
+        &mut source,
+        &mut out,
+    )?;
+    Ok(out)
+}
+
+/// Whether the plan runs so many records to the same lines through both layers, and leaves the table
+/// with its scope joined and all blocks free.
+fn agree<R: Wait + Abort + Sync>(
+    rt: &R,
+    alloc: Global,
+    case: (&str, &str),
+    window: u32,
+    count: u32,
+) -> Result<bool, Fail>
+    requires sync { IsSync R.row }
+    requires some { 0 < window }
+    requires few { window ≤ MOST_BLOCKS }
+{
+    let plan = plan_of(alloc, case.0, case.1)?;
+    assert!(rt; may_run(plan.settings()));
+    let size = window as usize;
+    let plain = plainly(rt, alloc, &plan, size, count)?;
+    let mut out = MemSink::new(alloc, 4096, Vec::new(alloc));
+    let mut source = records(alloc, count)?;
+    let account = run_lines(rt, alloc, &plan, size, Form::Lines, &mut source, &mut out)?;
+    Ok(plain.bytes() == out.bytes() && is_by_table(&account, window))
+}
+
+#[test]
+fn both_layers_give_the_same_lines(rt: HostRuntime) -> Result<(), Fail> {
+    let alloc = rt.alloc();
+    for case in CASES {
+        assert!(rt; agree(&rt, alloc, case, 1, 9)?);
+        assert!(rt; agree(&rt, alloc, case, 3, 9)?);
+        assert!(rt; agree(&rt, alloc, case, 64, 9)?);
+    }
+    Ok(())
+}
+
+#[test]
+fn one_block_is_given_again_a_thousand_times(rt: HostRuntime) -> Result<(), Fail> {
+    assert!(rt; agree(&rt, rt.alloc(), ("", ADDING), 1, 1000)?);
+    Ok(())
+}
+
+#[test]
+fn a_plan_without_steps_runs_plainly(rt: HostRuntime) -> Result<(), Fail> {
+    let alloc = rt.alloc();
+    let root = r#"{"do":"ahead","first":{"do":"input"},"second":{"do":"just","values":[1]}}"#;
+    let plan = plan_of(alloc, "", root)?;
+    assert!(rt; may_run(plan.settings()));
+    let mut out = MemSink::new(alloc, 4096, Vec::new(alloc));
+    let mut source = records(alloc, 1)?;
+    let account = run_lines(&rt, alloc, &plan, 2, Form::Lines, &mut source, &mut out)?;
+    assert!(rt; out.bytes() == b"1 value 0 1\n2 bad-record\n".as_slice());
+    assert!(rt; matches!(account.layer, Layer::Plain));
+    Ok(())
+}
