@@ -71,21 +71,23 @@ NODES = [
     (
         "schedule",
         "[exec.schedule] A value with no data, on the context `on`: `loop`, the run loop, or `pool`, "
-        "the workers. Stopped in a record that was started after a stop request.",
+        "the workers. Stopped in a record that was started after a stop request, and where one is made "
+        "before the node is taken there.",
         plan_of({"do": "schedule", "on": "pool"}),
         ["0"],
     ),
     (
         "delay",
-        "A value with no data, of which `turns` turns of the run loop, at most 1,000,000, are asked; "
-        "none is waited for yet. Stopped in a record that was started after a stop request.",
+        "A value with no data, `turns` turns of the run loop, at most 1,000,000, after the one in which the "
+        "loop first sees it parked. Stopped in a record that was started after a stop request, and where one "
+        "is made while it waits.",
         plan_of({"do": "delay", "turns": 1000}),
         ["0"],
     ),
     (
         "read_env",
         "[exec.read.env] `record` gives the record's number, `stop` gives 1 in a record that was "
-        "started after a stop request, and else 0.",
+        "started after a stop request, or where one was made before the node looked, and else 0.",
         plan_of(
             {
                 "do": "when_all",
@@ -157,14 +159,15 @@ NODES = [
     (
         "starts_on",
         "[exec.starts.on] The child, started in this context. Stopped in a record that was started "
-        "after a stop request.",
+        "after a stop request, and where one is made before the node is taken there.",
         plan_of({"do": "starts_on", "on": "pool", "child": then(INPUT, "neg")}),
         ["5"],
     ),
     (
         "continues_on",
         "[exec.continues.on] The child, whose completion goes on in this context. Stopped in a record "
-        "that was started after a stop request, whatever the child does.",
+        "that was started after a stop request, and where one is made before the node is taken there, "
+        "whatever the child does.",
         plan_of({"do": "continues_on", "child": then(INPUT, "neg"), "on": "pool"}),
         ["5"],
     ),
@@ -198,9 +201,10 @@ NODES = [
     ),
     (
         "when_all",
-        "[exec.when.all] The data of 2 to 64 children, one after the other. Where one has none, the "
-        "first error in the order of the children, and stopped where there is no error. Stopped in a "
-        "record that was started after a stop request.",
+        "[exec.when.all] The data of 2 to 64 children, one after the other. The first child that has "
+        "none requests a stop of the others. Then it is the first error in the order of the children, "
+        "of those that failed before they saw that request, else of the others, and stopped where "
+        "there is no error. Stopped in a record that was started after a stop request.",
         plan_of({"do": "when_all", "children": [INPUT, just("and"), {"do": "read_env", "query": "record"}]}),
         ["5", "6"],
     ),
@@ -382,9 +386,15 @@ A plan is a sender expression in JSON. `exec_run run plan.json` runs it for each
 Every example below is a whole plan, and every output is what the program printed: docs/make_plans.py
 wrote this page. docs/plan.schema.json is a JSON Schema of plans, for editors.
 
-**Today each record is evaluated on the calling thread, whole, when it is started**: no worker takes part, both
-contexts are that thread, no turn of a loop is waited for, and children are evaluated one after the other. So a
-stop request reaches the records that are started after it, and no other.
+**A plan without an `ahead` runs on the running table**, each record as an operation of its own, and a window of them
+at once. The calling thread works on them in turns: there are no workers yet, so it serves the pool too. A stop request
+reaches the records that are started after it, and those in flight that look for one: in a hop, before a `when_all`, in
+a `delay` or in a `read_env`.
+
+A plan with an `ahead` is evaluated plainly: each record whole, when its completion is asked for. No turn of a loop is
+waited for, and children are evaluated one after the other. So a stop request reaches the records that are started after
+it, and no other. Both ways print lines that the plan allows. They may differ in records in flight at a request, and in
+which of several errors of a `when_all` is told.
 
 ## A plan
 
@@ -529,7 +539,8 @@ def main():
     page.append(
         "## Stop rules\n\nIn a record that is started after a stop request each `schedule`, `delay`, `when_all` and hop to a context\n"
         "ends stopped, save below an `unstoppable`. Up to a window of records are started before the line of the first of\n"
-        "them is written; with a window of one each line is written before the next record is started.\n"
+        "them is written, and a request may stop these too; with a window of one each line is written before the next\n"
+        "record is started.\n"
     )
     page += [example(exe, faults, name, text, plan, records, words.split()) for name, text, plan, records, words in SETTINGS]
     page.append(summaries(exe))
