@@ -79,7 +79,7 @@ NODES = [
     (
         "delay",
         "A value with no data, `turns` turns of the run loop, at most 1,000,000, after the one in which the "
-        "loop first sees it parked. Stopped in a record that was started after a stop request, and where one "
+        "loop first sees it parked, or later. Stopped in a record that was started after a stop request, and where one "
         "is made while it waits.",
         plan_of({"do": "delay", "turns": 1000}),
         ["0"],

@@ -7,7 +7,6 @@ words in bash, and the commands and scripts of docs/SCALE.md.
 A test whose tools aren't installed is told and skipped. The last line is `N passed, M failed`; the status is 1 where
 one failed.
 """
-import argparse
 import filecmp
 import os
 import re
@@ -18,7 +17,7 @@ import sys
 import tempfile
 
 from check_docs import TOP, text_of
-from run_cases import PROGRAM, try_each
+from run_cases import PROGRAM, main, try_each
 from streams import ADD_ONE, SECONDS, Wrong, attempt, expect, plan_of
 
 PAGE = os.path.join("docs", "exec_run.1")
@@ -360,15 +359,5 @@ def run(program, words=()):
     return try_each(chosen, lambda test: attempt(test, program), len(TESTS))
 
 
-def main():
-    parser = argparse.ArgumentParser(description="Tries the manual page, make install, completion and docs/SCALE.md.")
-    parser.add_argument("--program", default=PROGRAM, metavar="PATH")
-    parser.add_argument("words", nargs="*", metavar="WORD")
-    given = parser.parse_args()
-    passed, failed = run(given.program, given.words)
-    print(f"{passed} passed, {failed} failed")
-    return 1 if failed or not passed else 0
-
-
 if __name__ == "__main__":
-    sys.exit(main())
+    sys.exit(main("Tries the manual page, make install, completion and docs/SCALE.md.", run))

@@ -231,18 +231,19 @@ def run(program, words=()):
     return try_each(chosen, lambda case: run_case(program, case), 2 * (os.cpu_count() or 1))
 
 
-def main():
-    parser = argparse.ArgumentParser(description="Runs the program on tables of cases.")
+def main(description, tests):
+    """The whole of a script that runs tests over a program: all, or those with one of the words. None is a failure."""
+    parser = argparse.ArgumentParser(description=description)
     parser.add_argument("--program", default=PROGRAM, metavar="PATH")
     parser.add_argument("words", nargs="*", metavar="WORD")
     given = parser.parse_args()
-    passed, failed = run(given.program, given.words)
+    passed, failed = tests(given.program, given.words)
     if passed + failed == 0:
-        print("no case was found")
+        print("nothing was found to run")
         failed = 1
     print(f"{passed} passed, {failed} failed")
     return 1 if failed else 0
 
 
 if __name__ == "__main__":
-    sys.exit(main())
+    sys.exit(main("Runs the program on tables of cases.", run))

@@ -6,7 +6,6 @@ that isn't UTF-8, more bytes than a run takes.
 
 The last line is `N passed, M failed`; the status is 1 where one failed.
 """
-import argparse
 import itertools
 import json
 import os
@@ -18,7 +17,7 @@ import threading
 import time
 import tty
 
-from run_cases import PROGRAM, shown, try_each
+from run_cases import main, shown, try_each
 
 SECONDS = 120
 QUIET = 0.3
@@ -328,15 +327,5 @@ def run(program, words=()):
     return try_each(chosen, lambda test: attempt(test, program), len(TESTS))
 
 
-def main():
-    parser = argparse.ArgumentParser(description="Runs the program on streams and files that a table can't say.")
-    parser.add_argument("--program", default=PROGRAM, metavar="PATH")
-    parser.add_argument("words", nargs="*", metavar="WORD")
-    given = parser.parse_args()
-    passed, failed = run(given.program, given.words)
-    print(f"{passed} passed, {failed} failed")
-    return 1 if failed or not passed else 0
-
-
 if __name__ == "__main__":
-    sys.exit(main())
+    sys.exit(main("Runs the program on streams and files that a table can't say.", run))
