@@ -27,7 +27,8 @@ pub struct Listing<'a> {
 impl Listing<'_> {
     /// The events that are steps of the hand, kind by kind.
     pub fn candidates(&self, alloc: Global) -> Result<Vec<Event>, AllocError>
-        ensures { IfOk result (λ found. found.items ≡ candidates (machine self.now.state.now) self.now.hand) }
+        ensures { IfOk result (λ found.
+            found.items ≡ candidates (machine self.now.state.now) self.now.hand) }
     {
         let mut found = Vec::new(alloc);
         self.keep_life(alloc, &mut found)?;

@@ -26,7 +26,8 @@ pub fn all_places(alloc: Global, state: &State) -> Result<Vec<Place>, AllocError
 
 // Adds the places of a block.
 fn add_places_in(state: &State, block: u32, places: &mut Vec<Place>) -> Result<(), AllocError>
-    ensures { OnOk result (places.new.items ≡ places.old.items ++ places_in (machine state.now) block) }
+    ensures { OnOk result
+        (places.new.items ≡ places.old.items ++ places_in (machine state.now) block) }
 {
     for node in 0..state.tree().size() {
         places.push(Place { block, node })?;
@@ -36,7 +37,8 @@ fn add_places_in(state: &State, block: u32, places: &mut Vec<Place>) -> Result<(
 
 /// All sources, by rising place, the scope's last.
 pub fn all_sources(alloc: Global, places: &[Place]) -> Result<Vec<SourceAt>, AllocError>
-    ensures { IfOk result (λ sources. sources.items ≡ flat_map (λ p. At p ∷ []) places.now ++ Scope ∷ []) }
+    ensures { IfOk result (λ sources.
+        sources.items ≡ flat_map (λ p. At p ∷ []) places.now ++ Scope ∷ []) }
 {
     let mut sources = Vec::new(alloc);
     for place in places {

@@ -32,7 +32,8 @@ pub(crate) fn joined(sigs: &[Sig]) -> Joint
 
 /// The values so far and one more.
 fn join(front: Joint, shape: &Option<KindList>) -> Joint
-    ensures { (so_far : Shape) → front ≡ joint_of so_far → result ≡ joint_of (appended so_far shape.now) }
+    ensures { (so_far : Shape) → front ≡ joint_of so_far
+        → result ≡ joint_of (appended so_far shape.now) }
 {
     match (front, shape) {
         (Joint::Never, _) | (_, None) => Joint::Never,

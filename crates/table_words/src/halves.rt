@@ -34,7 +34,8 @@ pub(crate) fn pack(generation: u32, code: u32) -> u64
 /// where its code is one of those that are written.
 pub fn words_are_exact()
     ensures control { (w : ℕ) → control_written (stamp_of w) (control_read w) ≡ w }
-    ensures callback { (w : ℕ) → code_of w ≤ 4 → callback_written (stamp_of w) (callback_read w) ≡ w }
+    ensures callback { (w : ℕ) → code_of w ≤ 4
+        → callback_written (stamp_of w) (callback_read w) ≡ w }
     ensures source { (w : ℕ) → code_of w < 8 → source_written (stamp_of w) (source_read w) ≡ w }
     ensures block { (w : ℕ) → code_of w ≤ 2 → block_written (block_read w) ≡ w }
     ensures scope { (w : ℕ) → w < 2 ^ 36 → scope_written (scope_read w) ≡ w }

@@ -128,5 +128,6 @@ impl Layout {
 /// Two words of one table lie at two indexes.
 pub fn spots_are_apart()
     ensures within { (l : Layout) (x : Spot) → IsSpot l x → index l x < words_in l }
-    ensures apart { (l : Layout) (x y : Spot) → IsSpot l x → IsSpot l y → index l x ≡ index l y → x ≡ y }
+    ensures apart { (l : Layout) (x y : Spot)
+        → IsSpot l x → IsSpot l y → index l x ≡ index l y → x ≡ y }
 {}

@@ -74,8 +74,10 @@ fn tell_refusal<N: Sink>(refusal: Refusal, notes: &mut N)
 
 fn put_refusal<N: Sink>(refusal: Refusal, notes: &mut N) -> Result<(), Failed>
     ensures later { (N.told notes.old).faults ≤ (N.told notes.new).faults }
-    ensures ok { OnOk result (TellsAll (N.told notes.old) (N.told notes.new) (refusal_text refusal)) }
-    ensures err { OnErr result (TellsFront (N.told notes.old) (N.told notes.new) (refusal_text refusal)) }
+    ensures ok { OnOk result
+        (TellsAll (N.told notes.old) (N.told notes.new) (refusal_text refusal)) }
+    ensures err { OnErr result
+        (TellsFront (N.told notes.old) (N.told notes.new) (refusal_text refusal)) }
 {
     match refusal {
         Refusal::TooLong => tell(b"trace refused: too long\n", notes),

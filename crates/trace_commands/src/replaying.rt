@@ -42,7 +42,8 @@ pub fn replay_file<F: Shelf, K: Sink, N: Sink>(
 fn play<F: Shelf>(alloc: Global, name: &str, shelf: &mut F) -> Result<Vec<u8>, FileFault<Refusal>>
     ensures reads { ReadsShelf (F.told shelf.old) (F.told shelf.new) result }
     ensures answer { IfOk result (λ text. HasTrace (F.told shelf.old).texts name.now text.items) }
-    ensures fault { IfErr result (Misses (HasRefusal the_replay (F.told shelf.old).texts name.now)) }
+    ensures fault { IfErr result
+        (Misses (HasRefusal the_replay (F.told shelf.old).texts name.now)) }
 {
     match read_file(alloc, name, shelf) {
         Ok(bytes) => play_bytes(alloc, &bytes),

@@ -47,7 +47,8 @@ impl Opening {
     /// An opening of these numbers, which are within the limits.
     pub fn new(tree: Tree, blocks: u32, hands: u32, kind: ScopeKind, most: u32) -> Opening
         requires { IsWithin (length tree) blocks hands most }
-        ensures { result ≡ record { nodes = tree; blocks = blocks; hands = hands; kind = kind; most = most } }
+        ensures { result ≡
+            record { nodes = tree; blocks = blocks; hands = hands; kind = kind; most = most } }
     {
         let _nodes = tree.size();
         Opening {

@@ -65,7 +65,8 @@ fn put_bare(kind: BareKind, out: &mut Vec<u8>) -> Result<(), AllocError>
 }
 
 fn put_await(place: Place, children: &[u32], out: &mut Vec<u8>) -> Result<(), AllocError>
-    ensures { OnOk result (Adds out.old.items out.new.items (event_text (Await place children.now))) }
+    ensures { OnOk result
+        (Adds out.old.items out.new.items (event_text (Await place children.now))) }
 {
     put(b"await ", out)?;
     put_place(place, out)?;

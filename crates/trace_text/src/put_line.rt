@@ -22,7 +22,8 @@ pub fn put_entries(entries: &[Entry], out: &mut Vec<u8>) -> Result<(), AllocErro
 
 // Adds the line of an entry.
 fn put_entry(entry: &Entry, out: &mut Vec<u8>) -> Result<(), AllocError>
-    ensures { OnOk result (Adds out.old.items out.new.items (entry_text entry.now ++ line_feed ∷ [])) }
+    ensures { OnOk result
+        (Adds out.old.items out.new.items (entry_text entry.now ++ line_feed ∷ [])) }
 {
     put_entry_text(entry, out)?;
     put(b"\n", out)?;

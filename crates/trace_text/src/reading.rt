@@ -41,7 +41,8 @@ pub fn read_schedule(alloc: Global, bytes: &[u8]) -> Result<Schedule, TraceFault
 
 // The trace that a text of any length is of.
 fn read_whole_trace(alloc: Global, bytes: &[u8]) -> Result<Trace, TraceFault>
-    ensures { MatchResult result (λ trace. trace_in bytes.now ≡ Ok trace) (IsFaultOf (trace_in bytes.now)) }
+    ensures { MatchResult result (λ trace. trace_in bytes.now ≡ Ok trace)
+        (IsFaultOf (trace_in bytes.now)) }
 {
     let mut lines = Lines { rest: bytes };
     match read_opening(alloc, &mut lines) {
