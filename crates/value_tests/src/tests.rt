@@ -1,3 +1,4 @@
+mod backends;
 mod jobs;
 mod names;
 mod outcomes;

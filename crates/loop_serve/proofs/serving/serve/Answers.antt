@@ -1,0 +1,56 @@
+use Rattle.std.proofs.Common.{Bool, true, false, refl, subst}
+use Rattle.std.proofs.lemmas.Bool.{both_ways}
+use Rattle.table_steps.specs.Steps.{control_index}
+use Rattle.op_slot.proofs.Staying.{stays-on}
+use Rattle.exec_recv.proofs.Asiding.{aside-here, aside-on}
+use Rattle.loop_serve.specs.Serving.{TakesUp, TakesWord}
+use Rattle.loop_serve.proofs.Read.{looked-rests, looked-aside, lost-missed, moved-after}
+use Rattle.loop_serve.proofs.Took.{took-aside, took-can, took-moved}
+use Rattle.loop_serve.proofs.serving.serve.Goals as goal
+
+pub returns-then-not-take_up : goal.returns-then-not-take_up
+returns-then-not-take_up g c =
+    let lost = c.take_up.ensures.taken.1 c.if-not-take_up.true in
+    let old = c.args.hand.now.me in
+    let new = c.take_up.new.hand.me in
+    record {
+      stays = c.take_up.ensures.stays;
+      rests = looked-rests _ _ old new lost.2 c.requires.rests;
+      aside = looked-aside _ _ old new lost.2;
+      served = λ is. absurd (both_ways false refl is);
+      missed = λ _. lost-missed c.args.table.now c.args.from c.args.name old new lost;
+    }
+
+pub go_on-requires-clause-can : goal.go_on-requires-clause-can
+go_on-requires-clause-can g c κs within =
+    took-can c.args.table.now _ c.requires.over c.args.name c.requires.place _ _ _ c.args.hand.now.me c.take_up.new.hand.me
+    (c.take_up.ensures.taken.0 c.if-not-take_up.false).2 c.requires.hand.seated c.requires.rests
+
+pub returns : goal.returns
+returns g c =
+    let board = c.args.table.now in
+    let x = c.args.name in
+    let plan = g.T.Stepper.plan c.args.stepper.now in
+    let old = c.args.hand.now in
+    let held = c.take_up.new.hand in
+    let new = c.go_on.new.hand in
+    let won = c.take_up.ensures.taken.0 c.if-not-take_up.false in
+    let seated = c.requires.hand.seated in
+    let aside = took-aside board plan c.requires.over x c.requires.place _ _ _ old.me held.me won.2 seated c.requires.rests in
+    let moved = took-moved board plan c.requires.over x c.requires.place _ _ _ old.me held.me won.2 seated c.requires.rests in
+    record {
+      stays = stays-on board old held new c.take_up.ensures.stays c.go_on.ensures.stays;
+      rests = c.go_on.ensures.rests;
+      aside = aside-on old.me held.me new.me aside c.go_on.ensures.aside;
+      served = λ _.
+          record {
+            before = old.me;
+            kept = aside-here old.me;
+            held = held.me;
+            took = subst (λ (answer : Bool). TakesUp board x c.args.from answer old.me held.me) c.if-not-take_up.false c.take_up.ensures.taken;
+            taken = moved-after (control_index board x) (TakesWord c.args.from x) old.me held.me new.me
+                (moved (TakesWord c.args.from x) (refl, won.1)) c.go_on.ensures.aside;
+            stepped = c.go_on.ensures.first;
+          };
+      missed = λ is. absurd (both_ways true is refl);
+    }

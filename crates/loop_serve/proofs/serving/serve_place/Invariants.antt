@@ -1,0 +1,13 @@
+use Rattle.table_steps.specs.Views.{Stays}
+use Rattle.exec_recv.specs.Asides.{KeepsAside}
+use Rattle.loop_walk.specs.Resting.{IsAtRest}
+use Rattle.loop_serve.proofs.serving.serve_place.Given as goal
+
+abbrev pub invariant-loop : goal.invariant-loop
+invariant-loop g l = record {
+  next : (goal.iterator-loop g).can_next l.iterator';
+  finite : (goal.iterator-loop g).is_finite l.iterator';
+  stays : Stays l.table l.fn.hand l.hand;
+  rests : IsAtRest l.hand.me.0;
+  aside : KeepsAside l.fn.hand.me l.hand.me;
+}

@@ -1,0 +1,65 @@
+use Rattle.std.proofs.Common.{true, refl}
+use Rattle.std.proofs.lemmas.Bool.{both_ways}
+use Rattle.node_tree.specs.declared.context.Context.TheVariants.{Pool}
+use Rattle.table_words.specs.Layouts.{OfControl, index}
+use Rattle.op_slot.proofs.Staying.{stays-on}
+use Rattle.exec_recv.proofs.Asiding.{aside-on}
+use Rattle.loop_serve.proofs.Read.{looked-rests, looked-aside, read-unready}
+use Rattle.steal_pool.proofs.Searched.{finds-before, served-before}
+use Rattle.steal_pool.proofs.searching.look_at.Goals as goal
+
+pub returns-in-None : goal.returns-in-None
+returns-in-None g c =
+    let board = c.args.table.now in
+    let i = index board.frame.layout (OfControl c.args.block c.args.node) in
+    let old = c.args.hand.now in
+    let new = c.ready_at.new.hand in
+    let read = c.ready_at.ensures.read in
+    record {
+      stays = c.ready_at.ensures.stays;
+      rests = looked-rests i read.word old.me new.me read.me_is c.requires.rests;
+      aside = looked-aside i read.word old.me new.me read.me_is;
+      served = tt;
+      none = λ not. (not, read-unready board Pool c.args.block c.args.node c.ready_at.result old new read c.in-None.is);
+      still = λ not. refl {a = c.args.found.now};
+    }
+
+pub returns-then-is_ok : goal.returns-then-is_ok
+returns-then-is_ok g c =
+    let i = index c.args.table.now.frame.layout (OfControl c.args.block c.args.node) in
+    let old = c.args.hand.now in
+    let new = c.ready_at.new.hand in
+    let read = c.ready_at.ensures.read in
+    record {
+      stays = c.ready_at.ensures.stays;
+      rests = looked-rests i read.word old.me new.me read.me_is c.requires.rests;
+      aside = looked-aside i read.word old.me new.me read.me_is;
+      served = tt;
+      none = λ not. absurd (both_ways true not refl);
+      still = λ not. absurd (both_ways c.args.submits not c.if-submits.true);
+    }
+
+pub serve_place-requires-clause-rests : goal.serve_place-requires-clause-rests
+serve_place-requires-clause-rests g c κs within =
+    let read = c.ready_at.ensures.read in
+    looked-rests (index c.args.table.now.frame.layout (OfControl c.args.block c.args.node)) read.word c.args.hand.now.me c.ready_at.new.hand.me
+    read.me_is c.requires.rests
+
+pub returns-else-submits : goal.returns-else-submits
+returns-else-submits g c =
+    let board = c.args.table.now in
+    let does = g.T.Stepper.does c.args.stepper.now in
+    let old = c.args.hand.now in
+    let between = c.ready_at.new.hand in
+    let new = c.serve_place.new.hand in
+    let read = c.ready_at.ensures.read in
+    let looked = looked-aside (index board.frame.layout (OfControl c.args.block c.args.node)) read.word old.me between.me read.me_is in
+    record {
+      stays = stays-on board old between new c.ready_at.ensures.stays c.serve_place.ensures.stays;
+      rests = c.serve_place.ensures.rests;
+      aside = aside-on old.me between.me new.me looked c.serve_place.ensures.aside;
+      served = served-before board old.me between.me new.me does c.serve_place.result looked c.serve_place.ensures.served;
+      none = finds-before board old.me between.me new.me c.args.block c.args.node c.args.found.now c.serve_place.result looked
+          c.serve_place.ensures.unready;
+      still = λ not. refl {a = c.args.found.now};
+    }

@@ -1,0 +1,68 @@
+use Rattle.std.proofs.Common.{arith, refl, ◌∙◌}
+use Rattle.life_rules.specs.declared.event.Resting.TheVariants.{Pool}
+use Rattle.op_slot.proofs.Staying.{stays-here, stays-on}
+use Rattle.exec_recv.proofs.Asiding.{aside-here, aside-on}
+use Rattle.loop_serve.proofs.Took.{serves-before}
+use Rattle.steal_pool.proofs.Searched.{blocks-more}
+use Rattle.steal_pool.proofs.searching.search.Goals as goal
+
+pub loop-block-init : goal.loop-block-init
+loop-block-init g c =
+    record {
+      stays = stays-here c.args.table.now c.args.hand.now c.requires.hand;
+      rests = c.requires.rests;
+      aside = aside-here c.args.hand.now.me;
+      none = λ not. (not, λ block below. absurd (omega (arith, below)));
+      still = λ not. refl;
+    }
+
+pub loop-block-preserved : goal.loop-block-preserved
+loop-block-preserved g c =
+    let board = c.args.table.now in
+    let before = c.loop-block.invariant in
+    let old = c.args.hand.now in
+    let between = c.loop-block.hand in
+    let new = c.search_block.new.hand in
+    record {
+      stays = stays-on board old between new before.stays c.search_block.ensures.stays;
+      rests = c.search_block.ensures.rests;
+      aside = aside-on old.me between.me new.me before.aside c.search_block.ensures.aside;
+      none = λ not.
+          let here = c.in-None.ensures.none not in
+          let earlier = before.none here.0 in (
+            earlier.0,
+            blocks-more board old.me between.me new.me c.loop-block.block before.aside c.search_block.ensures.aside earlier.1 here.1,
+          );
+      still = λ not. c.search_block.ensures.still not ∙ before.still not;
+    }
+
+pub returns-in-Some : goal.returns-in-Some
+returns-in-Some g c =
+    let board = c.args.table.now in
+    let before = c.loop-block.invariant in
+    let old = c.args.hand.now in
+    let between = c.loop-block.hand in
+    let new = c.search_block.new.hand in
+    record {
+      stays = stays-on board old between new before.stays c.search_block.ensures.stays;
+      rests = c.search_block.ensures.rests;
+      aside = aside-on old.me between.me new.me before.aside c.search_block.ensures.aside;
+      served = serves-before (g.T.Stepper.does c.args.stepper.now) board Pool c.in-Some.name old.me between.me new.me before.aside
+          c.in-Some.ensures.served;
+      none = tt;
+      still = λ not. c.search_block.ensures.still not ∙ before.still not;
+    }
+
+pub returns : goal.returns
+returns g c =
+    let last = c.loop-block.invariant in
+    let end = c.blocks-block-end.ensures.blocks in
+    let past = c.loop-block-test.false in
+    record {
+      stays = last.stays;
+      rests = last.rests;
+      aside = last.aside;
+      served = tt;
+      none = λ not. let all = last.none not in (all.0, λ block within. all.1 block (omega (arith, end, past, within)));
+      still = last.still;
+    }

@@ -1,0 +1,73 @@
+use Rattle.std.proofs.Common.{◌≡◌, length, arith, refl, ap, ◌∙◌}
+use Rattle.life_rules.specs.declared.event.Resting.TheVariants.{Pool}
+use Rattle.op_slot.proofs.Staying.{stays-here, stays-on}
+use Rattle.exec_recv.proofs.Asiding.{aside-here, aside-on}
+use Rattle.loop_serve.proofs.Took.{serves-before}
+use Rattle.steal_pool.proofs.Searched.{nodes-more, nodes-all}
+use Rattle.steal_pool.proofs.searching.search_block.Goals as goal
+
+pub loop-node-init : goal.loop-node-init
+loop-node-init g c =
+    record {
+      stays = stays-here c.args.table.now c.args.hand.now c.requires.hand;
+      rests = c.requires.rests;
+      aside = aside-here c.args.hand.now.me;
+      none = λ not. (not, λ node below inner. absurd (omega (arith, below)));
+      still = λ not. refl;
+    }
+
+pub loop-node-preserved : goal.loop-node-preserved
+loop-node-preserved g c =
+    let board = c.args.table.now in
+    let before = c.loop-node.invariant in
+    let old = c.args.hand.now in
+    let between = c.loop-node.hand in
+    let new = c.look_at.new.hand in
+    record {
+      stays = stays-on board old between new before.stays c.look_at.ensures.stays;
+      rests = c.look_at.ensures.rests;
+      aside = aside-on old.me between.me new.me before.aside c.look_at.ensures.aside;
+      none = λ not.
+          let here = c.in-None.ensures.none not in
+          let earlier = before.none here.0 in (
+            earlier.0,
+            nodes-more board old.me between.me new.me c.args.block c.loop-node.node before.aside c.look_at.ensures.aside earlier.1 here.1,
+          );
+      still = λ not. c.look_at.ensures.still not ∙ before.still not;
+    }
+
+pub returns-in-Some : goal.returns-in-Some
+returns-in-Some g c =
+    let board = c.args.table.now in
+    let before = c.loop-node.invariant in
+    let old = c.args.hand.now in
+    let between = c.loop-node.hand in
+    let new = c.look_at.new.hand in
+    record {
+      stays = stays-on board old between new before.stays c.look_at.ensures.stays;
+      rests = c.look_at.ensures.rests;
+      aside = aside-on old.me between.me new.me before.aside c.look_at.ensures.aside;
+      served = serves-before (g.T.Stepper.does c.args.stepper.now) board Pool c.in-Some.name old.me between.me new.me before.aside
+          c.in-Some.ensures.served;
+      none = tt;
+      still = λ not. c.look_at.ensures.still not ∙ before.still not;
+    }
+
+pub returns : goal.returns
+returns g c =
+    let board = c.args.table.now in
+    let last = c.loop-node.invariant in
+    let size : c.size-size.result ≡ length board.frame.tree = c.size-size.ensures.size ∙ ap length c.tree.ensures.tree in
+    let past = c.loop-node-test.false in
+    record {
+      stays = last.stays;
+      rests = last.rests;
+      aside = last.aside;
+      served = tt;
+      none = λ not.
+          let all = last.none not in (
+            all.0,
+            nodes-all board c.args.block c.loop-node.node c.args.hand.now.me c.loop-node.hand.me (omega (arith, size, past)) all.1,
+          );
+      still = last.still;
+    }

@@ -1,0 +1,61 @@
+use Rattle.std.proofs.Common.{arith}
+use Rattle.life_rules.specs.declared.event.Resting.TheVariants.{Pool}
+use Rattle.op_slot.proofs.Staying.{stays-here, stays-on}
+use Rattle.exec_recv.proofs.Asiding.{aside-here, aside-on}
+use Rattle.loop_serve.proofs.Took.{serves-before}
+use Rattle.steal_pool.proofs.taking.take_next.Goals as goal
+
+pub asked-init : goal.asked-init
+asked-init g c =
+    record {
+      stays = stays-here c.args.table.now c.args.hand.now c.requires.hand;
+      rests = c.requires.rests;
+      aside = aside-here c.args.hand.now.me;
+      most = omega arith;
+    }
+
+pub asked-preserved : goal.asked-preserved
+asked-preserved g c =
+    let before = c.asked.invariant in
+    let old = c.args.hand.now in
+    let between = c.asked.hand in
+    let new = c.serve_name.new.hand in
+    let most = before.most in
+    let fewer = c.ask.ensures.most in
+    record {
+      stays = stays-on c.args.table.now old between new before.stays c.serve_name.ensures.stays;
+      rests = c.serve_name.ensures.rests;
+      aside = aside-on old.me between.me new.me before.aside c.serve_name.ensures.aside;
+      most = omega (arith, most, fewer);
+    }
+
+pub returns-then-serve_name : goal.returns-then-serve_name
+returns-then-serve_name g c =
+    let board = c.args.table.now in
+    let before = c.asked.invariant in
+    let old = c.args.hand.now in
+    let between = c.asked.hand in
+    let new = c.serve_name.new.hand in
+    let most = before.most in
+    let fewer = c.ask.ensures.most in
+    record {
+      stays = stays-on board old between new before.stays c.serve_name.ensures.stays;
+      rests = c.serve_name.ensures.rests;
+      aside = aside-on old.me between.me new.me before.aside c.serve_name.ensures.aside;
+      most = omega (arith, most, fewer);
+      served = serves-before (g.T.Stepper.does c.args.stepper.now) board Pool c.in-Some.name old.me between.me new.me before.aside
+          (c.serve_name.ensures.served c.if-serve_name.true);
+    }
+
+pub returns : goal.returns
+returns g c =
+    let last = c.asked.invariant in
+    let most = last.most in
+    let fewer = c.ask.ensures.most in
+    record {
+      stays = last.stays;
+      rests = last.rests;
+      aside = last.aside;
+      most = omega (arith, most, fewer);
+      served = tt;
+    }

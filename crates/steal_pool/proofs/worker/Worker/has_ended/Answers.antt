@@ -1,0 +1,33 @@
+use Rattle.std.proofs.Common.{false, refl}
+use Rattle.std.proofs.lemmas.Bool.{both_ways}
+use Rattle.exec_recv.proofs.Asiding.{aside-on}
+use Rattle.loop_serve.proofs.Read.{looked-rests}
+use Rattle.steal_pool.proofs.Searched.{same-on, scope-aside, then-ended}
+use Rattle.steal_pool.proofs.worker.Worker.has_ended.Goals as goal
+
+pub returns-in-Took : goal.returns-in-Took
+returns-in-Took g c =
+    record {
+      ready = c.work_once.ensures.ready;
+      same = c.work_once.ensures.same;
+      aside = c.work_once.ensures.aside;
+      ended = λ is. absurd (both_ways false refl is);
+    }
+
+pub returns-in-Idle : goal.returns-in-Idle
+returns-in-Idle g c =
+    let board = c.args.table.now in
+    let old = c.args.self.now.hand in
+    let between = c.work_once.new.self.hand in
+    let new = c.is_joined.new.hand in
+    let worked = c.work_once.ensures in
+    let read = c.is_joined.ensures.read in
+    record {
+      ready = record {
+        of_table = c.is_joined.ensures.stays.hand;
+        rests = looked-rests 0 read.word between.me new.me read.me_is worked.ready.rests;
+      };
+      same = same-on old between new worked.same c.is_joined.ensures.stays.same;
+      aside = aside-on old.me between.me new.me worked.aside (scope-aside board c.is_joined.result old.me between.me new.me read);
+      ended = λ is. then-ended board c.is_joined.result old.me between.me new.me read worked.aside c.in-Idle.ensures.works is;
+    }

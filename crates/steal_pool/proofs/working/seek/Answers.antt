@@ -1,0 +1,59 @@
+use Rattle.std.proofs.Common.{arith}
+use Rattle.life_rules.specs.declared.event.Resting.TheVariants.{Pool}
+use Rattle.op_slot.proofs.Staying.{stays-on}
+use Rattle.exec_recv.proofs.Asiding.{aside-on}
+use Rattle.loop_serve.proofs.Took.{serves-before}
+use Rattle.steal_pool.proofs.Searched.{works-before}
+use Rattle.steal_pool.proofs.working.seek.Goals as goal
+
+pub returns-in-Some : goal.returns-in-Some
+returns-in-Some g c =
+    record {
+      stays = c.search.ensures.stays;
+      rests = c.search.ensures.rests;
+      aside = c.search.ensures.aside;
+      most = omega arith;
+      works = c.in-Some.ensures.served;
+    }
+
+pub returns-then-not-found : goal.returns-then-not-found
+returns-then-not-found g c =
+    record {
+      stays = c.search.ensures.stays;
+      rests = c.search.ensures.rests;
+      aside = c.search.ensures.aside;
+      most = omega arith;
+      works = (c.in-None.ensures.none c.if-not-found.true).1;
+    }
+
+pub returns-in-Some-take_next : goal.returns-in-Some-take_next
+returns-in-Some-take_next g c =
+    let board = c.args.table.now in
+    let old = c.args.hand.now in
+    let between = c.search.new.hand in
+    let new = c.take_next.new.hand in
+    record {
+      stays = stays-on board old between new c.search.ensures.stays c.take_next.ensures.stays;
+      rests = c.take_next.ensures.rests;
+      aside = aside-on old.me between.me new.me c.search.ensures.aside c.take_next.ensures.aside;
+      most = c.take_next.ensures.most;
+      works = serves-before (g.T.Stepper.does c.args.stepper.now) board Pool c.in-Some-take_next.name old.me between.me new.me
+          c.search.ensures.aside c.in-Some-take_next.ensures.served;
+    }
+
+pub returns : goal.returns
+returns g c =
+    let board = c.args.table.now in
+    let old = c.args.hand.now in
+    let between = c.take_next.new.hand in
+    let new = c.take_any.new.hand in
+    let aside = aside-on old.me c.search.new.hand.me between.me c.search.ensures.aside c.take_next.ensures.aside in
+    record {
+      stays = stays-on board old between new
+          (stays-on board old c.search.new.hand between c.search.ensures.stays c.take_next.ensures.stays) c.take_any.ensures.stays;
+      rests = c.take_any.ensures.rests;
+      aside = aside-on old.me between.me new.me aside c.take_any.ensures.aside;
+      most = c.take_next.ensures.most;
+      works = works-before board old.me between.me new.me (g.T.Stepper.does c.args.stepper.now) c.take_any.result aside
+          c.take_any.ensures.works;
+    }

@@ -1,0 +1,6 @@
+pub mod Works
+-- the definitions that the public contracts cite
+pub use Rattle.table_steps.specs.Views
+pub use Rattle.exec_recv.specs.Asides
+pub use Rattle.exec_recv.specs.Over
+pub use Rattle.loop_serve.specs.Serving

@@ -1,0 +1,149 @@
+//! A worker's look at each node of the table, but roots.
+ghost use Rattle.std.specs.Prelude.{◌≡◌, ◌<◌, false, IfSome, IfNone};
+ghost use Rattle.std.specs.Thread.{IsSync};
+ghost use Rattle.life_rules.specs.declared.event.Resting.TheVariants.{Pool};
+ghost use Rattle.plan_kinds.specs.Runnable.{IsRunnable};
+ghost use Rattle.table_steps.specs.Views.{IsHandOf, Stays, knows};
+ghost use Rattle.exec_recv.specs.Asides.{KeepsAside};
+ghost use Rattle.exec_recv.specs.Over.{IsOver};
+ghost use Rattle.loop_walk.specs.Resting.{IsAtRest};
+ghost use Rattle.loop_serve.specs.Serving.{ServesNode};
+ghost use Rattle.steal_pool.specs.Works.{FindsNode, FindsBlock, FindsAny};
+
+use crate::offers::Offers;
+use exec_recv::{Item, Stepper};
+use life_rules::Name;
+use loop_serve::serve_place;
+use node_tree::Context;
+use op_slot::{Hand, OpTable};
+use std::alloc::Global;
+use std::sync::Wait;
+
+// Looks at the node of the block. Where it is ready in the pool, its name is submitted to the
+// backend, or the node is taken at once: where names aren't to be submitted, or it was handed back.
+fn look_at<T: Stepper, R: Wait + Sync>(
+    rt: &R,
+    alloc: Global,
+    table: &OpTable<Item>,
+    hand: &mut Hand<Item>,
+    stepper: &T,
+    offers: &mut Offers,
+    submits: bool,
+    found: &mut bool,
+    block: u32,
+    node: u32,
+) -> Option<Name>
+    requires sync { IsSync R.row }
+    requires hand { IsHandOf table.now hand.old }
+    requires over { IsOver table.now (T.plan stepper.now) }
+    requires kinds { IsRunnable (T.plan stepper.now) }
+    requires block { block < table.now.frame.layout.blocks }
+    requires node { node < table.now.frame.layout.nodes }
+    requires rests { IsAtRest (knows hand.old) }
+    ensures stays { Stays table.now hand.old hand.new }
+    ensures rests { IsAtRest (knows hand.new) }
+    ensures aside { KeepsAside hand.old.me hand.new.me }
+    ensures served { IfSome result (λ name.
+        ServesNode (T.does stepper.now) table.now Pool name hand.old.me hand.new.me) }
+    ensures none { IfNone result
+        (FindsNode table.now hand.old.me hand.new.me block node found.old found.new) }
+    ensures still { submits ≡ false → found.new ≡ found.old }
+{
+    match table.ready_at(hand, block, node, Context::Pool) {
+        None => None,
+        Some(name) => {
+            if submits && offers.backend.submit(name).is_ok() {
+                *found = true;
+                return None;
+            }
+            serve_place(
+                rt,
+                alloc,
+                table,
+                hand,
+                stepper,
+                offers,
+                block,
+                node,
+                Context::Pool,
+            )
+        }
+    }
+}
+
+// Looks at the nodes of the block, until it took one. The root has the greatest number: it is never
+// ready in the pool.
+fn search_block<T: Stepper, R: Wait + Sync>(
+    rt: &R,
+    alloc: Global,
+    table: &OpTable<Item>,
+    hand: &mut Hand<Item>,
+    stepper: &T,
+    offers: &mut Offers,
+    submits: bool,
+    found: &mut bool,
+    block: u32,
+) -> Option<Name>
+    requires sync { IsSync R.row }
+    requires hand { IsHandOf table.now hand.old }
+    requires over { IsOver table.now (T.plan stepper.now) }
+    requires kinds { IsRunnable (T.plan stepper.now) }
+    requires block { block < table.now.frame.layout.blocks }
+    requires rests { IsAtRest (knows hand.old) }
+    ensures stays { Stays table.now hand.old hand.new }
+    ensures rests { IsAtRest (knows hand.new) }
+    ensures aside { KeepsAside hand.old.me hand.new.me }
+    ensures served { IfSome result (λ name.
+        ServesNode (T.does stepper.now) table.now Pool name hand.old.me hand.new.me) }
+    ensures none { IfNone result
+        (FindsBlock table.now hand.old.me hand.new.me block found.old found.new) }
+    ensures still { submits ≡ false → found.new ≡ found.old }
+{
+    let size = table.tree().size();
+    for node in 0..size - 1 {
+        match look_at(
+            rt, alloc, table, hand, stepper, offers, submits, found, block, node,
+        ) {
+            Some(name) => return Some(name),
+            None => {}
+        }
+    }
+    None
+}
+
+/// Looks at each node of the table but the roots, until it took one. It submits the names of those
+/// that are ready in the pool, where they are to be submitted, and says so.
+pub fn search<T: Stepper, R: Wait + Sync>(
+    rt: &R,
+    alloc: Global,
+    table: &OpTable<Item>,
+    hand: &mut Hand<Item>,
+    stepper: &T,
+    offers: &mut Offers,
+    submits: bool,
+    found: &mut bool,
+) -> Option<Name>
+    requires sync { IsSync R.row }
+    requires hand { IsHandOf table.now hand.old }
+    requires over { IsOver table.now (T.plan stepper.now) }
+    requires kinds { IsRunnable (T.plan stepper.now) }
+    requires rests { IsAtRest (knows hand.old) }
+    ensures stays { Stays table.now hand.old hand.new }
+    ensures rests { IsAtRest (knows hand.new) }
+    ensures aside { KeepsAside hand.old.me hand.new.me }
+    ensures served { IfSome result (λ name.
+        ServesNode (T.does stepper.now) table.now Pool name hand.old.me hand.new.me) }
+    ensures none { IfNone result
+        (FindsAny table.now hand.old.me hand.new.me found.old found.new) }
+    ensures still { submits ≡ false → found.new ≡ found.old }
+{
+    for block in 0..table.blocks() {
+        match search_block(
+            rt, alloc, table, hand, stepper, offers, submits, found, block,
+        ) {
+            Some(name) => return Some(name),
+            None => {}
+        }
+    }
+    None
+}

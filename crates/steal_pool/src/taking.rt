@@ -1,0 +1,97 @@
+//! How a worker takes a node by the names that its backend hands out.
+ghost use Rattle.std.specs.Prelude.{◌≡◌, ◌+◌, ◌≤◌, true, IfSome};
+ghost use Rattle.std.specs.Thread.{IsSync};
+ghost use Rattle.life_rules.specs.declared.event.Resting.TheVariants.{Pool};
+ghost use Rattle.plan_kinds.specs.Runnable.{IsRunnable};
+ghost use Rattle.table_steps.specs.Views.{IsHandOf, IsPlaceIn, Stays, knows};
+ghost use Rattle.exec_recv.specs.Asides.{KeepsAside};
+ghost use Rattle.exec_recv.specs.Over.{IsOver};
+ghost use Rattle.loop_walk.specs.Resting.{IsAtRest};
+ghost use Rattle.loop_serve.specs.Serving.{ServesNode};
+
+use crate::offers::Offers;
+use exec_recv::{Item, Stepper};
+use life_rules::{Name, Resting};
+use loop_serve::serve;
+use op_slot::{Hand, OpTable};
+use std::alloc::Global;
+use std::sync::Wait;
+
+// The name is of a place of the table.
+fn is_place(table: &OpTable<Item>, name: Name) -> bool
+    ensures { result ≡ true → IsPlaceIn table.now name }
+{
+    name.block < table.blocks() && name.node < table.tree().size()
+}
+
+// Serves the node of a name that the backend handed out. A name of no place is no hint.
+fn serve_name<T: Stepper, R: Wait + Sync>(
+    rt: &R,
+    alloc: Global,
+    table: &OpTable<Item>,
+    hand: &mut Hand<Item>,
+    stepper: &T,
+    offers: &mut Offers,
+    name: Name,
+) -> bool
+    requires sync { IsSync R.row }
+    requires hand { IsHandOf table.now hand.old }
+    requires over { IsOver table.now (T.plan stepper.now) }
+    requires kinds { IsRunnable (T.plan stepper.now) }
+    requires rests { IsAtRest (knows hand.old) }
+    ensures stays { Stays table.now hand.old hand.new }
+    ensures rests { IsAtRest (knows hand.new) }
+    ensures aside { KeepsAside hand.old.me hand.new.me }
+    ensures served { result ≡ true →
+        ServesNode (T.does stepper.now) table.now Pool name hand.old.me hand.new.me }
+{
+    if !is_place(table, name) {
+        return false;
+    }
+    serve(rt, alloc, table, hand, stepper, offers, name, Resting::Pool)
+}
+
+// The next name of the backend, where the call may ask for one more. Each that is asked for is one
+// fewer.
+fn ask(offers: &mut Offers, asks: &mut u32) -> Option<Name>
+    ensures most { asks.new ≤ asks.old }
+    ensures fewer { IfSome result (λ _. asks.new + 1 ≡ asks.old) }
+    ensures none { asks.old ≡ 0 → offers.new ≡ offers.old }
+{
+    if *asks == 0 {
+        return None;
+    }
+    *asks -= 1;
+    offers.backend.next()
+}
+
+/// Takes the first node that it can by the names of the backend, as long as the call may ask for
+/// one more: a backend that never ends its answers doesn't hold the call.
+pub fn take_next<T: Stepper, R: Wait + Sync>(
+    rt: &R,
+    alloc: Global,
+    table: &OpTable<Item>,
+    hand: &mut Hand<Item>,
+    stepper: &T,
+    offers: &mut Offers,
+    asks: &mut u32,
+) -> Option<Name>
+    requires sync { IsSync R.row }
+    requires hand { IsHandOf table.now hand.old }
+    requires over { IsOver table.now (T.plan stepper.now) }
+    requires kinds { IsRunnable (T.plan stepper.now) }
+    requires rests { IsAtRest (knows hand.old) }
+    ensures stays { Stays table.now hand.old hand.new }
+    ensures rests { IsAtRest (knows hand.new) }
+    ensures aside { KeepsAside hand.old.me hand.new.me }
+    ensures most { asks.new ≤ asks.old }
+    ensures served { IfSome result (λ name.
+        ServesNode (T.does stepper.now) table.now Pool name hand.old.me hand.new.me) }
+{
+    'asked: while let Some(name) = ask(offers, asks) {
+        if serve_name(rt, alloc, table, hand, stepper, offers, name) {
+            return Some(name);
+        }
+    }
+    None
+}

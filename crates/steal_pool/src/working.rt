@@ -1,0 +1,145 @@
+//! How a worker works.
+ghost use Rattle.std.specs.Prelude.{◌≡◌, ◌≤◌};
+ghost use Rattle.std.specs.Thread.{IsSync};
+ghost use Rattle.plan_kinds.specs.Runnable.{IsRunnable};
+ghost use Rattle.table_steps.specs.Views.{IsHandOf, IsSameHand, Stays, knows};
+ghost use Rattle.exec_recv.specs.Asides.{KeepsAside};
+ghost use Rattle.exec_recv.specs.Over.{IsOver};
+ghost use Rattle.loop_walk.specs.Resting.{IsAtRest};
+ghost use Rattle.steal_pool.specs.Works.{IsReady, Works};
+
+use crate::offers::Offers;
+use crate::searching::search;
+use crate::taking::take_next;
+use crate::worker::Worker;
+use exec_recv::{Item, Stepper};
+use life_rules::Name;
+use op_slot::{Hand, OpTable};
+use std::alloc::Global;
+use std::sync::Wait;
+
+/// What a worker did.
+#[derive(Clone, Copy, Debug, PartialEq, Eq)]
+pub enum Worked {
+    /// It took this node, and went on with it until its hand was at rest.
+    Took(Name),
+    /// It found no node ready in the pool.
+    Idle,
+}
+
+// Takes the first node that is ready in the pool, whatever the backend does.
+fn take_any<T: Stepper, R: Wait + Sync>(
+    rt: &R,
+    alloc: Global,
+    table: &OpTable<Item>,
+    hand: &mut Hand<Item>,
+    stepper: &T,
+    offers: &mut Offers,
+) -> Worked
+    requires sync { IsSync R.row }
+    requires hand { IsHandOf table.now hand.old }
+    requires over { IsOver table.now (T.plan stepper.now) }
+    requires kinds { IsRunnable (T.plan stepper.now) }
+    requires rests { IsAtRest (knows hand.old) }
+    ensures stays { Stays table.now hand.old hand.new }
+    ensures rests { IsAtRest (knows hand.new) }
+    ensures aside { KeepsAside hand.old.me hand.new.me }
+    ensures works { Works (T.does stepper.now) table.now result hand.old.me hand.new.me }
+{
+    let mut found = false;
+    match search(rt, alloc, table, hand, stepper, offers, false, &mut found) {
+        Some(name) => Worked::Took(name),
+        None => Worked::Idle,
+    }
+}
+
+// Submits the names of nodes that are ready in the pool, and takes one of them: by the names of the
+// backend, as many as the call may still ask for, and where it gives none by a further look.
+fn seek<T: Stepper, R: Wait + Sync>(
+    rt: &R,
+    alloc: Global,
+    table: &OpTable<Item>,
+    hand: &mut Hand<Item>,
+    stepper: &T,
+    offers: &mut Offers,
+    asks: &mut u32,
+) -> Worked
+    requires sync { IsSync R.row }
+    requires hand { IsHandOf table.now hand.old }
+    requires over { IsOver table.now (T.plan stepper.now) }
+    requires kinds { IsRunnable (T.plan stepper.now) }
+    requires rests { IsAtRest (knows hand.old) }
+    ensures stays { Stays table.now hand.old hand.new }
+    ensures rests { IsAtRest (knows hand.new) }
+    ensures aside { KeepsAside hand.old.me hand.new.me }
+    ensures most { asks.new ≤ asks.old }
+    ensures works { Works (T.does stepper.now) table.now result hand.old.me hand.new.me }
+{
+    let mut found = false;
+    match search(rt, alloc, table, hand, stepper, offers, true, &mut found) {
+        Some(name) => return Worked::Took(name),
+        None => {}
+    }
+    if !found {
+        return Worked::Idle;
+    }
+    if let Some(name) = take_next(rt, alloc, table, hand, stepper, offers, asks) {
+        return Worked::Took(name);
+    }
+    take_any(rt, alloc, table, hand, stepper, offers)
+}
+
+impl Worker {
+    /// Takes one node that is ready in the pool, and goes on with it until the hand is at rest: by
+    /// a name of the backend; else by a look at each node of the table, by which the names of those
+    /// that are ready are submitted. Took tells the node, which this hand took in this call, and
+    /// the stepper stepped. Idle only where the word of each node but the roots, at its own step of
+    /// this call, said that it isn't ready in the pool. It asks the backend for at most as many
+    /// names as the table has places.
+    ///
+    /// Step: those of `take` for each name; one load of each node's word; and those of the steps of
+    /// the node.
+    /// Needs: the hand is one of the table's, and at rest. The table is over the stepper's plan,
+    /// whose kinds match.
+    /// Afterwards: so it is still. All else that its view says is as before, but for requests that
+    /// it has seen and the list of its steps.
+    pub fn work_once<T: Stepper, R: Wait + Sync>(
+        &mut self,
+        rt: &R,
+        alloc: Global,
+        table: &OpTable<Item>,
+        stepper: &T,
+    ) -> Worked
+        requires sync { IsSync R.row }
+        requires ready { IsReady table.now self.old.hand }
+        requires over { IsOver table.now (T.plan stepper.now) }
+        requires kinds { IsRunnable (T.plan stepper.now) }
+        ensures ready { IsReady table.now self.new.hand }
+        ensures same { IsSameHand self.old.hand self.new.hand }
+        ensures aside { KeepsAside self.old.hand.me self.new.hand.me }
+        ensures works { Works (T.does stepper.now) table.now result self.old.hand.me self.new.hand.me }
+    {
+        // So many names the backend is asked for in this call, by `ask` alone.
+        let mut asks = table.blocks().saturating_mul(table.tree().size());
+        if let Some(name) = take_next(
+            rt,
+            alloc,
+            table,
+            &mut self.hand,
+            stepper,
+            &mut self.offers,
+            &mut asks,
+        ) {
+            return Worked::Took(name);
+        }
+        seek(
+            rt,
+            alloc,
+            table,
+            &mut self.hand,
+            stepper,
+            &mut self.offers,
+            &mut asks,
+        )
+    }
+}
