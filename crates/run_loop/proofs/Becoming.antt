@@ -1,16 +1,15 @@
 -- What became of the parked delays of a loop, call by call.
-use Rattle.std.proofs.Common.{◌≡◌, ◌≢◌, ◌⊎◌, inl, inr, ℕ, ◌+◌, ◌<◌, ◌≤◌, ◌/◌, ◌%◌, Bool, true, false, List, [], ◌∷◌, length, refl, sym, ap, ◌∙◌, subst, arith}
-use Rattle.std.specs.Prelude.{Option, Some, None, slice_get, if◌then◌else◌}
-use Rattle.std.proofs.lemmas.Bool.{cases_lt, cases_eq, cond-true, cond-false}
-use Rattle.std.proofs.lemmas.Nat.{div-mul-add, mod-mul-add, same_from_place}
+use Rattle.std.proofs.Common.{◌≡◌, ◌≢◌, ◌⊎◌, inl, inr, ℕ, ◌<◌, ◌≤◌, ◌/◌, ◌%◌, true, false, refl, sym, ap, ◌∙◌, subst, arith}
+use Rattle.std.specs.Prelude.{Option, Some}
+use Rattle.std.proofs.lemmas.Bool.{cases_eq, cond-true, cond-false}
+use Rattle.std.proofs.lemmas.Nat.{div-mul-add, mod-mul-add}
 use Rattle.std.proofs.lemmas.Option.{none-some, same_Some}
 use Rattle.common_lemmas.proofs.Bool.{either}
 use Rattle.life_rules.specs.declared.event.Name.{Name}
 use Rattle.life_rules.specs.declared.event.Resting.TheVariants as rest
 use Rattle.life_rules.specs.Words.{is_parked}
-use Rattle.listed_steps.specs.Lists.{entry}
 use Rattle.loop_delays.specs.declared.waiting.Waiting.{Waiting}
-use Rattle.loop_delays.specs.Delays.{DelayList, places, delay_at, is_known, is_of, seen_parked, turn_due}
+use Rattle.loop_delays.specs.Delays.{DelayList, places, delay_at, is_known, is_of, seen_parked}
 use Rattle.plan_shape.specs.Blueprint.{Blueprint}
 use Rattle.table_words.specs.Controls.{control_read}
 use Rattle.table_words.specs.Stamps.{stamp_of}
@@ -22,13 +21,12 @@ use Rattle.exec_start.specs.declared.entry.Entry.{Entry}
 use Rattle.exec_start.specs.declared.item.Item.{Item}
 use Rattle.exec_recv.specs.Asides.{KeepsAside}
 use Rattle.loop_walk.specs.Resting.{IsAtRest}
+use Rattle.loop_serve.specs.Serving.{TakesWord}
+use Rattle.loop_serve.proofs.Read.{moved-before, moved-after, since-before, since-after, looked-rests, looked-aside, looked-since}
 use Rattle.run_loop.specs.declared.delay_node.DelayNode.{DelayNode}
 use Rattle.run_loop.specs.DelayNodes.{IsDelay, nodes_of, place_of, name_at}
-use Rattle.run_loop.specs.Delayed.{SaysParked, word_at, IsSeenNow, WasTried, WasTriedAt, WasDue, Changes, Becomes, IsLookedAt, LooksAt, WasTakenOut}
-use Rattle.run_loop.specs.Turns.{TakesWord}
+use Rattle.run_loop.specs.Delayed.{SaysParked, word_at, IsSeenNow, WasTried, WasDue, Becomes, IsLookedAt, LooksAt, WasTakenOut}
 use Rattle.run_loop.proofs.DelayLists.{seen_one, seen-turn, seen-places, seen-other, seen-known, seen-new, seen-is-known, known-waits}
-use Rattle.run_loop.proofs.Meeting.{moved-before, moved-after}
-use Rattle.run_loop.proofs.Turned.{since-before, since-after, looked-rests, looked-aside}
 
 abbrev as_name : ℕ → ℕ → ℕ → Name
 as_name block node generation = record { block = block; generation = generation; node = node }
@@ -235,14 +233,7 @@ module _ (board : Board Blueprint) (block : ℕ) (delay : DelayNode) (m m' : Sea
   look-here within =
       record {
         word = looks.word;
-        read = record {
-          fresh = entry (word_at board block delay.node) looks.word looks.word ∷ [];
-          grown = ap (λ (z : Seated Item Entry). z.0.steps) looks.me_is;
-          word = looks.word;
-          left = looks.word;
-          there = (0, omega arith, refl);
-          said = refl;
-        };
+        read = looked-since (word_at board block delay.node) looks.word m m' looks.me_is (λ w. w ≡ looks.word) refl;
         known = λ parked.
             inl
             (ap (λ (d : DelayList). is_known d place generation)
@@ -276,13 +267,6 @@ module _ (board : Board Blueprint) (block : ℕ) (delay : DelayNode) (m m' : Sea
               place_is = refl;
               delay = is;
               since = sym look-turn;
-              read = record {
-                fresh = entry (word_at board block delay.node) looks.word looks.word ∷ [];
-                grown = ap (λ (z : Seated Item Entry). z.0.steps) looks.me_is;
-                word = looks.word;
-                left = looks.word;
-                there = (0, omega arith, refl);
-                said = (parked, refl);
-              };
+              read = looked-since (word_at board block delay.node) looks.word m m' looks.me_is (SaysParked generation) (parked, refl);
             },
           )))

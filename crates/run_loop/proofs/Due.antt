@@ -1,11 +1,10 @@
 -- Delays that are due are taken out of the list; and a whole turn.
-use Rattle.std.proofs.Common.{◌≡◌, ◌≢◌, ◌⊎◌, inl, inr, ℕ, ◌<◌, ◌≤◌, List, length, refl, sym, ap, ◌∙◌, subst, arith}
-use Rattle.std.specs.Prelude.{Option, Some, None, slice_get}
+use Rattle.std.proofs.Common.{◌≡◌, ◌≢◌, ◌⊎◌, inl, inr, ℕ, ◌<◌, ◌≤◌, ◌/◌, ◌%◌, List, length, refl, sym, ap, ◌∙◌, subst, arith}
+use Rattle.std.specs.Prelude.{Some, None, slice_get}
 use Rattle.std.proofs.lemmas.Bool.{cases_eq}
 use Rattle.std.proofs.lemmas.List.{length-set}
 use Rattle.std.proofs.lemmas.Option.{none-some, slice_get_within}
-use Rattle.loop_delays.specs.declared.waiting.Waiting.{Waiting}
-use Rattle.loop_delays.specs.Delays.{DelayList, delay_at, turn_due, forgotten, at_next_turn, IsDue}
+use Rattle.loop_delays.specs.Delays.{DelayList, delay_at, forgotten, at_next_turn, IsDue}
 use Rattle.plan_rules.specs.declared.node.Node.TheVariants.{Delay}
 use Rattle.plan_shape.specs.Blueprint.{Blueprint}
 use Rattle.table_steps.specs.Views.{Board}
@@ -15,11 +14,18 @@ use Rattle.exec_start.specs.declared.item.Item.{Item}
 use Rattle.exec_recv.specs.Asides.{KeepsAside}
 use Rattle.exec_recv.specs.Over.{IsOver}
 use Rattle.run_loop.specs.declared.delay_node.DelayNode.{DelayNode}
-use Rattle.run_loop.specs.DelayNodes.{AreDelaysOf, nodes_of, place_of}
-use Rattle.run_loop.specs.Delayed.{Becomes, IsLookedAt, WasTriedAt, WasDue, WasTakenOut, LooksBelow, TakesOut, TakesDue, PassesTurn}
+use Rattle.run_loop.specs.DelayNodes.{AreDelaysOf, nodes_of, place_of, name_at}
+use Rattle.run_loop.specs.Delayed.{Becomes, IsLookedAt, WasTried, WasTriedAt, WasTakenOut, LooksBelow, TakesOut, TakesDue, PassesTurn}
 use Rattle.run_loop.proofs.Becoming.{becomes-on, becomes-after, looked-before, looked-after, looked-out, tried-before, tried-after}
 use Rattle.run_loop.proofs.DelayLists.{forgotten-here, forgotten-other}
 use Rattle.run_loop.proofs.Looking.{delay-within}
+
+-- a name by another number of nodes is the same
+pub tried-as : (board : Board Blueprint) (m m' : Seated Item Entry) (count place generation n : ℕ) → n ≡ board.frame.layout.nodes →
+    WasTried board m m' count (record { block = place / n; generation = generation; node = place % n }) →
+    WasTried board m m' count (name_at board place generation)
+tried-as board m m' count place generation n is tried =
+    subst (λ k. WasTried board m m' count (record { block = place / k; generation = generation; node = place % k })) is tried
 
 -- none is taken out
 pub takes-none : (board : Board Blueprint) (count : ℕ) (m : Seated Item Entry) (list : DelayList) → TakesOut board count m m list list

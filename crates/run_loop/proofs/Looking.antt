@@ -1,5 +1,5 @@
 -- Looks at the delays of a plan, one block after another.
-use Rattle.std.proofs.Common.{◌≡◌, ◌≢◌, inl, inr, ℕ, ◌+◌, ◌*◌, ◌<◌, ◌≤◌, List, length, refl, sym, ap, ◌∙◌, subst, arith}
+use Rattle.std.proofs.Common.{◌≡◌, ◌≢◌, inl, inr, ℕ, ◌+◌, ◌<◌, ◌≤◌, List, length, refl, sym, ap, ◌∙◌, subst, arith}
 use Rattle.std.specs.Prelude.{Option, Some, None, slice_get}
 use Rattle.std.proofs.lemmas.Bool.{cases_lt, cases_eq, cond-true, cond-false}
 use Rattle.std.proofs.lemmas.Nat.{row_fits, same_from_place}
@@ -11,7 +11,6 @@ use Rattle.life_rules.specs.Words.{is_parked}
 use Rattle.loop_delays.specs.Delays.{DelayList, places, delay_at, seen_parked}
 use Rattle.plan_rules.specs.declared.node.Node.TheVariants.{Delay}
 use Rattle.plan_shape.specs.Blueprint.{Blueprint}
-use Rattle.plan_shape.specs.Forest.{IsPlaced}
 use Rattle.plan_shape.specs.declared.limits.TheConstants.{MOST_TURNS}
 use Rattle.plan_shape.proofs.TreeLemmas.{length-tree_of}
 use Rattle.table_steps.specs.Views.{Board}
@@ -118,6 +117,17 @@ module _ (board : Board Blueprint) (over : IsOver board board.frame.over.value) 
           places_are = refl;
           each = λ place. inl refl;
           looked = λ b k delay below. absurd (omega (arith, below));
+        }
+
+    -- where the plan has no delay
+    pub below-empty : (blocks : ℕ) (m : Seated Item Entry) (before : DelayList) → length delays ≡ 0 →
+        LooksBelow board delays blocks m m before before
+    below-empty blocks m before empty =
+        record {
+          turn = refl;
+          places_are = refl;
+          each = λ place. inl refl;
+          looked = λ b k delay below at. let within = slice_get_within delays k delay at in absurd (omega (arith, within, empty));
         }
 
     -- one more

@@ -1,6 +1,10 @@
 -- Nodes that were taken and stepped, one after the other.
-use Rattle.std.proofs.Common.{◌≡◌, ◌⊎◌, inl, inr, ℕ, zero, suc, ◌+◌, sym, ◌∙◌, subst}
+use Rattle.std.proofs.Common.{◌≡◌, ◌⊎◌, inl, inr, ℕ, zero, suc, ◌+◌, true, false, refl, sym, ◌∙◌, subst}
 use Rattle.std.proofs.Math.Numerals.{add-one}
+use Rattle.std.proofs.lemmas.Bool.{both_ways}
+use Rattle.std.specs.Prelude.{Option, Some, None, IfSome, IfNone, is_some}
+use Rattle.life_rules.specs.declared.event.Name.{Name}
+use Rattle.life_rules.specs.declared.event.Resting.{Resting}
 use Rattle.plan_shape.specs.Blueprint.{Blueprint}
 use Rattle.table_steps.specs.Views.{Board}
 use Rattle.table_steps.specs.Claims.{Seated}
@@ -9,34 +13,30 @@ use Rattle.exec_start.specs.declared.item.Item.{Item}
 use Rattle.exec_recv.specs.Asides.{KeepsAside}
 use Rattle.exec_recv.specs.Nexts.{Doing}
 use Rattle.exec_recv.proofs.Asiding.{aside-on}
-use Rattle.loop_walk.proofs.Going.{stepped-on}
+use Rattle.loop_serve.specs.Serving.{ServesNode}
+use Rattle.loop_serve.proofs.Took.{serves-before as node-before, serves-after as node-after}
 use Rattle.run_loop.specs.Serves.{ServesOne, Serves}
 
+-- a place where none was taken
+pub none-taken : (answer : Option Name) (A : Type 0) → is_some answer ≡ false → IfNone answer A → A
+none-taken (Some name) A none fact = absurd (both_ways true none refl)
+none-taken None A none fact = fact
+
 module _ (does : Doing) (board : Board Blueprint) where
+  -- one that a place of the table had, and none
+  pub one-taken : (from : Resting) (answer : Option Name) (m m' : Seated Item Entry) → is_some answer ≡ true →
+      IfSome answer (λ name. ServesNode does board from name m m') → ServesOne does board m m'
+  one-taken from (Some name) m m' some one = record { name = name; from = from; serves = one }
+  one-taken from None m m' some one = absurd (both_ways false refl some)
+
   -- one after something else, and something else after one
   pub one-later : (m between m' : Seated Item Entry) → KeepsAside m between → ServesOne does board between m' → ServesOne does board m m'
   one-later m between m' aside one =
-      record {
-        before = one.before;
-        kept = aside-on m between one.before aside one.kept;
-        name = one.name;
-        from = one.from;
-        held = one.held;
-        took = one.took;
-        stepped = one.stepped;
-      }
+      record { name = one.name; from = one.from; serves = node-before does board one.from one.name m between m' aside one.serves }
 
   pub one-after : (m between m' : Seated Item Entry) → ServesOne does board m between → KeepsAside between m' → ServesOne does board m m'
   one-after m between m' one aside =
-      record {
-        before = one.before;
-        kept = one.kept;
-        name = one.name;
-        from = one.from;
-        held = one.held;
-        took = one.took;
-        stepped = stepped-on does board one.name one.held between m' one.stepped aside;
-      }
+      record { name = one.name; from = one.from; serves = node-after does board one.from one.name m between m' one.serves aside }
 
   -- the same of several
   pub serves-after : (count : ℕ) (m between m' : Seated Item Entry) → Serves does board count m between → KeepsAside between m' →

@@ -1,5 +1,5 @@
 -- What a turn makes of the parked delays of the plan.
-use Rattle.std.specs.Prelude.{◌≡◌, ◌≢◌, ◌⊎◌, ℕ, ◌<◌, ◌≤◌, true, List, length, slice_get, Option, Some, None, if◌then◌else◌}
+use Rattle.std.specs.Prelude.{◌≡◌, ◌≢◌, ◌⊎◌, ℕ, ◌<◌, ◌≤◌, true, List, slice_get, Option, Some, None, if◌then◌else◌}
 use Rattle.life_rules.specs.declared.event.Name.{Name}
 use Rattle.life_rules.specs.declared.event.Resting.TheVariants as rest
 use Rattle.life_rules.specs.Words.{is_parked}
@@ -14,10 +14,12 @@ use Rattle.table_steps.specs.Views.{Board}
 use Rattle.table_steps.specs.Claims.{Seated, logged}
 use Rattle.exec_start.specs.declared.entry.Entry.{Entry}
 use Rattle.exec_start.specs.declared.item.Item.{Item}
+use Rattle.loop_serve.specs.Since.{HasReadSince}
+use Rattle.loop_serve.specs.Serving.{WasMissed}
 use Rattle.run_loop.specs.declared.delay_node.DelayNode.{DelayNode}
 use Rattle.run_loop.specs.declared.looped.Loop.{Loop as Looped}
 use Rattle.run_loop.specs.DelayNodes.{nodes_of, place_of, name_at}
-use Rattle.run_loop.specs.Turns.{HasReadSince, WasTaken, WasMissed}
+use Rattle.run_loop.specs.Turns.{WasTaken}
 
 -- The word says that its node is parked, at this generation.
 abbrev pub SaysParked : ℕ → ℕ → Type 0

@@ -11,3 +11,4 @@ pub mod Waits
 pub use Rattle.table_steps.specs.Views
 pub use Rattle.exec_recv.specs.Over
 pub use Rattle.loop_walk.specs.Resting
+pub use Rattle.loop_serve.specs.Serving

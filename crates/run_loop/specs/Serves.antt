@@ -1,33 +1,22 @@
 -- What the loop serves: nodes that it takes where they rest, and goes on with.
-use Rattle.std.specs.Prelude.{ℕ, zero, suc, Bool, true}
+use Rattle.std.specs.Prelude.{ℕ, zero, suc}
 use Rattle.life_rules.specs.declared.event.Name.{Name}
 use Rattle.life_rules.specs.declared.event.Resting.{Resting}
 use Rattle.plan_shape.specs.Blueprint.{Blueprint}
 use Rattle.table_steps.specs.Views.{Board}
 use Rattle.table_steps.specs.Claims.{Seated}
-use Rattle.table_steps.specs.Takes.{IsTaken}
-use Rattle.exec_start.specs.contracts.item.ItemCargo.TheImpl.{ghosts}
 use Rattle.exec_start.specs.declared.entry.Entry.{Entry}
 use Rattle.exec_start.specs.declared.item.Item.{Item}
 use Rattle.exec_recv.specs.Asides.{KeepsAside}
 use Rattle.exec_recv.specs.Nexts.{Doing}
-use Rattle.loop_walk.specs.Stepped.{HasStepped}
-
--- The node was taken where it rested there, or wasn't.
-abbrev pub TakesUp : Board Blueprint → Name → Resting → Bool → Seated Item Entry → Seated Item Entry → Type 0
-TakesUp board name from answer m m' = IsTaken ghosts board.frame name from answer m m'
+use Rattle.loop_serve.specs.Serving.{ServesNode}
 
 module _ (does : Doing) (board : Board Blueprint) where
-  -- A node that rested was taken, and stepped. Before that and afterwards only requests were seen,
-  -- and steps listed.
+  -- A node that rested was taken, and stepped.
   pub record ServesOne (m m' : Seated Item Entry) : Type 0 where
-    pub before : Seated Item Entry
-    pub kept : KeepsAside m before
     pub name : Name
     pub from : Resting
-    pub held : Seated Item Entry
-    pub took : TakesUp board name from true before held
-    pub stepped : HasStepped does board name held m'
+    pub serves : ServesNode does board from name m m'
 
   -- at least so many nodes were, one after the other
   abbrev pub Serves : ℕ → Seated Item Entry → Seated Item Entry → Type 0

@@ -1,25 +1,18 @@
 -- What a turn tells of the nodes that it took, and of those that it didn't.
-use Rattle.std.specs.Prelude.{◌≡◌, ◌≢◌, ◌⊎◌, ℕ, ◌<◌, Bool, true, false, List, ◌++◌, length, Contains, slice_get, Some}
+use Rattle.std.specs.Prelude.{◌≡◌, ◌⊎◌, ℕ, ◌<◌, Bool, true, false, List, length, slice_get, Some}
 use Rattle.life_rules.specs.declared.event.Name.{Name}
 use Rattle.life_rules.specs.declared.event.Resting.{Resting}
 use Rattle.life_rules.specs.declared.event.Resting.TheVariants as rest
-use Rattle.life_rules.specs.declared.words.ControlWord.TheVariants.{Busy}
-use Rattle.listed_steps.specs.declared.seen.Seen.{Seen}
-use Rattle.listed_steps.specs.Lists.{entry}
-use Rattle.node_tree.specs.declared.context.Context.{Context}
 use Rattle.node_tree.specs.declared.context.Context.TheVariants.{Loop, Pool}
 use Rattle.node_tree.specs.Tree.{is_root}
 use Rattle.plan_shape.specs.Blueprint.{Blueprint}
-use Rattle.table_words.specs.Controls.{control_read}
-use Rattle.table_words.specs.Layouts.{OfControl, index}
 use Rattle.table_steps.specs.Views.{Board, IsPlaceIn}
 use Rattle.table_steps.specs.Claims.{Seated}
-use Rattle.table_steps.specs.Lefts.{SaysControl}
-use Rattle.table_steps.specs.Looks.{is_ready_in}
 use Rattle.table_steps.specs.Steps.{control_index}
-use Rattle.table_steps.specs.Takes.{rest_word}
 use Rattle.exec_start.specs.declared.entry.Entry.{Entry}
 use Rattle.exec_start.specs.declared.item.Item.{Item}
+use Rattle.loop_serve.specs.Since.{HasMovedSince}
+use Rattle.loop_serve.specs.Serving.{TakesWord, WasMissed, WasUnready}
 use Rattle.run_loop.specs.declared.looped.Loop.{Loop as Looped}
 use Rattle.run_loop.specs.Loops.{told}
 
@@ -27,38 +20,12 @@ use Rattle.run_loop.specs.Loops.{told}
 abbrev pub CountsNothing : ℕ → ℕ → Type 0 → Type 0
 CountsNothing before counted fact = counted ≡ 0 → (before ≡ 0) × fact
 
--- Among the steps made since is one on the word of this index, and the word that it read says this.
-pub record HasReadSince (index : ℕ) (says : ℕ → Type 0) (m m' : Seated Item Entry) : Type 0 where
-  pub fresh : List Seen
-  pub grown : m'.0.steps ≡ fresh ++ m.0.steps
-  pub word : ℕ
-  pub left : ℕ
-  pub there : Contains fresh (entry index word left)
-  pub said : says word
-
--- Among the steps made since is one on the word of this index, and what it read and left says this.
-pub record HasMovedSince (index : ℕ) (says : ℕ → ℕ → Type 0) (m m' : Seated Item Entry) : Type 0 where
-  pub fresh : List Seen
-  pub grown : m'.0.steps ≡ fresh ++ m.0.steps
-  pub word : ℕ
-  pub left : ℕ
-  pub there : Contains fresh (entry index word left)
-  pub said : says word left
-
--- The word says that its node isn't ready in the context.
-abbrev pub IsUnready : Context → ℕ → Type 0
-IsUnready on word = is_ready_in on (control_read word) ≡ false
-
 module _ (board : Board Blueprint) (m m' : Seated Item Entry) where
-  -- the node of the block was read so
-  abbrev pub WasUnready : Context → ℕ → ℕ → Type 0
-  WasUnready on block node =
-      HasReadSince (index board.frame.layout (OfControl block node)) (IsUnready on) m m'
-
-  -- in the loop, and where the loop helps in the pool, too
+  -- The word of the block's node was read, and said that it isn't ready in the loop; and where the loop
+  -- helps in the pool, too.
   pub record WasPassed (helps : Bool) (block node : ℕ) : Type 0 where
-    pub loop : WasUnready Loop block node
-    pub pool : helps ≡ true → WasUnready Pool block node
+    pub loop : WasUnready board m m' Loop block node
+    pub pool : helps ≡ true → WasUnready board m m' Pool block node
 
   -- so the node was where nothing is counted after it
   abbrev pub CountsNode : Bool → ℕ → ℕ → ℕ → ℕ → Type 0
@@ -84,25 +51,17 @@ module _ (board : Board Blueprint) (m m' : Seated Item Entry) where
   abbrev pub TakesNothing : Bool → Type 0
   TakesNothing helps = ArePassedBelow helps board.frame.layout.blocks
 
--- The node rested there, at its generation, and is held afterwards.
-abbrev pub TakesWord : Resting → Name → ℕ → ℕ → Type 0
-TakesWord from name word left = (word ≡ rest_word name from) × SaysControl name (Busy 0) left
-
 -- The name is of a place of the table, and of no root.
 pub record IsInner (board : Board Blueprint) (name : Name) : Type 0 where
   pub place : IsPlaceIn board name
   pub below : is_root board.frame.tree name.node ≡ false
 
 module _ (board : Board Blueprint) (m m' : Seated Item Entry) where
-  -- the word of the named node was read, and didn't say that it rests there, at its generation
-  abbrev pub WasMissed : Resting → Name → Type 0
-  WasMissed from name =
-      HasReadSince (control_index board name) (λ word. word ≢ rest_word name from) m m'
-
-  -- in the loop, and where the loop helps in the pool, too
+  -- The word of the named node was read, and didn't say that it rests in the loop, at its generation; and
+  -- where the loop helps in the pool, too.
   pub record WasLeft (helps : Bool) (name : Name) : Type 0 where
-    pub loop : WasMissed rest.Loop name
-    pub pool : helps ≡ true → WasMissed rest.Pool name
+    pub loop : WasMissed board m m' rest.Loop name
+    pub pool : helps ≡ true → WasMissed board m m' rest.Pool name
 
   -- so it was where it is of a node of the table, but no root
   abbrev pub IsLeft : Bool → Name → Type 0

@@ -13,10 +13,11 @@ ghost use Rattle.run_loop.specs.Serves.{ServesOn};
 
 use crate::delay_node::DelayNode;
 use crate::names::Names;
-use crate::serving::{one_more, serve};
+use crate::serving::one_more;
 use exec_recv::{Item, Stepper};
 use life_rules::{Name, Resting};
 use loop_delays::{Delays, DueDelay};
+use loop_serve::serve;
 use op_slot::{Hand, OpTable};
 use std::alloc::Global;
 use std::sync::Wait;
@@ -81,7 +82,7 @@ fn look_through(
     }
 }
 
-// Looks at the delays of the plan in each block.
+// Looks at the delays of the plan in each block. Where the plan has none it reads no block.
 fn look_round(
     table: &OpTable<Item>,
     hand: &mut Hand<Item>,
@@ -99,6 +100,9 @@ fn look_round(
     ensures looks { LooksBelow table.now nodes.now table.now.frame.layout.blocks
         hand.old.me hand.new.me delays.old delays.new }
 {
+    if nodes.is_empty() {
+        return;
+    }
     for block in 0..table.blocks() {
         look_through(table, hand, delays, nodes, block);
     }

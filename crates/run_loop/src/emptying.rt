@@ -44,8 +44,8 @@ fn settle_root(table: &OpTable<Item>, hand: &mut Hand<Item>, root: Name)
     }
 }
 
-// Takes the block's root, and takes out what lies in its home. None only where the root wasn't ready
-// in the loop.
+// Takes the block's root, and takes out what lies in its home. None only where the root wasn't
+// ready in the loop.
 fn take_root(table: &OpTable<Item>, hand: &mut Hand<Item>, block: Block) -> Option<Item>
     requires hand { IsHandOf table.now hand.old }
     requires over { IsOver table.now table.now.frame.over.value }

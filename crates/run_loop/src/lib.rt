@@ -1,18 +1,20 @@
 //! A loop of operations on one hand of a running table over a plan: hand 0, which starts
 //! operations, takes what is ready in the loop, and collects what they completed with.
 //!
-//! It stands on loop_walk, by which it goes on, on loop_delays, which lists the delays that it saw
-//! parked, and on op_slot, exec_recv and exec_start. It keeps one promise: what is collected is want
-//! of memory, or is allowed for the start with which its operation began, and it saw a stop request
-//! only where the scope's request stands.
+//! It stands on loop_serve, by which it serves a node, on loop_walk, by which it goes on, on
+//! loop_delays, which lists the delays that it saw parked, and on op_slot, exec_recv and
+//! exec_start. It keeps one promise: what is collected is want of memory, or is allowed for the
+//! start with which its operation began, and it saw a stop request only where the scope's request
+//! stands.
 //!
-//!     env --start--> an operation in a block --poll, turn--> ready at its root --collect--> Collected
-//!      |                                                                                        ^
-//!      +--sync_wait-----------------------------------------------------------------------------+
+//!     env --start--> an operation --poll, turn--> ready at its root --collect--> Collected
+//!      |                                                                            ^
+//!      +--sync_wait-----------------------------------------------------------------+
 //!
-//! Each poll is a turn of the plan's delays, which rest parked until they are due or roused. It looks
-//! at each of them in each block: one that is parked waits in the list from then on, and a later turn
-//! takes it, the one that comes as many turns later as the delay says, or one after that.
+//! Each poll is a turn of the plan's delays, which rest parked until they are due or roused. It
+//! looks at each of them in each block: one that is parked waits in the list from then on, and a
+//! later turn takes it, the one that comes as many turns later as the delay says, or one after
+//! that.
 //!
 //!     parked --poll: first seen--> waits --poll, so many times--> due --take_parked--> its step
 //!

@@ -40,8 +40,8 @@ impl Loop {
     /// A loop on the hand. The hand comes back on want of memory alone.
     ///
     /// Needs: the hand is hand 0 of the table, which was opened over the plan, whose kinds match.
-    /// Afterwards: the loop knows no names, doesn't help the pool, and has collected nothing. No delay
-    /// waits, and no turn is over.
+    /// Afterwards: the loop knows no names, doesn't help the pool, and has collected nothing. No
+    /// delay waits, and no turn is over.
     pub fn open(
         alloc: Global,
         plan: &Plan,

@@ -65,7 +65,8 @@ impl Loop {
         ensures counts { KeepsCounts self.old self.new }
         ensures delays { KeepsDelays self.old self.new }
         ensures started { IfOk result (λ b. Starts table.now b env self.old self.new) }
-        ensures first { IfOk result (λ b. WentOn (T.does stepper.now) table.now b env self.old self.new) }
+        ensures first { IfOk result
+            (λ b. WentOn (T.does stepper.now) table.now b env self.old self.new) }
         ensures back { IfErr result (λ back. back ≡ env) }
         ensures none { IfErr result (λ _. FindsNoBlock table.now self.old self.new) }
     {

@@ -15,9 +15,10 @@ use crate::delaying::serve_delays;
 use crate::looped::Loop;
 use crate::names::Names;
 use crate::scanning::scan_blocks;
-use crate::serving::{one_more, serve};
+use crate::serving::one_more;
 use exec_recv::{Item, Stepper};
 use life_rules::{Name, Resting};
+use loop_serve::serve;
 use op_slot::{Hand, OpTable};
 use std::alloc::Global;
 use std::mem;
@@ -122,7 +123,8 @@ impl Loop {
         ensures counts { KeepsCounts self.old self.new }
         ensures delays { KeepsDelays self.old self.new }
         ensures aside { KeepsAside self.old.hand.me self.new.hand.me }
-        ensures served { Serves (T.does stepper.now) table.now result self.old.hand.me self.new.hand.me }
+        ensures served { Serves (T.does stepper.now) table.now result
+            self.old.hand.me self.new.hand.me }
         ensures met { MeetsAll table.now self.old self.new }
         ensures none { result ≡ 0 → MissesAll table.now self.old self.new }
     {
@@ -141,20 +143,21 @@ impl Loop {
         taken
     }
 
-    /// One turn of the delays, after it has taken the nodes of the names that it was told of, and gone
-    /// on with each: the list of parked delays goes on to the next turn, each delay of the plan is
-    /// looked at in each block, and those that are due are taken. A delay of so many turns is due in
-    /// the turn that comes so many turns after the one in which it was first seen parked, and is taken
-    /// out of the list in none before; none that is due is left in it. What the nodes leave
-    /// ready is told for the next call. Each node that it was told of, but of roots, is taken, or its
-    /// word, at its own step of this call, said that it isn't ready at the name's generation in the
-    /// loop, nor where the loop helps in the pool. The answer is how many it took, each of which the
-    /// stepper stepped; 0 only where the word of each node that it was told of, but of roots, at its own step
-    /// of this call, said that it isn't ready at the name's generation in the loop, nor where the
-    /// loop helps in the pool.
+    /// One turn of the delays, after it has taken the nodes of the names that it was told of, and
+    /// gone on with each: the list of parked delays goes on to the next turn, each delay of the
+    /// plan is looked at in each block, and those that are due are taken. A delay of so many turns
+    /// is due in the turn that comes so many turns after the one in which it was first seen parked,
+    /// and is taken out of the list in none before; none that is due is left in it. What the nodes
+    /// leave ready is told for the next call. Each node that it was told of, but of roots, is
+    /// taken, or its word, at its own step of this call, said that it isn't ready at the name's
+    /// generation in the loop, nor where the loop helps in the pool. The answer is how many it
+    /// took, each of which the stepper stepped; 0 only where the word of each node that it was told
+    /// of, but of roots, at its own step of this call, said that it isn't ready at the name's
+    /// generation in the loop, nor where the loop helps in the pool.
     ///
-    /// Step: those of `take` for each name; for each delay of the plan in each block one load of its
-    /// control word, and that of `take_parked` where it is due; and those of the steps of its nodes.
+    /// Step: those of `take` for each name; for each delay of the plan in each block one load of
+    /// its control word, and that of `take_parked` where it is due; and those of the steps of its
+    /// nodes.
     /// Needs: the loop is ready. The table is over the stepper's plan, whose kinds match.
     /// Afterwards: the loop is ready. Its operations are as before.
     pub fn poll<T: Stepper, R: Wait + Sync>(
@@ -172,7 +175,8 @@ impl Loop {
         ensures same { IsSameHand self.old.hand self.new.hand }
         ensures counts { KeepsCounts self.old self.new }
         ensures aside { KeepsAside self.old.hand.me self.new.hand.me }
-        ensures served { Serves (T.does stepper.now) table.now result self.old.hand.me self.new.hand.me }
+        ensures served { Serves (T.does stepper.now) table.now result
+            self.old.hand.me self.new.hand.me }
         ensures met { MeetsAll table.now self.old self.new }
         ensures turn { HasTurned table.now result self.old self.new }
         ensures none { result ≡ 0 → MissesAll table.now self.old self.new }
@@ -192,10 +196,10 @@ impl Loop {
     }
 
     /// One turn: polls, and where that took no node, looks at each node of the table but the roots,
-    /// and goes on with each that it takes. What is said of `poll` is said of this. The answer is how
-    /// many it took, each of which the stepper stepped; 0 only where the word of each node but the
-    /// roots, at its own step of this call, said that it isn't ready in the loop, nor where the loop
-    /// helps in the pool.
+    /// and goes on with each that it takes. What is said of `poll` is said of this. The answer is
+    /// how many it took, each of which the stepper stepped; 0 only where the word of each node but
+    /// the roots, at its own step of this call, said that it isn't ready in the loop, nor where the
+    /// loop helps in the pool.
     ///
     /// Step: those of `poll`; then for each node one load of its control word, and where that says
     /// that it is ready, those of `take`; and those of the steps of its nodes.
@@ -216,7 +220,8 @@ impl Loop {
         ensures same { IsSameHand self.old.hand self.new.hand }
         ensures counts { KeepsCounts self.old self.new }
         ensures aside { KeepsAside self.old.hand.me self.new.hand.me }
-        ensures served { Serves (T.does stepper.now) table.now result self.old.hand.me self.new.hand.me }
+        ensures served { Serves (T.does stepper.now) table.now result
+            self.old.hand.me self.new.hand.me }
         ensures met { MeetsAll table.now self.old self.new }
         ensures turn { HasTurned table.now result self.old self.new }
         ensures none { result ≡ 0 → FindsNothing table.now self.old self.new }

@@ -1,7 +1,7 @@
-use Rattle.std.proofs.Common.{arith}
+use Rattle.std.proofs.Common.{eqb-true, sym, ◌∙◌}
 use Rattle.op_slot.proofs.Staying.{stays-here, stays-on}
 use Rattle.exec_recv.proofs.Asiding.{aside-here, aside-on}
-use Rattle.run_loop.proofs.Looking.{below-none, below-more}
+use Rattle.run_loop.proofs.Looking.{below-none, below-empty, below-more}
 use Rattle.run_loop.proofs.delaying.look_round.Goals as goal
 
 pub loop-block-init : goal.loop-block-init
@@ -26,4 +26,15 @@ loop-block-preserved c =
       aside = aside-on old.me between.me new.me before.aside c.look_through.ensures.aside;
       looks = below-more board c.requires.over c.args.nodes.now c.requires.nodes c.loop-block.block old.me between.me new.me c.args.delays.now
           c.loop-block.delays c.look_through.new.delays before.looks c.look_through.ensures.looks before.aside c.look_through.ensures.aside;
+    }
+
+pub returns-then-is_empty : goal.returns-then-is_empty
+returns-then-is_empty c =
+    let old = c.args.hand.now in
+    record {
+      stays = stays-here c.args.table.now old c.requires.hand;
+      rests = c.requires.rests;
+      aside = aside-here old.me;
+      looks = below-empty c.args.table.now c.requires.over c.args.nodes.now c.requires.nodes c.args.table.now.frame.layout.blocks old.me
+          c.args.delays.now (eqb-true _ 0 (sym c.is_empty.ensures ∙ c.if-is_empty.true));
     }

@@ -1,4 +1,4 @@
-use Rattle.std.proofs.Common.{arith, sym, ap, ◌∙◌, subst}
+use Rattle.std.proofs.Common.{sym, ap, ◌∙◌, subst}
 use Rattle.op_slot.proofs.Staying.{stays-on}
 use Rattle.exec_recv.specs.Asides.{Aside}
 use Rattle.exec_recv.specs.Over.{IsOver}

@@ -1,12 +1,37 @@
+use Rattle.std.proofs.Common.{inl, inr, length, arith, ap}
+use Rattle.life_rules.specs.declared.event.Resting.TheVariants as rest
+use Rattle.loop_serve.proofs.Took.{first-serves}
+use Rattle.run_loop.proofs.Due.{tried-as}
 use Rattle.run_loop.proofs.Served.{serves-after, serves-more}
 use Rattle.run_loop.proofs.delaying.try_due.Goals as goal
+
+pub serve-requires-clause-serves : goal.serve-requires-clause-serves
+serve-requires-clause-serves g c κs within = first-serves rest.Parked c.args.hand.now.me.0 c.requires.first
 
 pub returns-then-serve-clause-served : goal.returns-then-serve-clause-served
 returns-then-serve-clause-served g c first serves =
     serves-more (g.T.Stepper.does c.args.stepper.now) c.args.table.now c.args.taken c.one_more.result first c.args.hand.now.me
-    c.serve.new.hand.me c.one_more.ensures.one c.serve.ensures.aside serves (c.serve.ensures.served c.if-serve.true)
+    c.serve.new.hand.me c.one_more.ensures.one c.serve.ensures.aside serves
+    (record { name = _; from = rest.Parked; serves = c.serve.ensures.served c.if-serve.true })
+
+pub returns-then-serve-clause-tried : goal.returns-then-serve-clause-tried
+returns-then-serve-clause-tried g c within =
+    let size = c.size-nodes.ensures.size in
+    let tree = ap length c.tree.ensures.tree in
+    let nodes = c.requires.over.nodes in
+    tried-as c.args.table.now c.args.hand.now.me c.serve.new.hand.me c.one_more.result c.args.due.place c.args.due.generation
+    c.size-nodes.result (omega (arith, size, tree, nodes))
+    (inr (c.one_more.ensures.some, (c.serve.ensures.served c.if-serve.true).taken))
 
 pub returns-clause-served : goal.returns-clause-served
 returns-clause-served g c first serves =
     serves-after (g.T.Stepper.does c.args.stepper.now) c.args.table.now c.args.taken first c.args.hand.now.me c.serve.new.hand.me serves
     c.serve.ensures.aside
+
+pub returns-clause-tried : goal.returns-clause-tried
+returns-clause-tried g c within =
+    let size = c.size-nodes.ensures.size in
+    let tree = ap length c.tree.ensures.tree in
+    let nodes = c.requires.over.nodes in
+    tried-as c.args.table.now c.args.hand.now.me c.serve.new.hand.me c.args.taken c.args.due.place c.args.due.generation c.size-nodes.result
+    (omega (arith, size, tree, nodes)) (inl (c.serve.ensures.missed c.if-serve.false))

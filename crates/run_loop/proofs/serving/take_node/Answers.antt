@@ -1,92 +1,103 @@
-use Rattle.std.proofs.Common.{arith, ap, ◌∙◌}
+use Rattle.std.proofs.Common.{arith, sym, ◌∙◌}
 use Rattle.std.proofs.lemmas.Bool.{both_ways}
+use Rattle.life_rules.specs.declared.event.Resting.TheVariants as rest
 use Rattle.node_tree.specs.declared.context.Context.TheVariants.{Loop, Pool}
 use Rattle.table_words.specs.Layouts.{OfControl, index}
 use Rattle.op_slot.proofs.Staying.{stays-on}
-use Rattle.exec_recv.specs.Asides.{Aside}
 use Rattle.exec_recv.proofs.Asiding.{aside-on}
-use Rattle.run_loop.specs.Turns.{IsUnready}
-use Rattle.run_loop.proofs.Turned.{since-before, since-after}
-use Rattle.run_loop.proofs.Served.{one-later, serves-after, serves-more}
+use Rattle.loop_serve.specs.Serving.{IsUnready, WasUnready}
+use Rattle.loop_serve.proofs.Read.{since-before, since-after}
+use Rattle.loop_serve.proofs.Took.{first-serves}
+use Rattle.run_loop.proofs.Served.{none-taken, one-taken, one-later, serves-after, serves-more}
 use Rattle.run_loop.proofs.serving.take_node.Goals as goal
 
-pub take_ready-requires-2-clause-first : goal.take_ready-requires-2-clause-first
-take_ready-requires-2-clause-first g c κs within = ap (λ (a : Aside). a.number) c.take_ready.ensures.aside.same ∙ c.requires.first
+pub serve_place-requires-clause-serves : goal.serve_place-requires-clause-serves
+serve_place-requires-clause-serves g c κs within = first-serves rest.Loop c.args.hand.now.me.0 c.requires.first
 
-pub returns-then-take_ready-clause-none : goal.returns-then-take_ready-clause-none
-returns-then-take_ready-clause-none g c zero = let one = c.one_more.ensures.some in absurd (omega (arith, one, zero))
-
-pub returns-then-not-helps-clause-none : goal.returns-then-not-helps-clause-none
-returns-then-not-helps-clause-none g c zero = (
-  zero,
-  record {
-    loop = c.take_ready.ensures.unready c.if-take_ready.false;
-    pool = λ help. absurd (both_ways c.args.helps c.if-not-helps.true help);
-  },
-)
-
-pub returns-then-take_ready-2-clause-none : goal.returns-then-take_ready-2-clause-none
-returns-then-take_ready-2-clause-none g c zero = let one = c.one_more-then-take_ready-2.ensures.some in absurd (omega (arith, one, zero))
-
-pub returns-then-take_ready-2-clause-stays : goal.returns-then-take_ready-2-clause-stays
-returns-then-take_ready-2-clause-stays g c =
-    stays-on c.args.table.now c.args.hand.now c.take_ready.new.hand c.take_ready-2.new.hand c.take_ready.ensures.stays
-    c.take_ready-2.ensures.stays
-
-pub returns-then-take_ready-2-clause-aside : goal.returns-then-take_ready-2-clause-aside
-returns-then-take_ready-2-clause-aside g c =
-    aside-on c.args.hand.now.me c.take_ready.new.hand.me c.take_ready-2.new.hand.me c.take_ready.ensures.aside c.take_ready-2.ensures.aside
-
-pub returns-clause-stays : goal.returns-clause-stays
-returns-clause-stays g c =
-    stays-on c.args.table.now c.args.hand.now c.take_ready.new.hand c.take_ready-2.new.hand c.take_ready.ensures.stays
-    c.take_ready-2.ensures.stays
-
-pub returns-clause-aside : goal.returns-clause-aside
-returns-clause-aside g c =
-    aside-on c.args.hand.now.me c.take_ready.new.hand.me c.take_ready-2.new.hand.me c.take_ready.ensures.aside c.take_ready-2.ensures.aside
-
-pub returns-clause-none : goal.returns-clause-none
-returns-clause-none g c zero =
-    let board = c.args.table.now in
-    let i = index board.frame.layout (OfControl c.args.block c.args.node) in
-    let old = c.args.hand.now.me in
-    let between = c.take_ready.new.hand.me in
-    let new = c.take_ready-2.new.hand.me in (
-      zero,
-      record {
-        loop = since-after i (IsUnready Loop) old between new (c.take_ready.ensures.unready c.if-take_ready.false) c.take_ready-2.ensures.aside;
-        pool = λ help.
-            since-before i (IsUnready Pool) old between new c.take_ready.ensures.aside
-            (c.take_ready-2.ensures.unready c.if-take_ready-2.false);
-      },
-    )
-
-pub returns-then-take_ready-clause-served : goal.returns-then-take_ready-clause-served
-returns-then-take_ready-clause-served g c first serves =
-    serves-more (g.T.Stepper.does c.args.stepper.now) c.args.table.now c.args.taken c.one_more.result first c.args.hand.now.me
-    c.take_ready.new.hand.me c.one_more.ensures.one c.take_ready.ensures.aside serves (c.take_ready.ensures.served c.if-take_ready.true)
-
-pub returns-then-not-helps-clause-served : goal.returns-then-not-helps-clause-served
-returns-then-not-helps-clause-served g c first serves =
-    serves-after (g.T.Stepper.does c.args.stepper.now) c.args.table.now c.args.taken first c.args.hand.now.me c.take_ready.new.hand.me serves
-    c.take_ready.ensures.aside
-
-pub returns-then-take_ready-2-clause-served : goal.returns-then-take_ready-2-clause-served
-returns-then-take_ready-2-clause-served g c first serves =
+pub returns-then-is_some : goal.returns-then-is_some
+returns-then-is_some g c =
     let does = g.T.Stepper.does c.args.stepper.now in
     let board = c.args.table.now in
-    let old = c.args.hand.now.me in
-    let between = c.take_ready.new.hand.me in
-    let new = c.take_ready-2.new.hand.me in
-    serves-more does board c.args.taken c.one_more-then-take_ready-2.result first old new c.one_more-then-take_ready-2.ensures.one
-    (aside-on old between new c.take_ready.ensures.aside c.take_ready-2.ensures.aside) serves
-    (one-later does board old between new c.take_ready.ensures.aside (c.take_ready-2.ensures.served c.if-take_ready-2.true))
+    let old = c.args.hand.now in
+    let new = c.serve_place.new.hand in
+    let some = c.one_more.ensures.some in
+    let one = one-taken does board rest.Loop c.serve_place.result old.me new.me (sym c.is_some.ensures ∙ c.if-is_some.true)
+    c.serve_place.ensures.served in
+    record {
+      stays = c.serve_place.ensures.stays;
+      rests = c.serve_place.ensures.rests;
+      aside = c.serve_place.ensures.aside;
+      served = λ first serves.
+          serves-more does board c.args.taken c.one_more.result first old.me new.me c.one_more.ensures.one c.serve_place.ensures.aside serves one;
+      none = λ zero. absurd (omega (arith, some, zero));
+    }
 
-pub returns-clause-served : goal.returns-clause-served
-returns-clause-served g c first serves =
-    let old = c.args.hand.now.me in
-    let between = c.take_ready.new.hand.me in
-    let new = c.take_ready-2.new.hand.me in
-    serves-after (g.T.Stepper.does c.args.stepper.now) c.args.table.now c.args.taken first old new serves
-    (aside-on old between new c.take_ready.ensures.aside c.take_ready-2.ensures.aside)
+pub returns-then-not-helps : goal.returns-then-not-helps
+returns-then-not-helps g c =
+    let does = g.T.Stepper.does c.args.stepper.now in
+    let board = c.args.table.now in
+    let old = c.args.hand.now in
+    let new = c.serve_place.new.hand in
+    record {
+      stays = c.serve_place.ensures.stays;
+      rests = c.serve_place.ensures.rests;
+      aside = c.serve_place.ensures.aside;
+      served = λ first serves. serves-after does board c.args.taken first old.me new.me serves c.serve_place.ensures.aside;
+      none = λ zero. (
+        zero,
+        record {
+          loop = none-taken c.serve_place.result (WasUnready board old.me new.me Loop c.args.block c.args.node)
+              (sym c.is_some.ensures ∙ c.if-is_some.false) c.serve_place.ensures.unready;
+          pool = λ help. absurd (both_ways c.args.helps c.if-not-helps.true help);
+        },
+      );
+    }
+
+pub returns-then-is_some-2 : goal.returns-then-is_some-2
+returns-then-is_some-2 g c =
+    let does = g.T.Stepper.does c.args.stepper.now in
+    let board = c.args.table.now in
+    let old = c.args.hand.now in
+    let between = c.serve_place.new.hand in
+    let new = c.serve_place-2.new.hand in
+    let some = c.one_more-then-is_some-2.ensures.some in
+    let aside = aside-on old.me between.me new.me c.serve_place.ensures.aside c.serve_place-2.ensures.aside in
+    let one = one-taken does board rest.Pool c.serve_place-2.result between.me new.me (sym c.is_some-2.ensures ∙ c.if-is_some-2.true)
+    c.serve_place-2.ensures.served in
+    record {
+      stays = stays-on board old between new c.serve_place.ensures.stays c.serve_place-2.ensures.stays;
+      rests = c.serve_place-2.ensures.rests;
+      aside = aside;
+      served = λ first serves.
+          serves-more does board c.args.taken c.one_more-then-is_some-2.result first old.me new.me c.one_more-then-is_some-2.ensures.one aside
+          serves (one-later does board old.me between.me new.me c.serve_place.ensures.aside one);
+      none = λ zero. absurd (omega (arith, some, zero));
+    }
+
+pub returns : goal.returns
+returns g c =
+    let board = c.args.table.now in
+    let i = index board.frame.layout (OfControl c.args.block c.args.node) in
+    let old = c.args.hand.now in
+    let between = c.serve_place.new.hand in
+    let new = c.serve_place-2.new.hand in
+    let aside = aside-on old.me between.me new.me c.serve_place.ensures.aside c.serve_place-2.ensures.aside in
+    record {
+      stays = stays-on board old between new c.serve_place.ensures.stays c.serve_place-2.ensures.stays;
+      rests = c.serve_place-2.ensures.rests;
+      aside = aside;
+      served = λ first serves. serves-after (g.T.Stepper.does c.args.stepper.now) board c.args.taken first old.me new.me serves aside;
+      none = λ zero. (
+        zero,
+        record {
+          loop = since-after i (IsUnready Loop) old.me between.me new.me
+              (none-taken c.serve_place.result (WasUnready board old.me between.me Loop c.args.block c.args.node)
+              (sym c.is_some.ensures ∙ c.if-is_some.false) c.serve_place.ensures.unready)
+              c.serve_place-2.ensures.aside;
+          pool = λ help.
+              since-before i (IsUnready Pool) old.me between.me new.me c.serve_place.ensures.aside
+              (none-taken c.serve_place-2.result (WasUnready board between.me new.me Pool c.args.block c.args.node)
+              (sym c.is_some-2.ensures ∙ c.if-is_some-2.false) c.serve_place-2.ensures.unready);
+        },
+      );
+    }

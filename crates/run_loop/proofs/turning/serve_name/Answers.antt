@@ -1,16 +1,15 @@
-use Rattle.std.proofs.Common.{sym, ap, ◌∙◌, subst}
+use Rattle.std.proofs.Common.{sym, subst}
 use Rattle.std.specs.Prelude.{◌≢◌}
 use Rattle.std.proofs.lemmas.Bool.{both_ways}
 use Rattle.life_rules.specs.declared.event.Resting.TheVariants as rest
 use Rattle.table_steps.specs.Steps.{control_index}
 use Rattle.table_steps.specs.Takes.{rest_word}
 use Rattle.op_slot.proofs.Staying.{stays-here, stays-on}
-use Rattle.exec_recv.specs.Asides.{Aside}
 use Rattle.exec_recv.specs.Over.{IsOver}
 use Rattle.exec_recv.proofs.Asiding.{aside-here, aside-on}
-use Rattle.run_loop.specs.Turns.{TakesWord}
-use Rattle.run_loop.proofs.Turned.{since-before, since-after}
-use Rattle.run_loop.proofs.Meeting.{moved-before}
+use Rattle.loop_serve.specs.Serving.{TakesWord}
+use Rattle.loop_serve.proofs.Read.{moved-before, since-before, since-after}
+use Rattle.loop_serve.proofs.Took.{first-serves}
 use Rattle.run_loop.proofs.Served.{one-later}
 use Rattle.run_loop.proofs.turning.serve_name.Goals as goal
 
@@ -23,8 +22,8 @@ returns-then-not-is_inner-clause-stays g c = stays-here c.args.table.now c.args.
 pub returns-then-not-is_inner-clause-aside : goal.returns-then-not-is_inner-clause-aside
 returns-then-not-is_inner-clause-aside g c = aside-here c.args.hand.now.me
 
-pub serve-requires-2-clause-first : goal.serve-requires-2-clause-first
-serve-requires-2-clause-first g c κs within = ap (λ (a : Aside). a.number) c.serve.ensures.aside.same ∙ c.requires.first
+pub serve-requires-clause-serves : goal.serve-requires-clause-serves
+serve-requires-clause-serves g c κs within = first-serves rest.Loop c.args.hand.now.me.0 c.requires.first
 
 pub returns-clause-stays : goal.returns-clause-stays
 returns-clause-stays g c =
@@ -59,17 +58,21 @@ returns-clause-left g c left inner =
           since-before i (λ word. word ≢ rest_word x rest.Pool) old between new c.serve.ensures.aside (c.serve-2.ensures.missed left);
     }
 
+pub returns-then-serve-clause-served : goal.returns-then-serve-clause-served
+returns-then-serve-clause-served g c served =
+    record { name = c.args.name; from = rest.Loop; serves = c.serve.ensures.served c.if-serve.true }
+
 pub returns-clause-served : goal.returns-clause-served
 returns-clause-served g c served =
     one-later (g.T.Stepper.does c.args.stepper.now) c.args.table.now c.args.hand.now.me c.serve.new.hand.me c.serve-2.new.hand.me
-    c.serve.ensures.aside (c.serve-2.ensures.served served)
+    c.serve.ensures.aside (record { name = c.args.name; from = rest.Pool; serves = c.serve-2.ensures.served served })
 
 pub returns-then-serve-clause-taken : goal.returns-then-serve-clause-taken
-returns-then-serve-clause-taken g c taken = (rest.Loop, c.serve.ensures.taken c.if-serve.true)
+returns-then-serve-clause-taken g c taken = (rest.Loop, (c.serve.ensures.served c.if-serve.true).taken)
 
 pub returns-clause-taken : goal.returns-clause-taken
 returns-clause-taken g c taken = (
   rest.Pool,
   moved-before (control_index c.args.table.now c.args.name) (TakesWord rest.Pool c.args.name) c.args.hand.now.me c.serve.new.hand.me
-      c.serve-2.new.hand.me c.serve.ensures.aside (c.serve-2.ensures.taken taken),
+      c.serve-2.new.hand.me c.serve.ensures.aside (c.serve-2.ensures.served taken).taken,
 )

@@ -2,7 +2,7 @@ use Rattle.std.proofs.Common.{arith, refl, ap, ◌∙◌}
 use Rattle.table_steps.specs.Claims.{root_name}
 use Rattle.exec_recv.specs.Asides.{Aside}
 use Rattle.run_loop.proofs.Completed.{is-of-root, is-for}
-use Rattle.run_loop.proofs.Turned.{looked-rests, looked-aside}
+use Rattle.loop_serve.proofs.Read.{looked-rests, looked-aside}
 use Rattle.run_loop.proofs.looped.Loop.collect.Goals as goal
 
 pub completed-collected-requires : goal.completed-collected-requires

@@ -1,9 +1,8 @@
-use Rattle.std.proofs.Common.{arith, sym, ap, ◌∙◌, subst}
+use Rattle.std.proofs.Common.{arith, ap, ◌∙◌, subst}
 use Rattle.exec_recv.specs.Asides.{Aside}
 use Rattle.exec_recv.proofs.Asiding.{aside-on}
 use Rattle.loop_delays.specs.Delays.{DelayList}
 use Rattle.run_loop.specs.Delayed.{PassesTurn}
-use Rattle.run_loop.specs.DelayNodes.{AreDelaysOf, nodes_of}
 use Rattle.run_loop.specs.Loops.{told}
 use Rattle.run_loop.proofs.Due.{passes-before}
 use Rattle.run_loop.proofs.Meeting.{met-later}

@@ -1,7 +1,7 @@
 use Rattle.std.proofs.Common.{refl, ap, ◌∙◌}
 use Rattle.exec_recv.proofs.Asiding.{aside-here, aside-on}
 use Rattle.run_loop.specs.declared.looped.Loop.{Loop as Looped}
-use Rattle.run_loop.proofs.Turned.{looked-aside}
+use Rattle.loop_serve.proofs.Read.{looked-aside}
 use Rattle.run_loop.proofs.OneRun.{listed-still, collected-later}
 use Rattle.run_loop.proofs.looped.Loop.turn_until.Goals as goal
 
