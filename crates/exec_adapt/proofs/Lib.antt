@@ -3,3 +3,4 @@ pub mod Places
 pub mod Adapting
 pub mod Leafing
 pub mod Receiving
+pub mod Found

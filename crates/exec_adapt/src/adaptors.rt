@@ -10,7 +10,8 @@ ghost use Rattle.exec_recv.specs.Steppable.{CanStep};
 ghost use Rattle.exec_recv.specs.Nexts.{IsStepped};
 ghost use Rattle.start_laws.specs.Nodes.{IsStartOf};
 ghost use Rattle.exec_adapt.specs.Kinds.{adapted, IsAdaptor};
-ghost use Rattle.exec_adapt.specs.Images.{names_error};
+ghost use Rattle.exec_adapt.specs.Adapts.{EndsWith, Adapts};
+ghost use Rattle.exec_adapt.specs.Images.{names_error, adapted_to};
 ghost use Rattle.exec_adapt.specs.Ends.{MayPass};
 
 use crate::errors::deliver_error;
@@ -50,6 +51,8 @@ fn deliver_image<G: Gate, R: Wait + Sync>(
     requires may { MayPass table.now name env parcel hand.old.me }
     requires unnamed { names_error node.now parcel.completion ≡ false }
     ensures stays { Stays table.now hand.old hand.new }
+    ensures ends { EndsWith table.now name (adapted_to node.now parcel.completion) result
+        hand.new.me }
     ensures stepped { IsStepped table.now name hand.old.me hand.new.me result }
 {
     let saw = parcel.saw();
@@ -87,6 +90,8 @@ fn pass_on<G: Gate, R: Wait + Sync>(
     requires start { IsStartOf env node.now }
     requires may { MayPass table.now name env parcel hand.old.me }
     ensures stays { Stays table.now hand.old hand.new }
+    ensures ends { EndsWith table.now name (adapted_to node.now parcel.completion) result
+        hand.new.me }
     ensures stepped { IsStepped table.now name hand.old.me hand.new.me result }
 {
     if runs_job(node, parcel.completion()) {
@@ -139,6 +144,7 @@ pub(crate) fn step_adaptor<G: Gate, R: Wait + Sync>(
     requires can { CanStep table.now name hand.old.me }
     requires starts { AllCanStart table.now hand.old.me }
     ensures stays { Stays table.now hand.old hand.new }
+    ensures adapts { Adapts table.now name node.now child result hand.old.me hand.new.me }
     ensures stepped { IsStepped table.now name hand.old.me hand.new.me result }
 {
     let (env, found) = at_hand(take_out(table, hand, name, Some(child)));

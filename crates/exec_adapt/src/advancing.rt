@@ -7,6 +7,7 @@ ghost use Rattle.exec_recv.specs.Over.{IsOver};
 ghost use Rattle.exec_recv.specs.Beginnings.{AllCanStart};
 ghost use Rattle.exec_recv.specs.Steppable.{CanStep};
 ghost use Rattle.exec_recv.specs.Nexts.{IsStepped};
+ghost use Rattle.exec_adapt.specs.Adapts.{AdvancesAs};
 ghost use Rattle.exec_adapt.specs.Kinds.{adapted, CanAdvance};
 
 use crate::adaptors::step_adaptor;
@@ -43,7 +44,10 @@ fn adapted(node: &Node) -> Option<NodeId>
 /// it came to hold the node it has made no step on it, and has moved nothing of its home and of its
 /// children's. Each start that the hand owes can begin.
 /// Afterwards: Go names the node that the hand holds in place of this one, and may step next; else
-/// it holds none in its place. Each start that the hand owes can begin.
+/// it holds none in its place. Each start that the hand owes can begin. A factory has completed with
+/// what it makes. An adaptor has started its child, or, where that had completed, completed with what
+/// it makes of that; the receiver node keeps it, ready in the loop. Or there was no memory, for what
+/// doesn't stand in place.
 pub fn advance<G: Gate, R: Wait + Sync>(
     rt: &R,
     alloc: Global,
@@ -62,6 +66,8 @@ pub fn advance<G: Gate, R: Wait + Sync>(
     requires starts { AllCanStart table.now hand.old.me }
     ensures stays { Stays table.now hand.old hand.new }
     ensures stepped { IsStepped table.now name hand.old.me hand.new.me result }
+    ensures advances { AdvancesAs plan.now table.now name (slice_get plan.now.nodes name.node)
+        result hand.old.me hand.new.me }
 {
     if name.node >= plan.size() {
         return step_receiver(alloc, plan, table, hand, name);

@@ -5,6 +5,7 @@ ghost use Rattle.node_tree.specs.Tree.{is_root};
 ghost use Rattle.table_steps.specs.Views.{IsHandOf, Stays};
 ghost use Rattle.exec_recv.specs.Nexts.{IsStepped};
 ghost use Rattle.exec_recv.specs.Over.{IsOver};
+ghost use Rattle.exec_adapt.specs.Adapts.{EndsWith};
 ghost use Rattle.exec_adapt.specs.Ends.{MayName};
 
 use exec_value::{Completion, Txt};
@@ -37,6 +38,7 @@ pub(crate) fn deliver_error<G: Gate, R: Wait + Sync>(
     requires inner { is_root table.now.frame.tree name.node ≡ false }
     requires may { MayName table.now name env kept saw error.now hand.old.me }
     ensures stays { Stays table.now hand.old hand.new }
+    ensures ends { EndsWith table.now name (Completion.Error error.now) result hand.new.me }
     ensures stepped { IsStepped table.now name hand.old.me hand.new.me result }
 {
     let mut done = Completion::Stopped;

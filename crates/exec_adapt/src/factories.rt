@@ -13,6 +13,8 @@ ghost use Rattle.node_steps.specs.Heard.{MaySee};
 ghost use Rattle.node_steps.specs.Midway.{IsReady, KeepsReady};
 ghost use Rattle.start_laws.specs.Leaves.{leaf_of};
 ghost use Rattle.exec_adapt.specs.Kinds.{IsFactory, is_error};
+ghost use Rattle.exec_start.specs.Entries.{asked_of};
+ghost use Rattle.exec_adapt.specs.Adapts.{EndsWith, MakesOwn};
 ghost use Rattle.exec_adapt.specs.Ends.{MakesLeaf};
 
 use crate::errors::deliver_error;
@@ -95,6 +97,8 @@ fn deliver_leaf<G: Gate, R: Wait + Sync>(
     requires may { MakesLeaf table.now name env node.now saw hand.old.me }
     requires unnamed { is_error node.now ≡ false }
     ensures stays { Stays table.now hand.old hand.new }
+    ensures ends { EndsWith table.now name (leaf_of node.now (asked_of env || saw) env) result
+        hand.new.me }
     ensures stepped { IsStepped table.now name hand.old.me hand.new.me result }
 {
     let found = either(env.asked(), saw);
@@ -132,6 +136,7 @@ pub(crate) fn step_factory<G: Gate, R: Wait + Sync>(
     requires can { CanStep table.now name hand.old.me }
     requires starts { AllCanStart table.now hand.old.me }
     ensures stays { Stays table.now hand.old hand.new }
+    ensures makes { MakesOwn table.now name node.now result hand.old.me hand.new.me }
     ensures stepped { IsStepped table.now name hand.old.me hand.new.me result }
 {
     let (env, _) = at_hand(take_out(table, hand, name, None));

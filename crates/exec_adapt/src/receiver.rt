@@ -11,6 +11,7 @@ ghost use Rattle.exec_recv.specs.Beginnings.{AllCanStart};
 ghost use Rattle.exec_recv.specs.Steppable.{CanStep};
 ghost use Rattle.exec_recv.specs.Nexts.{IsStepped};
 ghost use Rattle.node_steps.specs.Starts.{MayRun};
+ghost use Rattle.exec_adapt.specs.Adapts.{ReadsTop, Receives};
 ghost use Rattle.exec_adapt.specs.Kinds.{SpawnsNone};
 
 use crate::opening::at_hand;
@@ -49,6 +50,7 @@ fn start_unbegun_top(
     requires may { MayRun table.now name env child asked hand.old.me }
     requires small { IsSmall (plan_of env) → KnowsIdle name child hand.old.me }
     ensures stays { Stays table.now hand.old hand.new }
+    ensures reads { ReadsTop table.now name env child result hand.old.me hand.new.me }
     ensures stepped { IsStepped table.now name hand.old.me hand.new.me result }
 {
     env.known();
@@ -79,6 +81,8 @@ pub(crate) fn step_receiver(
     requires can { CanStep table.now name hand.old.me }
     requires starts { AllCanStart table.now hand.old.me }
     ensures stays { Stays table.now hand.old hand.new }
+    ensures receives { Receives table.now name (length plan.now.nodes - 1) result
+        hand.old.me hand.new.me }
     ensures stepped { IsStepped table.now name hand.old.me hand.new.me result }
 {
     let root = root_of(plan);

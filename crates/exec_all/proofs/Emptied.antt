@@ -3,7 +3,7 @@ use Rattle.std.proofs.Common.{◌≡◌, inl, inr, ℕ, suc, ◌+◌, ◌<◌, �
 use Rattle.std.specs.Prelude.{slice_index, Option, Some, None, is_some, IfSome}
 use Rattle.std.specs.List.{list_any}
 use Rattle.std.specs.Option.{option_map}
-use Rattle.std.proofs.lemmas.Bool.{and_parts, or_parts, or_from, cases_lt, cond-true, cond-false, ne_eqb}
+use Rattle.std.proofs.lemmas.Bool.{and_parts, or_parts, or_from, both_ways, cases_lt, cond-true, cond-false, ne_eqb}
 use Rattle.std.proofs.lemmas.List.{take_more, take_all, get_or-take, length-take-le}
 use Rattle.common_lemmas.specs.Lists.{are_different}
 use Rattle.common_lemmas.proofs.Bool.{either}
@@ -26,7 +26,7 @@ use Rattle.many_steps.specs.Kids.{AreKids}
 use Rattle.many_steps.proofs.Lists.{places-differ}
 use Rattle.exec_all.specs.declared.joining.Joining.{Joining}
 use Rattle.exec_all.specs.Joined.{IsJoined, Adds}
-use Rattle.exec_all.specs.Opens.{emptied, parcel_of, ends_in, HaveEnded, TakesOne, TakesAll}
+use Rattle.exec_all.specs.Opens.{emptied, parcel_of, ends_in, HaveEnded, OneIsEmpty, TakesOne, TakesAll}
 
 -- a list without a number that passes no test
 none-at : (test : ℕ → Bool) (ns : List ℕ) → ((i : ℕ) → i < length ns → test (get_or ns i 0) ≡ false) → list_any test ns ≡ false
@@ -75,6 +75,17 @@ there : (o : Option Delivery) → is_some o ≡ true → (parcel : Delivery) × 
 there None is = cc
 there (Some parcel) is = (parcel, refl)
 
+not-there : (o : Option Delivery) → is_some o ≡ false → o ≡ None
+not-there None is = refl
+not-there (Some parcel) is = cc
+
+other-off : (a b : Bool) → a ≡ true → (a && b) ≡ false → b ≡ false
+other-off true b on off = off
+other-off false b on off = cc
+
+some-joining : (joining : Joining) → Some joining ≡ None → ⊥
+some-joining joining e = cc
+
 module _ (board : Board Blueprint) (x : Name) (children : List ℕ) where
   -- the homes of the first so many were emptied
   pub record IsTaking (all : Bool) (joining : Joining) (i : ℕ) (m m' : Seated Item Entry) : Type 0 where
@@ -86,6 +97,8 @@ module _ (board : Board Blueprint) (x : Name) (children : List ℕ) where
         Emptying board x start least kid m → Emptying board x start least (emptied (take i children) kid) m'
     pub found : all ≡ true → (start : List Entry) (least : ℕ) (kid : ℕ → Option Item) → Emptying board x start least kid m →
         HaveEnded kid children i × IsJoined joining (ends_in kid children) i
+    pub missing : all ≡ false → (start : List Entry) (least : ℕ) (kid : ℕ → Option Item) → Emptying board x start least kid m →
+        OneIsEmpty kid children i
 
   pub taking-none : (joining : Joining) (m : Seated Item Entry) → ((ends : ℕ → Delivery) → IsJoined joining ends 0) →
       IsTaking true joining 0 m m
@@ -100,6 +113,7 @@ module _ (board : Board Blueprint) (x : Name) (children : List ℕ) where
           record { lay = λ i less. absurd (omega (arith, less)); lawful = λ i less. absurd (omega (arith, less)) },
           none (ends_in kid children),
         );
+        missing = λ off start least kid lies. absurd (both_ways true off refl);
       }
 
   -- so a step can take the next
@@ -174,6 +188,23 @@ module _ (board : Board Blueprint) (x : Name) (children : List ℕ) where
           subst (IsJoined next (ends_in kid children)) at
           (subst (λ (o : Option Delivery). IfSome o (Adds joining next)) answer.1 one.adds (ends_in kid children) i end-here before.1)
 
+    -- none lay there, or none in one before
+    module _ (start : List Entry) (least : ℕ) (kid : ℕ → Option Item) (lies : Emptying board x start least kid m) where
+      empty-here : found ≡ false → kid n ≡ None
+      empty-here off =
+          let nothing : one.answer ≡ None = not-there one.answer (sym one.found_is ∙ off) in
+          sym (emptied-else (take i children) kid n (not-before children i kids.different inside))
+          ∙ one.takes.lay start least (emptied (take i children) kid) (was.left start least kid lies) ∙ ap (option_map Done) nothing
+
+      one-empty : (all && found) ≡ false → OneIsEmpty kid children (i + 1)
+      one-empty off =
+          either all
+          (λ on. (i, omega arith, empty-here (other-off all found on off)))
+          (λ no.
+          let before = was.missing no start least kid lies in
+          let less = before.1 in
+          (before.0, omega (arith, less), before.2))
+
     pub taking-more : IsTaking (all && found) next (i + 1) m m'
     taking-more =
         record {
@@ -185,6 +216,7 @@ module _ (board : Board Blueprint) (x : Name) (children : List ℕ) where
               subst (λ k. Emptying board x start least k m') (sym (next-emptied kid))
               (one.takes.left start least (emptied (take i children) kid) (was.left start least kid lies));
           found = λ both start least kid lies. (ended-more both start least kid lies, joined-more both start least kid lies);
+          missing = λ off start least kid lies. one-empty start least kid lies off;
         }
 
   -- and so all
@@ -208,8 +240,16 @@ module _ (board : Board Blueprint) (x : Name) (children : List ℕ) where
           found = λ start least kid lies.
               subst (λ k. HaveEnded kid children k × IsJoined joining (ends_in kid children) k) at-end
               (was.found is start least kid lies);
+          missing = λ none start least kid lies. absurd (some-joining joining none);
         }
 
-    pub takes-some : TakesAll board x children None m m'
-    takes-some =
-        record { beside = was.beside; same_held = was.same_held; heard = was.heard; left = left-all; found = tt }
+    pub takes-some : all ≡ false → TakesAll board x children None m m'
+    takes-some off =
+        record {
+          beside = was.beside;
+          same_held = was.same_held;
+          heard = was.heard;
+          left = left-all;
+          found = tt;
+          missing = λ none start least kid lies. subst (OneIsEmpty kid children) at-end (was.missing off start least kid lies);
+        }

@@ -36,12 +36,16 @@ use Rattle.node_steps.proofs.Opened.{told-none}
 use Rattle.many_steps.specs.Kids.{AreKids}
 use Rattle.exec_all.specs.declared.joining.Joining.{Joining}
 use Rattle.exec_all.specs.Joined.{IsJoined}
-use Rattle.exec_all.specs.Opens.{emptied, ends_in, HaveEnded, has_begun, TakesAll, HaveJoined, Opens}
+use Rattle.exec_all.specs.Opens.{emptied, ends_in, HaveEnded, is_begun, has_begun, TakesAll, HaveJoined, Opens}
 use Rattle.exec_all.proofs.Emptied.{emptied-in}
 use Rattle.exec_all.proofs.Plans.{all-kids, among-kids, named-kids, some-kids, rest-all}
 
 some-none : (item : Item) → Some item ≡ None → ⊥
 some-none item e = cc
+
+begun-at : (own : AtHome) → is_begun (item_at own) ≡ has_begun own
+begun-at (Unbegun start) = refl
+begun-at (Rested start kept) = refl
 
 module _ (board : Board Blueprint) (plan : Blueprint) (x : Name) (children : List ℕ) (over : IsOver board plan)
     (at : slice_get plan.nodes x.node ≡ Some (WhenAll children)) (m m1 m2 : Seated Item Entry) (can : CanStep board x m) (own : AtHome)
@@ -170,4 +174,8 @@ module _ (board : Board Blueprint) (plan : Blueprint) (x : Name) (children : Lis
               let ended = found (start_at own) (least_of (item_at own)) can.kid lies in
               subst (λ (s : List Entry). HaveJoined board x s children joining m2) (sym env_is)
               (have-joined is-start ended.0 joining ended.1));
+          item = λ other. ap is_begun (took.item other) ∙ begun-at own ∙ sym begun_is;
+          found = λ other.
+              IfSome_then all next.found (λ joining found. found (start_at own) (least_of (item_at own)) other.kid (took.left other));
+          missing = λ other none. next.missing none (start_at own) (least_of (item_at own)) other.kid (took.left other);
         }

@@ -10,8 +10,9 @@ use Rattle.table_steps.specs.Slots.{held_at}
 use Rattle.op_slot.specs.Tends.{put_at}
 use Rattle.exec_start.specs.declared.entry.Entry.{Entry}
 use Rattle.exec_start.specs.declared.item.Item.{Item}
-use Rattle.exec_start.specs.declared.item.Item.TheVariants.{Done}
+use Rattle.exec_start.specs.declared.item.Item.TheVariants.{Start, Done}
 use Rattle.exec_start.specs.Parcels.{Delivery, IsDelivery}
+use Rattle.exec_recv.specs.Steppable.{CanStep}
 use Rattle.start_laws.specs.AllEnds.{FailedFirst}
 use Rattle.start_laws.specs.Holding.{IsDoneBelow}
 use Rattle.start_laws.specs.Nodes.{IsStartOf}
@@ -43,6 +44,21 @@ pub record HaveEnded (kid : ℕ → Option Item) (children : List ℕ) (n : ℕ)
   pub lay : (i : ℕ) → i < n → kid (slice_index children i) ≡ Some (Done (ends_in kid children i))
   pub lawful : (i : ℕ) → i < n → IsDelivery (ends_in kid children i)
 
+-- what these parcels come to is this, and each home of these children was full with one
+abbrev pub AreTogether : (ℕ → Option Item) → List ℕ → Joining → Type 0
+AreTogether kid children joining =
+    HaveEnded kid children (length children)
+    × IsJoined joining (ends_in kid children) (length children)
+
+-- the home of one of the first so many is empty
+abbrev pub OneIsEmpty : (ℕ → Option Item) → List ℕ → ℕ → Type 0
+OneIsEmpty kid children n = (i : ℕ) × (i < n) × (kid (slice_index children i) ≡ None)
+
+-- whether a node with this in its home has begun its children
+abbrev pub is_begun : Item → Bool
+is_begun (Start start) = false
+is_begun item = true
+
 abbrev pub has_begun : AtHome → Bool
 has_begun (Unbegun start) = false
 has_begun (Rested start kept) = true
@@ -56,7 +72,8 @@ module _ (board : Board Blueprint) (x : Name) where
     pub found_is : found ≡ is_some answer
     pub adds : IfSome answer (Adds before after)
 
-  -- the homes of these children were emptied. Where a parcel lay in each, this is what they come to
+  -- the homes of these children were emptied. Where a parcel lay in each, this is what they come to;
+  -- else one was empty
   pub record TakesAll (children : List ℕ) (all : Option Joining) (m m' : Seated Item Entry) :
       Type 0 where
     pub beside : KeepsOthers board x m m'
@@ -66,9 +83,9 @@ module _ (board : Board Blueprint) (x : Name) where
         Emptying board x start least kid m → Emptying board x start least (emptied children kid) m'
     pub found : IfSome all (λ joining.
         (start : List Entry) (least : ℕ) (kid : ℕ → Option Item) →
-        Emptying board x start least kid m →
-        HaveEnded kid children (length children)
-        × IsJoined joining (ends_in kid children) (length children))
+        Emptying board x start least kid m → AreTogether kid children joining)
+    pub missing : all ≡ None → (start : List Entry) (least : ℕ) (kid : ℕ → Option Item) →
+        Emptying board x start least kid m → OneIsEmpty kid children (length children)
 
   -- Each of the children of x, which has this start, has completed, and this is what their parcels
   -- come to. Where a stop was requested of them, and the hand has heard of none above x, one failed
@@ -82,7 +99,8 @@ module _ (board : Board Blueprint) (x : Name) where
         IsDoneBelow start (ends i) (slice_index children i) told
     pub failed : told ≡ true → has_heard board x m ≡ false → FailedFirst ends (length children)
 
-  -- So the step of x opened. Where x had begun, it has awaited its children before.
+  -- So the step of x opened. Where x had begun, it has awaited its children before. What its children's
+  -- parcels come to is at hand exactly where each home was full.
   pub record Opens (children : List ℕ) (opened : Opened) (m m' : Seated Item Entry) :
       Type 0 where
     pub beside : KeepsOthers board x m m'
@@ -90,3 +108,7 @@ module _ (board : Board Blueprint) (x : Name) where
     pub ready : Ready board x opened.env 0 m'
     pub begun : opened.begun ≡ true → Ready board x opened.env (length children) m'
     pub all : IfSome opened.all (λ joining. HaveJoined opened.env children joining m')
+    pub item : (can : CanStep board x m) → is_begun can.item ≡ opened.begun
+    pub found : (can : CanStep board x m) → IfSome opened.all (AreTogether can.kid children)
+    pub missing : (can : CanStep board x m) → opened.all ≡ None →
+        OneIsEmpty can.kid children (length children)

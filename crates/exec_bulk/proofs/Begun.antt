@@ -240,11 +240,15 @@ module _ (board : Board Blueprint) (plan : Blueprint) (x : Name) (start : List E
           }
 
       module _ (m3 : Seated Item Entry) (puts : PutsAll board m2 m3) where
-        pub parts-await : AwaitsParts board x count IsAtRest m3
+        pub parts-await : AwaitsParts board x parcel.completion IsAtRest m3
         parts-await =
             record {
               next_is = refl;
+              start = start;
+              parcel = parcel;
+              done_is = refl;
               full = awaits.full;
+              home = awaits.home;
               waiting = m2;
               awaits = subst (λ k. LeavesControl (aim_at board x) (Busy 0) (Busy k) (AwaitsAt ghosts (aim_at board x) nodes) awaits.full m2) size
                   (subst (λ (ns : List ℕ). LeavesControl (aim_at board x) (Busy 0) (Busy (length ns)) (AwaitsAt ghosts (aim_at board x) ns) awaits.full m2)

@@ -35,7 +35,8 @@ use Rattle.exec_bulk.specs.Made.{IsMade}
 use Rattle.exec_bulk.specs.Opens.{Opens}
 use Rattle.exec_bulk.specs.Rows.{numbers_in, parts_for}
 use Rattle.exec_bulk.specs.Begins.{BeginsParts}
-use Rattle.exec_bulk.specs.Steps.{CompletesWith, EndsWith, EndsAsMade, CutsRow, GoesOnByChild, EndsByParts}
+use Rattle.node_steps.specs.Completes.{CompletesWith}
+use Rattle.exec_bulk.specs.Steps.{EndsWith, EndsAsMade, CutsRow, BeginsChild, GoesOnByChild, EndsByParts}
 use Rattle.exec_bulk.proofs.Making.{row-is}
 
 -- the parcel in a full home
@@ -133,6 +134,16 @@ module _ (board : Board Blueprint) (x : Name) (child : ℕ) (opened : Opened) (m
   ends-unkept job is next m'' can other none full some =
       absurd (no-kept other (sym is ∙ sym (opens.kept_is can) ∙ full))
 
+  -- with a parcel at hand no child is started
+  pub starts-found : (parcel : Delivery) → opened.below ≡ Some parcel → (next : Next) (m'' : Seated Item Entry) →
+      BeginsChild board x child next m m''
+  starts-found parcel is next m'' can none unkept =
+      absurd (no-parcel parcel (sym none ∙ opens.below_is can ∙ ap (option_map Done) is))
+
+  pub starts-kept : (kept : Delivery) → opened.kept ≡ Some kept → (next : Next) (m'' : Seated Item Entry) →
+      BeginsChild board x child next m m''
+  starts-kept kept is next m'' can none unkept = absurd (no-kept kept (sym unkept ∙ opens.kept_is can ∙ is))
+
   -- its job is that of the plan's node
   pub opens-job : (plan : Blueprint) (job : Job) → IsOver board plan → slice_get plan.nodes x.node ≡ Some (Bulk child job) → opens.job ≡ job
   opens-job plan job over at =
@@ -170,7 +181,7 @@ module _ (board : Board Blueprint) (x : Name) (done : Completion) (next : Next) 
       let empty : length (numbers_in done) ≡ 0 = ap length none in
       record { cuts = λ some. absurd (omega (arith, some, empty)); passes = λ none. passes }
 
-  pub cuts-begin : 1 ≤ length (numbers_in done) → BeginsParts board x (parts_for (numbers_in done)) next m' → CutsRow board x done next m'
+  pub cuts-begin : 1 ≤ length (numbers_in done) → BeginsParts board x done next m' → CutsRow board x done next m'
   cuts-begin some begins =
       record {
         cuts = λ some. begins;

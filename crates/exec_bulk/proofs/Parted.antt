@@ -14,6 +14,7 @@ use Rattle.exec_start.specs.declared.item.Item.{Item}
 use Rattle.exec_start.specs.declared.item.Item.TheVariants.{Rest, Done}
 use Rattle.exec_start.specs.Bounds.{least_of}
 use Rattle.exec_start.specs.Entries.{plan_of, node_of, args_of}
+use Rattle.exec_start.specs.Items.{start_in}
 use Rattle.exec_start.specs.Parcels.{Delivery, MayDeliver}
 use Rattle.exec_start.specs.Starts.{IsStart}
 use Rattle.exec_recv.specs.Over.{IsOver}
@@ -69,6 +70,22 @@ module _ (board : Board Blueprint) (plan : Blueprint) (x : Name) (bulk part : �
       of : (own : AtHome) → IsUnbegun (item_at own) → has_begun own ≡ false
       of (Unbegun start) is = refl
       of (Rested start kept) is = absurd is
+
+  pub part-rested : (other : CanStep board x m0) → has_begun own ≡ false → IsUnbegun other.item
+  part-rested other none = subst IsUnbegun (sym (took.item other)) (of own none)
+    where
+      of : (own : AtHome) → has_begun own ≡ false → IsUnbegun (item_at own)
+      of (Unbegun start) is = tt
+      of (Rested start kept) is = cc
+
+  -- its share is that of what lay in its home
+  pub share-there : (other : CanStep board x m0) →
+      part_ending (job_of_bulk plan.nodes bulk) (args_of env)
+      ≡ part_ending (job_of_bulk board.frame.over.value.nodes bulk) (args_of (start_in other.item))
+  share-there other =
+      ap (λ (b : Blueprint). part_ending (job_of_bulk b.nodes bulk) (args_of env)) (sym over.over)
+      ∙ ap (λ (s : List Entry). part_ending (job_of_bulk board.frame.over.value.nodes bulk) (args_of s))
+      (env_is ∙ ap start_in (sym (took.item other)))
 
 -- the part completes with what is made of its share
 module _ (board : Board Blueprint) (plan : Blueprint) (x : Name) (start : List Entry) (bulk : ℕ) (m : Seated Item Entry) (has : HasShare board x start bulk m)

@@ -2,6 +2,7 @@
 use Rattle.std.specs.Prelude.{◌≡◌, ◌⊎◌, ℕ, ◌≤◌, Bool, true, ℤ, List, length}
 use Rattle.std.specs.List.{range_with_len}
 use Rattle.exec_value.specs.declared.limits.TheConstants.{NUMBERS}
+use Rattle.exec_value.specs.declared.outcome.Completion.{Completion}
 use Rattle.exec_value.specs.declared.outcome.Completion.TheVariants.{NoMemory}
 use Rattle.life_rules.specs.declared.event.Name.{Name}
 use Rattle.plan_shape.specs.Blueprint.{Blueprint}
@@ -18,7 +19,8 @@ use Rattle.exec_bulk.specs.declared.beginning.Cut.{Cut}
 use Rattle.exec_bulk.specs.Ends.{HasChild, MayPut}
 use Rattle.exec_bulk.specs.Rows.{numbers_in, parts_for, first_part}
 use Rattle.exec_bulk.specs.Starts.{part_starts, AllBegin}
-use Rattle.exec_bulk.specs.Steps.{CompletesWith, AwaitsParts}
+use Rattle.node_steps.specs.Completes.{CompletesWith}
+use Rattle.exec_bulk.specs.Steps.{AwaitsParts}
 
 -- the parts of x, which has this start, can be made for the row in the parcel
 pub record MayCut (x : Name) (start : List Entry) (parcel : Delivery) : Type 0 where
@@ -59,6 +61,6 @@ module _ (board : Board Blueprint) (x : Name) where
   abbrev pub MayPutAll : List ℕ → List (List Entry) → Seated Item Entry → Type 0
   MayPutAll nodes starts m = MayPutFirst nodes (length nodes) starts m
 
-  -- x awaits so many parts, or there was no memory for their starts
-  abbrev pub BeginsParts : ℕ → Next → Seated Item Entry → Type 0
-  BeginsParts count next m' = AwaitsParts board x count next m' ⊎ CompletesWith board x NoMemory next m'
+  -- x awaits the parts of the row, or there was no memory for their starts
+  abbrev pub BeginsParts : Completion → Next → Seated Item Entry → Type 0
+  BeginsParts done next m' = AwaitsParts board x done next m' ⊎ CompletesWith board x NoMemory next m'

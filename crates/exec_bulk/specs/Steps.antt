@@ -7,26 +7,29 @@ use Rattle.exec_job.specs.declared.job.Job.{Job}
 use Rattle.life_rules.specs.declared.event.Name.{Name}
 use Rattle.life_rules.specs.declared.words.ControlWord.TheVariants.{Busy}
 use Rattle.node_tree.specs.declared.context.Context.TheVariants.{Pool}
-use Rattle.plan_rules.specs.Bulks.{each_of, row_ending, bulk_of}
+use Rattle.plan_rules.specs.Bulks.{each_of, row_ending, bulk_of, job_of_bulk, part_ending}
 use Rattle.plan_rules.specs.declared.node.Node.{Node}
 use Rattle.plan_rules.specs.declared.node.Node.TheVariants.{Bulk, Part}
 use Rattle.plan_shape.specs.Blueprint.{Blueprint}
 use Rattle.table_steps.specs.Awaits.{AwaitsAt}
 use Rattle.table_steps.specs.Claims.{Seated}
 use Rattle.table_steps.specs.Lefts.{LeavesControl}
+use Rattle.table_steps.specs.Slots.{home_at}
 use Rattle.table_steps.specs.Views.{Board, aim_at}
 use Rattle.exec_start.specs.contracts.item.ItemCargo.TheImpl.{ghosts}
 use Rattle.exec_start.specs.declared.entry.Entry.{Entry}
 use Rattle.exec_start.specs.declared.item.Item.{Item}
-use Rattle.exec_start.specs.declared.item.Item.TheVariants.{Start, Done}
-use Rattle.exec_start.specs.Items.{parcel_in}
+use Rattle.exec_start.specs.declared.item.Item.TheVariants.{Start, Done, Rest as Kept}
+use Rattle.exec_start.specs.Entries.{args_of}
+use Rattle.exec_start.specs.Items.{start_in, parcel_in}
 use Rattle.exec_start.specs.Parcels.{Delivery}
 use Rattle.exec_recv.specs.declared.next.Next.{Next}
 use Rattle.exec_recv.specs.declared.next.Next.TheVariants.{Rest, Ready}
 use Rattle.exec_recv.specs.Steppable.{CanStep}
 use Rattle.node_steps.specs.declared.taken.AtHome.{AtHome}
 use Rattle.node_steps.specs.declared.taken.AtHome.TheVariants.{Start as Unbegun, Rest as Rested}
-use Rattle.node_steps.specs.Completes.{IsCompleted}
+use Rattle.node_steps.specs.Completes.{CompletesWith}
+use Rattle.node_steps.specs.Starts.{StartsOne}
 use Rattle.exec_bulk.specs.declared.joining.Made.{Made}
 use Rattle.exec_bulk.specs.Made.{IsMade}
 use Rattle.exec_bulk.specs.Rows.{numbers_in, parts_for, first_part}
@@ -41,37 +44,50 @@ has_begun (Unbegun start) = false
 has_begun (Rested start kept) = true
 
 module _ (board : Board Blueprint) (x : Name) where
-  -- x completed so, from somewhere in its step
-  pub record CompletesWith (done : Completion) (next : Next) (m' : Seated Item Entry) :
+  -- x completed so, or there was no memory for that
+  abbrev pub EndsWith : Completion → Next → Seated Item Entry → Type 0
+  EndsWith done next m' = CompletesWith board x done next m' ⊎ CompletesWith board x NoMemory next m'
+
+  -- x keeps the parcel of its child, which completed with this row, and awaits as many of its parts as
+  -- the row has; it owes what it owed then
+  pub record AwaitsParts (done : Completion) (next : Next) (m' : Seated Item Entry) :
       Type 0 where
-    pub from : Seated Item Entry
+    pub next_is : next ≡ Rest
+    pub start : List Entry
     pub parcel : Delivery
     pub done_is : parcel.completion ≡ done
-    pub completed : IsCompleted board x parcel next from m'
-
-  -- or there was no memory for that
-  abbrev pub EndsWith : Completion → Next → Seated Item Entry → Type 0
-  EndsWith done next m' = CompletesWith done next m' ⊎ CompletesWith NoMemory next m'
-
-  -- x awaits its first so many parts, and owes what it owed then
-  pub record AwaitsParts (count : ℕ) (next : Next) (m' : Seated Item Entry) : Type 0 where
-    pub next_is : next ≡ Rest
     pub full : Seated Item Entry
+    pub home : home_at board.frame.layout full x ≡ Some (Some (Kept start (Some parcel)))
     pub waiting : Seated Item Entry
-    pub awaits : LeavesControl (aim_at board x) (Busy 0) (Busy count)
-        (AwaitsAt ghosts (aim_at board x) (range_with_len (first_part x.node) count)) full waiting
+    pub awaits : LeavesControl (aim_at board x) (Busy 0) (Busy (parts_for (numbers_in done)))
+        (AwaitsAt ghosts (aim_at board x)
+        (range_with_len (first_part x.node) (parts_for (numbers_in done)))) full waiting
     pub owed : m'.0.owed ≡ waiting.0.owed
 
   -- The child of x has completed with this. Where that is a row with numbers, x awaits as many parts
   -- as the row has, or there was no memory for their starts; else x completes with the same.
   pub record CutsRow (done : Completion) (next : Next) (m' : Seated Item Entry) : Type 0 where
     pub cuts : 1 ≤ length (numbers_in done) →
-        AwaitsParts (parts_for (numbers_in done)) next m' ⊎ CompletesWith NoMemory next m'
-    pub passes : numbers_in done ≡ [] → CompletesWith done next m'
+        AwaitsParts done next m' ⊎ CompletesWith board x NoMemory next m'
+    pub passes : numbers_in done ≡ [] → CompletesWith board x done next m'
 
   -- a node that has begun nothing yet is left ready in the pool
   abbrev pub HopsFirst : Next → Seated Item Entry → Type 0
   HopsFirst next m = (can : CanStep board x m) → IsUnbegun can.item → next ≡ Ready Pool
+
+  -- a part that was in the pool completes with what its bulk's job makes of its share, or there was no
+  -- memory
+  abbrev pub EndsShare : ℕ → Next → Seated Item Entry → Seated Item Entry → Type 0
+  EndsShare bulk next m m' =
+      (can : CanStep board x m) → (IsUnbegun can.item → ⊥) →
+      EndsWith (part_ending (job_of_bulk board.frame.over.value.nodes bulk)
+      (args_of (start_in can.item))) next m'
+
+  -- when no parcel of the child is there, x starts the child
+  abbrev pub BeginsChild : ℕ → Next → Seated Item Entry → Seated Item Entry → Type 0
+  BeginsChild child next m m' =
+      (can : CanStep board x m) → can.kid child ≡ None → parcel_in can.item ≡ None →
+      StartsOne board x child next m m'
 
   -- when the parcel of the child lies in the child's home, x goes on by what the child completed with
   abbrev pub GoesOnByChild : ℕ → Next → Seated Item Entry → Seated Item Entry → Type 0
@@ -94,14 +110,20 @@ module _ (board : Board Blueprint) (x : Name) where
       parcel_in can.item ≡ Some kept → 1 ≤ length (numbers_in kept.completion) →
       EndsWith (bulk_of job kept.completion) next m'
 
-  -- a bulk of this child goes on by what the child completed with, and then by its parts
+  -- a bulk of this child starts it, goes on by what it completed with, and then by its parts
   pub record StepsBulk (child : ℕ) (job : Job) (next : Next) (m m' : Seated Item Entry) :
       Type 0 where
+    pub begins : BeginsChild child next m m'
     pub by_child : GoesOnByChild child next m m'
     pub by_parts : EndsByParts child job next m m'
 
-  -- so does a bulk; and a part is left ready in the pool first
+  -- a part is left ready in the pool first, and then completes
+  pub record StepsPart (bulk : ℕ) (next : Next) (m m' : Seated Item Entry) : Type 0 where
+    pub hops : HopsFirst next m
+    pub ends : EndsShare bulk next m m'
+
+  -- so it is by the kind of the node
   abbrev pub BulkSteps : Option Node → Next → Seated Item Entry → Seated Item Entry → Type 0
   BulkSteps (Some (Bulk child job)) next m m' = StepsBulk child job next m m'
-  BulkSteps (Some (Part bulk part)) next m m' = HopsFirst next m
+  BulkSteps (Some (Part bulk part)) next m m' = StepsPart bulk next m m'
   BulkSteps _ next m m' = ⊤

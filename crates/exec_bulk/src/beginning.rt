@@ -9,7 +9,7 @@ ghost use Rattle.exec_start.specs.Entries.{plan_of};
 ghost use Rattle.node_steps.specs.Midway.{IsReady};
 ghost use Rattle.exec_bulk.specs.Begins.{MayCut, HasCut, Looks, MayBeginParts, MayPutAll, BeginsParts};
 ghost use Rattle.exec_bulk.specs.Ends.{HasChild, PutsAll};
-ghost use Rattle.exec_bulk.specs.Rows.{numbers_in, parts_for};
+ghost use Rattle.exec_bulk.specs.Rows.{numbers_in};
 ghost use Rattle.exec_bulk.specs.Steps.{AwaitsParts};
 
 use crate::rows::{first_part, numbers_of, part_nodes, parts_for};
@@ -95,8 +95,7 @@ fn start_parts<R: Wait + Sync>(
     requires may { MayBeginParts table.now name env parcel hand.old.me }
     requires cut { HasCut name env (numbers_in parcel.completion) parts }
     ensures stays { Stays table.now hand.old hand.new }
-    ensures awaits { AwaitsParts table.now name (parts_for (numbers_in parcel.completion)) result
-        hand.new.me }
+    ensures awaits { AwaitsParts table.now name parcel.completion result hand.new.me }
     ensures stepped { IsStepped table.now name hand.old.me hand.new.me result }
 {
     let _ = plan;
@@ -142,8 +141,7 @@ pub(crate) fn begin_parts<G: Gate, R: Wait + Sync>(
     requires has { HasChild table.now name env parcel hand.old.me }
     requires some { 1 ≤ length (numbers_in parcel.completion) }
     ensures stays { Stays table.now hand.old hand.new }
-    ensures begins { BeginsParts table.now name (parts_for (numbers_in parcel.completion)) result
-        hand.new.me }
+    ensures begins { BeginsParts table.now name parcel.completion result hand.new.me }
     ensures stepped { IsStepped table.now name hand.old.me hand.new.me result }
 {
     if !may_rest_on(table, hand, name, &parcel) {

@@ -7,7 +7,8 @@ ghost use Rattle.exec_recv.specs.Nexts.{IsStepped};
 ghost use Rattle.exec_recv.specs.Over.{IsOver};
 ghost use Rattle.exec_bulk.specs.Ends.{HasChild, HasParted, EndsRow};
 ghost use Rattle.exec_bulk.specs.Rows.{numbers_in};
-ghost use Rattle.exec_bulk.specs.Steps.{CompletesWith, EndsAsMade};
+ghost use Rattle.node_steps.specs.Completes.{CompletesWith};
+ghost use Rattle.exec_bulk.specs.Steps.{EndsAsMade};
 
 use crate::joining::Made;
 use crate::rows::numbers_of;

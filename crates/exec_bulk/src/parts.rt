@@ -14,7 +14,7 @@ ghost use Rattle.exec_start.specs.Entries.{args_of};
 ghost use Rattle.node_steps.specs.TakenOut.{start_at};
 ghost use Rattle.exec_bulk.specs.Ends.{HasShare};
 ghost use Rattle.exec_bulk.specs.Kinds.{IsPartOfBulk, HasBulk};
-ghost use Rattle.exec_bulk.specs.Steps.{has_begun, HopsFirst};
+ghost use Rattle.exec_bulk.specs.Steps.{has_begun, EndsWith, StepsPart};
 
 use crate::elements::{make_each, share_in};
 use exec_recv::Point;
@@ -79,6 +79,8 @@ fn run_part<G: Gate, R: Wait + Sync>(
     requires inner { is_root table.now.frame.tree name.node ≡ false }
     requires has { HasShare table.now name env bulk hand.old.me }
     ensures stays { Stays table.now hand.old hand.new }
+    ensures ends { EndsWith table.now name
+        (part_ending (job_of_bulk plan.now.nodes bulk) (args_of env)) result hand.new.me }
     ensures stepped { IsStepped table.now name hand.old.me hand.new.me result }
 {
     gate.pass(
@@ -117,7 +119,7 @@ pub(crate) fn step_part<G: Gate, R: Wait + Sync>(
     requires can { CanStep table.now name hand.old.me }
     requires starts { AllCanStart table.now hand.old.me }
     ensures stays { Stays table.now hand.old hand.new }
-    ensures hops { HopsFirst table.now name result hand.old.me }
+    ensures steps { StepsPart table.now name bulk result hand.old.me hand.new.me }
     ensures stepped { IsStepped table.now name hand.old.me hand.new.me result }
 {
     let (env, begun) = at_hand(take_own(table, hand, name));

@@ -1,3 +1,4 @@
 pub mod Places
 pub mod Opened
 pub mod Landed
+pub mod Did

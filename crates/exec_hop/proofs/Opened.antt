@@ -1,7 +1,7 @@
 -- What a step has at hand, once the homes are emptied.
-use Rattle.std.specs.Prelude.{is_some, IfSome, MatchOption, if◌then◌else◌}
+use Rattle.std.specs.Prelude.{is_some, IfSome, MatchOption}
 use Rattle.std.specs.Option.{option_map}
-use Rattle.std.proofs.Common.{◌≡◌, ℕ, Bool, true, false, List, Option, Some, None, refl, sym, ap, ◌∙◌, subst, arith}
+use Rattle.std.proofs.Common.{◌≡◌, ℕ, true, false, List, Option, Some, None, refl, sym, ap, ◌∙◌, subst, arith}
 use Rattle.std.proofs.lemmas.Option.{same_Some}
 use Rattle.common_lemmas.specs.Sums.{one}
 use Rattle.life_rules.specs.declared.event.Name.{Name}
@@ -12,7 +12,7 @@ use Rattle.table_steps.specs.Views.{Board}
 use Rattle.table_steps.specs.Claims.{Seated}
 use Rattle.exec_start.specs.declared.entry.Entry.{Entry}
 use Rattle.exec_start.specs.declared.item.Item.{Item}
-use Rattle.exec_start.specs.declared.item.Item.TheVariants.{Start, Rest, Done}
+use Rattle.exec_start.specs.declared.item.Item.TheVariants.{Rest, Done}
 use Rattle.exec_start.specs.Bounds.{least_of, least_at_rest}
 use Rattle.exec_start.specs.Fits.{IsItemOf}
 use Rattle.exec_start.specs.Items.{parcel_in, saw_in}
@@ -31,7 +31,6 @@ use Rattle.node_steps.proofs.Frames.{emptying-less}
 use Rattle.node_steps.proofs.Opened.{takes-both, takes-one}
 use Rattle.node_steps.proofs.Telling.{found-done, kept-from}
 use Rattle.exec_hop.specs.declared.opening.AtHand.{AtHand}
-use Rattle.exec_hop.specs.Hops.{IsUnbegun}
 use Rattle.exec_hop.specs.Kinds.{hop_child}
 use Rattle.exec_hop.specs.Openings.{item_of, TakesAll, HasParcel, Opens}
 use Rattle.node_steps.proofs.Places.{source-none, start-of}
@@ -136,17 +135,6 @@ module _ (board : Board Blueprint) (x : Name) (node : Node) (hops : Hopping boar
     kept = subst (λ (s : List Entry). IfSome hand.kept (HasParcel board x s m)) (sym env) (kept-here hand.kept kept);
     shelters = λ un. below-calm un (hop_child node) refl hand.below below;
     item = λ can. all.item can ∙ item;
+    kept_is = λ can. ap parcel_in (all.item can) ∙ kept;
     lay = λ can n names. all.lay can n names ∙ ap (option_map Done) below;
   }
-
--- a node that had begun is no such
-pub begun-not : (hand : AtHand) (item : Item) → item ≡ item_of hand → hand.unbegun ≡ false → IsUnbegun item → ⊥
-begun-not hand item lay begun un =
-    let rest : item ≡ Rest hand.env hand.kept =
-    lay ∙ ap (λ (b : Bool). if b then Start hand.env else Rest hand.env hand.kept) begun in
-    subst IsUnbegun rest un
-
--- nor is a home full in which nothing lay
-pub empty-not : (kid : Option Item) (below : Option Delivery) → kid ≡ option_map Done below → below ≡ None → is_some kid ≡ true → ⊥
-empty-not kid below lay none full =
-    let empty : is_some kid ≡ false = ap is_some (lay ∙ ap (option_map Done) none) in cc

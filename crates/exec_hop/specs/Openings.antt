@@ -10,6 +10,7 @@ use Rattle.table_steps.specs.Claims.{Seated}
 use Rattle.exec_start.specs.declared.entry.Entry.{Entry}
 use Rattle.exec_start.specs.declared.item.Item.{Item}
 use Rattle.exec_start.specs.declared.item.Item.TheVariants.{Start, Rest, Done}
+use Rattle.exec_start.specs.Items.{parcel_in}
 use Rattle.exec_start.specs.Parcels.{Delivery}
 use Rattle.exec_recv.specs.Steppable.{CanStep}
 use Rattle.start_laws.specs.Holding.{IsFromBelow}
@@ -50,5 +51,6 @@ module _ (board : Board Blueprint) (x : Name) where
     pub shelters : is_unstoppable board.frame.tree x.node ≡ true →
         IfSome hand.below (λ parcel. parcel.saw ≡ false)
     pub item : (can : CanStep board x m) → can.item ≡ item_of hand
+    pub kept_is : (can : CanStep board x m) → parcel_in can.item ≡ hand.kept
     pub lay : (can : CanStep board x m) (n : ℕ) → hop_child node ≡ Some n →
         can.kid n ≡ option_map Done hand.below

@@ -31,7 +31,9 @@ use std::sync::Wait;
 /// Afterwards: Go names the node that the hand holds in place of this one, and may step next; else
 /// it holds none in its place. Each start that the hand owes can begin. A `schedule` or a
 /// `starts_on` that had begun nothing, and a `continues_on` whose child has completed, is ready in
-/// its context, or has completed stopped.
+/// its context, or has completed stopped. Taken there, a `schedule` has completed, and so has a
+/// `continues_on`, as its child; a `starts_on` has started its child. Once the child of a
+/// `starts_on` or of an `unstoppable` has completed, the node has too.
 pub fn advance_hop<G: Gate, R: Wait + Sync>(
     rt: &R,
     alloc: Global,

@@ -35,7 +35,7 @@ pub(crate) fn hop<G: Gate, R: Wait + Sync>(
     requires inner { is_root table.now.frame.tree name.node ≡ false }
     requires may { MayHop table.now name env kept hand.old.me }
     ensures stays { Stays table.now hand.old hand.new }
-    ensures lands { LandsIn table.now name on result hand.new.me }
+    ensures lands { LandsIn table.now name on kept result hand.new.me }
     ensures stepped { IsStepped table.now name hand.old.me hand.new.me result }
 {
     if env.asked() {

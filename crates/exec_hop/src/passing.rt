@@ -5,6 +5,7 @@ ghost use Rattle.node_tree.specs.Tree.{is_root};
 ghost use Rattle.table_steps.specs.Views.{IsHandOf, Stays};
 ghost use Rattle.exec_recv.specs.Nexts.{IsStepped};
 ghost use Rattle.exec_recv.specs.Over.{IsOver};
+ghost use Rattle.node_steps.specs.Completes.{CompletesWith};
 ghost use Rattle.exec_hop.specs.Ends.{MayPass};
 
 use life_rules::Name;
@@ -30,6 +31,7 @@ pub(crate) fn pass_on<G: Gate, R: Wait + Sync>(
     requires inner { is_root table.now.frame.tree name.node ≡ false }
     requires may { MayPass table.now name env parcel hand.old.me }
     ensures stays { Stays table.now hand.old hand.new }
+    ensures passes { CompletesWith table.now name parcel.completion result hand.new.me }
     ensures stepped { IsStepped table.now name hand.old.me hand.new.me result }
 {
     let saw = parcel.saw();

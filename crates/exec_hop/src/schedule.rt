@@ -1,5 +1,5 @@
 //! The step of a `schedule` ([exec.schedule]).
-ghost use Rattle.std.specs.Prelude.{◌≡◌, false, slice_get, Some};
+ghost use Rattle.std.specs.Prelude.{◌≡◌, false, [], slice_get, Some};
 ghost use Rattle.std.specs.Thread.{IsSync};
 ghost use Rattle.node_tree.specs.Tree.{is_root};
 ghost use Rattle.plan_kinds.specs.Runnable.{IsRunnable};
@@ -9,7 +9,7 @@ ghost use Rattle.exec_recv.specs.Beginnings.{AllCanStart};
 ghost use Rattle.exec_recv.specs.Steppable.{CanStep};
 ghost use Rattle.exec_recv.specs.Nexts.{IsStepped};
 ghost use Rattle.exec_hop.specs.Ends.{HasStart};
-ghost use Rattle.exec_hop.specs.Hops.{HopsAs};
+ghost use Rattle.exec_hop.specs.Hops.{HopsAs, EndsWith};
 
 use crate::hopping::hop;
 use crate::opening::{AtHand, open};
@@ -46,6 +46,7 @@ fn finish<G: Gate, R: Wait + Sync>(
     requires is { node.now ≡ Node.Schedule on }
     requires has { HasStart table.now name env node.now hand.old.me }
     ensures stays { Stays table.now hand.old hand.new }
+    ensures ends { EndsWith table.now name (Completion.Value []) result hand.new.me }
     ensures stepped { IsStepped table.now name hand.old.me hand.new.me result }
 {
     let _ = node;

@@ -1,13 +1,14 @@
 //! How a node that a request stops completes, and how it goes on where it found none.
-ghost use Rattle.std.specs.Prelude.{◌≡◌, ◌||◌, false};
+ghost use Rattle.std.specs.Prelude.{◌≡◌, ◌⊎◌, ◌||◌, false};
 ghost use Rattle.std.specs.Thread.{IsSync};
 ghost use Rattle.node_tree.specs.Tree.{is_root};
 ghost use Rattle.plan_kinds.specs.Runnable.{IsRunnable};
 ghost use Rattle.table_steps.specs.Views.{IsHandOf, Stays};
 ghost use Rattle.exec_recv.specs.Nexts.{IsStepped};
 ghost use Rattle.exec_recv.specs.Over.{IsOver};
+ghost use Rattle.node_steps.specs.Starts.{ReadsAndStarts};
 ghost use Rattle.exec_hop.specs.Ends.{MayStop, MayLand, MayStart};
-ghost use Rattle.exec_hop.specs.Hops.{HasStopped};
+ghost use Rattle.exec_hop.specs.Hops.{HasStopped, EndsWith};
 
 use crate::passing::pass_on;
 use exec_value::Completion;
@@ -69,6 +70,7 @@ pub(crate) fn pass_unless_stopped<G: Gate, R: Wait + Sync>(
     requires inner { is_root table.now.frame.tree name.node ≡ false }
     requires may { MayLand table.now name env parcel saw hand.old.me }
     ensures stays { Stays table.now hand.old hand.new }
+    ensures ends { EndsWith table.now name parcel.completion result hand.new.me }
     ensures stepped { IsStepped table.now name hand.old.me hand.new.me result }
 {
     let stops = either(env.asked(), saw);
@@ -100,6 +102,8 @@ pub(crate) fn start_unless_stopped<G: Gate, R: Wait + Sync>(
     requires inner { is_root table.now.frame.tree name.node ≡ false }
     requires may { MayStart table.now name env child saw hand.old.me }
     ensures stays { Stays table.now hand.old hand.new }
+    ensures begins { ReadsAndStarts table.now name env child result hand.old.me hand.new.me
+        ⊎ HasStopped table.now name result hand.new.me }
     ensures stepped { IsStepped table.now name hand.old.me hand.new.me result }
 {
     let asked = env.asked();

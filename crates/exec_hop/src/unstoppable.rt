@@ -7,6 +7,7 @@ ghost use Rattle.exec_recv.specs.Over.{IsOver};
 ghost use Rattle.exec_recv.specs.Beginnings.{AllCanStart};
 ghost use Rattle.exec_recv.specs.Steppable.{CanStep};
 ghost use Rattle.exec_recv.specs.Nexts.{IsStepped};
+ghost use Rattle.exec_hop.specs.Hops.{HopsAs};
 
 use crate::opening::{AtHand, open};
 use crate::passing::pass_on;
@@ -41,6 +42,7 @@ pub(crate) fn step_unstoppable<G: Gate, R: Wait + Sync>(
     requires starts { AllCanStart table.now hand.old.me }
     ensures stays { Stays table.now hand.old hand.new }
     ensures stepped { IsStepped table.now name hand.old.me hand.new.me result }
+    ensures hops { HopsAs table.now name (Some node.now) result hand.old.me hand.new.me }
 {
     let AtHand {
         env,

@@ -17,8 +17,10 @@ use Rattle.exec_start.specs.declared.item.Item.{Item}
 use Rattle.exec_start.specs.Parcels.{Delivery}
 use Rattle.start_laws.specs.Lets.{channel_of, pick_of}
 use Rattle.exec_recv.specs.declared.next.Next.{Next}
+use Rattle.node_steps.specs.Starts.{StartsOne}
 use Rattle.exec_let.specs.declared.opening.AtHand.{AtHand}
 use Rattle.exec_let.specs.Ends.{Picks}
+use Rattle.exec_let.specs.Kinds.{let_child}
 use Rattle.exec_let.specs.Lets.{EndsWith, Awaits, Defers, ByAnswer, ByData, GoesOn, LetsAs}
 use Rattle.exec_let.specs.Openings.{Opens}
 
@@ -28,7 +30,7 @@ none-some o parcel none some = let e : None ≡ Some parcel = sym none ∙ some 
 module _ (board : Board Blueprint) (x : Name) (next : Next) (m' : Seated Item Entry) where
   -- the body that the pick names is awaited, or x goes on later
   pub picks-go : (node : Node) (done : Completion) (values : List Datum) (body : ℕ) → Picks node done values body →
-      Awaits board x next m' body values ⊎ Defers board x next m' → ByData board x next m' node (Some values) done
+      Awaits board x next m' body values ⊎ Defers board x next m' done → ByData board x next m' node (Some values) done
   picks-go node done values body picks begins = elim begins [
     | inl awaits ↦
         inl (subst (λ (o : Option ℕ). ByAnswer board x next m' o values (ending (apply_of (pick_of node) values))) (sym picks.picks) awaits)
@@ -55,7 +57,7 @@ module _ (board : Board Blueprint) (x : Name) (next : Next) (m' : Seated Item En
   off-goes node done off ends = subst (λ o. ByData board x next m' node o done) (sym off) ends
 
   -- there was no memory for the channel's data
-  pub want-goes : (node : Node) (done : Completion) → (channel_of node done ≡ None → ⊥) → Defers board x next m' →
+  pub want-goes : (node : Node) (done : Completion) → (channel_of node done ≡ None → ⊥) → Defers board x next m' done →
       GoesOn board x next m' node done
   want-goes node done some defers =
       known (channel_of node done) (λ none. absurd (some none)) (λ values on. on-goes node done values on (inr defers))
@@ -64,6 +66,7 @@ module _ (board : Board Blueprint) (x : Name) (next : Next) (m' : Seated Item En
     -- a body has completed
     pub lets-body : (parcel : Delivery) → hand.body ≡ Some parcel → EndsWith board x next m' parcel.completion → LetsAs board x m0 node next m'
     lets-body parcel is ends = record {
+      begins = λ can none. none-some hand.body parcel (opens.none_is can none).0 is;
       child = λ can other done. none-some hand.body parcel (opens.child_is can other done).0 is;
       body = λ can other done.
           subst (λ (p : Delivery). EndsWith board x next m' p.completion) (same_Some parcel other (sym is ∙ opens.body_is can other done)) ends;
@@ -73,6 +76,7 @@ module _ (board : Board Blueprint) (x : Name) (next : Next) (m' : Seated Item En
     pub lets-child : (parcel : Delivery) → hand.body ≡ None → hand.child ≡ Some parcel → GoesOn board x next m' node parcel.completion →
         LetsAs board x m0 node next m'
     lets-child parcel none is goes = record {
+      begins = λ can empty. none-some hand.child parcel (opens.none_is can empty).1 is;
       child = λ can other done.
           subst (λ (p : Delivery). GoesOn board x next m' node p.completion)
           (same_Some parcel other (sym is ∙ (opens.child_is can other done).1)) goes;
@@ -80,8 +84,10 @@ module _ (board : Board Blueprint) (x : Name) (next : Next) (m' : Seated Item En
     }
 
     -- neither has
-    pub lets-neither : hand.body ≡ None → hand.child ≡ None → LetsAs board x m0 node next m'
-    lets-neither none empty = record {
+    pub lets-neither : hand.body ≡ None → hand.child ≡ None → StartsOne board x (let_child node) next m0 m' →
+        LetsAs board x m0 node next m'
+    lets-neither none empty starts = record {
+      begins = λ can nothing. starts;
       child = λ can other done. none-some hand.child other empty (opens.child_is can other done).1;
       body = λ can other done. none-some hand.body other none (opens.body_is can other done);
     }

@@ -1,5 +1,5 @@
 -- What a let's step has at hand, once the homes are emptied.
-use Rattle.std.specs.Prelude.{IfSome, is_some}
+use Rattle.std.specs.Prelude.{All, IfSome, is_some}
 use Rattle.std.proofs.Common.{◌≡◌, inl, inr, ℕ, ◌*◌, ◌≤◌, ◌==◌, true, List, length, Option, Some, None, refl, sym, ap, ◌∙◌, subst, arith}
 use Rattle.std.specs.Option.{option_map}
 use Rattle.std.proofs.lemmas.Bool.{cond-true, cond-false, eq-eqb}
@@ -34,13 +34,13 @@ use Rattle.node_steps.specs.declared.taken.AtHome.{AtHome}
 use Rattle.node_steps.specs.declared.taken.AtHome.TheVariants.{Start as Unbegun, Rest as Rested}
 use Rattle.node_steps.specs.Heard.{has_heard, MaySee}
 use Rattle.node_steps.specs.Midway.{Emptying, Ready, KeepsOthers}
-use Rattle.node_steps.specs.TakenOut.{item_at, start_at, IsFoundBelow, TakesOwn, TakesBelow}
+use Rattle.node_steps.specs.TakenOut.{item_at, start_at, newest_in, IsFoundBelow, TakesOwn, TakesBelow}
 use Rattle.node_steps.proofs.Frames.{others-on, named-so, emptying-less, emptying-none}
 use Rattle.node_steps.proofs.Places.{start-of}
 use Rattle.node_steps.proofs.Telling.{found-done, kept-from}
 use Rattle.exec_let.specs.declared.opening.AtHand.{AtHand}
 use Rattle.exec_let.specs.Kinds.{let_child}
-use Rattle.exec_let.specs.Lets.{ChildIsDone, BodyIsDone}
+use Rattle.exec_let.specs.Lets.{BodyIsDone}
 use Rattle.exec_let.specs.Openings.{first_of, Emptied, IsOfBody, TakesBodies, HasParcel, HasBody, Opens}
 use Rattle.exec_let.proofs.Emptied.{put-fewer, found-still}
 use Rattle.exec_let.proofs.Places.{Letting, let-keeps, let-runs, let-source, child-below, body-below, below-cases, child-other}
@@ -48,9 +48,9 @@ use Rattle.exec_let.proofs.Places.{Letting, let-keeps, let-runs, let-source, chi
 none-some : {G : Type 0} (item : Item) → None ≡ Some item → G
 none-some item e = cc
 
-done-same : (below : Option Delivery) (parcel : Delivery) → option_map Done below ≡ Some (Done parcel) → below ≡ Some parcel
-done-same None parcel e = cc
-done-same (Some other) parcel e = cc
+child-laid : (below : Option Delivery) (own : Item) → newest_in (option_map Done below) own ≡ first_of below (parcel_in own)
+child-laid None own = refl
+child-laid (Some parcel) own = refl
 
 parcel-same : (a b : Delivery) → Some (Done a) ≡ Some (Done b) → a ≡ b
 parcel-same a b e = cc
@@ -210,17 +210,19 @@ module _ (board : Board Blueprint) (x : Name) (node : Node) (lets : Letting boar
     of-body parcel e =
         subst (λ o. IfSome o (IsOfBody board x start (bodies_of node) kid_there m)) e (took.last.found start least kid_there lay_second)
 
-    no-body : (parcel : Delivery) → ChildIsDone board x m0 node can parcel → body ≡ None
-    no-body parcel done =
+    no-body : All (λ n. can.kid n ≡ None) (bodies_of node) → body ≡ None
+    no-body alone =
         known body (λ none. none)
         (λ other full.
         let one = of-body other full in
         none-some (Done other)
-        (sym (All-contains (λ n. can.kid n ≡ None) (bodies_of node) one.body done.alone one.among)
+        (sym (All-contains (λ n. can.kid n ≡ None) (bodies_of node) one.body alone one.among)
         ∙ put-fewer (let_child node) can.kid one.body (Done other) one.lay))
 
-    its-child : (parcel : Delivery) → ChildIsDone board x m0 node can parcel → below ≡ Some parcel
-    its-child parcel done = done-same below parcel (sym (took.next.lay start least can.kid lay_first) ∙ done.full)
+    its-child : newest_in (can.kid (let_child node)) can.item ≡ first_of below (parcel_in (item_at own))
+    its-child =
+        ap (λ (o : Option Item). newest_in o can.item) (took.next.lay start least can.kid lay_first)
+        ∙ ap (newest_in (option_map Done below)) (took.takes.item can) ∙ child-laid below (item_at own)
 
     its-body : (parcel : Delivery) → BodyIsDone board x m0 node can parcel → body ≡ Some parcel
     its-body parcel done =
@@ -250,8 +252,12 @@ module _ (board : Board Blueprint) (x : Name) (node : Node) (lets : Letting boar
     body = subst (λ (s : List Entry). IfSome hand.body (HasBody board x node s m)) (sym env)
         (subst (λ (o : Option Delivery). IfSome o (HasBody board x node start m)) (sym own_body) (body-here body refl));
     child_is = λ can parcel done. (
-      own_body ∙ no-body can parcel done,
-      child ∙ ap (λ (o : Option Delivery). first_of o kept) (its-child can parcel done),
+      own_body ∙ no-body can done.alone,
+      child ∙ ap (first_of below) (sym own_kept) ∙ sym (its-child can) ∙ done.done,
+    );
+    none_is = λ can none. (
+      own_body ∙ no-body can none.alone,
+      child ∙ ap (first_of below) (sym own_kept) ∙ sym (its-child can) ∙ none.none,
     );
     body_is = λ can parcel done. own_body ∙ its-body can parcel done;
   }

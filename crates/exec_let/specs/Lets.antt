@@ -11,6 +11,7 @@ use Rattle.plan_shape.specs.Blueprint.{Blueprint}
 use Rattle.plan_kinds.specs.Runs.{bodies_of}
 use Rattle.table_steps.specs.Views.{Board}
 use Rattle.table_steps.specs.Claims.{Seated}
+use Rattle.table_steps.specs.Takes.{resting_in}
 use Rattle.node_images.specs.Picks.{picked_body}
 use Rattle.exec_start.specs.declared.entry.Entry.{Entry}
 use Rattle.exec_start.specs.declared.item.Item.{Item}
@@ -22,7 +23,9 @@ use Rattle.exec_recv.specs.declared.next.Next.{Next}
 use Rattle.exec_recv.specs.declared.next.Next.TheVariants.{Rest, Ready}
 use Rattle.exec_recv.specs.Steppable.{CanStep}
 use Rattle.node_steps.specs.Completes.{IsCompleted}
-use Rattle.node_steps.specs.Starts.{IsAwaiting}
+use Rattle.node_steps.specs.Leaves.{IsLeftAt}
+use Rattle.node_steps.specs.Starts.{IsAwaiting, StartsOne}
+use Rattle.node_steps.specs.TakenOut.{newest_in}
 use Rattle.exec_let.specs.Kinds.{let_child}
 
 module _ (board : Board Blueprint) (x : Name) (next : Next) (m' : Seated Item Entry) where
@@ -41,9 +44,18 @@ module _ (board : Board Blueprint) (x : Name) (next : Next) (m' : Seated Item En
     pub awaits : IsAwaiting board x start body
         (start_below body values [] (asked_of start) start) from m'
 
-  -- x goes on later, in the loop; or there was no memory, and it delivered that
-  abbrev pub Defers : Type 0
-  Defers = (next ≡ Ready Loop) ⊎ EndsWith NoMemory
+  -- x was left ready in the loop, with a parcel of its child, which completed with this
+  pub record GoesOnLater (done : Completion) : Type 0 where
+    pub next_is : next ≡ Ready Loop
+    pub start : List Entry
+    pub parcel : Delivery
+    pub done_is : parcel.completion ≡ done
+    pub from : Seated Item Entry
+    pub left : IsLeftAt board x start (Some parcel) (resting_in Loop) from m'
+
+  -- so it was; or there was no memory, and it delivered that
+  abbrev pub Defers : Completion → Type 0
+  Defers done = GoesOnLater done ⊎ EndsWith NoMemory
 
   -- The pick answered this to these data: the body that it names is awaited, and else x completes
   -- with the answer.
@@ -57,15 +69,21 @@ module _ (board : Board Blueprint) (x : Name) (next : Next) (m' : Seated Item En
   ByData node None done = EndsWith done
   ByData node (Some values) done =
       ByAnswer (picked_body (ending (apply_of (pick_of node) values)) (bodies_of node)) values
-      (ending (apply_of (pick_of node) values)) ⊎ Defers
+      (ending (apply_of (pick_of node) values)) ⊎ Defers done
 
   abbrev pub GoesOn : Node → Completion → Type 0
   GoesOn node done = ByData node (channel_of node done) done
 
 module _ (board : Board Blueprint) (x : Name) (m : Seated Item Entry) (node : Node) where
-  -- The child's home alone was full, with this parcel.
+  -- The child had completed with this parcel, which lay in its home, or was kept; and no body's home
+  -- was full.
   pub record ChildIsDone (can : CanStep board x m) (parcel : Delivery) : Type 0 where
-    pub full : can.kid (let_child node) ≡ Some (Done parcel)
+    pub done : newest_in (can.kid (let_child node)) can.item ≡ Some parcel
+    pub alone : All (λ n. can.kid n ≡ None) (bodies_of node)
+
+  -- No parcel of the child was there, and no body's.
+  pub record NoneIsDone (can : CanStep board x m) : Type 0 where
+    pub none : newest_in (can.kid (let_child node)) can.item ≡ None
     pub alone : All (λ n. can.kid n ≡ None) (bodies_of node)
 
   -- The home of a body was full with this parcel, and no other body's was.
@@ -76,9 +94,11 @@ module _ (board : Board Blueprint) (x : Name) (m : Seated Item Entry) (node : No
     pub alone : (n : ℕ) (item : Item) → Contains (bodies_of node) n → can.kid n ≡ Some item →
         n ≡ body
 
-  -- Where the child has completed the let goes on by that, and where a body has it completes as the
-  -- body.
+  -- First the let starts its child. Where the child has completed it goes on by that, and where a body
+  -- has it completes as the body.
   pub record LetsAs (next : Next) (m' : Seated Item Entry) : Type 0 where
+    pub begins : (can : CanStep board x m) → NoneIsDone can →
+        StartsOne board x (let_child node) next m m'
     pub child : (can : CanStep board x m) (parcel : Delivery) → ChildIsDone can parcel →
         GoesOn board x next m' node parcel.completion
     pub body : (can : CanStep board x m) (parcel : Delivery) → BodyIsDone can parcel →

@@ -18,7 +18,7 @@ use Rattle.node_steps.specs.Heard.{has_heard}
 use Rattle.node_steps.specs.Midway.{Emptying, Ready, KeepsOthers}
 use Rattle.node_steps.specs.TakenOut.{IsFoundBelow}
 use Rattle.exec_let.specs.declared.opening.AtHand.{AtHand}
-use Rattle.exec_let.specs.Lets.{ChildIsDone, BodyIsDone}
+use Rattle.exec_let.specs.Lets.{ChildIsDone, NoneIsDone, BodyIsDone}
 
 -- the one parcel, where there is one, else the other
 abbrev pub first_of : Option Delivery → Option Delivery → Option Delivery
@@ -80,5 +80,7 @@ module _ (board : Board Blueprint) (x : Name) where
     pub child_is : (can : CanStep board x m) (parcel : Delivery) →
         ChildIsDone board x m node can parcel →
         (hand.body ≡ None) × (hand.child ≡ Some parcel)
+    pub none_is : (can : CanStep board x m) → NoneIsDone board x m node can →
+        (hand.body ≡ None) × (hand.child ≡ None)
     pub body_is : (can : CanStep board x m) (parcel : Delivery) →
         BodyIsDone board x m node can parcel → hand.body ≡ Some parcel

@@ -45,7 +45,7 @@ pub(crate) fn begin_body(
     requires picks { Picks node.now parcel.completion values body }
     ensures stays { Stays table.now hand.old hand.new }
     ensures begins { Awaits table.now name result hand.new.me body values
-        ⊎ Defers table.now name result hand.new.me }
+        ⊎ Defers table.now name result hand.new.me parcel.completion }
     ensures stepped { IsStepped table.now name hand.old.me hand.new.me result }
 {
     let _ = node;

@@ -104,7 +104,7 @@ pub(crate) fn end_wanting<G: Gate, R: Wait + Sync>(
     requires inner { is_root table.now.frame.tree name.node ≡ false }
     requires may { MayPick table.now name env node.now parcel hand.old.me }
     ensures stays { Stays table.now hand.old hand.new }
-    ensures defers { Defers table.now name result hand.new.me }
+    ensures defers { Defers table.now name result hand.new.me parcel.completion }
     ensures stepped { IsStepped table.now name hand.old.me hand.new.me result }
 {
     let _ = node;

@@ -71,7 +71,8 @@ fn step_let<G: Gate, R: Wait + Sync>(
 /// and runs no callback, and since it came to hold the node it has made no step on it, and has
 /// moved nothing of its home and of its children's. Each start that the hand owes can begin.
 /// Afterwards: Go names the node that the hand holds in place of this one, and may step next; else
-/// it holds none in its place. Each start that the hand owes can begin. Where the child had
+/// it holds none in its place. Each start that the hand owes can begin. Where neither the child nor
+/// a body had completed, the child was started, or read as begun. Where the child had
 /// completed on the let's channel, the body that the pick names for these data is awaited, with
 /// them as its arguments; where the pick names none the let has completed with what it answers; or
 /// there was no memory. On another channel it has completed as the child, and where a body had

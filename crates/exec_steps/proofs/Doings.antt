@@ -11,6 +11,7 @@ use Rattle.exec_start.specs.declared.entry.Entry.{Entry}
 use Rattle.exec_start.specs.declared.item.Item.{Item}
 use Rattle.exec_recv.specs.declared.next.Next.{Next}
 use Rattle.exec_recv.specs.Nexts.{IsStepped}
+use Rattle.exec_adapt.specs.Adapts.{AdvancesAs}
 use Rattle.exec_hop.specs.Hops.{HopsAs}
 use Rattle.exec_let.specs.Lets.{AsLet}
 use Rattle.exec_all.specs.Steps.{AdvancesAll}
@@ -31,8 +32,9 @@ module _ (plan : Blueprint) (board : Board Blueprint) (x : Name) (next : Next) w
           by_kind = subst (λ (o : Option Advance). DoesBy plan board x next m m' o) (sym is) does;
         }
 
-    pub did-plain : advance_at (slice_get plan.nodes x.node) ≡ Some Plain → Does plan board x next m m'
-    did-plain is = did (Some Plain) is tt
+    pub did-plain : advance_at (slice_get plan.nodes x.node) ≡ Some Plain →
+        AdvancesAs plan board x (slice_get plan.nodes x.node) next m m' → Does plan board x next m m'
+    did-plain is advances = did (Some Plain) is advances
 
     pub did-hop : advance_at (slice_get plan.nodes x.node) ≡ Some Hop →
         HopsAs board x (slice_get plan.nodes x.node) next m m' → Does plan board x next m m'

@@ -309,6 +309,10 @@ module _ (board : Board Blueprint) (x : Name) (own : AtHome) (m m1 : Seated Item
           kept = took.kept;
           below = next.found (start_at own) (least_of (item_at own)) can.kid lies;
           alone = alone;
+          item = took.item;
+          lay = λ other k names.
+              subst (λ i. other.kid i ≡ option_map Done below) (same_Some n k names)
+              (next.lay (start_at own) (least_of (item_at own)) other.kid (took.left other));
         }
 
   -- it has none
@@ -337,4 +341,6 @@ module _ (board : Board Blueprint) (x : Name) (own : AtHome) (m m1 : Seated Item
               | inr back ↦ absurd (no-child back.last back.below)
             ]
           ];
+          item = took.item;
+          lay = λ other k names. cc;
         }

@@ -1,5 +1,6 @@
 -- How a node completes from the middle of its step.
-use Rattle.std.specs.Prelude.{◌≢◌}
+use Rattle.std.specs.Prelude.{◌≡◌, ◌≢◌}
+use Rattle.exec_value.specs.declared.outcome.Completion.{Completion}
 use Rattle.exec_value.specs.declared.outcome.Completion.TheVariants.{NoMemory}
 use Rattle.life_rules.specs.declared.event.Name.{Name}
 use Rattle.plan_shape.specs.Blueprint.{Blueprint}
@@ -31,3 +32,11 @@ module _ (board : Board Blueprint) (x : Name) (parcel : Delivery) where
     pub settled : Seated Item Entry
     pub keeps : KeepsReady board x m settled
     pub delivered : IsDelivered board x parcel next settled m'
+
+-- x completed with this, from somewhere in its step
+pub record CompletesWith (board : Board Blueprint) (x : Name) (done : Completion) (next : Next)
+    (m' : Seated Item Entry) : Type 0 where
+  pub from : Seated Item Entry
+  pub parcel : Delivery
+  pub done_is : parcel.completion ≡ done
+  pub completed : IsCompleted board x parcel next from m'

@@ -24,7 +24,7 @@ use Rattle.exec_start.specs.Starts.{NeedsNoRequest, BeginsBelow}
 use Rattle.exec_recv.specs.declared.next.Next.{Next}
 use Rattle.exec_recv.specs.declared.next.Next.TheVariants.{Rest as IsAtRest}
 use Rattle.exec_recv.specs.Asides.{KeepsAside}
-use Rattle.node_steps.specs.Midway.{Ready}
+use Rattle.node_steps.specs.Midway.{Ready, KeepsOthers}
 use Rattle.node_steps.specs.Wants.{IsLeftBare, EndsWanting}
 
 -- the child runs with the arguments of the node that has this start
@@ -111,3 +111,11 @@ pub record ReadsAndStarts (board : Board Blueprint) (x : Name) (start : List Ent
   pub read : IsBegunAs board.frame (beside x n) begun m middle
   pub has : begun ≡ true → IsLeftBare board x start next middle m'
   pub has_not : begun ≡ false → StartsChild board x start n next middle m'
+
+-- the step emptied the homes of x, read whether its child n has begun, and started it where it hasn't
+pub record StartsOne (board : Board Blueprint) (x : Name) (n : ℕ) (next : Next)
+    (m m' : Seated Item Entry) : Type 0 where
+  pub start : List Entry
+  pub middle : Seated Item Entry
+  pub keeps : KeepsOthers board x m middle
+  pub reads : ReadsAndStarts board x start n next middle m'

@@ -34,6 +34,11 @@ item_at (Rested start kept) = Rest start kept
 abbrev pub start_at : AtHome → List Entry
 start_at own = start_in (item_at own)
 
+-- the parcel in the home of a child, else the one that the node's own home keeps
+abbrev pub newest_in : Option Item → Item → Option Delivery
+newest_in (Some (Done parcel)) own = Some parcel
+newest_in other own = parcel_in own
+
 -- how many children the node's last await named at least
 abbrev pub least_known : TakenOut → ℕ
 least_known taken = max (least_of (item_at taken.own)) (one (is_some taken.below))
@@ -102,6 +107,9 @@ module _ (board : Board Blueprint) (x : Name) where
     pub below : MatchOption child (taken.below ≡ None)
         (λ n. IfSome taken.below (IsFoundBelow (start_at taken.own) n m'))
     pub alone : taken.below ≡ None → HasJustBegun board x m' ⊎ MayRest (item_at taken.own) x.node
+    pub item : (can : CanStep board x m) → can.item ≡ item_at taken.own
+    pub lay : (can : CanStep board x m) (n : ℕ) → child ≡ Some n →
+        can.kid n ≡ option_map Done taken.below
 
 -- the hand has emptied the home of x, and maybe some of its children's
 pub record IsEmptying (board : Board Blueprint) (x : Name) (m : Seated Item Entry) : Type 0 where

@@ -1,5 +1,8 @@
-use Rattle.std.proofs.Common.{sym, ap, ◌∙◌, subst}
+use Rattle.std.proofs.Common.{inl, inr, refl, sym, ap, ◌∙◌, subst}
 use Rattle.exec_value.specs.declared.outcome.Completion.{Completion}
+use Rattle.exec_start.specs.Parcels.{Delivery}
+use Rattle.node_images.specs.Makes.{CompletesInPlace}
+use Rattle.node_steps.specs.Wants.{wanting}
 use Rattle.start_laws.specs.Nodes.{JobTakes}
 use Rattle.exec_adapt.specs.Images.{names_error, adapted_to, StandsButForName}
 use Rattle.exec_adapt.proofs.Adapting.{pass-takes, image-may, image-completes, pass-stands, pass-empty}
@@ -40,3 +43,28 @@ deliver_no_memory-requires-clause-large g c κs within small =
     let ok = c.in-Err.ensures.in_place
     (subst (λ (d : Completion). StandsButForName (adapted_to c.args.node.now d)) (sym c.into_completion-done.ensures) stands) in
     cc
+
+pub returns-in-Ok-clause-ends : goal.returns-in-Ok-clause-ends
+returns-in-Ok-clause-ends g c =
+    inl (record {
+      from = c.args.hand.now.me;
+      parcel = c.of-image.result;
+      done_is = ap (λ (p : Delivery). p.completion) c.of-image.ensures ∙ c.in-Ok.ensures.exact
+          ∙ ap (adapted_to c.args.node.now) c.into_completion-done.ensures;
+      completed = c.complete.ensures.completed;
+    })
+
+pub returns-in-Err-clause-ends : goal.returns-in-Err-clause-ends
+returns-in-Err-clause-ends g c =
+    inr (record {
+      large = λ in_place.
+          let ok = c.in-Err.ensures.in_place
+          (inl (subst (λ (d : Completion). CompletesInPlace (adapted_to c.args.node.now d)) (sym c.into_completion-done.ensures) in_place)) in
+          cc;
+      how = inl (record {
+        from = c.args.hand.now.me;
+        parcel = wanting c.args.env;
+        done_is = refl;
+        completed = c.deliver_no_memory.ensures.completed;
+      });
+    })

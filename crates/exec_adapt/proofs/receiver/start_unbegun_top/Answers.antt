@@ -1,4 +1,5 @@
 use Rattle.std.proofs.Common.{Bool, subst}
+use Rattle.std.proofs.lemmas.Bool.{both_ways}
 use Rattle.life_rules.specs.Views.{beside}
 use Rattle.table_steps.specs.Readings.{IsBegunAs}
 use Rattle.node_steps.proofs.Frames.{stepped-after}
@@ -59,3 +60,23 @@ returns-clause-stepped c =
     c.requires.runnable c.known.ensures c.requires.may c.has_begun.new.hand.me read in
     stepped-after c.args.table.now c.args.name c.args.hand.now.me c.has_begun.new.hand.me c.start_top.new.hand.me keeps.beside
     c.start_top.result c.start_top.ensures.stepped
+
+pub returns-then-has_begun-clause-reads : goal.returns-then-has_begun-clause-reads
+returns-then-has_begun-clause-reads c =
+    record {
+      begun = c.has_begun.result;
+      middle = c.has_begun.new.hand.me;
+      read = c.has_begun.ensures.begun;
+      has = λ is. record { next_is = c.leave_at_rest.ensures.next; left = c.leave_at_rest.ensures.left };
+      has_not = λ is. absurd (both_ways c.has_begun.result is c.if-has_begun.true);
+    }
+
+pub returns-clause-reads : goal.returns-clause-reads
+returns-clause-reads c =
+    record {
+      begun = c.has_begun.result;
+      middle = c.has_begun.new.hand.me;
+      read = c.has_begun.ensures.begun;
+      has = λ is. absurd (both_ways c.has_begun.result c.if-has_begun.false is);
+      has_not = λ is. c.start_top.ensures.starts;
+    }

@@ -1,6 +1,11 @@
-use Rattle.std.proofs.Common.{sym, ◌∙◌}
+use Rattle.std.specs.Prelude.{Some}
+use Rattle.std.proofs.Common.{ℕ, ◌-◌, length, sym, ◌∙◌, subst}
+use Rattle.exec_start.specs.Parcels.{Delivery}
 use Rattle.exec_recv.proofs.Places.{over-places}
+use Rattle.node_steps.specs.TakenOut.{TakesOut}
 use Rattle.node_steps.proofs.Frames.{stepped-after}
+use Rattle.exec_adapt.specs.Adapts.{ReadsTop, HandsOver}
+use Rattle.exec_adapt.proofs.Found.{found-same, found-some, found-none}
 use Rattle.exec_adapt.proofs.Receiving.{root-is, top-only, top-leaves, top-may, top-idle}
 use Rattle.exec_adapt.proofs.receiver.step_receiver.Goals as goal
 
@@ -45,3 +50,40 @@ pub returns-in-None-clause-stepped : goal.returns-in-None-clause-stepped
 returns-in-None-clause-stepped c =
     stepped-after c.args.table.now c.args.name c.args.hand.now.me c.take_out.new.hand.me c.start_unbegun_top.new.hand.me
     c.take_out.ensures.takes.beside c.start_unbegun_top.result c.start_unbegun_top.ensures.stepped
+
+pub returns-in-Some-clause-receives : goal.returns-in-Some-clause-receives
+returns-in-Some-clause-receives c =
+    record {
+      begins = λ can none. absurd (found-some c.args.table.now c.args.name (length c.args.plan.now.nodes - 1) c.take_out.result c.args.hand.now.me c.take_out.new.hand.me
+          (subst (λ (n : ℕ). TakesOut c.args.table.now c.args.name (Some n) c.take_out.result c.args.hand.now.me c.take_out.new.hand.me)
+          c.root_of-root.ensures c.take_out.ensures.takes)
+          c.at_hand-env.result.1 c.at_hand-env.ensures.parcel can c.in-Some.parcel c.in-Some.is none);
+      ends = λ can other there.
+          subst (λ (p : Delivery). HandsOver c.args.table.now c.args.name p c.leave_at_rest.result c.leave_at_rest.new.hand.me)
+          (found-same c.args.table.now c.args.name (length c.args.plan.now.nodes - 1) c.take_out.result c.args.hand.now.me c.take_out.new.hand.me
+          (subst (λ (n : ℕ). TakesOut c.args.table.now c.args.name (Some n) c.take_out.result c.args.hand.now.me c.take_out.new.hand.me)
+          c.root_of-root.ensures c.take_out.ensures.takes)
+          c.at_hand-env.result.1 c.at_hand-env.ensures.parcel can c.in-Some.parcel c.in-Some.is other there)
+          (record {
+            next_is = c.leave_at_rest.ensures.next;
+            start = c.at_hand-env.result.0;
+            from = c.take_out.new.hand.me;
+            left = c.leave_at_rest.ensures.left;
+          });
+    }
+
+pub returns-in-None-clause-receives : goal.returns-in-None-clause-receives
+returns-in-None-clause-receives c =
+    record {
+      begins = λ can none. record {
+        start = c.at_hand-env.result.0;
+        middle = c.take_out.new.hand.me;
+        keeps = c.take_out.ensures.takes.beside;
+        reads = subst (λ (n : ℕ). ReadsTop c.args.table.now c.args.name c.at_hand-env.result.0 n c.start_unbegun_top.result c.take_out.new.hand.me
+            c.start_unbegun_top.new.hand.me) c.root_of-root.ensures c.start_unbegun_top.ensures.reads;
+      };
+      ends = λ can other there. absurd (found-none c.args.table.now c.args.name (length c.args.plan.now.nodes - 1) c.take_out.result c.args.hand.now.me c.take_out.new.hand.me
+          (subst (λ (n : ℕ). TakesOut c.args.table.now c.args.name (Some n) c.take_out.result c.args.hand.now.me c.take_out.new.hand.me)
+          c.root_of-root.ensures c.take_out.ensures.takes)
+          c.at_hand-env.result.1 c.at_hand-env.ensures.parcel can c.in-None.is other there);
+    }

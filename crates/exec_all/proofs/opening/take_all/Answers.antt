@@ -36,7 +36,7 @@ loop-child-preserved c =
 pub returns-then-not-all-clause-takes : goal.returns-then-not-all-clause-takes
 returns-then-not-all-clause-takes c =
     takes-some c.args.table.now c.args.name c.args.children.now c.loop-child.all c.loop-child.joining c.loop-child.child-index
-    c.args.hand.now.me c.loop-child.hand.me c.loop-child-test.false c.loop-child.invariant.taking
+    c.args.hand.now.me c.loop-child.hand.me c.loop-child-test.false c.loop-child.invariant.taking c.if-not-all.true
 
 pub returns-clause-takes : goal.returns-clause-takes
 returns-clause-takes c =

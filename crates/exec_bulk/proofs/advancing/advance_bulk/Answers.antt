@@ -12,4 +12,4 @@ step_part-requires-clause-node g c κs within = (_, c.node.ensures ∙ ap (λ (n
 pub returns-in-Part-clause-steps : goal.returns-in-Part-clause-steps
 returns-in-Part-clause-steps g c =
     subst (λ (o : Option Node). BulkSteps c.args.table.now c.args.name o c.step_part.result c.args.hand.now.me c.step_part.new.hand.me)
-    (sym (c.node.ensures ∙ ap (λ (n : Node). Some n) c.in-Part.is)) c.step_part.ensures.hops
+    (sym (c.node.ensures ∙ ap (λ (n : Node). Some n) c.in-Part.is)) c.step_part.ensures.steps

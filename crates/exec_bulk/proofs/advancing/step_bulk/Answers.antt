@@ -3,7 +3,7 @@ use Rattle.plan_rules.specs.declared.node.Node.{Node}
 use Rattle.plan_rules.specs.declared.node.Node.TheVariants.{Bulk}
 use Rattle.node_steps.proofs.Frames.{stepped-after}
 use Rattle.exec_bulk.specs.Steps.{BulkSteps}
-use Rattle.exec_bulk.proofs.Going.{opens-child, opens-parted, opens-runs, opens-job, goes-on, goes-else, ends-found, ends-kept, ends-unkept}
+use Rattle.exec_bulk.proofs.Going.{opens-child, opens-parted, opens-runs, opens-job, goes-on, goes-else, ends-found, ends-kept, ends-unkept, starts-found, starts-kept}
 use Rattle.node_steps.proofs.Places.{inner-is}
 use Rattle.exec_bulk.proofs.advancing.step_bulk.Goals as goal
 
@@ -34,6 +34,8 @@ returns-in-Some-clause-steps g c =
     subst (λ (o : Option Node). BulkSteps c.args.table.now c.args.name o c.after_child.result c.args.hand.now.me c.after_child.new.hand.me)
     (sym c.requires.node.1)
     (record {
+      begins = starts-found c.args.table.now c.args.name c.args.child c.open_bulk-env.result c.args.hand.now.me c.open_bulk-env.new.hand.me c.open_bulk-env.ensures.opens
+          c.in-Some.parcel c.in-Some.is c.after_child.result c.after_child.new.hand.me;
       by_child = goes-on c.args.table.now c.args.name c.args.child c.open_bulk-env.result c.args.hand.now.me c.open_bulk-env.new.hand.me c.open_bulk-env.ensures.opens
           c.in-Some.parcel c.in-Some.is c.after_child.result c.after_child.new.hand.me c.after_child.ensures.cuts;
       by_parts = ends-found c.args.table.now c.args.name c.args.child c.open_bulk-env.result c.args.hand.now.me c.open_bulk-env.new.hand.me c.open_bulk-env.ensures.opens
@@ -65,6 +67,8 @@ returns-in-Some-kept-clause-steps g c =
     subst (λ (o : Option Node). BulkSteps c.args.table.now c.args.name o c.end_parts.result c.args.hand.now.me c.end_parts.new.hand.me)
     (sym c.requires.node.1)
     (record {
+      begins = starts-kept c.args.table.now c.args.name c.args.child c.open_bulk-env.result c.args.hand.now.me c.open_bulk-env.new.hand.me c.open_bulk-env.ensures.opens
+          c.in-Some-kept.kept c.in-Some-kept.is c.end_parts.result c.end_parts.new.hand.me;
       by_child = goes-else c.args.table.now c.args.name c.args.child c.open_bulk-env.result c.args.hand.now.me c.open_bulk-env.new.hand.me c.open_bulk-env.ensures.opens
           c.in-None.is c.end_parts.result c.end_parts.new.hand.me;
       by_parts = ends-kept c.args.table.now c.args.name c.args.child c.open_bulk-env.result c.args.hand.now.me c.open_bulk-env.new.hand.me c.open_bulk-env.ensures.opens
@@ -79,6 +83,12 @@ returns-in-None-kept-clause-steps g c =
     subst (λ (o : Option Node). BulkSteps c.args.table.now c.args.name o c.start_unbegun_child.result c.args.hand.now.me c.start_unbegun_child.new.hand.me)
     (sym c.requires.node.1)
     (record {
+      begins = λ can none unkept. record {
+        start = c.open_bulk-env.result.env;
+        middle = c.open_bulk-env.new.hand.me;
+        keeps = c.open_bulk-env.ensures.opens.beside;
+        reads = c.start_unbegun_child.ensures.starts;
+      };
       by_child = goes-else c.args.table.now c.args.name c.args.child c.open_bulk-env.result c.args.hand.now.me c.open_bulk-env.new.hand.me c.open_bulk-env.ensures.opens
           c.in-None.is c.start_unbegun_child.result c.start_unbegun_child.new.hand.me;
       by_parts = ends-unkept c.args.table.now c.args.name c.args.child c.open_bulk-env.result c.args.hand.now.me c.open_bulk-env.new.hand.me c.open_bulk-env.ensures.opens

@@ -1,3 +1,6 @@
+use Rattle.std.proofs.Common.{inl, inr, refl, ap, ◌∙◌}
+use Rattle.exec_start.specs.Parcels.{Delivery}
+use Rattle.node_steps.specs.Wants.{wanting}
 use Rattle.exec_bulk.proofs.Parted.{share-may, share-completes, its-bulk}
 use Rattle.exec_bulk.proofs.Places.{part-large}
 use Rattle.exec_bulk.proofs.parts.run_part.Goals as goal
@@ -19,3 +22,21 @@ complete-requires-clause-may g c κs within =
 pub deliver_no_memory-requires-clause-large : goal.deliver_no_memory-requires-clause-large
 deliver_no_memory-requires-clause-large g c κs within =
     part-large c.args.env c.args.bulk c.requires.has.part c.requires.has.of
+
+pub returns-in-Some-clause-ends : goal.returns-in-Some-clause-ends
+returns-in-Some-clause-ends g c =
+    inl (record {
+      from = c.args.hand.now.me;
+      parcel = c.of-parcel.result;
+      done_is = ap (λ (p : Delivery). p.completion) c.of-parcel.ensures ∙ c.in-Some.ensures;
+      completed = c.complete.ensures.completed;
+    })
+
+pub returns-in-None-clause-ends : goal.returns-in-None-clause-ends
+returns-in-None-clause-ends g c =
+    inr (record {
+      from = c.args.hand.now.me;
+      parcel = wanting c.args.env;
+      done_is = refl;
+      completed = c.deliver_no_memory.ensures.completed;
+    })

@@ -1,7 +1,9 @@
-use Rattle.std.proofs.Common.{sym, ◌∙◌}
+use Rattle.std.proofs.Common.{sym, ◌∙◌, subst}
+use Rattle.exec_value.specs.declared.outcome.Completion.{Completion}
 use Rattle.exec_recv.proofs.Places.{over-places}
 use Rattle.node_steps.proofs.Frames.{stepped-after}
-use Rattle.exec_bulk.proofs.Parted.{has-share, part-leaves, part-unbegun}
+use Rattle.exec_bulk.specs.Steps.{EndsWith}
+use Rattle.exec_bulk.proofs.Parted.{has-share, part-leaves, part-unbegun, part-rested, share-there}
 use Rattle.node_steps.proofs.Places.{inner-is}
 use Rattle.plan_rules.specs.declared.node.Node.TheVariants.{Part}
 use Rattle.exec_bulk.proofs.parts.step_part.Goals as goal
@@ -26,13 +28,33 @@ leave_at_rest-requires-clause-may g c =
     c.take_own.result c.args.hand.now.me c.take_own.new.hand.me c.requires.can c.take_own.ensures.takes c.at_hand-env.result.0
     c.at_hand-env.ensures.env c.known.ensures
 
-pub returns-then-begun-clause-hops : goal.returns-then-begun-clause-hops
-returns-then-begun-clause-hops g c other unbegun =
-    let none = part-unbegun c.args.table.now c.args.plan.now c.args.name c.args.bulk c.requires.node.0 c.requires.over c.requires.kinds
-    c.requires.node.1 c.take_own.result c.args.hand.now.me c.take_own.new.hand.me c.requires.can c.take_own.ensures.takes
-    c.at_hand-env.result.0 c.at_hand-env.ensures.env c.known.ensures other unbegun in
-    let begun = sym c.at_hand-env.ensures.begun ∙ c.if-begun.true in
-    cc
+pub returns-then-begun-clause-steps : goal.returns-then-begun-clause-steps
+returns-then-begun-clause-steps g c =
+    record {
+      hops = λ other unbegun.
+          let none = part-unbegun c.args.table.now c.args.plan.now c.args.name c.args.bulk c.requires.node.0 c.requires.over c.requires.kinds
+          c.requires.node.1 c.take_own.result c.args.hand.now.me c.take_own.new.hand.me c.requires.can c.take_own.ensures.takes
+          c.at_hand-env.result.0 c.at_hand-env.ensures.env c.known.ensures other unbegun in
+          let begun = sym c.at_hand-env.ensures.begun ∙ c.if-begun.true in
+          cc;
+      ends = λ other begun.
+          subst (λ (d : Completion). EndsWith c.args.table.now c.args.name d c.run_part.result c.run_part.new.hand.me)
+          (share-there c.args.table.now c.args.plan.now c.args.name c.args.bulk c.requires.node.0 c.requires.over c.requires.kinds
+          c.requires.node.1 c.take_own.result c.args.hand.now.me c.take_own.new.hand.me c.requires.can c.take_own.ensures.takes
+          c.at_hand-env.result.0 c.at_hand-env.ensures.env c.known.ensures other)
+          c.run_part.ensures.ends;
+    }
+
+pub returns-clause-steps : goal.returns-clause-steps
+returns-clause-steps g c =
+    record {
+      hops = λ other unbegun. c.leave_at_rest.ensures.next;
+      ends = λ other begun.
+          absurd (begun (part-rested c.args.table.now c.args.plan.now c.args.name c.args.bulk c.requires.node.0 c.requires.over c.requires.kinds
+          c.requires.node.1 c.take_own.result c.args.hand.now.me c.take_own.new.hand.me c.requires.can c.take_own.ensures.takes
+          c.at_hand-env.result.0 c.at_hand-env.ensures.env c.known.ensures other
+          (sym c.at_hand-env.ensures.begun ∙ c.if-begun.false)));
+    }
 
 pub returns-then-begun-clause-stepped : goal.returns-then-begun-clause-stepped
 returns-then-begun-clause-stepped g c =

@@ -9,11 +9,11 @@ use Rattle.start_laws.specs.Nodes.{MayHaveSeen}
 use Rattle.node_steps.proofs.Frames.{ready-is, others-on, stepped-after}
 use Rattle.node_steps.proofs.Asked.{look-sees}
 use Rattle.node_steps.proofs.Places.{inner-is}
-use Rattle.exec_hop.specs.Hops.{HopsAs}
+use Rattle.exec_hop.specs.Hops.{LandsIn, EndsWith, HopsAs}
 use Rattle.exec_hop.specs.Kinds.{HopsOrShelters, hop_child}
 use Rattle.exec_hop.specs.Openings.{HasParcel}
+use Rattle.exec_hop.proofs.Did.{same-kept, none-kept, some-kept, same-below, none-below, some-below, starts-from}
 use Rattle.exec_hop.proofs.Landed.{has-still, parcel-still, hop-kept, hop-lands, hop-starts}
-use Rattle.exec_hop.proofs.Opened.{empty-not}
 use Rattle.exec_hop.proofs.Places.{hopping}
 use Rattle.exec_hop.proofs.continues_on.step_continues_on.Goals as goal
 
@@ -82,7 +82,14 @@ returns-in-Some-clause-stepped g c =
 pub returns-in-Some-clause-hops : goal.returns-in-Some-clause-hops
 returns-in-Some-clause-hops g c =
     subst (λ (n : Node). HopsAs c.args.table.now c.args.name (Some n) c.hop.result c.args.hand.now.me c.hop.new.hand.me)
-    (sym c.requires.is) (λ can full. c.hop.ensures.lands)
+    (sym c.requires.is)
+    (record {
+      begins = λ can none unkept. absurd (some-below c.args.table.now c.args.name c.args.node.now c.open-env.result c.args.hand.now.me c.open-env.new.hand.me c.open-env.ensures.opens can c.args.child (ap hop_child c.requires.is) c.in-Some.parcel c.in-Some.is none);
+      hops = λ can other full.
+          subst (λ (p : Delivery). LandsIn c.args.table.now c.args.name c.args.on (Some p) c.hop.result c.hop.new.hand.me)
+          (same-below c.args.table.now c.args.name c.args.node.now c.open-env.result c.args.hand.now.me c.open-env.new.hand.me c.open-env.ensures.opens can c.args.child (ap hop_child c.requires.is) c.in-Some.parcel c.in-Some.is other full) c.hop.ensures.lands;
+      ends = λ can other none kept. absurd (some-below c.args.table.now c.args.name c.args.node.now c.open-env.result c.args.hand.now.me c.open-env.new.hand.me c.open-env.ensures.opens can c.args.child (ap hop_child c.requires.is) c.in-Some.parcel c.in-Some.is none);
+    })
 
 pub returns-in-Some-kept-clause-stepped : goal.returns-in-Some-kept-clause-stepped
 returns-in-Some-kept-clause-stepped g c =
@@ -94,7 +101,14 @@ returns-in-Some-kept-clause-stepped g c =
 pub returns-in-Some-kept-clause-hops : goal.returns-in-Some-kept-clause-hops
 returns-in-Some-kept-clause-hops g c =
     subst (λ (n : Node). HopsAs c.args.table.now c.args.name (Some n) c.pass_unless_stopped.result c.args.hand.now.me c.pass_unless_stopped.new.hand.me)
-    (sym c.requires.is) (λ can full. absurd (empty-not (can.kid c.args.child) c.open-env.result.below (c.open-env.ensures.opens.lay can c.args.child (ap hop_child c.requires.is)) c.in-None.is full))
+    (sym c.requires.is)
+    (record {
+      begins = λ can none unkept. absurd (some-kept c.args.table.now c.args.name c.args.node.now c.open-env.result c.args.hand.now.me c.open-env.new.hand.me c.open-env.ensures.opens can c.in-Some-kept.parcel c.in-Some-kept.is unkept);
+      hops = λ can other full. absurd (none-below c.args.table.now c.args.name c.args.node.now c.open-env.result c.args.hand.now.me c.open-env.new.hand.me c.open-env.ensures.opens can c.args.child (ap hop_child c.requires.is) c.in-None.is other full);
+      ends = λ can other none kept.
+          subst (λ (p : Delivery). EndsWith c.args.table.now c.args.name p.completion c.pass_unless_stopped.result c.pass_unless_stopped.new.hand.me)
+          (same-kept c.args.table.now c.args.name c.args.node.now c.open-env.result c.args.hand.now.me c.open-env.new.hand.me c.open-env.ensures.opens can c.in-Some-kept.parcel c.in-Some-kept.is other kept) c.pass_unless_stopped.ensures.ends;
+    })
 
 pub returns-in-None-kept-clause-stepped : goal.returns-in-None-kept-clause-stepped
 returns-in-None-kept-clause-stepped g c =
@@ -104,4 +118,10 @@ returns-in-None-kept-clause-stepped g c =
 pub returns-in-None-kept-clause-hops : goal.returns-in-None-kept-clause-hops
 returns-in-None-kept-clause-hops g c =
     subst (λ (n : Node). HopsAs c.args.table.now c.args.name (Some n) c.start_unless_stopped.result c.args.hand.now.me c.start_unless_stopped.new.hand.me)
-    (sym c.requires.is) (λ can full. absurd (empty-not (can.kid c.args.child) c.open-env.result.below (c.open-env.ensures.opens.lay can c.args.child (ap hop_child c.requires.is)) c.in-None.is full))
+    (sym c.requires.is)
+    (record {
+      begins = λ can none unkept. starts-from c.args.table.now c.args.name c.start_unless_stopped.result c.start_unless_stopped.new.hand.me c.args.hand.now.me c.open-env.new.hand.me
+          c.open-env.result.env c.args.child c.open-env.ensures.opens.beside c.start_unless_stopped.ensures.begins;
+      hops = λ can other full. absurd (none-below c.args.table.now c.args.name c.args.node.now c.open-env.result c.args.hand.now.me c.open-env.new.hand.me c.open-env.ensures.opens can c.args.child (ap hop_child c.requires.is) c.in-None.is other full);
+      ends = λ can other none kept. absurd (none-kept c.args.table.now c.args.name c.args.node.now c.open-env.result c.args.hand.now.me c.open-env.new.hand.me c.open-env.ensures.opens can c.in-None-kept.is other kept);
+    })

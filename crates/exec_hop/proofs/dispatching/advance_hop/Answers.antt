@@ -21,3 +21,8 @@ pub returns-in-ContinuesOn-clause-hops : goal.returns-in-ContinuesOn-clause-hops
 returns-in-ContinuesOn-clause-hops g c =
     subst (λ (o : Option Node). HopsAs c.args.table.now c.args.name o c.step_continues_on.result c.args.hand.now.me c.step_continues_on.new.hand.me)
     (sym c.node-node.ensures) c.step_continues_on.ensures.hops
+
+pub returns-in-Unstoppable-clause-hops : goal.returns-in-Unstoppable-clause-hops
+returns-in-Unstoppable-clause-hops g c =
+    subst (λ (o : Option Node). HopsAs c.args.table.now c.args.name o c.step_unstoppable.result c.args.hand.now.me c.step_unstoppable.new.hand.me)
+    (sym c.node-node.ensures) c.step_unstoppable.ensures.hops

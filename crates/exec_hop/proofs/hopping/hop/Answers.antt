@@ -11,4 +11,10 @@ pub returns-then-asked-clause-lands : goal.returns-then-asked-clause-lands
 returns-then-asked-clause-lands g c = inr c.deliver_stopped.ensures.stops
 
 pub returns-clause-lands : goal.returns-clause-lands
-returns-clause-lands g c = inl c.leave_at_rest.ensures.next
+returns-clause-lands g c =
+    inl (record {
+      next_is = c.leave_at_rest.ensures.next;
+      start = c.args.env;
+      from = c.args.hand.now.me;
+      left = c.leave_at_rest.ensures.left;
+    })

@@ -16,3 +16,11 @@ complete-requires-clause-may g c κs within =
     ∙ ap (λ (saw : Bool). record { start = c.args.env; completion = c.into_completion.result; saw = saw }) c.saw-saw.ensures
     ∙ ap (λ (done : Completion). record { start = c.args.env; completion = done; saw = c.args.parcel.saw }) c.into_completion.ensures))
     c.requires.may.completes
+
+pub returns-clause-passes : goal.returns-clause-passes
+returns-clause-passes g c = record {
+  from = c.args.hand.now.me;
+  parcel = c.of-own.result;
+  done_is = ap (λ (p : Delivery). p.completion) c.of-own.ensures ∙ c.into_completion.ensures;
+  completed = c.complete.ensures.completed;
+}

@@ -3,6 +3,7 @@ use Rattle.exec_value.specs.declared.outcome.Completion.TheVariants.{Value}
 use Rattle.plan_rules.specs.Settle.{unless_asked}
 use Rattle.node_steps.proofs.Frames.{ready-is, stepped-after}
 use Rattle.node_steps.proofs.Asked.{look-sees}
+use Rattle.exec_hop.proofs.Did.{schedule-ends}
 use Rattle.exec_hop.proofs.Landed.{has-still, schedule-may, schedule-completes}
 use Rattle.exec_hop.proofs.schedule.finish.Goals as goal
 
@@ -36,3 +37,9 @@ pub returns-clause-stepped : goal.returns-clause-stepped
 returns-clause-stepped g c =
     stepped-after c.args.table.now c.args.name c.args.hand.now.me c.hear-saw.new.hand.me c.complete.new.hand.me
     c.hear-saw.ensures.keeps.beside c.complete.result c.complete.ensures.stepped
+
+pub returns-clause-ends : goal.returns-clause-ends
+returns-clause-ends g c =
+    schedule-ends c.args.table.now c.args.name c.complete.result c.complete.new.hand.me c.either-found.result c.args.env c.hear-saw.result
+    c.put_scheduled.new.done c.put_scheduled.ensures c.of-parcel.result c.of-parcel.ensures c.hear-saw.new.hand.me
+    c.complete.ensures.completed

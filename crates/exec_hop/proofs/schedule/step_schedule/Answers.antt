@@ -5,8 +5,8 @@ use Rattle.node_steps.proofs.Frames.{stepped-after}
 use Rattle.node_steps.proofs.Places.{inner-is}
 use Rattle.exec_hop.specs.Hops.{HopsAs}
 use Rattle.exec_hop.specs.Kinds.{HopsOrShelters, hop_child}
+use Rattle.exec_hop.proofs.Did.{is-unbegun, not-unbegun}
 use Rattle.exec_hop.proofs.Landed.{hop-bare}
-use Rattle.exec_hop.proofs.Opened.{begun-not}
 use Rattle.exec_hop.proofs.Places.{hopping}
 use Rattle.exec_hop.proofs.schedule.step_schedule.Goals as goal
 
@@ -42,7 +42,11 @@ returns-then-unbegun-clause-stepped g c =
 pub returns-then-unbegun-clause-hops : goal.returns-then-unbegun-clause-hops
 returns-then-unbegun-clause-hops g c =
     subst (λ (n : Node). HopsAs c.args.table.now c.args.name (Some n) c.hop.result c.args.hand.now.me c.hop.new.hand.me)
-    (sym c.requires.is) (λ can un. c.hop.ensures.lands)
+    (sym c.requires.is)
+    (record {
+      hops = λ can un. c.hop.ensures.lands;
+      ends = λ can begun. absurd (begun (is-unbegun c.args.table.now c.args.name c.args.node.now c.open-env.result c.args.hand.now.me c.open-env.new.hand.me c.open-env.ensures.opens can c.if-unbegun.true));
+    })
 
 pub returns-clause-stepped : goal.returns-clause-stepped
 returns-clause-stepped g c =
@@ -52,4 +56,8 @@ returns-clause-stepped g c =
 pub returns-clause-hops : goal.returns-clause-hops
 returns-clause-hops g c =
     subst (λ (n : Node). HopsAs c.args.table.now c.args.name (Some n) c.finish.result c.args.hand.now.me c.finish.new.hand.me)
-    (sym c.requires.is) (λ can un. absurd (begun-not c.open-env.result can.item (c.open-env.ensures.opens.item can) c.if-unbegun.false un))
+    (sym c.requires.is)
+    (record {
+      hops = λ can un. absurd (not-unbegun c.args.table.now c.args.name c.args.node.now c.open-env.result c.args.hand.now.me c.open-env.new.hand.me c.open-env.ensures.opens can c.if-unbegun.false un);
+      ends = λ can begun. c.finish.ensures.ends;
+    })

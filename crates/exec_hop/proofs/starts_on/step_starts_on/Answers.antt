@@ -9,11 +9,11 @@ use Rattle.start_laws.specs.Nodes.{MayHaveSeen}
 use Rattle.node_steps.proofs.Frames.{ready-is, others-on, stepped-after}
 use Rattle.node_steps.proofs.Asked.{look-sees}
 use Rattle.node_steps.proofs.Places.{inner-is}
-use Rattle.exec_hop.specs.Hops.{HopsAs}
+use Rattle.exec_hop.specs.Hops.{EndsWith, HopsAs}
 use Rattle.exec_hop.specs.Kinds.{HopsOrShelters, hop_child}
 use Rattle.exec_hop.specs.Openings.{HasParcel}
+use Rattle.exec_hop.proofs.Did.{is-unbegun, not-unbegun, same-below, none-below, some-below, starts-from}
 use Rattle.exec_hop.proofs.Landed.{has-still, hop-bare, hop-lands, hop-starts}
-use Rattle.exec_hop.proofs.Opened.{begun-not}
 use Rattle.exec_hop.proofs.Places.{hopping}
 use Rattle.exec_hop.proofs.starts_on.step_starts_on.Goals as goal
 
@@ -77,7 +77,12 @@ returns-then-unbegun-clause-stepped g c =
 pub returns-then-unbegun-clause-hops : goal.returns-then-unbegun-clause-hops
 returns-then-unbegun-clause-hops g c =
     subst (λ (n : Node). HopsAs c.args.table.now c.args.name (Some n) c.hop.result c.args.hand.now.me c.hop.new.hand.me)
-    (sym c.requires.is) (λ can un. c.hop.ensures.lands)
+    (sym c.requires.is)
+    (record {
+      hops = λ can un. c.hop.ensures.lands;
+      begins = λ can begun none. absurd (begun (is-unbegun c.args.table.now c.args.name c.args.node.now c.open-env.result c.args.hand.now.me c.open-env.new.hand.me c.open-env.ensures.opens can c.if-unbegun.true));
+      ends = λ can other begun full. absurd (begun (is-unbegun c.args.table.now c.args.name c.args.node.now c.open-env.result c.args.hand.now.me c.open-env.new.hand.me c.open-env.ensures.opens can c.if-unbegun.true));
+    })
 
 pub returns-in-Some-clause-stepped : goal.returns-in-Some-clause-stepped
 returns-in-Some-clause-stepped g c =
@@ -87,7 +92,14 @@ returns-in-Some-clause-stepped g c =
 pub returns-in-Some-clause-hops : goal.returns-in-Some-clause-hops
 returns-in-Some-clause-hops g c =
     subst (λ (n : Node). HopsAs c.args.table.now c.args.name (Some n) c.pass_unless_stopped.result c.args.hand.now.me c.pass_unless_stopped.new.hand.me)
-    (sym c.requires.is) (λ can un. absurd (begun-not c.open-env.result can.item (c.open-env.ensures.opens.item can) c.if-unbegun.false un))
+    (sym c.requires.is)
+    (record {
+      hops = λ can un. absurd (not-unbegun c.args.table.now c.args.name c.args.node.now c.open-env.result c.args.hand.now.me c.open-env.new.hand.me c.open-env.ensures.opens can c.if-unbegun.false un);
+      begins = λ can begun none. absurd (some-below c.args.table.now c.args.name c.args.node.now c.open-env.result c.args.hand.now.me c.open-env.new.hand.me c.open-env.ensures.opens can c.args.child (ap hop_child c.requires.is) c.in-Some.parcel c.in-Some.is none);
+      ends = λ can other begun full.
+          subst (λ (p : Delivery). EndsWith c.args.table.now c.args.name p.completion c.pass_unless_stopped.result c.pass_unless_stopped.new.hand.me)
+          (same-below c.args.table.now c.args.name c.args.node.now c.open-env.result c.args.hand.now.me c.open-env.new.hand.me c.open-env.ensures.opens can c.args.child (ap hop_child c.requires.is) c.in-Some.parcel c.in-Some.is other full) c.pass_unless_stopped.ensures.ends;
+    })
 
 pub returns-in-None-clause-stepped : goal.returns-in-None-clause-stepped
 returns-in-None-clause-stepped g c =
@@ -99,4 +111,11 @@ returns-in-None-clause-stepped g c =
 pub returns-in-None-clause-hops : goal.returns-in-None-clause-hops
 returns-in-None-clause-hops g c =
     subst (λ (n : Node). HopsAs c.args.table.now c.args.name (Some n) c.start_unless_stopped.result c.args.hand.now.me c.start_unless_stopped.new.hand.me)
-    (sym c.requires.is) (λ can un. absurd (begun-not c.open-env.result can.item (c.open-env.ensures.opens.item can) c.if-unbegun.false un))
+    (sym c.requires.is)
+    (record {
+      hops = λ can un. absurd (not-unbegun c.args.table.now c.args.name c.args.node.now c.open-env.result c.args.hand.now.me c.open-env.new.hand.me c.open-env.ensures.opens can c.if-unbegun.false un);
+      begins = λ can begun none. starts-from c.args.table.now c.args.name c.start_unless_stopped.result c.start_unless_stopped.new.hand.me c.args.hand.now.me c.hear-saw.new.hand.me
+          c.open-env.result.env c.args.child (others-on c.args.table.now c.args.name c.args.hand.now.me c.open-env.new.hand.me c.hear-saw.new.hand.me
+          c.open-env.ensures.opens.beside c.hear-saw.ensures.keeps.beside) c.start_unless_stopped.ensures.begins;
+      ends = λ can other begun full. absurd (none-below c.args.table.now c.args.name c.args.node.now c.open-env.result c.args.hand.now.me c.open-env.new.hand.me c.open-env.ensures.opens can c.args.child (ap hop_child c.requires.is) c.in-None.is other full);
+    })

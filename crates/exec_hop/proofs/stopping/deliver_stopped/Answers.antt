@@ -15,6 +15,6 @@ pub returns-clause-stops : goal.returns-clause-stops
 returns-clause-stops g c = record {
   from = c.args.hand.now.me;
   parcel = c.of-parcel.result;
-  stopped = ap (λ (p : Delivery). p.completion) c.of-parcel.ensures;
+  done_is = ap (λ (p : Delivery). p.completion) c.of-parcel.ensures;
   completed = c.complete.ensures.completed;
 }

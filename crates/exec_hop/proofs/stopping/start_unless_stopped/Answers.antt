@@ -1,4 +1,4 @@
-use Rattle.std.proofs.Common.{Bool, ◌||◌, sym, ap, ◌∙◌, subst}
+use Rattle.std.proofs.Common.{inl, inr, Bool, ◌||◌, sym, ap, ◌∙◌, subst}
 use Rattle.node_steps.specs.Starts.{MayRun}
 use Rattle.exec_hop.proofs.stopping.start_unless_stopped.Goals as goal
 
@@ -11,3 +11,9 @@ pub start_unbegun_child-requires-clause-may : goal.start_unbegun_child-requires-
 start_unbegun_child-requires-clause-may g c κs within =
     subst (λ (asked : Bool). MayRun c.args.table.now c.args.name c.args.env c.args.child asked c.args.hand.now.me)
     (sym c.asked-asked.ensures) c.requires.may.runs
+
+pub returns-then-stops-clause-begins : goal.returns-then-stops-clause-begins
+returns-then-stops-clause-begins g c = inr c.deliver_stopped.ensures.stops
+
+pub returns-clause-begins : goal.returns-clause-begins
+returns-clause-begins g c = inl c.start_unbegun_child.ensures.starts

@@ -8,8 +8,11 @@ use Rattle.exec_start.specs.Parcels.{Delivery}
 use Rattle.start_laws.specs.Nodes.{image_of, MayHaveSeen}
 use Rattle.node_steps.proofs.Frames.{stepped-after}
 use Rattle.node_steps.proofs.Places.{inner-is}
+use Rattle.node_steps.specs.Completes.{CompletesWith}
+use Rattle.exec_hop.specs.Hops.{HopsAs}
 use Rattle.exec_hop.specs.Kinds.{HopsOrShelters, hop_child}
 use Rattle.exec_hop.specs.Openings.{HasParcel}
+use Rattle.exec_hop.proofs.Did.{same-below, none-below, some-below}
 use Rattle.exec_hop.proofs.Landed.{hop-passes, hop-runs-child}
 use Rattle.exec_hop.proofs.Places.{hopping, shelter-is}
 use Rattle.exec_hop.proofs.unstoppable.step_unstoppable.Goals as goal
@@ -63,3 +66,28 @@ pub returns-in-None-clause-stepped : goal.returns-in-None-clause-stepped
 returns-in-None-clause-stepped g c =
     stepped-after c.args.table.now c.args.name c.args.hand.now.me c.open-env.new.hand.me c.start_unbegun_child.new.hand.me
     c.open-env.ensures.opens.beside c.start_unbegun_child.result c.start_unbegun_child.ensures.stepped
+
+pub returns-in-Some-clause-hops : goal.returns-in-Some-clause-hops
+returns-in-Some-clause-hops g c =
+    subst (λ (n : Node). HopsAs c.args.table.now c.args.name (Some n) c.pass_on.result c.args.hand.now.me c.pass_on.new.hand.me)
+    (sym c.requires.is)
+    (record {
+      begins = λ can none. absurd (some-below c.args.table.now c.args.name c.args.node.now c.open-env.result c.args.hand.now.me c.open-env.new.hand.me c.open-env.ensures.opens can c.args.child (ap hop_child c.requires.is) c.in-Some.parcel c.in-Some.is none);
+      ends = λ can other full.
+          subst (λ (p : Delivery). CompletesWith c.args.table.now c.args.name p.completion c.pass_on.result c.pass_on.new.hand.me)
+          (same-below c.args.table.now c.args.name c.args.node.now c.open-env.result c.args.hand.now.me c.open-env.new.hand.me c.open-env.ensures.opens can c.args.child (ap hop_child c.requires.is) c.in-Some.parcel c.in-Some.is other full) c.pass_on.ensures.passes;
+    })
+
+pub returns-in-None-clause-hops : goal.returns-in-None-clause-hops
+returns-in-None-clause-hops g c =
+    subst (λ (n : Node). HopsAs c.args.table.now c.args.name (Some n) c.start_unbegun_child.result c.args.hand.now.me c.start_unbegun_child.new.hand.me)
+    (sym c.requires.is)
+    (record {
+      begins = λ can none. record {
+        start = c.open-env.result.env;
+        middle = c.open-env.new.hand.me;
+        keeps = c.open-env.ensures.opens.beside;
+        reads = c.start_unbegun_child.ensures.starts;
+      };
+      ends = λ can other full. absurd (none-below c.args.table.now c.args.name c.args.node.now c.open-env.result c.args.hand.now.me c.open-env.new.hand.me c.open-env.ensures.opens can c.args.child (ap hop_child c.requires.is) c.in-None.is other full);
+    })

@@ -1,5 +1,5 @@
 use Rattle.std.specs.Prelude.{ℤ}
-use Rattle.std.proofs.Common.{inl, inr, Bool, List, [], sym, ap, ◌∙◌, subst}
+use Rattle.std.proofs.Common.{inl, inr, Bool, List, [], refl, sym, ap, ◌∙◌, subst}
 use Rattle.life_rules.specs.Views.{beside}
 use Rattle.table_steps.specs.Readings.{IsBegunAs}
 use Rattle.exec_start.specs.Entries.{start_below}
@@ -79,7 +79,15 @@ returns-clause-stepped c =
     c.await_child.result c.await_child.ensures.stepped
 
 pub returns-then-has_begun-clause-begins : goal.returns-then-has_begun-clause-begins
-returns-then-has_begun-clause-begins c = inr (inl c.leave_at_rest.ensures.next)
+returns-then-has_begun-clause-begins c =
+    inr (inl (record {
+      next_is = c.leave_at_rest.ensures.next;
+      start = c.args.env;
+      parcel = c.args.parcel;
+      done_is = refl;
+      from = c.has_begun.new.hand.me;
+      left = c.leave_at_rest.ensures.left;
+    }))
 
 pub returns-clause-begins : goal.returns-clause-begins
 returns-clause-begins c = inl (record {

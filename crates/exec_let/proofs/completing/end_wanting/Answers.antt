@@ -19,7 +19,15 @@ deliver_no_memory-requires-clause-large g c κs within =
     (ap is_small (sym c.completion.ensures) ∙ sym c.is_small.ensures ∙ c.if-is_small.false)
 
 pub returns-then-is_small-clause-defers : goal.returns-then-is_small-clause-defers
-returns-then-is_small-clause-defers g c = inl c.leave_at_rest.ensures.next
+returns-then-is_small-clause-defers g c =
+    inl (record {
+      next_is = c.leave_at_rest.ensures.next;
+      start = c.args.env;
+      parcel = c.args.parcel;
+      done_is = refl;
+      from = c.args.hand.now.me;
+      left = c.leave_at_rest.ensures.left;
+    })
 
 pub returns-clause-defers : goal.returns-clause-defers
 returns-clause-defers g c = inr (record {

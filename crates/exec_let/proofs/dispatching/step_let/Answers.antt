@@ -1,6 +1,7 @@
 use Rattle.std.specs.Prelude.{IfSome}
-use Rattle.std.proofs.Common.{Option, subst}
+use Rattle.std.proofs.Common.{Option, ℕ, subst}
 use Rattle.exec_start.specs.Parcels.{Delivery}
+use Rattle.node_steps.specs.Starts.{StartsOne}
 use Rattle.node_steps.proofs.Frames.{stepped-after}
 use Rattle.node_steps.proofs.Places.{inner-is}
 use Rattle.exec_let.specs.Openings.{HasParcel, HasBody}
@@ -72,3 +73,11 @@ pub returns-in-None-child-clause-lets : goal.returns-in-None-child-clause-lets
 returns-in-None-child-clause-lets g c =
     lets-neither c.args.table.now c.args.name c.start_unbegun_child.result c.start_unbegun_child.new.hand.me c.args.node.now c.open-env.result c.args.hand.now.me c.open-env.new.hand.me
     c.open-env.ensures.opens c.in-None.is c.in-None-child.is
+    (subst (λ (n : ℕ). StartsOne c.args.table.now c.args.name n c.start_unbegun_child.result c.args.hand.now.me c.start_unbegun_child.new.hand.me)
+    c.let_child-first.ensures
+    (record {
+      start = c.open-env.result.env;
+      middle = c.open-env.new.hand.me;
+      keeps = c.open-env.ensures.opens.beside;
+      reads = c.start_unbegun_child.ensures.starts;
+    }))

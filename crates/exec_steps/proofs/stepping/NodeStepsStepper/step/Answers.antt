@@ -43,7 +43,7 @@ returns-in-Plain-clause-does g c =
     (λ (plan : Blueprint). Does plan c.args.table.now c.args.name c.advance.result c.args.hand.now.me c.advance.new.hand.me)
     c.self.view_is
     (did-plain c.self.inside.plan.now c.args.table.now c.args.name c.advance.result c.args.hand.now.me c.advance.new.hand.me
-    c.advance.ensures.stepped (c.advance_at.ensures ∙ ap (λ (a : Advance). Some a) c.in-Plain.is))
+    c.advance.ensures.stepped (c.advance_at.ensures ∙ ap (λ (a : Advance). Some a) c.in-Plain.is) c.advance.ensures.advances)
 
 pub returns-in-Hop-clause-does : goal.returns-in-Hop-clause-does
 returns-in-Hop-clause-does g c =
