@@ -1,16 +1,18 @@
 //! The tests, by what they use, and the objects in memory that they share.
+mod backends;
+mod crews;
 mod engine;
 mod statuses;
 mod words;
 
+use backends::Called;
 use exec_io::{MemShelf, MemSink};
-use exec_status::Status;
 use std::alloc::{AllocError, Global};
 
-/// What a command left.
+/// What a call of `run` left.
 #[derive(Drop)]
 struct Ran {
-    status: Status,
+    called: Called,
     out: MemSink,
     notes: MemSink,
 }

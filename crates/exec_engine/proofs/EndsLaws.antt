@@ -5,6 +5,7 @@ use Rattle.exec_io.specs.Views.{SourceView, SinkView}
 use Rattle.exec_io.specs.Untouched.{IsUntouched}
 use Rattle.plan_reader.specs.declared.fault.PlanFault.{PlanFault}
 use Rattle.plan_shape.specs.Blueprint.{Blueprint}
+use Rattle.run_tally.specs.Tallied.{Tallied, new_tally}
 use Rattle.exec_status.specs.declared.file.FileFault.{FileFault}
 use Rattle.exec_status.specs.declared.file.FileFault.TheVariants.{ReadFault as NotRead}
 use Rattle.exec_status.specs.declared.status.Status.{Status}
@@ -26,13 +27,13 @@ use Rattle.exec_engine.proofs.LimitLaws.{says-beyond, says-within, says-finished
 use Rattle.exec_engine.proofs.ValuesLaws.{says-values, says-small, says-small_lines}
 
 -- the end of a run whose plan was opened
-pub run-ends : (task : Task) (old new : Outside) {plan : Blueprint} (status result : Status) → HasPlan old.shelf.texts task.plan.now plan → Runs plan task old.records new.records old.out new.out status
-    → Concludes status old.notes new.notes result → ReadsShelf {T = Blueprint} {C = PlanFault} old.shelf new.shelf (Ok plan) → old.notes.faults ≤ new.notes.faults → RunEnds task old new result
-run-ends task old new status result has runs concludes reads notes_later =
-    let came = Says task old new in
+pub run-ends : (task : Task) (old new : Outside) (tally : Tallied) {plan : Blueprint} (status result : Status) → HasPlan old.shelf.texts task.plan.now plan → Runs plan task old.records new.records old.out new.out tally status
+    → Concludes status old.notes new.notes result → ReadsShelf {T = Blueprint} {C = PlanFault} old.shelf new.shelf (Ok plan) → old.notes.faults ≤ new.notes.faults → RunEnds task old new tally result
+run-ends task old new tally status result has runs concludes reads notes_later =
+    let came = Says task old new tally in
     let refused = IsRefusedWith old.shelf.texts task.plan.now in
-    let before : came status = says-run task old new status has runs in
-    let says : came result = concluded came status result before (λ _. says-fault task old new status before) concludes in
+    let before : came status = says-run task old new tally status has runs in
+    let says : came result = concluded came status result before (λ _. says-fault task old new tally status before) concludes in
     let noted = Noted-concluded came refused status result before (run-is status runs) concludes in
     let read : result ≡ ReadFault → Rose old.records.faults new.records.faults =
     λ e. run-read status runs (read_fault-concluded status result concludes e) in
@@ -50,17 +51,17 @@ run-ends task old new status result has runs concludes reads notes_later =
       out_still = concluded (λ s. s ≢ WriteFault → new.out.faults ≡ old.out.faults) status result
           (run-out_still status runs) (λ _ other. absurd (other refl)) concludes;
       leaves = run-leaves status runs;
-      beyond = says-beyond task old new result says;
-      within = says-within task old new result says;
+      beyond = says-beyond task old new tally result says;
+      within = says-within task old new tally result says;
       out_handed_on = run-handed status runs;
       notes_handed_on = Noted-handed came refused result noted;
       refused = λ fault stands _. absurd (opened-stands fault has stands);
       complete = λ plan stands within shelf_kept records_kept out_kept notes_kept.
-          says-finished task old new plan result stands within (λ e. records_kept (read e))
+          says-finished task old new tally plan result stands within (λ e. records_kept (read e))
           (λ e. elim (write e) [ inl rose ↦ out_kept rose | inr rose ↦ notes_kept rose ]) says;
-      complete_values = λ plan stands finished settle. says-values task old new plan result stands finished settle says;
+      complete_values = λ plan stands finished settle. says-values task old new tally plan result stands finished settle says;
       small_lines = λ end rest outcomes lines small some. says-small_lines task old new end rest outcomes lines small some;
-      small = λ plan stands small is. says-small task old new plan result stands small says is;
+      small = λ plan stands small is. says-small task old new tally plan result stands small says is;
       shelf_same = reads.same;
       shelf_later = reads.later;
       records_later = run-records_later status runs;
@@ -69,15 +70,15 @@ run-ends task old new status result has runs concludes reads notes_later =
     }
 
 -- the end of a run that had no plan
-pub missed-ends : (task : Task) (old new : Outside) (fault : FileFault PlanFault) (result : Status) → IsUntouched old.records new.records old.out new.out
+pub missed-ends : (task : Task) (old new : Outside) (tally : Tallied) (fault : FileFault PlanFault) (result : Status) → IsUntouched old.records new.records old.out new.out → tally ≡ new_tally
     → Misses (HasRefusal old.shelf.texts task.plan.now) fault → GivesUp refusal_of fault old.notes new.notes result → ReadsShelf {T = Blueprint} {C = PlanFault} old.shelf new.shelf (Err fault)
-    → old.notes.faults ≤ new.notes.faults → RunEnds task old new result
-missed-ends task old new fault result kept misses gives_up reads notes_later =
-    let came = Says task old new in
+    → old.notes.faults ≤ new.notes.faults → RunEnds task old new tally result
+missed-ends task old new tally fault result kept uncounted misses gives_up reads notes_later =
+    let came = Says task old new tally in
     let refused = IsRefusedWith old.shelf.texts task.plan.now in
     let has = HasRefusal old.shelf.texts task.plan.now in
-    let says : came result = missed-status refusal_of old.notes new.notes came has fault result (λ cause is. ((cause, is), kept)) (inl kept) (inl kept) (inl kept) misses gives_up in
-    let noted = missed-noted refusal_of old.notes new.notes came refused has fault result (λ cause is. (cause, is, refl)) (inl kept) (inl kept) misses gives_up in
+    let says : came result = missed-status refusal_of old.notes new.notes came has fault result (λ cause is. ((cause, is), (kept, uncounted))) (inl (kept, uncounted)) (inl (kept, uncounted)) (inl (kept, uncounted)) misses gives_up in
+    let noted = missed-noted refusal_of old.notes new.notes came refused has fault result (λ cause is. (cause, is, refl)) (inl (kept, uncounted)) (inl (kept, uncounted)) misses gives_up in
     let cause : fault ≡ NotRead → Rose old.shelf.faults new.shelf.faults = λ e. reads.cause (ap (λ (f : FileFault PlanFault). Err f) e) in
     let read : result ≡ ReadFault → Rose old.shelf.faults new.shelf.faults = λ e. cause (missed-read refusal_of old.notes new.notes fault result gives_up e) in
     let write : result ≡ WriteFault → Rose old.notes.faults new.notes.faults = missed-write refusal_of old.notes new.notes fault result gives_up in
@@ -94,16 +95,16 @@ missed-ends task old new fault result kept misses gives_up reads notes_later =
       records_still = λ _ _. records;
       out_still = λ _. out;
       leaves = same-leaves task.origin old.records new.records kept.source_same;
-      beyond = says-beyond task old new result says;
-      within = says-within task old new result says;
+      beyond = says-beyond task old new tally result says;
+      within = says-within task old new tally result says;
       out_handed_on = λ _. inr kept.sink_same;
       notes_handed_on = Noted-handed came refused result noted;
       refused = λ other stands shelf_kept. missed-refused refusal_of old.notes new.notes fault result gives_up (λ e. shelf_kept (cause e));
       complete = λ plan stands within shelf_kept records_kept out_kept notes_kept.
-          says-finished task old new plan result stands within (λ e. shelf_kept (read e)) (λ e. notes_kept (write e)) says;
-      complete_values = λ plan stands finished settle. says-values task old new plan result stands finished settle says;
+          says-finished task old new tally plan result stands within (λ e. shelf_kept (read e)) (λ e. notes_kept (write e)) says;
+      complete_values = λ plan stands finished settle. says-values task old new tally plan result stands finished settle says;
       small_lines = λ end rest outcomes lines small some. says-small_lines task old new end rest outcomes lines small some;
-      small = λ plan stands small is. says-small task old new plan result stands small says is;
+      small = λ plan stands small is. says-small task old new tally plan result stands small says is;
       shelf_same = reads.same;
       shelf_later = reads.later;
       records_later = omega (arith, records);

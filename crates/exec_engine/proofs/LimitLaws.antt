@@ -10,6 +10,7 @@ use Rattle.plan_reader.specs.PlanFile.{IsPlanOf}
 use Rattle.record_lines.specs.declared.ending.End.TheVariants.{Ended, Limit as LimitEnd}
 use Rattle.record_lines.specs.Records.{IsBeyond}
 use Rattle.record_lines.proofs.RecordLaws.{IsBeyond-append}
+use Rattle.run_tally.specs.Tallied.{Tallied}
 use Rattle.exec_status.specs.declared.status.Status.{Status}
 use Rattle.exec_status.specs.declared.status.Status.TheVariants.{AllValues, NotAllValues, Usage, PlanRefused, NoMemory, ReadFault, WriteFault, Limit}
 use Rattle.exec_engine.specs.declared.task.Origin.{Origin}
@@ -54,26 +55,30 @@ not-beyond (Source form) before beyond within = both before.left beyond within
     both (Some all) beyond within = within beyond
 not-beyond (Generated count) before beyond within = beyond
 
-module _ (task : Task) (old new : Outside) where
+module _ (task : Task) (old new : Outside) (tally : Tallied) where
   lines-within : {outcomes : List Outcome} → Lines task old new Ended [] outcomes → KeepsLimit task.origin old.records
   lines-within lines = takes-within task.origin lines.plan.settings.input old.records new.records lines.records lines.takes
 
   -- a limit is answered where the records pass one
-  pub says-beyond : (status : Status) → Says task old new status → status ≡ Limit → PassesLimit task.origin old.records
+  pub says-beyond : (status : Status) → Says task old new tally status → status ≡ Limit → PassesLimit task.origin old.records
   says-beyond status says is =
-      let limit = subst (Says task old new) is says in
-      let lines = limit.1 in
+      let limit = subst (Says task old new tally) is says in
+      let lines = limit.lines in
       takes-beyond task.origin lines.plan.settings.input old.records new.records lines.records lines.takes
 
   -- and the end where they don't
-  pub says-within : (status : Status) → Says task old new status → (status ≡ AllValues) ⊎ (status ≡ NotAllValues) → KeepsLimit task.origin old.records
-  says-within status says (inl is) = lines-within (subst (Says task old new) is says).1
-  says-within status says (inr is) = lines-within (subst (Says task old new) is says).1
+  pub says-within : (status : Status) → Says task old new tally status → (status ≡ AllValues) ⊎ (status ≡ NotAllValues) → KeepsLimit task.origin old.records
+  says-within status says (inl is) =
+      let prints = subst (Says task old new tally) is says in
+      lines-within prints.lines
+  says-within status says (inr is) =
+      let prints = subst (Says task old new tally) is says in
+      lines-within prints.lines
 
   -- without a fault a run of a plan that stands there, whose records are within the limits, comes to
   -- the end
   pub says-finished : (plan : Blueprint) (status : Status) → Finds old task (λ bytes. IsPlanOf bytes plan) → IsWithin task.origin old.records
-      → ¬ (status ≡ ReadFault) → ¬ (status ≡ WriteFault) → Says task old new status → IsFinished status
+      → ¬ (status ≡ ReadFault) → ¬ (status ≡ WriteFault) → Says task old new tally status → IsFinished status
   says-finished plan AllValues stands within read write says = inl refl
   says-finished plan NotAllValues stands within read write says = inr (inl refl)
   says-finished plan Usage stands within read write says = absurd says
@@ -82,5 +87,5 @@ module _ (task : Task) (old new : Outside) where
   says-finished plan ReadFault stands within read write says = absurd (read refl)
   says-finished plan WriteFault stands within read write says = absurd (write refl)
   says-finished plan Limit stands within read write says =
-      let lines = says.1 in
+      let lines = says.lines in
       absurd (not-beyond task.origin old.records (takes-beyond task.origin lines.plan.settings.input old.records new.records lines.records lines.takes) within)

@@ -13,6 +13,7 @@ use Rattle.record_lines.specs.declared.ending.End.{End}
 use Rattle.record_lines.specs.declared.ending.End.TheVariants.{Ended, Fault, Limit as LimitEnd}
 use Rattle.record_loop.specs.declared.ending.Ending.{Ending}
 use Rattle.record_loop.proofs.PrintingLaws.{HoldsAllBut-whole}
+use Rattle.run_tally.specs.Tallied.{Tallied}
 use Rattle.exec_status.specs.declared.status.Status.{Status}
 use Rattle.exec_status.specs.declared.status.Status.TheVariants.{AllValues, NotAllValues, Usage, PlanRefused, NoMemory, ReadFault, WriteFault, Limit}
 use Rattle.exec_status.proofs.Concluding.{IsOfRun}
@@ -22,23 +23,41 @@ use Rattle.exec_engine.specs.declared.task.Task.{Task}
 use Rattle.exec_engine.specs.Closes.{Closes, Runs}
 use Rattle.exec_engine.specs.Opening.{HasPlan}
 use Rattle.exec_io.specs.Outside.{Outside}
-use Rattle.exec_engine.specs.Says.{AreValues, HasNoMemory, HasFailure, Lines, Prints, PrintsFront, Says}
+use Rattle.exec_engine.specs.Says.{AreValues, HasNoMemory, HasFailure, IsTallyOf, Lines, Prints, PrintsFront, Says}
 use Rattle.exec_engine.specs.Statuses.{status_by}
 use Rattle.exec_engine.specs.Taken.{LeavesSource}
 
-module _ (task : Task) (old new : Outside) where
-  module _ {plan : Blueprint} (has : HasPlan old.shelf.texts task.plan.now plan) (ending : Ending) (closes : Closes plan task old.records new.records old.out new.out ending) where
+module _ (task : Task) (old new : Outside) (tally : Tallied) where
+  module _ {plan : Blueprint} (has : HasPlan old.shelf.texts task.plan.now plan) (ending : Ending) (closes : Closes plan task old.records new.records old.out new.out ending tally) where
     -- the lines of a run, by its end
     abbrev closed-lines : Lines task old new ending.end closes.rest closes.outcomes
     closed-lines = record { plan = plan; has = has; records = closes.records; takes = closes.takes; lawful = closes.lawful }
 
+    -- the tally of a run is that of its outcomes
+    closed-tally : IsTallyOf closes.outcomes tally
+    closed-tally =
+        let counted = closes.finished.counted in
+        record {
+          values = closes.told.values ∙ counted.values;
+          errors = closes.told.errors ∙ counted.errors;
+          stopped = closes.told.stopped ∙ counted.stopped;
+          no_memory = omega (arith, closes.told.no_memory, counted.no_memory);
+        }
+
     -- all that was written, where no write was lost
-    closed-prints : (end : End) (P : List Outcome → Type 0) → ending.end ≡ end → ending.lost ≡ false → P closes.outcomes → Prints task old new end P
+    closed-prints : (end : End) (P : List Outcome → Type 0) → ending.end ≡ end → ending.lost ≡ false → P closes.outcomes → Prints task old new tally end P
     closed-prints end P is kept holds =
-        (closes.outcomes, subst (λ (e : End). Lines task old new e [] closes.outcomes) is (subst (λ (r : List ℕ). Lines task old new ending.end r closes.outcomes) (closes.all kept) closed-lines), holds, closes.finished.wrote.whole kept, closes.finished.wrote.still kept)
+        record {
+          outcomes = closes.outcomes;
+          lines = subst (λ (e : End). Lines task old new e [] closes.outcomes) is (subst (λ (r : List ℕ). Lines task old new ending.end r closes.outcomes) (closes.all kept) closed-lines);
+          holds = holds;
+          whole = closes.finished.wrote.whole kept;
+          still = closes.finished.wrote.still kept;
+          told = closed-tally;
+        }
 
     -- a front of it, else
-    closed-front : ending.lost ≡ true → PrintsFront task old new
+    closed-front : ending.lost ≡ true → PrintsFront task old new tally
     closed-front lost = record {
       end = ending.end;
       rest = closes.rest;
@@ -49,10 +68,11 @@ module _ (task : Task) (old new : Outside) where
       begun = closes.begun;
       whole = λ still. absurd (still (closes.finished.wrote.cause lost));
       cause = λ still is. absurd (still (closes.finished.wrote.cause lost));
+      told = closed-tally;
     }
 
     -- the lines of records that came to their end, by their numbers
-    says-lines : (memory all : Bool) → ending.end ≡ Ended → ending.lost ≡ false → nat_lt 0 ending.summary.no_memory ≡ memory → (ending.summary.values == ending.summary.lines) ≡ all → Says task old new (if memory then NoMemory else (if all then AllValues else NotAllValues))
+    says-lines : (memory all : Bool) → ending.end ≡ Ended → ending.lost ≡ false → nat_lt 0 ending.summary.no_memory ≡ memory → (ending.summary.values == ending.summary.lines) ≡ all → Says task old new tally (if memory then NoMemory else (if all then AllValues else NotAllValues))
     says-lines true all is kept some values =
         let counted = closes.finished.counted in
         inr (closed-prints Ended HasNoMemory is kept (omega (arith, ltb-true 0 ending.summary.no_memory some, counted.no_memory)))
@@ -70,35 +90,36 @@ module _ (task : Task) (old new : Outside) where
         below m n le ne = omega arith
 
     -- what the status of a run says, by how it closed
-    says-by : (lost : Bool) (end : End) → ending.lost ≡ lost → ending.end ≡ end → Says task old new (status_by lost end ending.summary)
+    says-by : (lost : Bool) (end : End) → ending.lost ≡ lost → ending.end ≡ end → Says task old new tally (status_by lost end ending.summary)
     says-by true end gone is = inr (closed-front gone)
     says-by false Fault kept is = inr (closed-prints Fault (λ _. Rose old.records.faults new.records.faults) is kept (closes.cause is kept))
     says-by false LimitEnd kept is = closed-prints LimitEnd (λ _. Unit {0}) is kept tt
     says-by false Ended kept is = says-lines (nat_lt 0 ending.summary.no_memory) (ending.summary.values == ending.summary.lines) is kept refl refl
 
-  pub says-run : {plan : Blueprint} (status : Status) → HasPlan old.shelf.texts task.plan.now plan → Runs plan task old.records new.records old.out new.out status → Says task old new status
-  says-run status has (inl short) = subst (Says task old new) (sym short.0) (inl short.1)
+  pub says-run : {plan : Blueprint} (status : Status) → HasPlan old.shelf.texts task.plan.now plan → Runs plan task old.records new.records old.out new.out tally status → Says task old new tally status
+  says-run status has (inl short) = subst (Says task old new tally) (sym short.is) (inl (short.untouched, short.uncounted))
   says-run status has (inr done) =
-      subst (Says task old new) (sym done.2) (says-by has done.0 done.1 done.0.lost done.0.end refl refl)
+      subst (Says task old new tally) (sym done.2) (says-by has done.0 done.1 done.0.lost done.0.end refl refl)
 
   -- what a status says of the lines, a write fault on notes says too
-  pub says-fault : (status : Status) → Says task old new status → Says task old new WriteFault
+  pub says-fault : (status : Status) → Says task old new tally status → Says task old new tally WriteFault
   says-fault status says = fault status says
     where
-      front : (end : End) (P : List Outcome → Type 0) (prints : Prints task old new end P) → (end ≡ Fault → Rose old.records.faults new.records.faults) → PrintsFront task old new
+      front : (end : End) (P : List Outcome → Type 0) (prints : Prints task old new tally end P) → (end ≡ Fault → Rose old.records.faults new.records.faults) → PrintsFront task old new tally
       front end P prints cause = record {
         end = end;
         rest = [];
-        outcomes = prints.0;
-        lines = prints.1;
+        outcomes = prints.outcomes;
+        lines = prints.lines;
         all = λ _. refl;
-        front = AppendsFront-whole prints.3;
-        begun = HoldsAllBut-whole _ prints.0 prints.3;
-        whole = λ _. prints.3;
+        front = AppendsFront-whole prints.whole;
+        begun = HoldsAllBut-whole _ prints.outcomes prints.whole;
+        whole = λ _. prints.whole;
         cause = λ _. cause;
+        told = prints.told;
       }
 
-      fault : (status : Status) → Says task old new status → Says task old new WriteFault
+      fault : (status : Status) → Says task old new tally status → Says task old new tally WriteFault
       fault AllValues says = inr (front Ended AreValues says (λ is. cc))
       fault NotAllValues says = inr (front Ended HasFailure says (λ is. cc))
       fault Usage says = absurd says
@@ -106,7 +127,7 @@ module _ (task : Task) (old new : Outside) where
       fault NoMemory (inl untouched) = inl untouched
       fault NoMemory (inr prints) = inr (front Ended HasNoMemory prints (λ is. cc))
       fault ReadFault (inl untouched) = inl untouched
-      fault ReadFault (inr prints) = inr (front Fault (λ _. Rose old.records.faults new.records.faults) prints (λ _. prints.2))
+      fault ReadFault (inr prints) = inr (front Fault (λ _. Rose old.records.faults new.records.faults) prints (λ _. prints.holds))
       fault WriteFault says = says
       fault Limit says = inr (front LimitEnd (λ _. Unit {0}) says (λ is. cc))
 
@@ -139,51 +160,51 @@ not-fault X false Fault summary still read write = absurd (read refl)
 not-fault X false LimitEnd summary still read write = still (λ e. cc)
 not-fault X false Ended summary still read write = still (λ e. cc)
 
-module _ {plan : Blueprint} {task : Task} {before after : SourceView} {old new : SinkView} where
-  by-run : (P : Status → Type 0) (status : Status) (runs : Runs plan task before after old new status) → (Rose old.faults new.faults → P WriteFault) → (Rose before.faults after.faults → P ReadFault) → P Limit → P NoMemory → P AllValues → P NotAllValues → P status
-  by-run P status (inl short) write read limit memory all some = subst P (sym short.0) memory
+module _ {plan : Blueprint} {task : Task} {before after : SourceView} {old new : SinkView} {tally : Tallied} where
+  by-run : (P : Status → Type 0) (status : Status) (runs : Runs plan task before after old new tally status) → (Rose old.faults new.faults → P WriteFault) → (Rose before.faults after.faults → P ReadFault) → P Limit → P NoMemory → P AllValues → P NotAllValues → P status
+  by-run P status (inl short) write read limit memory all some = subst P (sym short.is) memory
   by-run P status (inr done) write read limit memory all some =
       subst P (sym done.2) (by-ending P done.0.lost done.0.end done.0.summary (λ lost. write (done.1.finished.wrote.cause lost)) (λ kept is. read (done.1.cause is kept)) limit memory all some)
 
   -- a run is no fault of usage, and no refusal
-  pub run-is : (status : Status) → Runs plan task before after old new status → IsOfRun status
+  pub run-is : (status : Status) → Runs plan task before after old new tally status → IsOfRun status
   run-is status runs = by-run IsOfRun status runs (λ _. tt) (λ _. tt) tt tt tt tt
 
   -- a fault has its cause
-  pub run-write : (status : Status) → Runs plan task before after old new status → status ≡ WriteFault → Rose old.faults new.faults
+  pub run-write : (status : Status) → Runs plan task before after old new tally status → status ≡ WriteFault → Rose old.faults new.faults
   run-write status runs = by-run (λ s. s ≡ WriteFault → Rose old.faults new.faults) status runs
       (λ rose _. rose) (λ _ e. cc) (λ e. cc) (λ e. cc) (λ e. cc) (λ e. cc)
 
-  pub run-read : (status : Status) → Runs plan task before after old new status → status ≡ ReadFault → Rose before.faults after.faults
+  pub run-read : (status : Status) → Runs plan task before after old new tally status → status ≡ ReadFault → Rose before.faults after.faults
   run-read status runs = by-run (λ s. s ≡ ReadFault → Rose before.faults after.faults) status runs
       (λ _ e. cc) (λ rose _. rose) (λ e. cc) (λ e. cc) (λ e. cc) (λ e. cc)
 
-  pub run-out_still : (status : Status) → Runs plan task before after old new status → status ≢ WriteFault → new.faults ≡ old.faults
-  run-out_still status (inl short) other = ap (λ (s : SinkView). s.faults) short.1.sink_same
+  pub run-out_still : (status : Status) → Runs plan task before after old new tally status → status ≢ WriteFault → new.faults ≡ old.faults
+  run-out_still status (inl short) other = ap (λ (s : SinkView). s.faults) short.untouched.sink_same
   run-out_still status (inr done) other =
       not-write (new.faults ≡ old.faults) done.0.lost done.0.end done.0.summary done.1.finished.wrote.still (λ e. other (done.2 ∙ e))
 
-  pub run-records_still : (status : Status) → Runs plan task before after old new status → status ≢ ReadFault → status ≢ WriteFault → after.faults ≡ before.faults
-  run-records_still status (inl short) read write = ap (λ (s : SourceView). s.faults) short.1.source_same
+  pub run-records_still : (status : Status) → Runs plan task before after old new tally status → status ≢ ReadFault → status ≢ WriteFault → after.faults ≡ before.faults
+  run-records_still status (inl short) read write = ap (λ (s : SourceView). s.faults) short.untouched.source_same
   run-records_still status (inr done) read write =
       not-fault (after.faults ≡ before.faults) done.0.lost done.0.end done.0.summary done.1.still (λ e. read (done.2 ∙ e)) (λ e. write (done.2 ∙ e))
 
-  pub run-handed : (status : Status) → Runs plan task before after old new status → ¬ Rose old.faults new.faults → IsHandedOn old new
-  run-handed status (inl short) still = inr short.1.sink_same
+  pub run-handed : (status : Status) → Runs plan task before after old new tally status → ¬ Rose old.faults new.faults → IsHandedOn old new
+  run-handed status (inl short) still = inr short.untouched.sink_same
   run-handed status (inr done) still =
       elim (cases_Bool done.0.lost) [
         | inl lost ↦ absurd (still (done.1.finished.wrote.cause lost))
         | inr kept ↦ done.1.finished.wrote.handed_on kept refl
       ]
 
-  pub run-out_later : (status : Status) → Runs plan task before after old new status → old.faults ≤ new.faults
-  run-out_later status (inl short) = omega (arith, ap (λ (s : SinkView). s.faults) short.1.sink_same)
+  pub run-out_later : (status : Status) → Runs plan task before after old new tally status → old.faults ≤ new.faults
+  run-out_later status (inl short) = omega (arith, ap (λ (s : SinkView). s.faults) short.untouched.sink_same)
   run-out_later status (inr done) = done.1.finished.wrote.later
 
-  pub run-records_later : (status : Status) → Runs plan task before after old new status → before.faults ≤ after.faults
-  run-records_later status (inl short) = omega (arith, ap (λ (s : SourceView). s.faults) short.1.source_same)
+  pub run-records_later : (status : Status) → Runs plan task before after old new tally status → before.faults ≤ after.faults
+  run-records_later status (inl short) = omega (arith, ap (λ (s : SourceView). s.faults) short.untouched.source_same)
   run-records_later status (inr done) = done.1.later
 
-  pub run-leaves : (status : Status) → Runs plan task before after old new status → LeavesSource task.origin before after
-  run-leaves status (inl short) = same-leaves task.origin before after short.1.source_same
+  pub run-leaves : (status : Status) → Runs plan task before after old new tally status → LeavesSource task.origin before after
+  run-leaves status (inl short) = same-leaves task.origin before after short.untouched.source_same
   run-leaves status (inr done) = done.1.leaves

@@ -27,6 +27,7 @@ use Rattle.record_lines.specs.Records.{records_of}
 use Rattle.run_rules.specs.Lawful.{MayEnd, Lawful}
 use Rattle.run_rules.specs.PlanTerms.{AllowsRecord}
 use Rattle.run_rules.specs.StopStates.{stop_state}
+use Rattle.run_tally.specs.Tallied.{Tallied}
 use Rattle.exec_status.specs.declared.status.Status.{Status}
 use Rattle.exec_status.specs.declared.status.Status.TheVariants.{AllValues, NoMemory}
 use Rattle.exec_engine.specs.declared.task.Origin.{Origin}
@@ -128,31 +129,31 @@ small-lines task plan records outcomes small lawful = none-counted is_out_of_mem
     let P : Outcome → Type 0 = λ o. MayEnd (terms_for task plan) (i + 1) stop line o in
     small-ends task plan (i + 1) stop line small (subst P (not-memory outcome is) (lawful.each i line outcome (slice_get-get_or records i [] within) at)))
 
-module _ (task : Task) (old new : Outside) where
+module _ (task : Task) (old new : Outside) (tally : Tallied) where
   -- records that settle to values alone have no other line, unless memory runs out
   pub says-values : (plan : Blueprint) (status : Status) → Finds old task (λ bytes. IsPlanOf bytes plan) → IsFinished status
-      → OfRecords task.origin plan.settings.input old.records (SettleToValues task plan) → Says task old new status → (status ≡ AllValues) ⊎ (status ≡ NoMemory)
+      → OfRecords task.origin plan.settings.input old.records (SettleToValues task plan) → Says task old new tally status → (status ≡ AllValues) ⊎ (status ≡ NoMemory)
   says-values plan status stands (inl all) settle says = inl all
   says-values plan status stands (inr (inr none)) settle says = inr none
   says-values plan status stands (inr (inl some)) settle says =
-      let prints = subst (Says task old new) some says in
-      let lines = prints.1 in
+      let prints = subst (Says task old new tally) some says in
+      let lines = prints.lines in
       let P : Blueprint → Type 0 = λ p. OfRecords task.origin p.settings.input old.records (SettleToValues task p) in
       let here = subst P (sym (stands-same lines.has stands)) settle in
       let these = of-records task.origin lines.plan.settings.input old.records new.records lines.records (SettleToValues task lines.plan) lines.takes here in
-      absurd (omega (arith, all-values task lines.plan lines.records prints.0 lines.has.opened.whole these lines.lawful, prints.2.0, prints.2.1))
+      absurd (omega (arith, all-values task lines.plan lines.records prints.outcomes lines.has.opened.whole these lines.lawful, prints.holds.0, prints.holds.1))
 
   -- and for a small plan it runs out before a record is taken alone
-  pub says-small : (plan : Blueprint) (status : Status) → Finds old task (λ bytes. IsPlanOf bytes plan) → IsSmall plan → Says task old new status → status ≡ NoMemory → Untouched task old new
-  says-small plan status stands small says is = untouched (subst (Says task old new) is says)
+  pub says-small : (plan : Blueprint) (status : Status) → Finds old task (λ bytes. IsPlanOf bytes plan) → IsSmall plan → Says task old new tally status → status ≡ NoMemory → Untouched task old new tally
+  says-small plan status stands small says is = untouched (subst (Says task old new tally) is says)
     where
-      untouched : Says task old new NoMemory → Untouched task old new
+      untouched : Says task old new tally NoMemory → Untouched task old new tally
       untouched (inl kept) = kept
       untouched (inr prints) =
-          let lines = prints.1 in
-          absurd (omega (arith, prints.2, small-lines task lines.plan lines.records prints.0 (subst IsSmall (sym (stands-same lines.has stands)) small) lines.lawful))
+          let lines = prints.lines in
+          absurd (omega (arith, prints.holds, small-lines task lines.plan lines.records prints.outcomes (subst IsSmall (sym (stands-same lines.has stands)) small) lines.lawful))
 
-  -- none of its lines is out-of-memory
-  pub says-small_lines : (end : End) (rest : List ℕ) (outcomes : List Outcome) (lines : Lines task old new end rest outcomes) → IsSmall lines.plan → ¬ HasNoMemory outcomes
-  says-small_lines end rest outcomes lines small some =
-      omega (arith, some, small-lines task lines.plan lines.records outcomes small lines.lawful)
+-- none of its lines is out-of-memory
+pub says-small_lines : (task : Task) (old new : Outside) (end : End) (rest : List ℕ) (outcomes : List Outcome) (lines : Lines task old new end rest outcomes) → IsSmall lines.plan → ¬ HasNoMemory outcomes
+says-small_lines task old new end rest outcomes lines small some =
+    omega (arith, some, small-lines task lines.plan lines.records outcomes small lines.lawful)

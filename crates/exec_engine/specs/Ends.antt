@@ -8,6 +8,7 @@ use Rattle.plan_reader.specs.declared.fault.PlanFault.{PlanFault}
 use Rattle.plan_reader.specs.PlanFile.{IsPlanOf}
 use Rattle.plan_kinds.specs.Small.{IsSmall}
 use Rattle.plan_shape.specs.Blueprint.{Blueprint}
+use Rattle.run_tally.specs.Tallied.{Tallied}
 use Rattle.record_lines.specs.declared.ending.End.{End}
 use Rattle.exec_status.specs.declared.status.Status.{Status}
 use Rattle.exec_status.specs.declared.status.Status.TheVariants.{AllValues, NotAllValues, PlanRefused, NoMemory, ReadFault, WriteFault, Limit}
@@ -20,11 +21,12 @@ use Rattle.exec_engine.specs.Refusals.{IsRefusedWith}
 use Rattle.exec_engine.specs.Says.{HasNoMemory, Lines, Says, Untouched}
 use Rattle.exec_engine.specs.Taken.{LeavesSource, PassesLimit, KeepsLimit, IsWithin, OfRecords}
 
--- A run of this task ended with this status.
-pub record RunEnds (task : Task) (old new : Outside) (status : Status) : Type 0 where
-  -- What the status says of the plan, the records and the lines, and what notes hold.
-  pub says : Says task old new status
-  pub noted : Noted (Says task old new) (IsRefusedWith old.shelf.texts task.plan.now)
+-- A run of this task ended with this tally and this status.
+pub record RunEnds (task : Task) (old new : Outside) (tally : Tallied) (status : Status)
+    : Type 0 where
+  -- What the status says of the plan, the records, the lines and the tally, and what notes hold.
+  pub says : Says task old new tally status
+  pub noted : Noted (Says task old new tally) (IsRefusedWith old.shelf.texts task.plan.now)
       old.notes new.notes status
   -- A fault is answered only where a count of faults rose in this call, and where none is answered no
   -- call of the shelf, the records or out failed.
@@ -67,7 +69,7 @@ pub record RunEnds (task : Task) (old new : Outside) (status : Status) : Type 0 
   pub small_lines : (end : End) (rest : List ℕ) (outcomes : List Outcome)
       (lines : Lines task old new end rest outcomes) → IsSmall lines.plan → ¬ HasNoMemory outcomes
   pub small : (plan : Blueprint) → Finds old task (λ bytes. IsPlanOf bytes plan)
-      → IsSmall plan → status ≡ NoMemory → Untouched task old new
+      → IsSmall plan → status ≡ NoMemory → Untouched task old new tally
   -- Nothing on the shelf changes.
   pub shelf_same : new.shelf.texts ≡ old.shelf.texts
   -- No count of faults falls.

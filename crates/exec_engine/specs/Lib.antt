@@ -1,6 +1,7 @@
 pub mod Opening
 pub mod Refusals
 pub mod Tasks
+pub mod Crewing
 pub mod Taken
 pub mod Says
 pub mod Statuses

@@ -7,11 +7,13 @@
 //! `run` is the top call of the program, which does all that the program does over the shelf, the
 //! source and the sinks that are handed in. What its promise rests on is defined in specs/: what a
 //! command is (`CommandEnds`), which lines are lawful for the records that were taken (`Lines`, over
-//! run_rules), and what each status says of them (`Says`) and of notes (`Noted`). A run's records are
-//! worked on by record_runs, over the running table or plainly. It stands on this, plan_reader,
-//! exec_words, exec_status and trace_commands.
+//! run_rules), and what each status says of them (`Says`) and of notes (`Noted`). It holds for any
+//! number of workers and any backends. A run's records are worked on by record_runs, over the running
+//! table with a crew of workers (run_crew) or plainly. It stands on these, plan_reader, exec_words,
+//! exec_status and trace_commands.
 #![tactic(auto)]
 
+mod crewing;
 mod ending;
 mod engine;
 mod opening;
@@ -20,4 +22,7 @@ mod refusal;
 mod task;
 
 pub use engine::run;
+pub use exec_recv::Gate;
 pub use exec_status::Status;
+pub use pool_backends::Backend;
+pub use run_tally::Tally;

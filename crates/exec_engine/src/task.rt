@@ -1,8 +1,9 @@
 //! What a command asks of a run.
 ghost use Rattle.std.specs.Prelude.{◌≡◌};
-ghost use Rattle.exec_engine.specs.Tasks.{form_of, run_task, gen_task};
+ghost use Rattle.exec_engine.specs.Tasks.{form_of, order_of, task_of, run_task, gen_task};
 
-use exec_words::Options;
+use exec_words::{Options, Order as WordsOrder};
+use pool_backends::Order;
 use record_loop::Form;
 
 /// Where the records of a run come from.
@@ -19,9 +20,13 @@ pub enum Origin {
 pub struct Task<'a> {
     /// The name of the plan.
     pub plan: &'a str,
+    /// How many workers serve the pool, from 0 to `MOST_WORKERS`.
+    pub workers: u32,
     /// How many records are worked on at once, from 1 to 256.
     pub window: u32,
-    /// Where they come from.
+    /// In which order each worker takes its names.
+    pub order: Order,
+    /// Where the records come from.
     pub origin: Origin,
 }
 
@@ -32,26 +37,41 @@ fn form_of(summary: bool) -> Form
     if summary { Form::Summary } else { Form::Lines }
 }
 
+/// The order of a backend that the words name.
+fn order_of(order: WordsOrder) -> Order
+    ensures { result ≡ order_of order }
+{
+    match order {
+        WordsOrder::Fifo => Order::Fifo,
+        WordsOrder::Lifo => Order::Lifo,
+    }
+}
+
 impl<'a> Task<'a> {
+    /// A plan of this name, run by these options over records that come from there.
+    fn of(plan: &'a str, options: Options, origin: Origin) -> Task<'a>
+        ensures { result ≡ task_of plan.entry options origin }
+    {
+        Task {
+            plan,
+            workers: options.workers,
+            window: options.window,
+            order: order_of(options.order),
+            origin,
+        }
+    }
+
     /// What `run` asks for.
     pub fn of_run(plan: &'a str, options: Options, summary: bool) -> Task<'a>
         ensures { result ≡ run_task plan.entry options summary }
     {
-        Task {
-            plan,
-            window: options.window,
-            origin: Origin::Source(form_of(summary)),
-        }
+        Task::of(plan, options, Origin::Source(form_of(summary)))
     }
 
     /// What `gen` asks for.
     pub fn of_gen(plan: &'a str, count: u32, options: Options) -> Task<'a>
         ensures { result ≡ gen_task plan.entry count options }
     {
-        Task {
-            plan,
-            window: options.window,
-            origin: Origin::Generated(count),
-        }
+        Task::of(plan, options, Origin::Generated(count))
     }
 }

@@ -5,6 +5,9 @@
 //! adapters tell nothing of what these hold: that the system does as it says is taken on trust.
 #![tactic(auto)]
 
+ghost use Rattle.std.specs.Prelude.{◌≡◌, vec_len};
+ghost use Rattle.exec_words.specs.declared.number.TheConstants.{MOST_WORKERS};
+
 mod faults;
 mod shelf;
 mod sink;
@@ -12,7 +15,10 @@ mod source;
 #[cfg(test)]
 mod tests;
 
-use exec_engine::{Status, run};
+use exec_engine::{Backend, Status, Tally, run};
+use exec_recv::OpenGate;
+use exec_words::MOST_WORKERS;
+use pool_backends::RingBackend;
 use shelf::FileShelf;
 use sink::Writing;
 use source::Reading;
@@ -27,17 +33,38 @@ use std::thread::Threads;
 /// How many bytes of output are kept back at most.
 const OUT_BYTES: usize = 65_536;
 
+/// How many names a worker's ring has room for.
+const RING_NAMES: u32 = 256;
+
 fn main(rt: HostRuntime) -> ExitCode {
     let status = run_on_system(&rt, &rt).unwrap_or(Status::NoMemory);
     ExitCode::from(status.code())
 }
 
-/// Runs the command that the program's words give. `threads` is the handle by which threads are
-/// started and waited for. The one error comes before the run.
+/// Runs the command that the program's words give, with a ring for each worker that there may be.
+/// `threads` is the handle by which threads are started and waited for. The one error comes before
+/// the run.
 fn run_on_system<T: Threads + Wait + Sync>(
     rt: &HostRuntime,
     threads: &T,
 ) -> Result<Status, AllocError> {
+    let alloc = rt.alloc();
+    let mut backends: Vec<Box<dyn Backend + Send>> = Vec::new(alloc);
+    for made in 0..MOST_WORKERS {
+        backends.push(Box::new(alloc, RingBackend::new(alloc, RING_NAMES)?)?)?;
+    }
+    run_words(rt, threads, backends)
+}
+
+/// Runs the command that the program's words give, over the files of the system and its standard
+/// streams. The one error comes before the run.
+fn run_words<T: Threads + Wait + Sync>(
+    rt: &HostRuntime,
+    threads: &T,
+    backends: Vec<Box<dyn Backend + Send>>,
+) -> Result<Status, AllocError>
+    requires { vec_len backends ≡ MOST_WORKERS }
+{
     let alloc = rt.alloc();
     let owned = words_of_command(rt)?;
     let words: Vec<&str> = owned.iter().map(|word| word.as_str()).collect(alloc)?;
@@ -46,6 +73,7 @@ fn run_on_system<T: Threads + Wait + Sync>(
     let mut notes = Writing::new(rt.stderr());
     let mut records = Reading::new(rt.stdin());
     let mut shelf = FileShelf::new(rt);
+    let mut tally = Tally::new();
     let status = run(
         threads,
         alloc,
@@ -54,6 +82,9 @@ fn run_on_system<T: Threads + Wait + Sync>(
         &mut records,
         &mut out,
         &mut notes,
+        backends,
+        &OpenGate,
+        &mut tally,
     );
     // What a failed write left in the buffer isn't written any more.
     let _ = out.into_inner().into_parts();

@@ -48,12 +48,12 @@ run-plainly plan window (Ok account) never plain = subst (λ (layer : Layer). Is
 run-plainly plan window (Err e) never plain = tt
 
 -- and one that does, on a table that was closed
-closed-of : (plan : Blueprint) (window : ℕ) (answer : Result Ending AllocError) (tally : Tallied) (closing : Closing) → AllAdvance plan → IsClosedAfter answer window closing → IfOk (account_with answer tally (Table closing)) (λ (a : Account). IsRunBy plan window a.layer)
+closed-of : (plan : Blueprint) (window : ℕ) (answer : Result Ending AllocError) (tally : Tallied) (closing : Closing) → AllAdvance plan → IsClosedAfter window closing → IfOk (account_with answer tally (Table closing)) (λ (a : Account). IsRunBy plan window a.layer)
 closed-of plan window (Ok ending) tally closing runs closed = record { runs = runs; joined = closed.joined; back = closed.back }
 closed-of plan window (Err e) tally closing runs closed = tt
 
 pub run-on-table : (plan : Blueprint) (blocks window : ℕ) (answer : Result Ending AllocError) (tally : Tallied) (closing : Closing) (result : Result Account AllocError) → result ≡ account_with answer tally (Table closing) → blocks ≡ window → AllAdvance plan
-    → IsClosedAfter answer blocks closing → IfOk result (λ (a : Account). IsRunBy plan window a.layer)
+    → IsClosedAfter blocks closing → IfOk result (λ (a : Account). IsRunBy plan window a.layer)
 run-on-table plan blocks window answer tally closing result is sized runs closed =
     subst (λ (r : Result Account AllocError). IfOk r (λ (a : Account). IsRunBy plan window a.layer)) (sym is)
-    (closed-of plan window answer tally closing runs (subst (λ (n : ℕ). IsClosedAfter answer n closing) sized closed))
+    (closed-of plan window answer tally closing runs (subst (λ (n : ℕ). IsClosedAfter n closing) sized closed))

@@ -1,108 +1,79 @@
--- What becomes of the one hand of a run, and what its table leaves.
-use Rattle.std.proofs.Common.{◌≡◌, List, [], ◌∷◌, refl, sym, ap, ◌∙◌, subst, inl, inr, arith}
-use Rattle.std.specs.Prelude.{Option, Result, Ok, Err, OnOk, IsErr, slice_index_or}
-use Rattle.std.proofs.lemmas.Bool.{false≢true}
-use Rattle.std.specs.declared.alloc.AllocError.{AllocError}
+-- What the hands of a run are before it.
+use Rattle.std.proofs.Common.{◌≡◌, ◌<◌, ℕ, ◌+◌, zero, suc, List, [], ◌∷◌, length, All, refl, sym, ap, ◌∙◌, subst, arith}
+use Rattle.std.specs.Prelude.{Option, remove, slice_index_or}
+use mathlib.Core.Option.{some}
+use lib.ListN.{get_elem?}
 use Rattle.atomic_table.specs.declared.shared.Seat.{Seat}
+use Rattle.exec_recv.specs.Over.{IsOver}
 use Rattle.exec_start.specs.declared.entry.Entry.{Entry}
 use Rattle.exec_start.specs.declared.item.Item.{Item}
-use Rattle.life_rules.specs.declared.scope.ScopeState.TheVariants.{Joined}
+use Rattle.plan_kinds.specs.Runnable.{IsRunnable}
 use Rattle.plan_shape.specs.Blueprint.{Blueprint}
-use Rattle.record_loop.specs.declared.ending.Ending.{Ending}
-use Rattle.table_rules.specs.Traces.{all_steps}
+use Rattle.run_crew.specs.Crews.{CanServe, IsSpare}
 use Rattle.table_rules.specs.declared.view.View.{View}
-use Rattle.table_run.specs.Ends.{HasJoined, IsEnded}
 use Rattle.table_run.specs.Opened.{IsUnused}
-use Rattle.table_steps.specs.Closings.{AreAllBack, HasNothing, IsCountedBy, IsScopeLeft, IsSettled, steps_of}
-use Rattle.table_steps.specs.Views.{AreFreshHands, Board, IsHandOf, knows}
-use Rattle.table_steps.specs.declared.closing.Closing.{Closing}
-use Rattle.record_runs.specs.Opened.{IsClosedAfter, IsFreshHand, IsLeft}
+use Rattle.table_steps.specs.Closings.{HasNothing}
+use Rattle.table_steps.specs.Views.{AreFreshHands, Board, IsHandOf, fresh_with, knows}
+use Rattle.record_runs.specs.Opened.{CanRunOn, IsFreshHand}
 
 -- what a hand of a table over a plan is
 abbrev TheHand : Type 0
 TheHand = Seat (Option Item) (View Item Entry)
 
--- the one hand of a new table
-pub one-fresh : (board : Board Blueprint) (all : List TheHand) (hand : TheHand) → AreFreshHands board 1 all → hand ≡ slice_index_or all 0 hand → IsFreshHand board hand
-one-fresh board [] hand fresh is = absurd (let wrong : 0 ≡ 1 = fresh.length_is in omega arith)
-one-fresh board (first ∷ rest) hand fresh is =
+-- what is stepped is the plan
+pub stepped-over : (board : Board Blueprint) (plan stepped : Blueprint) → CanRunOn board plan stepped → IsOver board stepped
+stepped-over board plan stepped runs = subst (λ (p : Blueprint). IsOver board p) (sym runs.stepper) runs.for.over
+
+pub stepped-runs : (board : Board Blueprint) (plan stepped : Blueprint) → CanRunOn board plan stepped → IsRunnable stepped
+stepped-runs board plan stepped runs = subst (λ (p : Blueprint). IsRunnable p) (sym runs.stepper) runs.kinds
+
+-- a hand that has done nothing is spare
+untouched-spare : (board : Board Blueprint) (number : ℕ) (hand : TheHand) → IsHandOf board hand → knows hand ≡ fresh_with number (knows hand).splits → IsSpare board hand
+untouched-spare board number hand of fresh = record {
+  hand_of = of;
+  nothing = subst (λ (v : View Item Entry). HasNothing v) (sym fresh)
+      (record { held = refl; owed = refl; reported = refl; finished = refl; runs = refl; scans = refl; made = refl; making = refl; refused = refl });
+  even = ap (λ (v : View Item Entry). v.claimed) fresh ∙ sym (ap (λ (v : View Item Entry). v.released) fresh);
+}
+
+pub fresh-spare : (board : Board Blueprint) (hand : TheHand) → IsFreshHand board hand → IsSpare board hand
+fresh-spare board hand fresh = untouched-spare board 0 hand fresh.hand_of fresh.fresh
+
+pub back-spare : (board : Board Blueprint) (hand back : TheHand) → IsFreshHand board hand → back ≡ hand → IsSpare board back
+back-spare board hand back fresh is = subst (λ (h : TheHand). IsSpare board h) (sym is) (fresh-spare board hand fresh)
+
+-- the first hand of a new table
+pub first-fresh : (board : Board Blueprint) (workers : ℕ) (all : List TheHand) (hand : TheHand) → AreFreshHands board (workers + 1) all → hand ≡ slice_index_or all 0 hand → IsFreshHand board hand
+first-fresh board workers [] hand fresh is = absurd (let wrong : 0 ≡ workers + 1 = fresh.length_is in omega arith)
+first-fresh board workers (first ∷ rest) hand fresh is =
     let at = fresh.each 0 first refl in
     subst (IsFreshHand board) (sym is) (record { hand_of = at.0; fresh = at.2 })
+
+-- what holds of the hand at each place holds of all
+all-of : (P : TheHand → Type 0) (all : List TheHand) → ((h : ℕ) (hand : TheHand) → get_elem? all h ≡ some hand → P hand) → All P all
+all-of P [] each k d low = absurd (omega arith)
+all-of P (first ∷ rest) each zero d low = each zero first refl
+all-of P (first ∷ rest) each (suc k) d low = all-of P rest (λ h hand at. each (suc h) hand at) k d (omega arith)
+
+-- the others
+pub rest-spare : (board : Board Blueprint) (workers : ℕ) (all rest : List TheHand) → AreFreshHands board (workers + 1) all → rest ≡ remove all 0 → All (IsSpare board) rest
+rest-spare board workers [] rest fresh is = absurd (let wrong : 0 ≡ workers + 1 = fresh.length_is in omega arith)
+rest-spare board workers (first ∷ others) rest fresh is =
+    subst (λ (hands : List TheHand). All (IsSpare board) hands) (sym is)
+    (all-of (IsSpare board) others
+    (λ h hand at. let each = fresh.each (suc h) hand at in untouched-spare board (suc h) hand each.0 each.2))
+
+-- and spare hands can serve
+pub all-serve : (board : Board Blueprint) (plan stepped : Blueprint) (hands : List TheHand) → CanRunOn board plan stepped → All (IsSpare board) hands → All (CanServe board stepped) hands
+all-serve board plan stepped hands runs spare =
+    λ k d low. record { over = stepped-over board plan stepped runs; kinds = stepped-runs board plan stepped runs; spare = spare k d low }
 
 -- a hand that has done nothing may begin a run
 pub fresh-unused : (board : Board Blueprint) (hand : TheHand) → IsFreshHand board hand → IsUnused board hand
 fresh-unused board hand fresh = record {
   hand_of = fresh.hand_of;
   first = ap (λ (v : View Item Entry). v.number) fresh.fresh;
-  nothing = fresh-nothing board hand fresh;
+  nothing = (fresh-spare board hand fresh).nothing;
   unasked = ap (λ (v : View Item Entry). v.requested) fresh.fresh;
-  even = ap (λ (v : View Item Entry). v.claimed) fresh.fresh ∙ sym (ap (λ (v : View Item Entry). v.released) fresh.fresh);
+  even = (fresh-spare board hand fresh).even;
 }
-  where
-    fresh-nothing : (board : Board Blueprint) (hand : TheHand) → IsFreshHand board hand → HasNothing (knows hand)
-    fresh-nothing board hand fresh =
-        subst (λ (v : View Item Entry). HasNothing v) (sym fresh.fresh)
-        (record { held = refl; owed = refl; reported = refl; finished = refl; runs = refl; scans = refl; made = refl; making = refl; refused = refl })
-
--- where there is no answer, nothing is asked
-on-none : (answer : Result Ending AllocError) (P : Type 0) → IsErr answer → OnOk answer P
-on-none (Ok ending) P none = absurd (false≢true none)
-on-none (Err e) P none = tt
-
--- and where the run wasn't begun, it comes back so
-pub unbegun-left : (on : Board Blueprint → Type 0) (board : Board Blueprint) (answer : Result Ending AllocError) (hand back : TheHand) → on board → IsFreshHand board hand → back ≡ hand → IsErr answer → IsLeft on answer back
-unbegun-left on board answer hand back holds fresh is none =
-    let unused = fresh-unused board hand fresh in
-    subst (λ (h : TheHand). IsLeft on answer h) (sym is)
-    (record {
-      board = board;
-      is = holds;
-      hand_of = fresh.hand_of;
-      nothing = unused.nothing;
-      even = unused.even;
-      settled = subst (λ (v : View Item Entry). IsSettled (all_steps v)) (sym fresh.fresh) (inr tt);
-      joined = on-none answer (HasJoined (knows hand)) none;
-    })
-
--- what holds anyhow holds where there is an answer
-on-ok : (answer : Result Ending AllocError) (P : Type 0) → P → OnOk answer P
-on-ok (Ok ending) P holds = holds
-on-ok (Err e) P holds = tt
-
--- a run that was ended leaves its hand so, whatever it answers
-pub ended-left : (on : Board Blueprint → Type 0) (answer : Result Ending AllocError) (hand : TheHand) → IsEnded on hand → IsLeft on answer hand
-ended-left on answer hand ended = record {
-  board = ended.board;
-  is = ended.is_on;
-  hand_of = ended.hand_of;
-  nothing = ended.nothing;
-  even = ended.even;
-  settled = inl ended.joined;
-  joined = on-ok answer (HasJoined (knows hand)) ended.joined;
-}
-
--- the table's one hand is back
-pub one-back : (board : Board Blueprint) (answer : Result Ending AllocError) (all : List TheHand) (hand : TheHand) → board.frame.hands ≡ 1 → all ≡ hand ∷ [] → IsLeft (λ (b : Board Blueprint). b ≡ board) answer hand → AreAllBack board all
-one-back board answer all hand one is left =
-    subst (λ (hands : List TheHand). AreAllBack board hands) (sym is)
-    (record {
-      length_is = sym one;
-      each = ((subst (λ (b : Board Blueprint). IsHandOf b hand) left.is left.hand_of, left.nothing), tt);
-    })
-
-on-ok-then : (answer : Result Ending AllocError) (P Q : Type 0) → (P → Q) → OnOk answer P → OnOk answer Q
-on-ok-then (Ok ending) P Q next holds = next holds
-on-ok-then (Err e) P Q next holds = tt
-
--- so the table was closed
-pub closed-after : (board : Board Blueprint) (answer : Result Ending AllocError) (all : List TheHand) (hand : TheHand) (closing : Closing) → all ≡ hand ∷ [] → IsLeft (λ (b : Board Blueprint). b ≡ board) answer hand
-    → IsScopeLeft (steps_of all) closing.scope → IsCountedBy board all closing → IsClosedAfter answer board.frame.layout.blocks closing
-closed-after board answer all hand closing is left scope counted =
-    let state = subst (λ (hands : List TheHand). IsScopeLeft (steps_of hands) closing.scope) is scope in
-    let count = subst (λ (hands : List TheHand). IsCountedBy board hands closing) is counted in
-    let even = left.even in
-    record {
-      ended = state.settled left.settled;
-      joined = on-ok-then answer (HasJoined (knows hand)) (closing.scope ≡ Joined) state.joined left.joined;
-      back = omega arith;
-    }

@@ -1,3 +1,5 @@
 mod EndingLaws
 mod HandLaws
+mod BackLaws
+mod JoinLaws
 mod AccountLaws

@@ -1,3 +1,5 @@
 pub mod Endings
 pub mod Opened
+pub mod Desks
+pub mod Keeps
 pub mod Layers

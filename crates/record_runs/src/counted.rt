@@ -1,5 +1,5 @@
 //! A run over generated records.
-ghost use Rattle.std.specs.Prelude.{◌≡◌, ◌<◌, ◌≤◌, IfOk};
+ghost use Rattle.std.specs.Prelude.{◌≡◌, ◌<◌, ◌≤◌, IfOk, vec_len};
 ghost use Rattle.std.specs.Thread.{IsSync};
 ghost use Rattle.life_rules.specs.declared.limits.TheConstants.{MOST_BLOCKS};
 ghost use Rattle.plan_kinds.specs.Reached.{KindsMatch};
@@ -10,19 +10,22 @@ ghost use Rattle.record_loop.specs.declared.printer.Form.{Form};
 ghost use Rattle.record_runs.specs.Endings.{EndsCounted, begins};
 ghost use Rattle.record_runs.specs.Layers.{IsRunBy, ending_in};
 ghost use Rattle.record_runs.specs.declared.account.Layer.{Layer};
+ghost use Rattle.run_crew.specs.Crews.{IsCrew};
 ghost use Rattle.run_rules.specs.PlanTerms.{MayRun};
 
 use crate::account::{Account, Layer, give_account};
 use crate::opened::open_run;
 use crate::over_table::counted_on_table;
 use exec_io::Sink;
-use exec_recv::OpenGate;
+use exec_recv::Gate;
 use exec_steps::NodeSteps;
 use plain_runs::PlainRuns;
 use plan_shape::Plan;
 use record_loop::run_generated;
+use run_crew::Crew;
 use std::alloc::{AllocError, Global};
 use std::sync::Wait;
+use std::thread::Threads;
 
 // Runs so many generated records plainly.
 fn counted_plainly<R: Wait + Sync, K: Sink>(
@@ -56,12 +59,14 @@ fn counted_plainly<R: Wait + Sync, K: Sink>(
 ///
 /// Afterwards: what `run_generated` promises, with a tally of the operations that were collected.
 /// The account names the layer, as that of `run_lines` does.
-pub fn run_counted<R: Wait + Sync, K: Sink>(
+pub fn run_counted<G: Gate + Sync, R: Threads + Wait + Sync, K: Sink>(
     rt: &R,
     alloc: Global,
     plan: &Plan,
     window: usize,
     count: u32,
+    crew: Crew,
+    gate: &G,
     out: &mut K,
 ) -> Result<Account, AllocError>
     requires sync { IsSync R.row }
@@ -70,16 +75,16 @@ pub fn run_counted<R: Wait + Sync, K: Sink>(
     requires few { count ≤ MOST_RECORDS }
     requires kinds { KindsMatch plan.now.nodes plan.now.settings.input }
     requires may_run { MayRun plan.now.settings }
+    requires crew { IsCrew crew.workers (vec_len crew.backends) }
     ensures ends { EndsCounted (begins plan.now window Form.Summary (K.told out.old))
         (generated_lines plan.now.settings.input count) (K.told out.new) (ending_in result) }
     ensures told { IfOk result (λ a. TalliesWith a.tally a.ending.summary) }
     ensures layer { IfOk result (λ a. IsRunBy plan.now window a.layer) }
 {
-    let gate = OpenGate;
-    let Some(steps) = NodeSteps::of(plan, &gate) else {
+    let Some(steps) = NodeSteps::of(plan, gate) else {
         return counted_plainly(rt, alloc, plan, window, count, out);
     };
-    let opened = open_run(alloc, plan, window)?;
-    let end = counted_on_table(rt, alloc, plan, &steps, opened, count, out);
+    let opened = open_run(alloc, plan, window, crew.workers)?;
+    let end = counted_on_table(rt, alloc, plan, &steps, opened, crew, count, out);
     give_account(end.answer, end.tally, Layer::Table(end.closing))
 }

@@ -13,7 +13,10 @@
 
 mod account;
 mod counted;
+mod counted_desk;
+mod joining;
 mod lines;
+mod lines_desk;
 mod opened;
 mod over_table;
 mod working;

@@ -1,5 +1,5 @@
 //! A run over the records of a source.
-ghost use Rattle.std.specs.Prelude.{◌≡◌, ◌<◌, ◌≤◌, IfOk};
+ghost use Rattle.std.specs.Prelude.{◌≡◌, ◌<◌, ◌≤◌, IfOk, vec_len};
 ghost use Rattle.std.specs.Thread.{IsSync};
 ghost use Rattle.life_rules.specs.declared.limits.TheConstants.{MOST_BLOCKS};
 ghost use Rattle.plan_kinds.specs.Reached.{KindsMatch};
@@ -7,19 +7,22 @@ ghost use Rattle.record_loop.specs.Tallies.{TalliesWith};
 ghost use Rattle.record_runs.specs.Endings.{EndsLines, begins, supply};
 ghost use Rattle.record_runs.specs.Layers.{IsRunBy, ending_in};
 ghost use Rattle.record_runs.specs.declared.account.Layer.{Layer};
+ghost use Rattle.run_crew.specs.Crews.{IsCrew};
 ghost use Rattle.run_rules.specs.PlanTerms.{MayRun};
 
 use crate::account::{Account, Layer, give_account};
 use crate::opened::open_run;
 use crate::over_table::lines_on_table;
 use exec_io::Sink;
-use exec_recv::OpenGate;
+use exec_recv::Gate;
 use exec_steps::NodeSteps;
 use plain_runs::PlainRuns;
 use plan_shape::Plan;
 use record_loop::{Form, RecordSource, run_records};
+use run_crew::Crew;
 use std::alloc::{AllocError, Global};
 use std::sync::Wait;
+use std::thread::Threads;
 
 // Runs the records of a source plainly.
 fn lines_plainly<R: Wait + Sync, S: RecordSource, K: Sink>(
@@ -54,12 +57,14 @@ fn lines_plainly<R: Wait + Sync, S: RecordSource, K: Sink>(
 /// Afterwards: what `run_records` promises, with a tally of the operations that were collected. The
 /// account names the layer; where it is the table, that was closed with its scope joined and each
 /// block given back.
-pub fn run_lines<R: Wait + Sync, S: RecordSource, K: Sink>(
+pub fn run_lines<G: Gate + Sync, R: Threads + Wait + Sync, S: RecordSource, K: Sink>(
     rt: &R,
     alloc: Global,
     plan: &Plan,
     window: usize,
     form: Form,
+    crew: Crew,
+    gate: &G,
     records: &mut S,
     out: &mut K,
 ) -> Result<Account, AllocError>
@@ -68,17 +73,17 @@ pub fn run_lines<R: Wait + Sync, S: RecordSource, K: Sink>(
     requires few { window ≤ MOST_BLOCKS }
     requires kinds { KindsMatch plan.now.nodes plan.now.settings.input }
     requires may_run { MayRun plan.now.settings }
+    requires crew { IsCrew crew.workers (vec_len crew.backends) }
     ensures ends { EndsLines (begins plan.now window form (K.told out.old))
         (supply (S.told records.old) (S.reads records.old))
         (supply (S.told records.new) (S.reads records.new)) (K.told out.new) (ending_in result) }
     ensures told { IfOk result (λ a. TalliesWith a.tally a.ending.summary) }
     ensures layer { IfOk result (λ a. IsRunBy plan.now window a.layer) }
 {
-    let gate = OpenGate;
-    let Some(steps) = NodeSteps::of(plan, &gate) else {
+    let Some(steps) = NodeSteps::of(plan, gate) else {
         return lines_plainly(rt, alloc, plan, window, form, records, out);
     };
-    let opened = open_run(alloc, plan, window)?;
-    let end = lines_on_table(rt, alloc, plan, &steps, opened, form, records, out);
+    let opened = open_run(alloc, plan, window, crew.workers)?;
+    let end = lines_on_table(rt, alloc, plan, &steps, opened, crew, form, records, out);
     give_account(end.answer, end.tally, Layer::Table(end.closing))
 }

@@ -1,9 +1,8 @@
 //! A table that is opened for a run, and closed after it.
-ghost use Rattle.std.specs.Prelude.{◌≡◌, ◌<◌, ◌≤◌, [], IfOk, vec_capacity};
-ghost use Rattle.life_rules.specs.declared.limits.TheConstants.{MOST_BLOCKS};
-ghost use Rattle.record_runs.specs.Opened.{IsOpenedFor, IsLeft, IsClosedAfter};
+ghost use Rattle.std.specs.Prelude.{◌≡◌, ◌<◌, ◌≤◌, IfOk};
+ghost use Rattle.life_rules.specs.declared.limits.TheConstants.{MOST_BLOCKS, MOST_HANDS};
+ghost use Rattle.record_runs.specs.Opened.{AreBack, IsOpenedFor, IsClosedAfter};
 
-use crate::working::Worked;
 use exec_recv::Item;
 use op_table::{Hand, OpTable};
 use plan_shape::Plan;
@@ -12,7 +11,7 @@ use run_tally::Tally;
 use std::alloc::{AllocError, Global};
 use table_steps::Closing;
 
-/// A table over a plan, and its one hand.
+/// A table over a plan, and its hands: one for each worker, and one more.
 #[derive(Drop)]
 pub struct Opened {
     pub table: OpTable<Item>,
@@ -28,45 +27,44 @@ pub struct TableEnd {
     pub closing: Closing,
 }
 
-/// Opens a table over the plan for a run, with so many blocks and one hand. It fails only for want
-/// of memory, and nothing is read or written.
+/// Opens a table over the plan for a run, with so many blocks, and a hand for each of so many
+/// workers and one more. It fails only for want of memory, and nothing is read or written.
 ///
 /// Afterwards: no operation was begun on the table. Its scope is of the kind that the plan says,
 /// and takes as many associations as there are blocks.
-pub fn open_run(alloc: Global, plan: &Plan, blocks: usize) -> Result<Opened, AllocError>
+pub fn open_run(
+    alloc: Global,
+    plan: &Plan,
+    blocks: usize,
+    workers: u32,
+) -> Result<Opened, AllocError>
     requires some { 0 < blocks }
     requires few { blocks ≤ MOST_BLOCKS }
-    ensures { IfOk result (IsOpenedFor plan.now blocks) }
+    requires workers { workers < MOST_HANDS }
+    ensures { IfOk result (IsOpenedFor plan.now blocks workers) }
 {
     let most = blocks as u32;
     let kind = plan.settings().scope;
-    let (table, hands) = OpTable::open(alloc, plan.tree(), plan, most, 1, kind, most)?;
+    let count = workers + 1;
+    let (table, hands) = OpTable::open(alloc, plan.tree(), plan, most, count, kind, most)?;
     // Asked for what they say of every tree and of every plan.
     let _ = table.tree().size();
     let _ = plan.size();
     Ok(Opened { table, hands })
 }
 
-/// Closes the table after a run, with its one hand. There is room for it among the table's hands.
+/// Closes the table after a run, with all of its hands.
 pub(crate) fn close_run(
     table: OpTable<Item>,
-    mut hands: Vec<Hand<Item>>,
-    worked: Worked,
+    hands: Vec<Hand<Item>>,
+    answer: Result<Ending, AllocError>,
+    tally: Tally,
 ) -> TableEnd
-    requires one { table.frame.hands ≡ 1 }
-    requires none { hands.items ≡ [] }
-    requires room { 0 < vec_capacity hands }
-    requires left { IsLeft (λ board. board ≡ table) worked.answer worked.hand }
-    ensures answer { result.answer ≡ worked.answer }
-    ensures tally { result.tally ≡ worked.tally }
-    ensures closed { IsClosedAfter worked.answer table.frame.layout.blocks result.closing }
+    requires back { AreBack table hands.items }
+    ensures answer { result.answer ≡ answer }
+    ensures tally { result.tally ≡ tally }
+    ensures closed { IsClosedAfter table.frame.layout.blocks result.closing }
 {
-    let Worked {
-        answer,
-        tally,
-        hand,
-    } = worked;
-    hands.push(hand).unwrap();
     TableEnd {
         answer,
         tally,

@@ -1,8 +1,8 @@
 //! The work of a run on a table, from the hand that it begins with to the hand that it gives back.
 //!
 //! Between the opening of a table and its closing no call returns early: where there is no memory
-//! for the run, or none for the loop over its records, the hand comes back all the same.
-//! No worker serves the pool, so the run helps there.
+//! for the run, or none for the loop over its records, the hand comes back all the same, and the
+//! scope is joined, for which workers wait. The run helps the pool where no worker serves it.
 ghost use Rattle.std.specs.Prelude.{◌≡◌, ◌≤◌, IfOk, IsErr};
 ghost use Rattle.std.specs.Thread.{IsSync};
 ghost use Rattle.record_lines.specs.declared.limits.TheConstants.{MOST_RECORDS};
@@ -10,8 +10,11 @@ ghost use Rattle.record_loop.specs.Generated.{generated_lines};
 ghost use Rattle.record_loop.specs.Tallies.{TalliesWith};
 ghost use Rattle.record_loop.specs.declared.printer.Form.{Form};
 ghost use Rattle.record_runs.specs.Endings.{EndsLines, EndsCounted, begins, supply};
-ghost use Rattle.record_runs.specs.Opened.{CanRunOn, IsFreshHand, IsLeft};
+ghost use Rattle.record_runs.specs.Opened.{CanRunOn, IsFreshHand};
+ghost use Rattle.run_crew.specs.Crews.{IsSpare};
+ghost use Rattle.table_run.specs.Ends.{IsEnded};
 
+use crate::joining::join_idle;
 use exec_io::Sink;
 use exec_recv::{Item, Stepper};
 use op_table::{Hand, OpTable};
@@ -30,23 +33,42 @@ pub(crate) struct Tabled<'a, T: Stepper> {
     pub(crate) table: &'a OpTable<Item>,
 }
 
+/// What a run came to: how it ended, and its tally.
+#[derive(Clone, Copy)]
+pub struct Came {
+    pub(crate) answer: Result<Ending, AllocError>,
+    pub(crate) tally: Tally,
+}
+
+impl Came {
+    /// Nothing, so far: as where there is no memory for a run.
+    pub(crate) fn none() -> Came
+        ensures { IsErr result.answer }
+    {
+        Came {
+            answer: Err(AllocError),
+            tally: Tally::new(),
+        }
+    }
+}
+
 /// What a run leaves before its table is closed.
 #[derive(Drop)]
 pub(crate) struct Worked {
-    pub(crate) answer: Result<Ending, AllocError>,
-    pub(crate) tally: Tally,
+    pub(crate) came: Came,
     pub(crate) hand: Hand<Item>,
 }
 
-// There was no memory for the run, and the hand did nothing.
-fn unbegun(hand: Hand<Item>) -> Worked
-    ensures none { IsErr result.answer }
-    ensures hand { result.hand ≡ hand }
+// There was no memory for the run, and the hand did nothing but join the scope.
+fn unbegun<B: OnTable, R: Wait>(rt: &R, table: &OpTable<Item>, hand: Hand<Item>) -> Worked
+    requires on { B.is table.now }
+    requires spare { IsSpare table.now hand }
+    ensures none { IsErr result.came.answer }
+    ensures ended { IsEnded B.is result.hand }
 {
     Worked {
-        answer: Err(AllocError),
-        tally: Tally::new(),
-        hand,
+        came: Came::none(),
+        hand: join_idle(rt, table, hand),
     }
 }
 
@@ -56,6 +78,7 @@ pub(crate) fn work_on_lines<B: OnTable, T: Stepper, R: Wait + Sync, S: RecordSou
     alloc: Global,
     tabled: &Tabled<'_, T>,
     hand: Hand<Item>,
+    helps: bool,
     form: Form,
     records: &mut S,
     out: &mut K,
@@ -68,9 +91,10 @@ pub(crate) fn work_on_lines<B: OnTable, T: Stepper, R: Wait + Sync, S: RecordSou
     ensures ends { EndsLines
         (begins tabled.now.plan.now tabled.now.table.now.frame.layout.blocks form (K.told out.old))
         (supply (S.told records.old) (S.reads records.old))
-        (supply (S.told records.new) (S.reads records.new)) (K.told out.new) result.answer }
-    ensures told { IfOk result.answer (λ ending. TalliesWith result.tally ending.summary) }
-    ensures left { IsLeft B.is result.answer result.hand }
+        (supply (S.told records.new) (S.reads records.new)) (K.told out.new) result.came.answer }
+    ensures told { IfOk result.came.answer
+        (λ ending. TalliesWith result.came.tally ending.summary) }
+    ensures ended { IsEnded B.is result.hand }
 {
     let window = tabled.table.blocks() as usize;
     let settings = *tabled.plan.settings();
@@ -84,17 +108,16 @@ pub(crate) fn work_on_lines<B: OnTable, T: Stepper, R: Wait + Sync, S: RecordSou
     );
     match opened {
         Ok(mut run) => {
-            run.help_pool(true);
+            run.help_pool(helps);
             let answer = run_records(rt, alloc, settings, window, form, &mut run, records, out);
             let tally = run.tally();
             let hand = run.end(rt, alloc);
             Worked {
-                answer,
-                tally,
+                came: Came { answer, tally },
                 hand,
             }
         }
-        Err(back) => unbegun(back),
+        Err(back) => unbegun::<B, R>(rt, tabled.table, back),
     }
 }
 
@@ -104,6 +127,7 @@ pub(crate) fn work_on_counted<B: OnTable, T: Stepper, R: Wait + Sync, K: Sink>(
     alloc: Global,
     tabled: &Tabled<'_, T>,
     hand: Hand<Item>,
+    helps: bool,
     count: u32,
     out: &mut K,
 ) -> Worked
@@ -116,9 +140,10 @@ pub(crate) fn work_on_counted<B: OnTable, T: Stepper, R: Wait + Sync, K: Sink>(
     ensures ends { EndsCounted
         (begins tabled.now.plan.now tabled.now.table.now.frame.layout.blocks Form.Summary
         (K.told out.old)) (generated_lines tabled.now.plan.now.settings.input count)
-        (K.told out.new) result.answer }
-    ensures told { IfOk result.answer (λ ending. TalliesWith result.tally ending.summary) }
-    ensures left { IsLeft B.is result.answer result.hand }
+        (K.told out.new) result.came.answer }
+    ensures told { IfOk result.came.answer
+        (λ ending. TalliesWith result.came.tally ending.summary) }
+    ensures ended { IsEnded B.is result.hand }
 {
     let window = tabled.table.blocks() as usize;
     let settings = *tabled.plan.settings();
@@ -132,16 +157,15 @@ pub(crate) fn work_on_counted<B: OnTable, T: Stepper, R: Wait + Sync, K: Sink>(
     );
     match opened {
         Ok(mut run) => {
-            run.help_pool(true);
+            run.help_pool(helps);
             let answer = run_generated(rt, alloc, settings, window, count, &mut run, out);
             let tally = run.tally();
             let hand = run.end(rt, alloc);
             Worked {
-                answer,
-                tally,
+                came: Came { answer, tally },
                 hand,
             }
         }
-        Err(back) => unbegun(back),
+        Err(back) => unbegun::<B, R>(rt, tabled.table, back),
     }
 }

@@ -1,15 +1,20 @@
 //! The tests, and what they share.
-ghost use Rattle.std.specs.Prelude.{IfOk};
+ghost use Rattle.std.specs.Prelude.{IfOk, vec_len};
 ghost use Rattle.plan_kinds.specs.Reached.{KindsMatch};
+ghost use Rattle.run_crew.specs.Crews.{IsCrew};
 
 mod bodies;
 mod closings;
+mod crews;
 mod layers;
+mod races;
+mod unlawful;
 
 use life_rules::ScopeState;
 use plan_reader::read_plan;
 use plan_shape::Plan;
 use record_runs::{Account, Layer};
+use run_crew::{Crew, Order};
 use sig_check::check;
 use std::alloc::Global;
 use std::test::Fail;
@@ -34,5 +39,16 @@ fn is_by_table(account: &Account, blocks: u32) -> bool {
         Layer::Table(closing) => {
             closing.scope == ScopeState::Joined && closing.free == blocks && closing.retired == 0
         }
+    }
+}
+
+/// No workers.
+fn nobody(alloc: Global) -> Crew
+    ensures { IsCrew result.workers (vec_len result.backends) }
+{
+    Crew {
+        workers: 0,
+        order: Order::Fifo,
+        backends: Vec::new(alloc),
     }
 }

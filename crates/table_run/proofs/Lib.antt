@@ -7,6 +7,6 @@ mod Allowed
 mod Worked
 mod Sounding
 mod Requested
-mod Joined
+pub mod Joined
 mod Cleared
 mod Changed

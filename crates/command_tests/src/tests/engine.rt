@@ -2,8 +2,9 @@
 //! memory. The other worked examples are cases of the program (tests/cases/engine.json).
 ghost use Rattle.std.specs.Thread.{IsSync};
 
+use super::backends::call;
 use super::{Ran, shelf, sink};
-use exec_engine::{Status, run};
+use exec_engine::Status;
 use exec_io::{MemSink, MemSource, NeverFails};
 use std::alloc::{AllocError, Global};
 use std::sync::Wait;
@@ -11,7 +12,7 @@ use std::test::Fail;
 use std::thread::Threads;
 
 /// A plan that adds one to each record.
-const ADD_ONE: &str =
+pub const ADD_ONE: &str =
     r#"{"version":1,"input":"int","root":{"do":"then","child":{"do":"input"},"job":{"job":"add","n":1}}}"#;
 
 /// A trace that is taken.
@@ -22,17 +23,17 @@ const WHOLE_RUN: &str = "exec 2 1 1 counting 1\nnode 1 plain\nnode - plain\n\
 /// What a run is given: the bytes of its source, how many bytes out and notes take a write, and at
 /// which calls each of them fails.
 #[derive(Clone, Copy)]
-struct Given<'a> {
-    input: &'a [u8],
-    reads: &'a [u64],
-    out: usize,
-    writes: &'a [u64],
-    notes: usize,
-    told: &'a [u64],
+pub struct Given<'a> {
+    pub input: &'a [u8],
+    pub reads: &'a [u64],
+    pub out: usize,
+    pub writes: &'a [u64],
+    pub notes: usize,
+    pub told: &'a [u64],
 }
 
 /// What takes all.
-const ALL: Given<'_> = Given {
+pub const ALL: Given<'_> = Given {
     input: b"",
     reads: &[],
     out: 4096,
@@ -41,8 +42,9 @@ const ALL: Given<'_> = Given {
     told: &[],
 };
 
-/// A run with these words, where the shelf has this text under the name `plan.json`.
-fn run_with<R: Threads + Wait + Sync>(
+/// A run with these words, where the shelf has this text under the name `plan.json`, and backends
+/// have room for two names.
+pub fn run_with<R: Threads + Wait + Sync>(
     rt: &R,
     alloc: Global,
     words: &[&str],
@@ -55,16 +57,17 @@ fn run_with<R: Threads + Wait + Sync>(
     let mut records = MemSource::new(given.input.to_vec(alloc)?, given.reads.to_vec(alloc)?);
     let mut out = sink(alloc, given.out, given.writes)?;
     let mut notes = sink(alloc, given.notes, given.told)?;
-    let status = run(
+    let called = call(
         rt,
         alloc,
         words,
+        2,
         &mut shelf,
         &mut records,
         &mut out,
         &mut notes,
-    );
-    Ok(Ran { status, out, notes })
+    )?;
+    Ok(Ran { called, out, notes })
 }
 
 #[test]
@@ -82,7 +85,7 @@ fn a_failed_write_leaves_what_was_written(rt: HostRuntime) -> Result<(), Fail> {
         };
         let ran = run_with(&rt, alloc, &["run", "plan.json"], ADD_ONE, given)?;
         let lost = written.len() < lines.len();
-        assert_eq!(rt; ran.status == Status::WriteFault, lost);
+        assert_eq!(rt; ran.called.status == Status::WriteFault, lost);
         assert_eq!(rt; ran.out.bytes(), written.as_bytes());
         assert_eq!(rt; ran.notes.bytes().is_empty(), !lost);
     }
@@ -99,7 +102,7 @@ fn out_that_fails_is_a_write_fault_of_a_check(rt: HostRuntime) -> Result<(), Fai
         ..ALL
     };
     let ran = run_with(&rt, alloc, &["check", "plan.json"], WHOLE_RUN, given)?;
-    assert!(rt; ran.status == Status::WriteFault);
+    assert!(rt; ran.called.status == Status::WriteFault);
     assert_eq!(rt; ran.out.bytes(), "ok".as_bytes());
     assert_eq!(rt; ran.notes.bytes(), "write fault\n".as_bytes());
     Ok(())
@@ -120,8 +123,8 @@ fn a_write_fault_comes_before_a_read_fault(rt: HostRuntime) -> Result<(), Fail> 
         };
         let ran = run_with(&rt, alloc, &["run", "plan.json"], ADD_ONE, given)?;
         let lost = call < 99;
-        assert_eq!(rt; ran.status == Status::WriteFault, lost);
-        assert_eq!(rt; ran.status == Status::ReadFault, !lost);
+        assert_eq!(rt; ran.called.status == Status::WriteFault, lost);
+        assert_eq!(rt; ran.called.status == Status::ReadFault, !lost);
         assert_eq!(rt; ran.notes.bytes(), note.as_bytes());
     }
     Ok(())
@@ -145,8 +148,8 @@ fn a_refusal_stands_where_notes_fail(rt: HostRuntime) -> Result<(), Fail> {
         };
         let ran = run_with(&rt, alloc, &[command, "plan.json"], "{", given)?;
         let refused = command != "start";
-        assert_eq!(rt; ran.status == Status::PlanRefused, refused);
-        assert_eq!(rt; ran.status == Status::Usage, !refused);
+        assert_eq!(rt; ran.called.status == Status::PlanRefused, refused);
+        assert_eq!(rt; ran.called.status == Status::Usage, !refused);
         assert_eq!(rt; ran.notes.bytes(), told.as_bytes());
     }
     Ok(())
@@ -160,17 +163,18 @@ fn want_of_memory_ends_the_run(rt: HostRuntime) -> Result<(), Fail> {
     let mut out = NeverFails::new(MemSink::new(alloc, 4096, Vec::new(alloc)));
     let mut notes = NeverFails::new(MemSink::new(alloc, 4096, Vec::new(alloc)));
     let words = ["run", "plan.json"];
-    let status = run(
+    let called = call(
         &rt,
         alloc,
         &words,
+        256,
         &mut shelf,
         &mut records,
         &mut out,
         &mut notes,
-    );
-    if status != Status::NoMemory {
-        assert!(rt; status == Status::AllValues);
+    )?;
+    if called.status != Status::NoMemory {
+        assert!(rt; called.status == Status::AllValues);
         assert_eq!(rt; notes.inner().bytes(), "".as_bytes());
     }
     Ok(())

@@ -1,16 +1,14 @@
 //! Which body of a let runs, as a gate sees it.
 ghost use Rattle.std.specs.Thread.{IsSync};
 
-use super::plan_of;
+use super::{is_by_table, nobody, plan_of};
 use exec_io::{MemSink, MemSource};
 use exec_recv::{Gate, Point};
-use exec_steps::NodeSteps;
-use life_rules::ScopeState;
 use record_loop::Form;
-use record_runs::{lines_on_table, open_run};
+use record_runs::run_lines;
 use run_rules::may_run;
-use std::cell::Cell;
 use std::sync::Wait;
+use std::sync::atomic::{AtomicU64, Ordering};
 use std::test::Fail;
 
 /// The node of the job in the third body.
@@ -19,8 +17,8 @@ const THIRD: u32 = 4;
 /// A gate that counts the jobs at the third body, for record 1 and for all others.
 #[derive(Drop)]
 struct Counting {
-    first: Cell<u32>,
-    others: Cell<u32>,
+    first: AtomicU64,
+    others: AtomicU64,
 }
 
 impl Gate for Counting {
@@ -32,7 +30,7 @@ impl Gate for Counting {
                 } else {
                     &self.others
                 };
-                count.set(count.get().saturating_add(1));
+                count.fetch_add(1, Ordering::SeqCst);
             }
         }
     }
@@ -46,29 +44,27 @@ fn picked_body(rt: HostRuntime) -> Result<(), Fail> {
     let plan = plan_of(alloc, "", root)?;
     assert!(rt; may_run(plan.settings()));
     let gate = Counting {
-        first: Cell::new(0),
-        others: Cell::new(0),
-    };
-    let Some(steps) = NodeSteps::of(&plan, &gate) else {
-        panic!(rt; "no steps for the plan");
+        first: AtomicU64::new(0),
+        others: AtomicU64::new(0),
     };
     let mut records = MemSource::new(b"7\n-1\n1\n".to_vec(alloc)?, Vec::new(alloc));
     let mut out = MemSink::new(alloc, 4096, Vec::new(alloc));
-    let opened = open_run(alloc, &plan, 3)?;
     let form = Form::Lines;
-    let end = lines_on_table(
+    let crew = nobody(alloc);
+    let account = run_lines(
         &rt,
         alloc,
         &plan,
-        &steps,
-        opened,
+        3,
         form,
+        crew,
+        &gate,
         &mut records,
         &mut out,
-    );
+    )?;
     assert!(rt; out.bytes() == b"1 value 700\n2 value 10\n3 value 20\n".as_slice());
-    assert!(rt; end.closing.scope == ScopeState::Joined);
-    assert!(rt; gate.first.get() == 1);
-    assert!(rt; gate.others.get() == 0);
+    assert!(rt; is_by_table(&account, 3));
+    assert!(rt; gate.first.load(Ordering::SeqCst) == 1);
+    assert!(rt; gate.others.load(Ordering::SeqCst) == 0);
     Ok(())
 }

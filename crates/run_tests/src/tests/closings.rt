@@ -1,8 +1,9 @@
 //! A table is closed, whatever becomes of the source and of out.
 ghost use Rattle.std.specs.Thread.{IsSync};
 
-use super::{ADDING, is_by_table, plan_of};
+use super::{ADDING, is_by_table, nobody, plan_of};
 use exec_io::{MemSink, MemSource};
+use exec_recv::OpenGate;
 use record_lines::End;
 use record_loop::Form;
 use record_runs::{Account, run_counted, run_lines};
@@ -11,6 +12,7 @@ use std::alloc::Global;
 use std::process::Abort;
 use std::sync::Wait;
 use std::test::Fail;
+use std::thread::Threads;
 
 /// What a run left.
 #[derive(Drop)]
@@ -20,7 +22,7 @@ struct Ran {
 }
 
 /// A run of `ADDING` with a window of 2, over a source of these bytes and a sink.
-fn run<R: Wait + Abort + Sync>(
+fn run<R: Threads + Wait + Abort + Sync>(
     rt: &R,
     alloc: Global,
     form: Form,
@@ -31,7 +33,17 @@ fn run<R: Wait + Abort + Sync>(
 {
     let plan = plan_of(alloc, "", ADDING)?;
     assert!(rt; may_run(plan.settings()));
-    let account = run_lines(rt, alloc, &plan, 2, form, &mut records, &mut out)?;
+    let account = run_lines(
+        rt,
+        alloc,
+        &plan,
+        2,
+        form,
+        nobody(alloc),
+        &OpenGate,
+        &mut records,
+        &mut out,
+    )?;
     Ok(Ran { account, out })
 }
 
@@ -101,7 +113,7 @@ fn after_generated_records(rt: HostRuntime) -> Result<(), Fail> {
     let plan = plan_of(alloc, "", ADDING)?;
     assert!(rt; may_run(plan.settings()));
     let mut out = MemSink::new(alloc, 4096, Vec::new(alloc));
-    let account = run_counted(&rt, alloc, &plan, 2, 3, &mut out)?;
+    let account = run_counted(&rt, alloc, &plan, 2, 3, nobody(alloc), &OpenGate, &mut out)?;
     let line = b"records 3 values 3 errors 0 stopped 0 out-of-memory 0 bad 0 sum 47568\n";
     assert!(rt; out.bytes() == line.as_slice());
     assert!(rt; account.tally.values() == 3);

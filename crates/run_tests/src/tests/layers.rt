@@ -5,8 +5,9 @@ ghost use Rattle.life_rules.specs.declared.limits.TheConstants.{MOST_BLOCKS};
 ghost use Rattle.plan_kinds.specs.Reached.{KindsMatch};
 ghost use Rattle.run_rules.specs.PlanTerms.{MayRun};
 
-use super::{ADDING, is_by_table, plan_of};
+use super::{ADDING, is_by_table, nobody, plan_of};
 use exec_io::{MemSink, MemSource};
+use exec_recv::OpenGate;
 use plain_runs::PlainRuns;
 use plan_shape::Plan;
 use record_loop::{Form, run_records};
@@ -16,6 +17,7 @@ use std::alloc::Global;
 use std::process::Abort;
 use std::sync::Wait;
 use std::test::Fail;
+use std::thread::Threads;
 
 /// Further settings and a root, of each kind of node that has a step on the table.
 const CASES: [(&str, &str); 20] = [
@@ -120,7 +122,7 @@ fn plainly<R: Wait + Sync>(
 
 /// Whether the plan runs so many records to the same lines through both layers, and leaves the table
 /// with its scope joined and all blocks free.
-fn agree<R: Wait + Abort + Sync>(
+fn agree<R: Threads + Wait + Abort + Sync>(
     rt: &R,
     alloc: Global,
     case: (&str, &str),
@@ -137,7 +139,17 @@ fn agree<R: Wait + Abort + Sync>(
     let plain = plainly(rt, alloc, &plan, size, count)?;
     let mut out = MemSink::new(alloc, 4096, Vec::new(alloc));
     let mut source = records(alloc, count)?;
-    let account = run_lines(rt, alloc, &plan, size, Form::Lines, &mut source, &mut out)?;
+    let account = run_lines(
+        rt,
+        alloc,
+        &plan,
+        size,
+        Form::Lines,
+        nobody(alloc),
+        &OpenGate,
+        &mut source,
+        &mut out,
+    )?;
     Ok(plain.bytes() == out.bytes() && is_by_table(&account, window))
 }
 
@@ -166,7 +178,17 @@ fn a_plan_without_steps_runs_plainly(rt: HostRuntime) -> Result<(), Fail> {
     assert!(rt; may_run(plan.settings()));
     let mut out = MemSink::new(alloc, 4096, Vec::new(alloc));
     let mut source = records(alloc, 1)?;
-    let account = run_lines(&rt, alloc, &plan, 2, Form::Lines, &mut source, &mut out)?;
+    let account = run_lines(
+        &rt,
+        alloc,
+        &plan,
+        2,
+        Form::Lines,
+        nobody(alloc),
+        &OpenGate,
+        &mut source,
+        &mut out,
+    )?;
     assert!(rt; out.bytes() == b"1 value 0 1\n2 bad-record\n".as_slice());
     assert!(rt; matches!(account.layer, Layer::Plain));
     Ok(())

@@ -40,7 +40,7 @@ returns-in-Replay-clause-ends g c =
     let is = sym c.read_words.ensures ∙ c.in-Some.is ∙ ap (λ (command : Command). Some command) c.in-Replay.is in
     let old = outside (g.F.Shelf.told c.args.shelf.now) (g.S.Source.told c.args.records.now) (g.K.Sink.told c.args.out.now) (g.N.Sink.told c.args.notes.now) in
     let new = outside (g.F.Shelf.told c.replay_file.new.shelf) (g.S.Source.told c.args.records.now) (g.K.Sink.told c.replay_file.new.out) (g.N.Sink.told c.replay_file.new.notes) in
-    subst (λ (said : Option Command). IfSome said (CommandEnds old new c.replay_file.result)) (sym is) (c.replay_file.ensures (g.S.Source.told c.args.records.now))
+    subst (λ (said : Option Command). IfSome said (CommandEnds old new c.new.result c.replay_file.result)) (sym is) (c.replay_file.ensures (g.S.Source.told c.args.records.now), c.new.ensures)
 
 pub returns-in-Check-clause-usage : goal.returns-in-Check-clause-usage
 returns-in-Check-clause-usage g c =
@@ -55,4 +55,4 @@ returns-in-Check-clause-ends g c =
     let is = sym c.read_words.ensures ∙ c.in-Some.is ∙ ap (λ (command : Command). Some command) c.in-Check.is in
     let old = outside (g.F.Shelf.told c.args.shelf.now) (g.S.Source.told c.args.records.now) (g.K.Sink.told c.args.out.now) (g.N.Sink.told c.args.notes.now) in
     let new = outside (g.F.Shelf.told c.check_file.new.shelf) (g.S.Source.told c.args.records.now) (g.K.Sink.told c.check_file.new.out) (g.N.Sink.told c.check_file.new.notes) in
-    subst (λ (said : Option Command). IfSome said (CommandEnds old new c.check_file.result)) (sym is) (c.check_file.ensures (g.S.Source.told c.args.records.now))
+    subst (λ (said : Option Command). IfSome said (CommandEnds old new c.new.result c.check_file.result)) (sym is) (c.check_file.ensures (g.S.Source.told c.args.records.now), c.new.ensures)

@@ -1,23 +1,34 @@
-use Rattle.exec_engine.proofs.ClosesLaws.{source-closes, generated-closes}
+use Rattle.record_runs.specs.Endings.{begins, supply}
+use Rattle.record_loop.specs.declared.printer.Form.TheVariants.{Summary}
+use Rattle.exec_engine.proofs.ClosesLaws.{source-account, generated-account, source-untouched, generated-untouched}
 use Rattle.exec_engine.proofs.plan_run.close_plan.Goals as goal
 
-pub returns-in_ok-account-in-Source-clause-ok : goal.returns-in_ok-account-in-Source-clause-ok
-returns-in_ok-account-in-Source-clause-ok g c =
+pub returns-in-Source-clause-ok : goal.returns-in-Source-clause-ok
+returns-in-Source-clause-ok g c =
     let source = g.S.Source.told in
     let sink = g.K.Sink.told in
-    let before = source c.args.records.now in
-    let after = source c.run_lines.new.records in
-    let old = sink c.args.out.now in
-    let new = sink c.run_lines.new.out in
-    let ends = c.in_ok-account-in-Source.ensures.ends in
-    source-closes c.args.plan.now c.args.task c.at_once-window.result c.at_once-window.ensures {before = before} {after = after} {old = old} {new = new}
-    c.in-Source.form c.in_ok-account-in-Source.account.ending c.in-Source.is ends.ran ends.still ends.later
+    source-account c.args.plan.now c.args.task c.at_once-window.result c.at_once-window.ensures
+    (supply (source c.args.records.now) _) (supply (source c.run_lines.new.records) _) (sink c.args.out.now) (sink c.run_lines.new.out)
+    c.in-Source.form c.run_lines.result c.in-Source.is c.run_lines.ensures.ends c.run_lines.ensures.told
 
-pub returns-in_ok-account-in-Generated-clause-ok : goal.returns-in_ok-account-in-Generated-clause-ok
-returns-in_ok-account-in-Generated-clause-ok g c =
+pub returns-in-Source-clause-untouched : goal.returns-in-Source-clause-untouched
+returns-in-Source-clause-untouched g c =
+    let source = g.S.Source.told in
     let sink = g.K.Sink.told in
-    let old = sink c.args.out.now in
-    let new = sink c.run_counted.new.out in
-    let ends = c.in_ok-account-in-Generated.ensures.ends in
-    generated-closes c.args.plan.now c.args.task c.at_once-window.result c.at_once-window.ensures {source = g.S.Source.told c.args.records.now} {old = old} {new = new}
-    c.in-Generated.count c.in_ok-account-in-Generated.account.ending c.in-Generated.is ends.end ends.ran
+    source-untouched (begins c.args.plan.now c.at_once-window.result c.in-Source.form (sink c.args.out.now))
+    (supply (source c.args.records.now) _) (supply (source c.run_lines.new.records) _) (sink c.run_lines.new.out)
+    c.run_lines.result c.run_lines.ensures.ends
+
+pub returns-in-Generated-clause-ok : goal.returns-in-Generated-clause-ok
+returns-in-Generated-clause-ok g c =
+    let sink = g.K.Sink.told in
+    generated-account c.args.plan.now c.args.task c.at_once-window.result c.at_once-window.ensures
+    (g.S.Source.told c.args.records.now) (sink c.args.out.now) (sink c.run_counted.new.out)
+    c.in-Generated.count c.run_counted.result c.in-Generated.is c.run_counted.ensures.ends c.run_counted.ensures.told
+
+pub returns-in-Generated-clause-untouched : goal.returns-in-Generated-clause-untouched
+returns-in-Generated-clause-untouched g c =
+    let sink = g.K.Sink.told in
+    generated-untouched (begins c.args.plan.now c.at_once-window.result Summary (sink c.args.out.now))
+    (g.S.Source.told c.args.records.now) _ (sink c.run_counted.new.out)
+    c.run_counted.result c.run_counted.ensures.ends

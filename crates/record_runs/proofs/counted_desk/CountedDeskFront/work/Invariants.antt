@@ -1,7 +1,7 @@
 use Rattle.std.proofs.Common.{◌≡◌}
 use Rattle.plan_shape.specs.Blueprint.{Blueprint}
 use Rattle.table_steps.specs.Views.{Board}
-use Rattle.record_runs.proofs.over_table.counted_on_table.Given as goal
+use Rattle.record_runs.proofs.counted_desk.CountedDeskFront.work.Given as goal
 
 -- the run is on this table
 abbrev pub ghosts-work_on_counted : goal.ghosts-work_on_counted

@@ -1,7 +1,7 @@
 use Rattle.std.proofs.Common.{◌≡◌}
 use Rattle.plan_shape.specs.Blueprint.{Blueprint}
 use Rattle.table_steps.specs.Views.{Board}
-use Rattle.record_runs.proofs.over_table.lines_on_table.Given as goal
+use Rattle.record_runs.proofs.lines_desk.LinesDeskFront.work.Given as goal
 
 -- the run is on this table
 abbrev pub ghosts-work_on_lines : goal.ghosts-work_on_lines

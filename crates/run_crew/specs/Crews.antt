@@ -1,0 +1,47 @@
+-- What a crew is, and what becomes of the hands on which its workers serve.
+use Rattle.std.specs.Prelude.{◌≡◌, ◌<◌, ◌≤◌, ℕ, true, Option}
+use Rattle.atomic_table.specs.declared.shared.Seat.{Seat}
+use Rattle.life_rules.specs.declared.limits.TheConstants.{MOST_HANDS}
+use Rattle.listed_steps.specs.declared.seen.Seen.{Seen}
+use Rattle.plan_shape.specs.Blueprint.{Blueprint}
+use Rattle.table_rules.specs.declared.view.View.{View}
+use Rattle.table_rules.specs.Named.{AnyOf}
+use Rattle.table_words.specs.Layouts.{TheScope, index}
+use Rattle.table_steps.specs.Closings.{HasNothing}
+use Rattle.table_steps.specs.Views.{Board, IsHandOf, knows}
+use Rattle.exec_start.specs.declared.entry.Entry.{Entry}
+use Rattle.exec_start.specs.declared.item.Item.{Item}
+use Rattle.exec_recv.specs.Over.{IsOver}
+use Rattle.plan_kinds.specs.Runnable.{IsRunnable}
+use Rattle.steal_pool.specs.Works.{SaysJoined}
+
+-- So many workers may serve with so many backends: each has one, and a table has hands for all of
+-- them and one more.
+pub record IsCrew (workers backends : ℕ) : Type 0 where
+  pub each : workers ≤ backends
+  pub few : workers < MOST_HANDS
+
+-- The hand is of this table, has nothing, and gave back each block that it claimed.
+pub record IsSpare (board : Board Blueprint) (hand : Seat (Option Item) (View Item Entry))
+    : Type 0 where
+  pub hand_of : IsHandOf board hand
+  pub nothing : HasNothing (knows hand)
+  pub even : (knows hand).claimed ≡ (knows hand).released
+
+-- A spare hand may serve the pool of a table that is over the plan, whose kinds match.
+pub record CanServe (board : Board Blueprint) (plan : Blueprint)
+    (hand : Seat (Option Item) (View Item Entry)) : Type 0 where
+  pub over : IsOver board plan
+  pub kinds : IsRunnable plan
+  pub spare : IsSpare board hand
+
+-- The step read the scope's word, which said that the scope is joined.
+pub record ReadsJoined (board : Board Blueprint) (e : Seen) : Type 0 where
+  pub index_is : e.index ≡ index board.frame.layout TheScope
+  pub joined : SaysJoined e.read
+
+-- The hand is spare again, after a step of it read that the scope is joined.
+pub record HasServed (board : Board Blueprint) (hand : Seat (Option Item) (View Item Entry))
+    : Type 0 where
+  pub spare : IsSpare board hand
+  pub joined : AnyOf (ReadsJoined board) (knows hand).steps

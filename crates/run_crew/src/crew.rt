@@ -1,0 +1,12 @@
+//! A crew.
+
+use pool_backends::{Backend, Order};
+
+/// The workers of one run: how many, the order in which their backends hand out names, and the
+/// backends, of which worker w uses member w. All backends are dropped by the end of the run.
+#[derive(Drop)]
+pub struct Crew {
+    pub workers: u32,
+    pub order: Order,
+    pub backends: Vec<Box<dyn Backend + Send>>,
+}
