@@ -3,11 +3,16 @@ ghost use Rattle.std.specs.Prelude.{◌≡◌, IfOk, IfSome};
 ghost use Rattle.std.specs.Thread.{IsSync};
 ghost use Rattle.plan_kinds.specs.Runnable.{IsRunnable};
 ghost use Rattle.exec_recv.specs.Over.{IsOver};
+ghost use Rattle.run_loop.specs.Collects.{IsListed};
+ghost use Rattle.run_loop.specs.Loops.{IsReady};
 ghost use Rattle.run_loop.specs.Starts.{CanRun};
 ghost use Rattle.step_tests.specs.Ready.{IsFirst};
 
+mod bulks;
+mod delays;
+
 use exec_io::MemSink;
-use exec_recv::OpenGate;
+use exec_recv::{Gate, OpenGate};
 use exec_steps::NodeSteps;
 use exec_value::{Completion, Data, Datum, Outcome};
 use node_tree::ScopeKind;
@@ -15,10 +20,13 @@ use op_table::{Hand, OpTable};
 use outcome_lines::put_line;
 use plan_reader::read_plan;
 use plan_shape::Plan;
-use run_loop::{Env, Item, Loop, Stepper, Waited};
+use run_loop::{Block, Env, Item, Loop, Stepper, Waited};
 use std::alloc::Global;
 use std::sync::Wait;
 use std::test::Fail;
+
+// A test turns so often at most.
+const MOST_TURNS: u32 = 64;
 
 // The plan of these bytes.
 fn read(alloc: Global, bytes: &[u8]) -> Option<Plan>
@@ -62,32 +70,55 @@ fn started(alloc: Global, plan: &Plan, table: &OpTable<Item>, asked: bool) -> Op
     Some(Env::of_record(plan, Data::one(alloc, datum), 1, asked))
 }
 
-// Starts that operation, and collects it where that is all that it takes.
-fn collected<T: Stepper, R: Wait + Sync>(
+// How many turns the loop takes until the operation in this block can be collected, or the most.
+fn turns_until<T: Stepper, R: Wait + Sync>(
+    rt: &R,
+    alloc: Global,
+    table: &OpTable<Item>,
+    looped: &mut Loop,
+    stepper: &T,
+    block: Block,
+) -> u32
+    requires sync { IsSync R.row }
+    requires ready { IsReady table.now looped.old }
+    requires over { IsOver table.now (T.plan stepper.now) }
+    requires kinds { IsRunnable (T.plan stepper.now) }
+    requires listed { IsListed table.now block looped.old.hand.me }
+{
+    for turns in 0..MOST_TURNS {
+        if let Some(found) = looped.collect(rt, table, block, stepper) {
+            drop(found);
+            return turns;
+        }
+        let _taken = looped.turn(rt, alloc, table, stepper);
+    }
+    MOST_TURNS
+}
+
+// Starts that operation, and counts the turns, in the pool too, until it can be collected.
+fn turned<T: Stepper, R: Wait + Sync>(
     rt: &R,
     alloc: Global,
     plan: &Plan,
     stepper: &T,
     asked: bool,
-) -> Result<Option<Completion>, Fail>
+) -> Result<u32, Fail>
     requires sync { IsSync R.row }
     requires kinds { IsRunnable plan.now }
     requires stepper { T.plan stepper.now ≡ plan.now }
 {
     let (table, hand) = opened(alloc, plan)?;
     let Ok(mut looped) = Loop::open(alloc, plan, &table, hand) else {
-        return Ok(None);
+        return Ok(MOST_TURNS);
     };
+    looped.help_pool(true);
     let Some(env) = started(alloc, plan, &table, asked) else {
-        return Ok(None);
+        return Ok(MOST_TURNS);
     };
     let Ok(block) = looped.start(rt, alloc, &table, stepper, env) else {
-        return Ok(None);
+        return Ok(MOST_TURNS);
     };
-    match looped.collect(rt, &table, block, stepper) {
-        Some(found) => Ok(Some(found.completion)),
-        None => Ok(None),
-    }
+    Ok(turns_until(rt, alloc, &table, &mut looped, stepper, block))
 }
 
 // Starts it, and takes turns, in the pool too, until it can be collected.
@@ -124,10 +155,12 @@ fn plan_of(alloc: Global, root: &str) -> Result<Option<Plan>, Fail>
     Ok(read(alloc, text.as_bytes()))
 }
 
-// Whether the plan with this root has steps, and its operation completes with this line.
-fn completes<R: Wait + Sync>(
+// Whether the plan with this root has steps, and its operation completes with this line, past this
+// gate.
+fn completes_past<G: Gate, R: Wait + Sync>(
     rt: &R,
     alloc: Global,
+    gate: &G,
     root: &str,
     asked: bool,
     line: &str,
@@ -137,8 +170,7 @@ fn completes<R: Wait + Sync>(
     let Some(plan) = plan_of(alloc, root)? else {
         return Ok(false);
     };
-    let gate = OpenGate;
-    let Some(stepper) = NodeSteps::of(&plan, &gate) else {
+    let Some(stepper) = NodeSteps::of(&plan, gate) else {
         return Ok(false);
     };
     let Some(done) = waited(rt, alloc, &plan, &stepper, asked)? else {
@@ -149,8 +181,28 @@ fn completes<R: Wait + Sync>(
     Ok(put.is_ok() && told.bytes() == line.as_bytes())
 }
 
-// Whether the plan with this root has steps, and its operation is complete once it is started.
-fn needs_no_turn<R: Wait + Sync>(rt: &R, alloc: Global, root: &str) -> Result<bool, Fail>
+// The same past an open gate.
+fn completes<R: Wait + Sync>(
+    rt: &R,
+    alloc: Global,
+    root: &str,
+    asked: bool,
+    line: &str,
+) -> Result<bool, Fail>
+    requires sync { IsSync R.row }
+{
+    completes_past(rt, alloc, &OpenGate, root, asked, line)
+}
+
+// Whether the plan with this root has steps, and its operation can be collected after so many turns,
+// and after none before.
+fn takes_turns<R: Wait + Sync>(
+    rt: &R,
+    alloc: Global,
+    root: &str,
+    asked: bool,
+    turns: u32,
+) -> Result<bool, Fail>
     requires sync { IsSync R.row }
 {
     let Some(plan) = plan_of(alloc, root)? else {
@@ -160,7 +212,7 @@ fn needs_no_turn<R: Wait + Sync>(rt: &R, alloc: Global, root: &str) -> Result<bo
     let Some(stepper) = NodeSteps::of(&plan, &gate) else {
         return Ok(false);
     };
-    Ok(collected(rt, alloc, &plan, &stepper, false)?.is_some())
+    Ok(turned(rt, alloc, &plan, &stepper, asked)? == turns)
 }
 
 #[test]
@@ -277,9 +329,9 @@ fn hops_are_taken_in_turns(rt: HostRuntime) -> Result<(), Fail> {
         assert!(rt; completes(&rt, alloc, root, false, line)?);
         assert!(rt; completes(&rt, alloc, root, true, "1 stopped\n")?);
         // before a turn the root isn't ready
-        assert!(rt; !needs_no_turn(&rt, alloc, root)?);
+        assert!(rt; takes_turns(&rt, alloc, root, false, 1)?);
     }
-    assert!(rt; needs_no_turn(&rt, alloc, r#"{"do":"input"}"#)?);
+    assert!(rt; takes_turns(&rt, alloc, r#"{"do":"input"}"#, false, 0)?);
     Ok(())
 }
 
