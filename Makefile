@@ -1,6 +1,7 @@
 # `make try` runs the sample before any proof, in under a minute on four free cores.
 # `make run` proves the program and runs the sample: half an hour on a new machine with four free cores, seconds later.
 # `make test` is the gate: everything is proved, and the proved program is tested.
+# `make stress` runs the proved program some thousand times with 1 to 16 workers, for at most half an hour (tests/stress.py).
 # `make install` installs the program that `make run` leaves, its manual page and its completion in bash, below PREFIX
 # (below DESTDIR where that is given); it builds nothing. `make uninstall` takes the three away.
 
@@ -14,7 +15,7 @@ INSTALLED := $(DESTDIR)$(PREFIX)/bin/exec_run
 INSTALLED_PAGE := $(SHARE)/man/man1/exec_run.1
 INSTALLED_COMPLETION := $(SHARE)/bash-completion/completions/exec_run
 
-.PHONY: try run test install uninstall
+.PHONY: try run test stress install uninstall
 try:
 	cd crates/exec_run && rt try --data add_one.json=../../$(PLAN) -- run add_one.json < ../../$(NUMBERS)
 
@@ -26,6 +27,9 @@ $(PROGRAM): $(wildcard crates/*/src/*.rt crates/*/specs/*.antt)
 
 test:
 	.ci/run
+
+stress: $(PROGRAM)
+	tests/stress.py --program $(PROGRAM)
 
 install:
 	@test -x "$(PROGRAM)" || { echo "no program at $(PROGRAM): \`make run\` proves and builds it" >&2; exit 1; }

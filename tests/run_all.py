@@ -1,7 +1,7 @@
 #!/usr/bin/env python3
-"""Runs the tables of cases, the streams, spoilt plans and random ones over each build of the program, tries what is
-handed out beside it (tests/pages.py), and checks the documents: docs/PLANS.md must be what docs/make_plans.py writes
-with that build.
+"""Runs the tables of cases, the streams, spoilt plans and random ones over each build of the program, refuses it memory
+(tests/refused_memory.py), tries what is handed out beside it (tests/pages.py), and checks the documents: docs/PLANS.md
+must be what docs/make_plans.py writes with that build.
 
     tests/run_all.py [--gate STATUS] [PROGRAM..]
 
@@ -20,6 +20,7 @@ import check_docs
 import mutate_plans
 import pages
 import random_plans
+import refused_memory
 import run_cases
 import streams
 
@@ -62,7 +63,8 @@ def main():
             print(f"FAILED  there is no program {program}")
             counts.append((0, 1))
             continue
-        found = [it.run(program) for it in (run_cases, streams, mutate_plans, random_plans, pages)]
+        scripts = (run_cases, streams, mutate_plans, random_plans, refused_memory, pages)
+        found = [it.run(program) for it in scripts]
         found.append(cookbook(program))
         print(f"{program}: {sum(it[0] for it in found)} tests passed, {sum(it[1] for it in found)} not")
         counts += found

@@ -1,6 +1,6 @@
 #!/usr/bin/env python3
 """Runs the program on streams and files that a table of cases can't say: pipes that stay open or are closed, a word
-that isn't UTF-8, more bytes than a run takes.
+that isn't UTF-8, threads that can't be started, more bytes than a run takes.
 
     tests/streams.py [--program PATH] [WORD..]     all of them, or those with a WORD in their sentence
 
@@ -9,6 +9,7 @@ The last line is `N passed, M failed`; the status is 1 where one failed.
 import itertools
 import json
 import os
+import resource
 import select
 import subprocess
 import sys
@@ -25,6 +26,7 @@ READ_FAULT, WRITE_FAULT, LIMIT = 5, 6, 7
 MOST_RECORDS = 1_000_000
 MOST_BYTES = 268_435_456
 LONGEST_LINE = 131_072
+LITTLE_ROOM = 20_000_000
 
 ADD_ONE = {"do": "then", "child": {"do": "input"}, "job": {"job": "add", "n": 1}}
 RUN = ("run", "plan.json")
@@ -184,6 +186,18 @@ def gen_waits_for_no_input(program):
         started.ends(0, summary_of(3, 47568))
 
 
+def threads_that_cannot_be_started_are_not_needed(program):
+    # room for no more than one stack
+    little = lambda: resource.setrlimit(resource.RLIMIT_AS, (LITTLE_ROOM, LITTLE_ROOM))
+    with tempfile.TemporaryDirectory() as folder:
+        with open(os.path.join(folder, "plan.json"), "wb") as file:
+            file.write(plan_of({"do": "starts_on", "on": "pool", "child": ADD_ONE}))
+        words = [program, "gen", "plan.json", "3", "--workers", "16"]
+        ran = subprocess.run(words, cwd=folder, capture_output=True, preexec_fn=little, timeout=SECONDS, check=False)
+    expect("out", summary_of(3, 47_568), ran.stdout)
+    expect("status", 0, ran.returncode)
+
+
 def a_refusal_waits_for_no_input(program):
     with Started(program, *RUN, plan=plan_of({"do": "retry"})) as started:
         started.ends(3, notes=b"plan refused: P4 unknown name\n")
@@ -291,6 +305,7 @@ TESTS = [
     a_summary_comes_at_the_end,
     a_stop_on_the_first_error_is_made_before_more_is_read,
     gen_waits_for_no_input,
+    threads_that_cannot_be_started_are_not_needed,
     a_refusal_waits_for_no_input,
     a_pipe_that_nobody_reads_is_a_write_fault,
     after_a_lost_write_nothing_more_is_read,
