@@ -387,9 +387,9 @@ Every example below is a whole plan, and every output is what the program printe
 wrote this page. docs/plan.schema.json is a JSON Schema of plans, for editors.
 
 **A plan without an `ahead` runs on the running table**, each record as an operation of its own, and a window of them
-at once. The calling thread works on them in turns: there are no workers yet, so it serves the pool too. A stop request
-reaches the records that are started after it, and those in flight that look for one: in a hop, before a `when_all`, in
-a `delay` or in a `read_env`.
+at once. The calling thread serves the loop, and workers serve the pool, each on a thread of its own (`--workers`); with
+no worker the calling thread serves the pool too. A stop request reaches the records that are started after it, and those
+in flight that look for one: in a hop, before a `when_all`, in a `delay` or in a `read_env`.
 
 A plan with an `ahead` is evaluated plainly: each record whole, when its completion is asked for. No turn of a loop is
 waited for, and children are evaluated one after the other. So a stop request reaches the records that are started after
