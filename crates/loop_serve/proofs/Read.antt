@@ -12,6 +12,7 @@ use Rattle.listed_steps.specs.Lists.{entry}
 use Rattle.node_tree.specs.declared.context.Context.{Context}
 use Rattle.plan_shape.specs.Blueprint.{Blueprint}
 use Rattle.table_rules.specs.declared.view.View.{View}
+use Rattle.table_rules.specs.Named.{Each}
 use Rattle.table_words.specs.Controls.{control_read}
 use Rattle.table_words.specs.Layouts.{OfControl, index}
 use Rattle.table_words.specs.Stamps.{stamp_of}
@@ -23,9 +24,9 @@ use Rattle.table_steps.specs.Takes.{rest_word}
 use Rattle.exec_start.specs.declared.entry.Entry.{Entry}
 use Rattle.exec_start.specs.declared.item.Item.{Item}
 use Rattle.exec_recv.specs.Asides.{aside_of, KeepsAside}
-use Rattle.exec_recv.proofs.Asiding.{aside-one}
+use Rattle.exec_recv.proofs.Asiding.{aside-here, aside-on, aside-one}
 use Rattle.loop_walk.specs.Resting.{IsAtRest}
-use Rattle.loop_serve.specs.Since.{HasMovedSince, HasReadSince}
+use Rattle.loop_serve.specs.Since.{HasMovedSince, HasReadSince, IsLook, OnlyLooks}
 use Rattle.loop_serve.specs.Serving.{IsUnready, WasMissed, WasUnready}
 
 none-some : {A : Type 0} (e : A) → None ≡ Some e → ⊥
@@ -62,6 +63,32 @@ module _ (i word : ℕ) (m m' : Seated Item Entry) (is : m' ≡ (logged i word m
         there = (0, omega arith, refl);
         said = said;
       }
+
+  pub looked-only : OnlyLooks m m'
+  looked-only =
+      record {
+        aside = looked-aside;
+        fresh = entry i word word ∷ [];
+        grown = ap (λ (z : Seated Item Entry). z.0.steps) is;
+        each = (refl, tt);
+      }
+
+-- no step, and looks after looks
+pub looks-here : (m : Seated Item Entry) → OnlyLooks m m
+looks-here m = record { aside = aside-here m; fresh = []; grown = refl; each = tt }
+
+each-append : (first next : List Seen) → Each IsLook next → Each IsLook first → Each IsLook (next ++ first)
+each-append first [] looks all = all
+each-append first (step ∷ steps) looks all = (looks.0, each-append first steps looks.1 all)
+
+pub looks-on : (m between m' : Seated Item Entry) → OnlyLooks m between → OnlyLooks between m' → OnlyLooks m m'
+looks-on m between m' first next =
+    record {
+      aside = aside-on m between m' first.aside next.aside;
+      fresh = next.fresh ++ first.fresh;
+      grown = next.grown ∙ ap (λ (l : List Seen). next.fresh ++ l) first.grown ∙ sym (append_assoc next.fresh first.fresh m.0.steps);
+      each = each-append first.fresh next.fresh next.each first.each;
+    }
 
 -- a step of before is one still, seen from earlier and later
 module _ (i : ℕ) (says : ℕ → ℕ → Type 0) (m between m' : Seated Item Entry) where

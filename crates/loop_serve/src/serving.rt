@@ -7,6 +7,7 @@ ghost use Rattle.table_steps.specs.Takes.{MayServe, resting_in};
 ghost use Rattle.exec_recv.specs.Asides.{KeepsAside};
 ghost use Rattle.exec_recv.specs.Over.{IsOver};
 ghost use Rattle.loop_walk.specs.Resting.{IsAtRest};
+ghost use Rattle.loop_serve.specs.Since.{OnlyLooks};
 ghost use Rattle.loop_serve.specs.Serving.{ServesNode, TakesUp, WasMissed, WasUnready};
 
 use exec_recv::{Item, Point, Stepper};
@@ -73,6 +74,7 @@ pub fn serve<T: Stepper, M: Mail, R: Wait + Sync>(
     ensures served { result ≡ true →
         ServesNode (T.does stepper.now) table.now from name hand.old.me hand.new.me }
     ensures missed { result ≡ false → WasMissed table.now hand.old.me hand.new.me from name }
+    ensures looks { result ≡ false → OnlyLooks hand.old.me hand.new.me }
 {
     stepper.pass(rt, Point::Take(name));
     if !take_up(table, hand, name, from) {
@@ -83,8 +85,8 @@ pub fn serve<T: Stepper, M: Mail, R: Wait + Sync>(
 }
 
 /// Takes the node of the block, where it is ready in the context, and goes on with it. None only
-/// where its word that was read says that it isn't. One that another hand took between the look and
-/// the take is looked at again.
+/// where its word that was read says that it isn't; and then the call moved no word. One that
+/// another hand took between the look and the take is looked at again.
 ///
 /// Step: one load of its word, and where that says that it is ready those of `serve`; so again,
 /// where another hand was first.
@@ -114,6 +116,7 @@ pub fn serve_place<T: Stepper, M: Mail, R: Wait + Sync>(
     ensures served { IfSome result (λ name.
         ServesNode (T.does stepper.now) table.now (resting_in on) name hand.old.me hand.new.me) }
     ensures unready { IfNone result (WasUnready table.now hand.old.me hand.new.me on block node) }
+    ensures looks { IfNone result (OnlyLooks hand.old.me hand.new.me) }
 {
     let from = resting(on);
     for _ in rt.forever() {

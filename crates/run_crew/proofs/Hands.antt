@@ -64,7 +64,7 @@ has-served board old new spare ready kept ended =
     record {
       spare = still-spare board old new spare ready kept;
       joined = subst (λ (steps : List Seen). AnyOf (ReadsJoined board) steps) (sym read.grown)
-          (contained-any (ReadsJoined board) read.fresh old.me.0.steps (entry _ read.word read.left) read.there (record { index_is = refl; joined = read.said }));
+          (contained-any (ReadsJoined board) read.fresh ended.before.0.steps (entry _ read.word read.left) read.there (record { index_is = refl; joined = read.said }));
     }
 
 -- all of these, and one more

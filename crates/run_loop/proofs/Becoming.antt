@@ -21,8 +21,9 @@ use Rattle.exec_start.specs.declared.entry.Entry.{Entry}
 use Rattle.exec_start.specs.declared.item.Item.{Item}
 use Rattle.exec_recv.specs.Asides.{KeepsAside}
 use Rattle.loop_walk.specs.Resting.{IsAtRest}
+use Rattle.loop_serve.specs.Since.{OnlyLooks}
 use Rattle.loop_serve.specs.Serving.{TakesWord}
-use Rattle.loop_serve.proofs.Read.{moved-before, moved-after, since-before, since-after, looked-rests, looked-aside, looked-since}
+use Rattle.loop_serve.proofs.Read.{moved-before, moved-after, since-before, since-after, looked-rests, looked-only, looked-since}
 use Rattle.run_loop.specs.declared.delay_node.DelayNode.{DelayNode}
 use Rattle.run_loop.specs.DelayNodes.{IsDelay, nodes_of, place_of, name_at}
 use Rattle.run_loop.specs.Delayed.{SaysParked, word_at, IsSeenNow, WasTried, WasDue, Becomes, IsLookedAt, LooksAt, WasTakenOut}
@@ -215,8 +216,8 @@ module _ (board : Board Blueprint) (block : ℕ) (delay : DelayNode) (m m' : Sea
   look-turn = by_word (λ d. d.turn ≡ before.turn) (λ _. seen-turn before place generation delay.turns) (λ _. refl)
 
   -- a look lists itself
-  pub look-aside : KeepsAside m m'
-  look-aside = looked-aside (word_at board block delay.node) looks.word m m' looks.me_is
+  pub look-only : OnlyLooks m m'
+  look-only = looked-only (word_at board block delay.node) looks.word m m' looks.me_is
 
   pub look-rests : IsAtRest m.0 → IsAtRest m'.0
   look-rests = looked-rests (word_at board block delay.node) looks.word m m' looks.me_is

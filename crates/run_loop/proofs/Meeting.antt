@@ -7,43 +7,42 @@ use Rattle.life_rules.specs.declared.event.Name.{Name}
 use Rattle.plan_shape.specs.Blueprint.{Blueprint}
 use Rattle.table_steps.specs.Views.{Board}
 use Rattle.table_steps.specs.Claims.{Seated}
-use Rattle.table_steps.specs.Steps.{control_index}
 use Rattle.exec_start.specs.declared.entry.Entry.{Entry}
 use Rattle.exec_start.specs.declared.item.Item.{Item}
 use Rattle.exec_recv.specs.Asides.{KeepsAside}
-use Rattle.loop_serve.specs.Serving.{TakesWord}
-use Rattle.loop_serve.proofs.Read.{moved-before, moved-after}
+use Rattle.exec_recv.specs.Nexts.{Doing}
+use Rattle.loop_serve.proofs.Took.{serves-before, serves-after}
 use Rattle.run_loop.specs.Turns.{IsMet, AreMet, AreAllMet}
 use Rattle.run_loop.proofs.Turned.{left-before, left-after}
 
-module _ (board : Board Blueprint) (helps : Bool) (m between m' : Seated Item Entry) where
-  pub met-before : (name : Name) → KeepsAside m between → IsMet board between m' helps name → IsMet board m m' helps name
+module _ (does : Doing) (board : Board Blueprint) (helps : Bool) (m between m' : Seated Item Entry) where
+  pub met-before : (name : Name) → KeepsAside m between → IsMet does board between m' helps name → IsMet does board m m' helps name
   met-before name aside met inner =
       elim (met inner) [
-        | inl taken ↦ inl (taken.0, moved-before (control_index board name) (TakesWord taken.0 name) m between m' aside taken.1)
+        | inl taken ↦ inl (taken.0, serves-before does board taken.0 name m between m' aside taken.1)
         | inr left ↦ inr (left-before board helps m between m' name aside left)
       ]
 
-  pub met-after : (name : Name) → IsMet board m between helps name → KeepsAside between m' → IsMet board m m' helps name
+  pub met-after : (name : Name) → IsMet does board m between helps name → KeepsAside between m' → IsMet does board m m' helps name
   met-after name met aside inner =
       elim (met inner) [
-        | inl taken ↦ inl (taken.0, moved-after (control_index board name) (TakesWord taken.0 name) m between m' taken.1 aside)
+        | inl taken ↦ inl (taken.0, serves-after does board taken.0 name m between m' taken.1 aside)
         | inr left ↦ inr (left-after board helps m between m' name left aside)
       ]
 
   -- one name more
   pub met-more : (names : List Name) (count : ℕ) (name : Name) → slice_get names count ≡ Some name → KeepsAside m between →
-      KeepsAside between m' → AreMet board m between helps names count →
-      IsMet board between m' helps name → AreMet board m m' helps names (count + 1)
+      KeepsAside between m' → AreMet does board m between helps names count →
+      IsMet does board between m' helps name → AreMet does board m m' helps names (count + 1)
   met-more names count name at first next all one k other below at_k =
       elim (cases_lt k count) [
         | inl less ↦ met-after other (all k other less at_k) next
         | inr past ↦
             let is : count ≡ k = omega (arith, below, past) in
             let same_name : name ≡ other = same_Some name other (sym at ∙ ap (λ i. slice_get names i) is ∙ at_k) in
-            subst (λ (x : Name). IsMet board m m' helps x) same_name (met-before name first one)
+            subst (λ (x : Name). IsMet does board m m' helps x) same_name (met-before name first one)
       ]
 
   -- all of them, and something else after them
-  pub met-later : (names : List Name) → AreAllMet board m between helps names → KeepsAside between m' → AreAllMet board m m' helps names
+  pub met-later : (names : List Name) → AreAllMet does board m between helps names → KeepsAside between m' → AreAllMet does board m m' helps names
   met-later names all next k name below at = met-after name (all k name below at) next

@@ -1,5 +1,5 @@
 -- Nodes that were taken and stepped, one after the other.
-use Rattle.std.proofs.Common.{◌≡◌, ◌⊎◌, inl, inr, ℕ, zero, suc, ◌+◌, true, false, refl, sym, ◌∙◌, subst}
+use Rattle.std.proofs.Common.{◌≡◌, ◌⊎◌, inl, inr, ℕ, zero, suc, ◌+◌, ◌≤◌, true, false, arith, refl, sym, ◌∙◌, subst}
 use Rattle.std.proofs.Math.Numerals.{add-one}
 use Rattle.std.proofs.lemmas.Bool.{both_ways}
 use Rattle.std.specs.Prelude.{Option, Some, None, IfSome, IfNone, is_some}
@@ -12,8 +12,9 @@ use Rattle.exec_start.specs.declared.entry.Entry.{Entry}
 use Rattle.exec_start.specs.declared.item.Item.{Item}
 use Rattle.exec_recv.specs.Asides.{KeepsAside}
 use Rattle.exec_recv.specs.Nexts.{Doing}
-use Rattle.exec_recv.proofs.Asiding.{aside-on}
+use Rattle.loop_serve.specs.Since.{OnlyLooks}
 use Rattle.loop_serve.specs.Serving.{ServesNode}
+use Rattle.loop_serve.proofs.Read.{looks-on}
 use Rattle.loop_serve.proofs.Took.{serves-before as node-before, serves-after as node-after}
 use Rattle.run_loop.specs.Serves.{ServesOne, Serves}
 
@@ -38,22 +39,29 @@ module _ (does : Doing) (board : Board Blueprint) where
   one-after m between m' one aside =
       record { name = one.name; from = one.from; serves = node-after does board one.from one.name m between m' one.serves aside }
 
-  -- the same of several
-  pub serves-after : (count : ℕ) (m between m' : Seated Item Entry) → Serves does board count m between → KeepsAside between m' →
+  -- looks after several, and before them
+  pub serves-after : (count : ℕ) (m between m' : Seated Item Entry) → Serves does board count m between → OnlyLooks between m' →
       Serves does board count m m'
-  serves-after zero m between m' serves aside = aside-on m between m' serves aside
-  serves-after (suc count) m between m' serves aside = (serves.0, serves.1, one-after serves.0 between m' serves.2 aside)
+  serves-after zero m between m' serves looks = looks-on m between m' serves looks
+  serves-after (suc count) m between m' serves looks = (serves.0, serves.1, one-after serves.0 between m' serves.2 looks.aside)
 
-  pub serves-later : (count : ℕ) (m between m' : Seated Item Entry) → KeepsAside m between → Serves does board count between m' →
+  pub serves-later : (count : ℕ) (m between m' : Seated Item Entry) → OnlyLooks m between → Serves does board count between m' →
       Serves does board count m m'
-  serves-later zero m between m' aside serves = aside-on m between m' aside serves
-  serves-later (suc count) m between m' aside serves = (serves.0, serves-later count m between serves.0 aside serves.1, serves.2)
+  serves-later zero m between m' looks serves = looks-on m between m' looks serves
+  serves-later (suc count) m between m' looks serves = (serves.0, serves-later count m between serves.0 looks serves.1, serves.2)
+
+  -- something else after one or more
+  serves-then : (count : ℕ) (m between m' : Seated Item Entry) → 1 ≤ count → Serves does board count m between → KeepsAside between m' →
+      Serves does board count m m'
+  serves-then zero m between m' some serves aside = absurd (omega (arith, some))
+  serves-then (suc count) m between m' some serves aside = (serves.0, serves.1, one-after serves.0 between m' serves.2 aside)
 
   -- one more, where it was counted, and where the count stood at its limit
-  pub serves-more : (count more : ℕ) (m between m' : Seated Item Entry) → (more ≡ count + 1) ⊎ (more ≡ count) → KeepsAside between m' →
+  pub serves-more : (count more : ℕ) (m between m' : Seated Item Entry) → 1 ≤ more → (more ≡ count + 1) ⊎ (more ≡ count) → KeepsAside between m' →
       Serves does board count m between → ServesOne does board between m' → Serves does board more m m'
-  serves-more count more m between m' counted aside serves one =
+  serves-more count more m between m' some counted aside serves one =
       elim counted [
         | inl is ↦ subst (λ n. Serves does board n m m') (sym (is ∙ add-one count)) (between, serves, one)
-        | inr is ↦ subst (λ n. Serves does board n m m') (sym is) (serves-after count m between m' serves aside)
+        | inr is ↦
+            subst (λ n. Serves does board n m m') (sym is) (serves-then count m between m' (omega (arith, some, is)) serves aside)
       ]

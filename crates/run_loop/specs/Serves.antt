@@ -7,8 +7,8 @@ use Rattle.table_steps.specs.Views.{Board}
 use Rattle.table_steps.specs.Claims.{Seated}
 use Rattle.exec_start.specs.declared.entry.Entry.{Entry}
 use Rattle.exec_start.specs.declared.item.Item.{Item}
-use Rattle.exec_recv.specs.Asides.{KeepsAside}
 use Rattle.exec_recv.specs.Nexts.{Doing}
+use Rattle.loop_serve.specs.Since.{OnlyLooks}
 use Rattle.loop_serve.specs.Serving.{ServesNode}
 
 module _ (does : Doing) (board : Board Blueprint) where
@@ -18,9 +18,9 @@ module _ (does : Doing) (board : Board Blueprint) where
     pub from : Resting
     pub serves : ServesNode does board from name m m'
 
-  -- at least so many nodes were, one after the other
+  -- At least so many nodes were, one after the other. With none, nothing was done but looks.
   abbrev pub Serves : ℕ → Seated Item Entry → Seated Item Entry → Type 0
-  Serves zero m m' = KeepsAside m m'
+  Serves zero m m' = OnlyLooks m m'
   Serves (suc count) m m' = (between : Seated Item Entry) × Serves count m between × ServesOne between m'
 
   -- where at least the one number were before, at least the other were afterwards

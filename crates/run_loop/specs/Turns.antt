@@ -11,8 +11,9 @@ use Rattle.table_steps.specs.Claims.{Seated}
 use Rattle.table_steps.specs.Steps.{control_index}
 use Rattle.exec_start.specs.declared.entry.Entry.{Entry}
 use Rattle.exec_start.specs.declared.item.Item.{Item}
+use Rattle.exec_recv.specs.Nexts.{Doing}
 use Rattle.loop_serve.specs.Since.{HasMovedSince}
-use Rattle.loop_serve.specs.Serving.{TakesWord, WasMissed, WasUnready}
+use Rattle.loop_serve.specs.Serving.{ServesNode, TakesWord, WasMissed, WasUnready}
 use Rattle.run_loop.specs.declared.looped.Loop.{Loop as Looped}
 use Rattle.run_loop.specs.Loops.{told}
 
@@ -71,12 +72,22 @@ module _ (board : Board Blueprint) (m m' : Seated Item Entry) where
   abbrev pub WasTaken : Resting → Name → Type 0
   WasTaken from name = HasMovedSince (control_index board name) (TakesWord from name) m m'
 
-  abbrev pub WasTakenSomewhere : Name → Type 0
-  WasTakenSomewhere name = (from : Resting) × WasTaken from name
+  -- each of the first so many names was left, and all of them
+  abbrev pub AreLeft : Bool → List Name → ℕ → Type 0
+  AreLeft helps names count =
+      (k : ℕ) (name : Name) → k < count → slice_get names k ≡ Some name → IsLeft helps name
+
+  abbrev pub AreAllLeft : Bool → List Name → Type 0
+  AreAllLeft helps names = AreLeft helps names (length names)
+
+module _ (does : Doing) (board : Board Blueprint) (m m' : Seated Item Entry) where
+  -- the named node was taken where it rested, and stepped
+  abbrev pub WasServed : Name → Type 0
+  WasServed name = (from : Resting) × ServesNode does board from name m m'
 
   -- so it was, or it was left, where it is of a node of the table, but no root
   abbrev pub IsMet : Bool → Name → Type 0
-  IsMet helps name = IsInner board name → WasTakenSomewhere name ⊎ WasLeft helps name
+  IsMet helps name = IsInner board name → WasServed name ⊎ WasLeft board m m' helps name
 
   -- each of the first so many names was met, and all of them
   abbrev pub AreMet : Bool → List Name → ℕ → Type 0
@@ -86,23 +97,14 @@ module _ (board : Board Blueprint) (m m' : Seated Item Entry) where
   abbrev pub AreAllMet : Bool → List Name → Type 0
   AreAllMet helps names = AreMet helps names (length names)
 
-  -- each of the first so many names was left, and all of them
-  abbrev pub AreLeft : Bool → List Name → ℕ → Type 0
-  AreLeft helps names count =
-      (k : ℕ) (name : Name) → k < count → slice_get names k ≡ Some name → IsLeft helps name
+-- So each name was that the loop was told of.
+abbrev pub MissesAll : Board Blueprint → Looped → Looped → Type 0
+MissesAll board old new = AreAllLeft board old.hand.me new.hand.me old.helps (told old)
 
-  abbrev pub AreAllLeft : Bool → List Name → Type 0
-  AreAllLeft helps names = AreLeft helps names (length names)
+-- Each was taken and stepped, or left so.
+abbrev pub MeetsAll : Doing → Board Blueprint → Looped → Looped → Type 0
+MeetsAll does board old new = AreAllMet does board old.hand.me new.hand.me old.helps (told old)
 
-module _ (board : Board Blueprint) (old new : Looped) where
-  -- So each name was that the loop was told of.
-  abbrev pub MissesAll : Type 0
-  MissesAll = AreAllLeft board old.hand.me new.hand.me old.helps (told old)
-
-  -- Each was taken, or left so.
-  abbrev pub MeetsAll : Type 0
-  MeetsAll = AreAllMet board old.hand.me new.hand.me old.helps (told old)
-
-  -- All nodes of the table were passed but the roots.
-  abbrev pub FindsNothing : Type 0
-  FindsNothing = TakesNothing board old.hand.me new.hand.me old.helps
+-- All nodes of the table were passed but the roots.
+abbrev pub FindsNothing : Board Blueprint → Looped → Looped → Type 0
+FindsNothing board old new = TakesNothing board old.hand.me new.hand.me old.helps

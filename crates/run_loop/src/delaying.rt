@@ -7,6 +7,7 @@ ghost use Rattle.table_steps.specs.Views.{IsHandOf, Stays, knows};
 ghost use Rattle.exec_recv.specs.Asides.{KeepsAside};
 ghost use Rattle.exec_recv.specs.Over.{IsOver};
 ghost use Rattle.loop_walk.specs.Resting.{IsAtRest};
+ghost use Rattle.loop_serve.specs.Since.{OnlyLooks};
 ghost use Rattle.run_loop.specs.Delayed.{WasTriedAt, LooksAt, LooksThrough, LooksBelow, TakesDue, PassesTurn};
 ghost use Rattle.run_loop.specs.DelayNodes.{IsDelay, AreDelaysOf, nodes_of, place_of, places_of};
 ghost use Rattle.run_loop.specs.Serves.{ServesOn};
@@ -73,7 +74,7 @@ fn look_through(
     requires rests { IsAtRest (knows hand.old) }
     ensures stays { Stays table.now hand.old hand.new }
     ensures rests { IsAtRest (knows hand.new) }
-    ensures aside { KeepsAside hand.old.me hand.new.me }
+    ensures only { OnlyLooks hand.old.me hand.new.me }
     ensures looks { LooksThrough table.now block nodes.now (length nodes.now)
         hand.old.me hand.new.me delays.old delays.new }
 {
@@ -96,7 +97,7 @@ fn look_round(
     requires rests { IsAtRest (knows hand.old) }
     ensures stays { Stays table.now hand.old hand.new }
     ensures rests { IsAtRest (knows hand.new) }
-    ensures aside { KeepsAside hand.old.me hand.new.me }
+    ensures only { OnlyLooks hand.old.me hand.new.me }
     ensures looks { LooksBelow table.now nodes.now table.now.frame.layout.blocks
         hand.old.me hand.new.me delays.old delays.new }
 {

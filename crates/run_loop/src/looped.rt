@@ -15,6 +15,7 @@ use op_slot::{Hand, OpTable};
 use plan_shape::Plan;
 use run_tally::Tally;
 use std::alloc::Global;
+use std::thread::yield_now;
 
 /// A loop on hand 0 of a table. Its type keeps no fact of the hand: each call that takes the table
 /// asks that the loop is ready, and leaves it so.
@@ -97,6 +98,15 @@ impl Loop {
         ensures { self.new ≡ record self.old { helps = helps } }
     {
         self.helps = helps;
+    }
+
+    /// Lets other threads run, where a turn took so many nodes, which were none, and the loop
+    /// doesn't help the pool: what it waits for its workers do, and where cores are busy they wait
+    /// for one.
+    pub fn give_way(&self, taken: u32) {
+        if taken == 0 && !self.helps {
+            yield_now();
+        }
     }
 
     /// How many operations were collected with each kind of completion.

@@ -6,10 +6,11 @@ ghost use Rattle.table_steps.specs.Views.{IsHandOf, IsSameHand, Stays, knows};
 ghost use Rattle.exec_recv.specs.Asides.{KeepsAside};
 ghost use Rattle.exec_recv.specs.Over.{IsOver};
 ghost use Rattle.loop_walk.specs.Resting.{IsAtRest};
+ghost use Rattle.loop_serve.specs.Since.{OnlyLooks};
 ghost use Rattle.run_loop.specs.Delayed.{HasTurned};
 ghost use Rattle.run_loop.specs.Loops.{IsReady, KeepsCounts, KeepsDelays};
-ghost use Rattle.run_loop.specs.Serves.{ServesOne, Serves};
-ghost use Rattle.run_loop.specs.Turns.{IsInner, WasTakenSomewhere, IsLeft, AreAllMet, AreAllLeft, MeetsAll, MissesAll, FindsNothing};
+ghost use Rattle.run_loop.specs.Serves.{Serves};
+ghost use Rattle.run_loop.specs.Turns.{IsInner, WasServed, IsLeft, AreAllMet, AreAllLeft, MeetsAll, MissesAll, FindsNothing};
 
 use crate::delaying::serve_delays;
 use crate::looped::Loop;
@@ -56,9 +57,9 @@ fn serve_name<T: Stepper, R: Wait + Sync>(
     ensures rests { IsAtRest (knows hand.new) }
     ensures aside { KeepsAside hand.old.me hand.new.me }
     ensures served { result ≡ true →
-        ServesOne (T.does stepper.now) table.now hand.old.me hand.new.me }
-    ensures taken { result ≡ true → WasTakenSomewhere table.now hand.old.me hand.new.me name }
+        WasServed (T.does stepper.now) table.now hand.old.me hand.new.me name }
     ensures left { result ≡ false → IsLeft table.now hand.old.me hand.new.me helps name }
+    ensures looks { result ≡ false → OnlyLooks hand.old.me hand.new.me }
 {
     if !is_inner(table, name) {
         return false;
@@ -93,7 +94,7 @@ fn serve_each<T: Stepper, R: Wait + Sync>(
     ensures rests { IsAtRest (knows hand.new) }
     ensures aside { KeepsAside hand.old.me hand.new.me }
     ensures served { Serves (T.does stepper.now) table.now result hand.old.me hand.new.me }
-    ensures met { AreAllMet table.now hand.old.me hand.new.me helps told.now }
+    ensures met { AreAllMet (T.does stepper.now) table.now hand.old.me hand.new.me helps told.now }
     ensures none { result ≡ 0 → AreAllLeft table.now hand.old.me hand.new.me helps told.now }
 {
     let mut taken = 0;
@@ -125,7 +126,7 @@ impl Loop {
         ensures aside { KeepsAside self.old.hand.me self.new.hand.me }
         ensures served { Serves (T.does stepper.now) table.now result
             self.old.hand.me self.new.hand.me }
-        ensures met { MeetsAll table.now self.old self.new }
+        ensures met { MeetsAll (T.does stepper.now) table.now self.old self.new }
         ensures none { result ≡ 0 → MissesAll table.now self.old self.new }
     {
         mem::swap(&mut self.names, &mut self.served);
@@ -148,12 +149,12 @@ impl Loop {
     /// plan is looked at in each block, and those that are due are taken. A delay of so many turns
     /// is due in the turn that comes so many turns after the one in which it was first seen parked,
     /// and is taken out of the list in none before; none that is due is left in it. What the nodes
-    /// leave ready is told for the next call. Each node that it was told of, but of roots, is
-    /// taken, or its word, at its own step of this call, said that it isn't ready at the name's
-    /// generation in the loop, nor where the loop helps in the pool. The answer is how many it
-    /// took, each of which the stepper stepped; 0 only where the word of each node that it was told
-    /// of, but of roots, at its own step of this call, said that it isn't ready at the name's
-    /// generation in the loop, nor where the loop helps in the pool.
+    /// leave ready is told for the next call. Each node that it was told of, but of roots, is taken
+    /// and stepped, or its word, at its own step of this call, said that it isn't ready at the
+    /// name's generation in the loop, nor where the loop helps in the pool. The answer is how many
+    /// it took, each of which the stepper stepped; 0 only where it moved no word, and the word of
+    /// each node that it was told of, but of roots, at its own step of this call, said that it
+    /// isn't ready at the name's generation in the loop, nor where the loop helps in the pool.
     ///
     /// Step: those of `take` for each name; for each delay of the plan in each block one load of
     /// its control word, and that of `take_parked` where it is due; and those of the steps of its
@@ -177,7 +178,7 @@ impl Loop {
         ensures aside { KeepsAside self.old.hand.me self.new.hand.me }
         ensures served { Serves (T.does stepper.now) table.now result
             self.old.hand.me self.new.hand.me }
-        ensures met { MeetsAll table.now self.old self.new }
+        ensures met { MeetsAll (T.does stepper.now) table.now self.old self.new }
         ensures turn { HasTurned table.now result self.old self.new }
         ensures none { result ≡ 0 → MissesAll table.now self.old self.new }
     {
@@ -197,9 +198,9 @@ impl Loop {
 
     /// One turn: polls, and where that took no node, looks at each node of the table but the roots,
     /// and goes on with each that it takes. What is said of `poll` is said of this. The answer is
-    /// how many it took, each of which the stepper stepped; 0 only where the word of each node but
-    /// the roots, at its own step of this call, said that it isn't ready in the loop, nor where the
-    /// loop helps in the pool.
+    /// how many it took, each of which the stepper stepped; 0 only where it moved no word, and the
+    /// word of each node but the roots, at its own step of this call, said that it isn't ready in
+    /// the loop, nor where the loop helps in the pool.
     ///
     /// Step: those of `poll`; then for each node one load of its control word, and where that says
     /// that it is ready, those of `take`; and those of the steps of its nodes.
@@ -222,7 +223,7 @@ impl Loop {
         ensures aside { KeepsAside self.old.hand.me self.new.hand.me }
         ensures served { Serves (T.does stepper.now) table.now result
             self.old.hand.me self.new.hand.me }
-        ensures met { MeetsAll table.now self.old self.new }
+        ensures met { MeetsAll (T.does stepper.now) table.now self.old self.new }
         ensures turn { HasTurned table.now result self.old self.new }
         ensures none { result ≡ 0 → FindsNothing table.now self.old self.new }
     {

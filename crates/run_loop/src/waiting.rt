@@ -48,7 +48,8 @@ impl Loop {
             if let Some(collected) = self.collect(rt, table, block, stepper) {
                 return collected;
             }
-            let _taken = self.turn(rt, alloc, table, stepper);
+            let taken = self.turn(rt, alloc, table, stepper);
+            self.give_way(taken);
         }
         unreachable!()
     }

@@ -9,7 +9,7 @@ use Rattle.life_rules.specs.declared.scope.ScopeWord.{ScopeWord}
 use Rattle.node_tree.specs.declared.context.Context.TheVariants.{Pool}
 use Rattle.node_tree.specs.Tree.{is_root}
 use Rattle.plan_shape.specs.Blueprint.{Blueprint}
-use Rattle.table_words.specs.Layouts.{OfControl, TheScope, index}
+use Rattle.table_words.specs.Layouts.{OfControl, index}
 use Rattle.table_rules.specs.declared.view.View.{View}
 use Rattle.table_steps.specs.Views.{Board, IsSameHand}
 use Rattle.table_steps.specs.Claims.{Seated}
@@ -18,12 +18,14 @@ use Rattle.exec_start.specs.declared.entry.Entry.{Entry}
 use Rattle.exec_start.specs.declared.item.Item.{Item}
 use Rattle.exec_recv.specs.Asides.{KeepsAside}
 use Rattle.exec_recv.specs.Nexts.{Doing}
+use Rattle.exec_recv.proofs.Asiding.{aside-here, aside-on}
+use Rattle.loop_serve.specs.Since.{OnlyLooks}
 use Rattle.loop_serve.specs.Serving.{IsUnready, ServesNode, WasUnready}
-use Rattle.loop_serve.proofs.Read.{looked-aside, looked-since, since-before, since-after}
+use Rattle.loop_serve.proofs.Read.{looked-only, looked-since, looks-on, since-before, since-after}
 use Rattle.loop_serve.proofs.Took.{serves-before}
 use Rattle.steal_pool.specs.declared.working.Worked.{Worked}
 use Rattle.steal_pool.specs.declared.working.Worked.TheVariants.{Took, Idle}
-use Rattle.steal_pool.specs.Works.{AreIdle, AreIdleBelow, FindsNode, IsIdle, SaysJoined, HasEnded, Works}
+use Rattle.steal_pool.specs.Works.{AreIdle, AreIdleBelow, FindsNode, IsIdle, FindsNone, SaysJoined, HasEnded, Works}
 
 pub same-on : (old between new : Seat (Option Item) (View Item Entry)) → IsSameHand old between → IsSameHand between new → IsSameHand old new
 same-on old between new first next = (next.0 ∙ first.0, next.1 ∙ first.1)
@@ -77,17 +79,19 @@ module _ (board : Board Blueprint) (m between m' : Seated Item Entry) where
   finds-before block node found (Some name) aside read = tt
   finds-before block node found None aside read = λ not. (not, unready-before block node aside read)
 
-  -- what a worker did, seen from earlier
-  pub works-before : (does : Doing) (worked : Worked) → KeepsAside m between → Works does board worked between m' → Works does board worked m m'
-  works-before does (Took name) aside one = serves-before does board rest.Pool name m between m' aside one
-  works-before does Idle aside idle = idle-before aside idle
+  -- and that it answered none after looks alone
+  pub looks-before : (answer : Option Name) → OnlyLooks m between → IfNone answer (OnlyLooks between m') → IfNone answer (OnlyLooks m m')
+  looks-before (Some name) first next = tt
+  looks-before None first next = looks-on m between m' first next
+
+  -- what a worker did, after looks
+  pub works-before : (does : Doing) (worked : Worked) → OnlyLooks m between → Works does board worked between m' → Works does board worked m m'
+  works-before does (Took name) looks one = serves-before does board rest.Pool name m between m' looks.aside one
+  works-before does Idle looks none = record { idle = idle-before looks.aside none.idle; looks = looks-on m between m' looks none.looks }
 
   pub ended-before : KeepsAside m between → HasEnded board between m' → HasEnded board m m'
   ended-before aside ended =
-      record {
-        idle = idle-before aside ended.idle;
-        joined = since-before (index board.frame.layout TheScope) SaysJoined m between m' aside ended.joined;
-      }
+      record { before = ended.before; kept = aside-on m between ended.before aside ended.kept; last = ended.last; joined = ended.joined }
 
 -- all nodes but the last are all but the root
 pub nodes-all : (board : Board Blueprint) (block count : ℕ) (m m' : Seated Item Entry) → length board.frame.tree - 1 ≤ count →
@@ -102,13 +106,18 @@ nodes-all board block count m m' enough all node below inner =
 
 -- a look at the scope after a look at all nodes
 module _ (board : Board Blueprint) (joined : Bool) (m between m' : Seated Item Entry) (read : Reads (λ (w : ScopeWord). w.joined) joined between m') where
-  pub scope-aside : KeepsAside between m'
-  scope-aside = looked-aside 0 read.word between m' read.me_is
+  pub scope-looks : OnlyLooks between m'
+  scope-looks = looked-only 0 read.word between m' read.me_is
 
-  pub then-ended : KeepsAside m between → IsIdle board m between → joined ≡ true → HasEnded board m m'
-  then-ended aside idle is =
+  pub then-ended : FindsNone board m between → joined ≡ true → HasEnded board m m'
+  then-ended none is =
       record {
-        idle = idle-after board m between m' idle scope-aside;
-        joined = since-before 0 SaysJoined m between m' aside
+        before = m;
+        kept = aside-here m;
+        last = record {
+          idle = idle-after board m between m' none.idle scope-looks.aside;
+          looks = looks-on m between m' none.looks scope-looks;
+        };
+        joined = since-before 0 SaysJoined m between m' none.looks.aside
             (looked-since 0 read.word between m' read.me_is SaysJoined (sym read.answer_is ∙ is));
       }

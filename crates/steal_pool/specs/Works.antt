@@ -12,9 +12,10 @@ use Rattle.table_steps.specs.Views.{Board, IsHandOf, knows}
 use Rattle.table_steps.specs.Claims.{Seated}
 use Rattle.exec_start.specs.declared.entry.Entry.{Entry}
 use Rattle.exec_start.specs.declared.item.Item.{Item}
+use Rattle.exec_recv.specs.Asides.{KeepsAside}
 use Rattle.exec_recv.specs.Nexts.{Doing}
 use Rattle.loop_walk.specs.Resting.{IsAtRest}
-use Rattle.loop_serve.specs.Since.{HasReadSince}
+use Rattle.loop_serve.specs.Since.{HasReadSince, OnlyLooks}
 use Rattle.loop_serve.specs.Serving.{ServesNode, WasUnready}
 use Rattle.steal_pool.specs.declared.working.Worked.{Worked}
 use Rattle.steal_pool.specs.declared.working.Worked.TheVariants.{Took, Idle}
@@ -55,16 +56,29 @@ module _ (board : Board Blueprint) (m m' : Seated Item Entry) where
   abbrev pub FindsAny : Bool → Bool → Type 0
   FindsAny before after = UnlessFound before after IsIdle
 
+-- No node was ready, and nothing was done but looks.
+pub record FindsNone (board : Board Blueprint) (m m' : Seated Item Entry) : Type 0 where
+  pub idle : IsIdle board m m'
+  pub looks : OnlyLooks m m'
+
 -- The node was taken and stepped; or no node was ready.
 abbrev pub Works : Doing → Board Blueprint → Worked → Seated Item Entry → Seated Item Entry → Type 0
 Works does board (Took name) m m' = ServesNode does board rest.Pool name m m'
-Works does board Idle m m' = IsIdle board m m'
+Works does board Idle m m' = FindsNone board m m'
+
+-- So the hand did.
+abbrev pub WorksOn : Doing → Board Blueprint → Worked → Seat (Option Item) (View Item Entry)
+    → Seat (Option Item) (View Item Entry) → Type 0
+WorksOn does board worked old new = Works does board worked old.me new.me
 
 -- The word says that the scope is joined.
 abbrev pub SaysJoined : ℕ → Type 0
 SaysJoined word = (scope_read word).joined ≡ true
 
--- No node was ready, and the scope's word was read, which said that it is joined.
+-- At last no node was ready, and the scope's word was read, which said that it is joined. Since then
+-- nothing was done but looks.
 pub record HasEnded (board : Board Blueprint) (m m' : Seated Item Entry) : Type 0 where
-  pub idle : IsIdle board m m'
-  pub joined : HasReadSince (index board.frame.layout TheScope) SaysJoined m m'
+  pub before : Seated Item Entry
+  pub kept : KeepsAside m before
+  pub last : FindsNone board before m'
+  pub joined : HasReadSince (index board.frame.layout TheScope) SaysJoined before m'

@@ -7,6 +7,7 @@ ghost use Rattle.table_steps.specs.Views.{IsHandOf, Stays, knows};
 ghost use Rattle.exec_recv.specs.Asides.{KeepsAside};
 ghost use Rattle.exec_recv.specs.Over.{IsOver};
 ghost use Rattle.loop_walk.specs.Resting.{IsAtRest};
+ghost use Rattle.loop_serve.specs.Since.{OnlyLooks};
 ghost use Rattle.loop_serve.specs.Serving.{ServesNode};
 ghost use Rattle.steal_pool.specs.Works.{FindsNode, FindsBlock, FindsAny};
 
@@ -47,6 +48,7 @@ fn look_at<T: Stepper, R: Wait + Sync>(
         ServesNode (T.does stepper.now) table.now Pool name hand.old.me hand.new.me) }
     ensures none { IfNone result
         (FindsNode table.now hand.old.me hand.new.me block node found.old found.new) }
+    ensures looks { IfNone result (OnlyLooks hand.old.me hand.new.me) }
     ensures still { submits ≡ false → found.new ≡ found.old }
 {
     match table.ready_at(hand, block, node, Context::Pool) {
@@ -97,6 +99,7 @@ fn search_block<T: Stepper, R: Wait + Sync>(
         ServesNode (T.does stepper.now) table.now Pool name hand.old.me hand.new.me) }
     ensures none { IfNone result
         (FindsBlock table.now hand.old.me hand.new.me block found.old found.new) }
+    ensures looks { IfNone result (OnlyLooks hand.old.me hand.new.me) }
     ensures still { submits ≡ false → found.new ≡ found.old }
 {
     let size = table.tree().size();
@@ -135,6 +138,7 @@ pub fn search<T: Stepper, R: Wait + Sync>(
         ServesNode (T.does stepper.now) table.now Pool name hand.old.me hand.new.me) }
     ensures none { IfNone result
         (FindsAny table.now hand.old.me hand.new.me found.old found.new) }
+    ensures looks { IfNone result (OnlyLooks hand.old.me hand.new.me) }
     ensures still { submits ≡ false → found.new ≡ found.old }
 {
     for block in 0..table.blocks() {

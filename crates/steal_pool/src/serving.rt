@@ -42,8 +42,8 @@ impl Worker {
 
     /// Works until the scope is joined (P3149, [exec.counting.scopes]). It returns only where a
     /// step of this call read so, and each node of the table but the roots was read as not ready in
-    /// the pool. It looks at the scope only where it found nothing. What is promised holds if it
-    /// returns.
+    /// the pool, and since then it moved no word. It looks at the scope only where it found
+    /// nothing. What is promised holds if it returns.
     ///
     /// Step: those of `work_once`, and of `is_joined`.
     /// Needs, Afterwards: as `work_once`.

@@ -1,5 +1,5 @@
 //! How a worker takes a node by the names that its backend hands out.
-ghost use Rattle.std.specs.Prelude.{◌≡◌, ◌+◌, ◌≤◌, true, IfSome};
+ghost use Rattle.std.specs.Prelude.{◌≡◌, ◌+◌, ◌≤◌, true, false, IfSome, IfNone};
 ghost use Rattle.std.specs.Thread.{IsSync};
 ghost use Rattle.life_rules.specs.declared.event.Resting.TheVariants.{Pool};
 ghost use Rattle.plan_kinds.specs.Runnable.{IsRunnable};
@@ -7,6 +7,7 @@ ghost use Rattle.table_steps.specs.Views.{IsHandOf, IsPlaceIn, Stays, knows};
 ghost use Rattle.exec_recv.specs.Asides.{KeepsAside};
 ghost use Rattle.exec_recv.specs.Over.{IsOver};
 ghost use Rattle.loop_walk.specs.Resting.{IsAtRest};
+ghost use Rattle.loop_serve.specs.Since.{OnlyLooks};
 ghost use Rattle.loop_serve.specs.Serving.{ServesNode};
 
 use crate::offers::Offers;
@@ -44,6 +45,7 @@ fn serve_name<T: Stepper, R: Wait + Sync>(
     ensures aside { KeepsAside hand.old.me hand.new.me }
     ensures served { result ≡ true →
         ServesNode (T.does stepper.now) table.now Pool name hand.old.me hand.new.me }
+    ensures looks { result ≡ false → OnlyLooks hand.old.me hand.new.me }
 {
     if !is_place(table, name) {
         return false;
@@ -87,6 +89,7 @@ pub fn take_next<T: Stepper, R: Wait + Sync>(
     ensures most { asks.new ≤ asks.old }
     ensures served { IfSome result (λ name.
         ServesNode (T.does stepper.now) table.now Pool name hand.old.me hand.new.me) }
+    ensures looks { IfNone result (OnlyLooks hand.old.me hand.new.me) }
 {
     'asked: while let Some(name) = ask(offers, asks) {
         if serve_name(rt, alloc, table, hand, stepper, offers, name) {

@@ -6,7 +6,7 @@ ghost use Rattle.table_steps.specs.Views.{IsHandOf, IsSameHand, Stays, knows};
 ghost use Rattle.exec_recv.specs.Asides.{KeepsAside};
 ghost use Rattle.exec_recv.specs.Over.{IsOver};
 ghost use Rattle.loop_walk.specs.Resting.{IsAtRest};
-ghost use Rattle.steal_pool.specs.Works.{IsReady, Works};
+ghost use Rattle.steal_pool.specs.Works.{IsReady, WorksOn};
 
 use crate::offers::Offers;
 use crate::searching::search;
@@ -44,7 +44,7 @@ fn take_any<T: Stepper, R: Wait + Sync>(
     ensures stays { Stays table.now hand.old hand.new }
     ensures rests { IsAtRest (knows hand.new) }
     ensures aside { KeepsAside hand.old.me hand.new.me }
-    ensures works { Works (T.does stepper.now) table.now result hand.old.me hand.new.me }
+    ensures works { WorksOn (T.does stepper.now) table.now result hand.old hand.new }
 {
     let mut found = false;
     match search(rt, alloc, table, hand, stepper, offers, false, &mut found) {
@@ -73,7 +73,7 @@ fn seek<T: Stepper, R: Wait + Sync>(
     ensures rests { IsAtRest (knows hand.new) }
     ensures aside { KeepsAside hand.old.me hand.new.me }
     ensures most { asks.new ≤ asks.old }
-    ensures works { Works (T.does stepper.now) table.now result hand.old.me hand.new.me }
+    ensures works { WorksOn (T.does stepper.now) table.now result hand.old hand.new }
 {
     let mut found = false;
     match search(rt, alloc, table, hand, stepper, offers, true, &mut found) {
@@ -83,8 +83,9 @@ fn seek<T: Stepper, R: Wait + Sync>(
     if !found {
         return Worked::Idle;
     }
-    if let Some(name) = take_next(rt, alloc, table, hand, stepper, offers, asks) {
-        return Worked::Took(name);
+    match take_next(rt, alloc, table, hand, stepper, offers, asks) {
+        Some(name) => return Worked::Took(name),
+        None => {}
     }
     take_any(rt, alloc, table, hand, stepper, offers)
 }
@@ -94,8 +95,8 @@ impl Worker {
     /// a name of the backend; else by a look at each node of the table, by which the names of those
     /// that are ready are submitted. Took tells the node, which this hand took in this call, and
     /// the stepper stepped. Idle only where the word of each node but the roots, at its own step of
-    /// this call, said that it isn't ready in the pool. It asks the backend for at most as many
-    /// names as the table has places.
+    /// this call, said that it isn't ready in the pool, and it moved no word. It asks the backend
+    /// for at most as many names as the table has places.
     ///
     /// Step: those of `take` for each name; one load of each node's word; and those of the steps of
     /// the node.
@@ -117,11 +118,11 @@ impl Worker {
         ensures ready { IsReady table.now self.new.hand }
         ensures same { IsSameHand self.old.hand self.new.hand }
         ensures aside { KeepsAside self.old.hand.me self.new.hand.me }
-        ensures works { Works (T.does stepper.now) table.now result self.old.hand.me self.new.hand.me }
+        ensures works { WorksOn (T.does stepper.now) table.now result self.old.hand self.new.hand }
     {
         // So many names the backend is asked for in this call, by `ask` alone.
         let mut asks = table.blocks().saturating_mul(table.tree().size());
-        if let Some(name) = take_next(
+        match take_next(
             rt,
             alloc,
             table,
@@ -130,7 +131,8 @@ impl Worker {
             &mut self.offers,
             &mut asks,
         ) {
-            return Worked::Took(name);
+            Some(name) => return Worked::Took(name),
+            None => {}
         }
         seek(
             rt,

@@ -1,17 +1,13 @@
 -- A start for a record may run: its datum is of the kind with which the plan's root runs.
 use Rattle.std.proofs.Common.{◌≡◌, ℕ, ◌+◌, ◌-◌, Bool, [], ◌∷◌, length, inl, refl, sym, subst, arith}
-use Rattle.std.specs.Prelude.{Option, Some, slice_get}
-use Rattle.std.proofs.lemmas.Option.{same_Some, slice_get_within}
+use Rattle.std.specs.Prelude.{Some, slice_get}
+use Rattle.std.proofs.lemmas.Option.{same_Some}
 use Rattle.exec_value.specs.Kinds.{HasKind}
 use Rattle.exec_value.specs.declared.data.Datum.{Datum}
-use Rattle.plan_rules.specs.declared.node.Node.{Node}
-use Rattle.plan_rules.specs.declared.node.Node.TheVariants.{Bulk, Part}
-use Rattle.plan_kinds.specs.Built.{IsNoPart}
 use Rattle.plan_kinds.specs.Reached.{Reaches}
 use Rattle.plan_kinds.proofs.Kept.{plain-arguments}
 use Rattle.plan_kinds.proofs.Roots.{last-no_part}
 use Rattle.plan_shape.specs.Blueprint.{Blueprint, IsPlan}
-use Rattle.plan_shape.specs.Forest.{IsPartOf}
 use Rattle.table_steps.specs.Views.{Board}
 use Rattle.exec_start.specs.Entries.{record_start}
 use Rattle.exec_start.specs.HasKinds.{HasKinds}

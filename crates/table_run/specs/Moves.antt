@@ -1,8 +1,10 @@
 -- What a run's own calls leave of its operations.
 use Rattle.std.specs.Prelude.{◌≡◌, ◌⊎◌, ℕ, length, None, slice_index_or, slice_set}
 use Rattle.exec_value.specs.declared.outcome.Completion.{Completion}
+use Rattle.plan_shape.specs.Blueprint.{Blueprint}
 use Rattle.record_loop.specs.Works.{Collects}
 use Rattle.table_steps.specs.Views.{knows}
+use Rattle.exec_recv.specs.Nexts.{Doing}
 use Rattle.run_loop.specs.Emptied.{WasNotReady}
 use Rattle.run_loop.specs.Turns.{MeetsAll}
 use Rattle.table_run.specs.declared.tickets.Operation.{Operation}
@@ -29,9 +31,12 @@ abbrev pub LeavesNone : Run → Run → ℕ → Type 0
 LeavesNone old new ticket =
     (slice_index_or old.operations ticket None ≡ None) ⊎ WasIncomplete old new ticket
 
--- Each node that the loop was told of was taken, or its word said that it isn't ready.
-abbrev pub MeetsTold : Run → Run → Type 0
-MeetsTold old new = MeetsAll old.board old.looped new.looped
+-- Each node that the loop was told of was taken, and stepped by a stepper of the run's plan, or its
+-- word said that it isn't ready.
+pub record MeetsTold {T : Type 0} (plan : T → Blueprint) (does : T → Doing) (old new : Run) : Type 0 where
+  pub stepper : T
+  pub stepped : plan stepper ≡ old.plan
+  pub met : MeetsAll (does stepper) old.board old.looped new.looped
 
 -- The operation of the ticket was collected, and the ticket is free.
 pub record LeavesRun (old new : Run) (ticket : ℕ) (completion : Completion) : Type 0 where

@@ -15,8 +15,9 @@ impl<'a, T: Stepper, B: OnTable> TableRun<'a, T, B> {
     /// scope (P3149, [exec.counting.scopes]), and gives the hand back. What is promised holds if it
     /// returns.
     ///
-    /// Afterwards: the hand is of the run's table, has nothing, and gave back as many blocks as it claimed. One of its
-    /// steps left the scope joined. So the table may be closed, once the other hands have come back.
+    /// Afterwards: the hand is of the run's table, has nothing, and gave back as many blocks as it
+    /// claimed. One of its steps left the scope joined. So the table may be closed, once the other
+    /// hands have come back.
     pub fn end<R: Wait + Sync>(self, rt: &R, alloc: Global) -> Hand<Item>
         requires sync { IsSync R.row }
         ensures { IsEnded B.is result }

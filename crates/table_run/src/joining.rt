@@ -34,7 +34,8 @@ fn wait_joined<T: Stepper, R: Wait + Sync>(
         if is_joined(table, &mut looped.hand) {
             return;
         }
-        let _taken = looped.turn(rt, alloc, table, stepper);
+        let taken = looped.turn(rt, alloc, table, stepper);
+        looped.give_way(taken);
     }
     unreachable!()
 }

@@ -17,24 +17,26 @@ const IDLE_POLLS: u32 = 64;
 
 impl<'a, T: Stepper, B: OnTable> TableRun<'a, T, B> {
     /// Lets the operations go on: takes the nodes of the names that the loop was told of, and after
-    /// many polls that took none looks at each node.
+    /// many polls that took none looks at each node. Where it took none it gives way to workers.
     pub(crate) fn go_round<R: Wait + Sync>(&mut self, rt: &R, alloc: Global)
         requires sync { IsSync R.row }
         ensures keeps { KeepsRun self.old self.new }
-        ensures met { MeetsTold self.old self.new }
+        ensures met { MeetsTold T.plan T.does self.old self.new }
     {
         if self.idle >= IDLE_POLLS {
             self.idle = 0;
-            let _taken = self.looped.turn(rt, alloc, self.table, self.stepper);
+            let taken = self.looped.turn(rt, alloc, self.table, self.stepper);
+            self.looped.give_way(taken);
             return;
         }
         let taken = self.looped.poll(rt, alloc, self.table, self.stepper);
+        self.looped.give_way(taken);
         self.idle = if taken > 0 { 0 } else { self.idle + 1 };
     }
 
-    /// What the operation of a ticket completed with, where it has one that is complete. None only where
-    /// the word of its root that was read didn't say that it is ready in the loop. Its block is
-    /// given back, and then its association is left: an association lasts as long as its work.
+    /// What the operation of a ticket completed with, where it has one that is complete. None only
+    /// where the word of its root that was read didn't say that it is ready in the loop. Its block
+    /// is given back, and then its association is left: an association lasts as long as its work.
     pub(crate) fn leave<R: Wait + Sync>(&mut self, rt: &R, ticket: usize) -> Option<Completion>
         requires sync { IsSync R.row }
         requires within { ticket < length self.old.operations }

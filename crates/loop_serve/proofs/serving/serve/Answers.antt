@@ -4,7 +4,7 @@ use Rattle.table_steps.specs.Steps.{control_index}
 use Rattle.op_slot.proofs.Staying.{stays-on}
 use Rattle.exec_recv.proofs.Asiding.{aside-here, aside-on}
 use Rattle.loop_serve.specs.Serving.{TakesUp, TakesWord}
-use Rattle.loop_serve.proofs.Read.{looked-rests, looked-aside, lost-missed, moved-after}
+use Rattle.loop_serve.proofs.Read.{looked-rests, looked-aside, looked-only, lost-missed, moved-after}
 use Rattle.loop_serve.proofs.Took.{took-aside, took-can, took-moved}
 use Rattle.loop_serve.proofs.serving.serve.Goals as goal
 
@@ -19,6 +19,7 @@ returns-then-not-take_up g c =
       aside = looked-aside _ _ old new lost.2;
       served = λ is. absurd (both_ways false refl is);
       missed = λ _. lost-missed c.args.table.now c.args.from c.args.name old new lost;
+      looks = λ _. looked-only _ _ old new lost.2;
     }
 
 pub go_on-requires-clause-can : goal.go_on-requires-clause-can
@@ -53,4 +54,5 @@ returns g c =
             stepped = c.go_on.ensures.first;
           };
       missed = λ is. absurd (both_ways true is refl);
+      looks = λ is. absurd (both_ways true is refl);
     }

@@ -3,9 +3,9 @@ use Rattle.life_rules.specs.declared.event.Resting.{Resting}
 use Rattle.table_words.specs.Layouts.{OfControl, index}
 use Rattle.table_steps.specs.Takes.{MayServe}
 use Rattle.op_slot.proofs.Staying.{stays-here, stays-on}
-use Rattle.exec_recv.proofs.Asiding.{aside-here, aside-on}
+use Rattle.exec_recv.proofs.Asiding.{aside-on}
 use Rattle.loop_serve.specs.Serving.{IsUnready, ServesNode}
-use Rattle.loop_serve.proofs.Read.{looked-rests, looked-aside, read-unready, read-place, since-before}
+use Rattle.loop_serve.proofs.Read.{looked-rests, looked-aside, looked-only, looks-here, looks-on, read-unready, read-place, since-before}
 use Rattle.loop_serve.proofs.Took.{serves-before, serves-still}
 use Rattle.loop_serve.proofs.serving.serve_place.Goals as goal
 
@@ -16,7 +16,7 @@ loop-init g c =
       finite = tt;
       stays = stays-here c.args.table.now c.args.hand.now c.requires.hand;
       rests = c.requires.rests;
-      aside = aside-here c.args.hand.now.me;
+      looks = looks-here c.args.hand.now.me;
     }
 
 pub serve-requires-clause-place : goal.serve-requires-clause-place
@@ -31,7 +31,7 @@ serve-requires-clause-serves g c κs within =
     let between = c.loop.hand.me in
     let new = c.ready_at.new.hand.me in
     serves-still c.resting-from.result old new
-    (aside-on old between new c.loop.invariant.aside (looked-aside i c.ready_at.ensures.read.word between new c.ready_at.ensures.read.me_is))
+    (aside-on old between new c.loop.invariant.looks.aside (looked-aside i c.ready_at.ensures.read.word between new c.ready_at.ensures.read.me_is))
     (subst (λ (from : Resting). MayServe from old.0) (sym c.resting-from.ensures) c.requires.serves)
 
 pub serve-requires-clause-rests : goal.serve-requires-clause-rests
@@ -42,15 +42,15 @@ pub loop-preserved : goal.loop-preserved
 loop-preserved g c =
     let board = c.args.table.now in
     let before = c.loop.invariant in
-    let looked = looked-aside (index c.args.table.now.frame.layout (OfControl c.args.block c.args.node)) c.ready_at.ensures.read.word c.loop.hand.me c.ready_at.new.hand.me c.ready_at.ensures.read.me_is in
+    let looked = looked-only (index c.args.table.now.frame.layout (OfControl c.args.block c.args.node)) c.ready_at.ensures.read.word c.loop.hand.me c.ready_at.new.hand.me c.ready_at.ensures.read.me_is in
     record {
       next = tt;
       finite = tt;
       stays = stays-on board c.args.hand.now c.ready_at.new.hand c.serve.new.hand
           (stays-on board c.args.hand.now c.loop.hand c.ready_at.new.hand before.stays c.ready_at.ensures.stays) c.serve.ensures.stays;
       rests = c.serve.ensures.rests;
-      aside = aside-on c.args.hand.now.me c.ready_at.new.hand.me c.serve.new.hand.me
-          (aside-on c.args.hand.now.me c.loop.hand.me c.ready_at.new.hand.me before.aside looked) c.serve.ensures.aside;
+      looks = looks-on c.args.hand.now.me c.ready_at.new.hand.me c.serve.new.hand.me
+          (looks-on c.args.hand.now.me c.loop.hand.me c.ready_at.new.hand.me before.looks looked) (c.serve.ensures.looks c.if-serve.false);
     }
 
 pub returns-then-serve : goal.returns-then-serve
@@ -64,7 +64,7 @@ returns-then-serve g c =
     let new = c.serve.new.hand in
     let read = c.ready_at.ensures.read in
     let looked = looked-aside (index board.frame.layout (OfControl c.args.block c.args.node)) read.word round.me between.me read.me_is in
-    let before = aside-on old.me round.me between.me c.loop.invariant.aside looked in
+    let before = aside-on old.me round.me between.me c.loop.invariant.looks.aside looked in
     record {
       stays = stays-on board old between new (stays-on board old round between c.loop.invariant.stays c.ready_at.ensures.stays)
           c.serve.ensures.stays;
@@ -73,6 +73,7 @@ returns-then-serve g c =
       served = subst (λ (from : Resting). ServesNode does board from name old.me new.me) c.resting-from.ensures
           (serves-before does board c.resting-from.result name old.me between.me new.me before (c.serve.ensures.served c.if-serve.true));
       unready = tt;
+      looks = tt;
     }
 
 pub returns-in-None-ready_at : goal.returns-in-None-ready_at
@@ -86,8 +87,9 @@ returns-in-None-ready_at g c =
     record {
       stays = stays-on board old round new c.loop.invariant.stays c.ready_at.ensures.stays;
       rests = looked-rests i read.word round.me new.me read.me_is c.loop.invariant.rests;
-      aside = aside-on old.me round.me new.me c.loop.invariant.aside (looked-aside i read.word round.me new.me read.me_is);
+      aside = aside-on old.me round.me new.me c.loop.invariant.looks.aside (looked-aside i read.word round.me new.me read.me_is);
       served = tt;
-      unready = since-before i (IsUnready c.args.on) old.me round.me new.me c.loop.invariant.aside
+      unready = since-before i (IsUnready c.args.on) old.me round.me new.me c.loop.invariant.looks.aside
           (read-unready board c.args.on c.args.block c.args.node c.ready_at.result round new read c.in-None-ready_at.is);
+      looks = looks-on old.me round.me new.me c.loop.invariant.looks (looked-only i read.word round.me new.me read.me_is);
     }

@@ -1,6 +1,6 @@
 use Rattle.table_steps.specs.Views.{Stays}
-use Rattle.exec_recv.specs.Asides.{KeepsAside}
 use Rattle.loop_walk.specs.Resting.{IsAtRest}
+use Rattle.loop_serve.specs.Since.{OnlyLooks}
 use Rattle.loop_serve.proofs.serving.serve_place.Given as goal
 
 abbrev pub invariant-loop : goal.invariant-loop
@@ -9,5 +9,5 @@ invariant-loop g l = record {
   finite : (goal.iterator-loop g).is_finite l.iterator';
   stays : Stays l.table l.fn.hand l.hand;
   rests : IsAtRest l.hand.me.0;
-  aside : KeepsAside l.fn.hand.me l.hand.me;
+  looks : OnlyLooks l.fn.hand.me l.hand.me;
 }

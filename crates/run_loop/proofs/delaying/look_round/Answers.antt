@@ -1,6 +1,6 @@
 use Rattle.std.proofs.Common.{eqb-true, sym, ◌∙◌}
 use Rattle.op_slot.proofs.Staying.{stays-here, stays-on}
-use Rattle.exec_recv.proofs.Asiding.{aside-here, aside-on}
+use Rattle.loop_serve.proofs.Read.{looks-here, looks-on}
 use Rattle.run_loop.proofs.Looking.{below-none, below-empty, below-more}
 use Rattle.run_loop.proofs.delaying.look_round.Goals as goal
 
@@ -9,7 +9,7 @@ loop-block-init c =
     record {
       stays = stays-here c.args.table.now c.args.hand.now c.requires.hand;
       rests = c.requires.rests;
-      aside = aside-here c.args.hand.now.me;
+      only = looks-here c.args.hand.now.me;
       looks = below-none c.args.table.now c.requires.over c.args.nodes.now c.requires.nodes c.args.hand.now.me c.args.delays.now;
     }
 
@@ -23,9 +23,9 @@ loop-block-preserved c =
     record {
       stays = stays-on board old between new before.stays c.look_through.ensures.stays;
       rests = c.look_through.ensures.rests;
-      aside = aside-on old.me between.me new.me before.aside c.look_through.ensures.aside;
+      only = looks-on old.me between.me new.me before.only c.look_through.ensures.only;
       looks = below-more board c.requires.over c.args.nodes.now c.requires.nodes c.loop-block.block old.me between.me new.me c.args.delays.now
-          c.loop-block.delays c.look_through.new.delays before.looks c.look_through.ensures.looks before.aside c.look_through.ensures.aside;
+          c.loop-block.delays c.look_through.new.delays before.looks c.look_through.ensures.looks before.only.aside c.look_through.ensures.only.aside;
     }
 
 pub returns-then-is_empty : goal.returns-then-is_empty
@@ -34,7 +34,7 @@ returns-then-is_empty c =
     record {
       stays = stays-here c.args.table.now old c.requires.hand;
       rests = c.requires.rests;
-      aside = aside-here old.me;
+      only = looks-here old.me;
       looks = below-empty c.args.table.now c.requires.over c.args.nodes.now c.requires.nodes c.args.table.now.frame.layout.blocks old.me
           c.args.delays.now (eqb-true _ 0 (sym c.is_empty.ensures ∙ c.if-is_empty.true));
     }

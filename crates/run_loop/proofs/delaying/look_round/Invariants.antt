@@ -1,6 +1,6 @@
 use Rattle.table_steps.specs.Views.{Stays}
-use Rattle.exec_recv.specs.Asides.{KeepsAside}
 use Rattle.loop_walk.specs.Resting.{IsAtRest}
+use Rattle.loop_serve.specs.Since.{OnlyLooks}
 use Rattle.run_loop.specs.Delayed.{LooksBelow}
 use Rattle.run_loop.proofs.delaying.look_round.Given as goal
 
@@ -8,6 +8,6 @@ abbrev pub invariant-loop-block : goal.invariant-loop-block
 invariant-loop-block l = record {
   stays : Stays l.table l.fn.hand l.hand;
   rests : IsAtRest l.hand.me.0;
-  aside : KeepsAside l.fn.hand.me l.hand.me;
+  only : OnlyLooks l.fn.hand.me l.hand.me;
   looks : LooksBelow l.table l.nodes l.block l.fn.hand.me l.hand.me l.fn.delays l.delays;
 }

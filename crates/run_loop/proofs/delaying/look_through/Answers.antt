@@ -1,9 +1,9 @@
 use Rattle.std.proofs.Common.{arith}
 use Rattle.std.proofs.lemmas.Option.{slice_get-get_or}
 use Rattle.op_slot.proofs.Staying.{stays-here, stays-on}
-use Rattle.exec_recv.proofs.Asiding.{aside-here, aside-on}
+use Rattle.loop_serve.proofs.Read.{looks-here, looks-on}
 use Rattle.run_loop.proofs.Looking.{through-none, through-more}
-use Rattle.run_loop.proofs.Becoming.{look-aside, look-rests}
+use Rattle.run_loop.proofs.Becoming.{look-only, look-rests}
 use Rattle.run_loop.proofs.delaying.look_through.Goals as goal
 
 pub loop-delay-init : goal.loop-delay-init
@@ -11,7 +11,7 @@ loop-delay-init c =
     record {
       stays = stays-here c.args.table.now c.args.hand.now c.requires.hand;
       rests = c.requires.rests;
-      aside = aside-here c.args.hand.now.me;
+      only = looks-here c.args.hand.now.me;
       looks = through-none c.args.table.now c.requires.over c.args.nodes.now c.requires.nodes c.args.block c.args.hand.now.me c.args.delays.now;
     }
 
@@ -23,15 +23,15 @@ loop-delay-preserved c =
     let between = c.loop-delay.hand in
     let new = c.look_at.new.hand in
     let looks = c.look_at.ensures.looks in
-    let aside = look-aside board c.args.block _ between.me new.me c.loop-delay.delays c.look_at.new.delays looks in
+    let only = look-only board c.args.block _ between.me new.me c.loop-delay.delays c.look_at.new.delays looks in
     let places = before.looks.places_are in
     let room = c.requires.places in
     record {
       stays = stays-on board old between new before.stays c.look_at.ensures.stays;
       rests = look-rests board c.args.block _ between.me new.me c.loop-delay.delays c.look_at.new.delays looks before.rests;
-      aside = aside-on old.me between.me new.me before.aside aside;
+      only = looks-on old.me between.me new.me before.only only;
       looks = through-more board c.requires.over c.args.nodes.now c.requires.nodes c.args.block c.loop-delay.delay-index old.me between.me
           new.me c.args.delays.now c.loop-delay.delays c.look_at.new.delays _
           (slice_get-get_or c.args.nodes.now c.loop-delay.delay-index _ c.loop-delay-test.true) c.requires.block
-          (omega (arith, places, room)) before.looks looks before.aside aside;
+          (omega (arith, places, room)) before.looks looks before.only.aside only.aside;
     }

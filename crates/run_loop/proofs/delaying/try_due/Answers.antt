@@ -11,7 +11,7 @@ serve-requires-clause-serves g c κs within = first-serves rest.Parked c.args.ha
 pub returns-then-serve-clause-served : goal.returns-then-serve-clause-served
 returns-then-serve-clause-served g c first serves =
     serves-more (g.T.Stepper.does c.args.stepper.now) c.args.table.now c.args.taken c.one_more.result first c.args.hand.now.me
-    c.serve.new.hand.me c.one_more.ensures.one c.serve.ensures.aside serves
+    c.serve.new.hand.me c.one_more.ensures.some c.one_more.ensures.one c.serve.ensures.aside serves
     (record { name = _; from = rest.Parked; serves = c.serve.ensures.served c.if-serve.true })
 
 pub returns-then-serve-clause-tried : goal.returns-then-serve-clause-tried
@@ -26,7 +26,7 @@ returns-then-serve-clause-tried g c within =
 pub returns-clause-served : goal.returns-clause-served
 returns-clause-served g c first serves =
     serves-after (g.T.Stepper.does c.args.stepper.now) c.args.table.now c.args.taken first c.args.hand.now.me c.serve.new.hand.me serves
-    c.serve.ensures.aside
+    (c.serve.ensures.looks c.if-serve.false)
 
 pub returns-clause-tried : goal.returns-clause-tried
 returns-clause-tried g c within =

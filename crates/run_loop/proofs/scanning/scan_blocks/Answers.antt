@@ -2,6 +2,7 @@ use Rattle.std.proofs.Common.{arith, ap, ◌∙◌}
 use Rattle.op_slot.proofs.Staying.{stays-here, stays-on}
 use Rattle.exec_recv.specs.Asides.{Aside}
 use Rattle.exec_recv.proofs.Asiding.{aside-here, aside-on}
+use Rattle.loop_serve.proofs.Read.{looks-here}
 use Rattle.run_loop.proofs.Turned.{blocks-more}
 use Rattle.run_loop.proofs.scanning.scan_blocks.Goals as goal
 
@@ -11,7 +12,7 @@ loop-block-init g c =
       stays = stays-here c.args.table.now c.args.hand.now c.requires.hand;
       rests = c.requires.rests;
       aside = aside-here c.args.hand.now.me;
-      served = aside-here c.args.hand.now.me;
+      served = looks-here c.args.hand.now.me;
       none = λ zero block below. absurd (omega (arith, below));
     }
 

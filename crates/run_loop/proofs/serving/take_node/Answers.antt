@@ -5,8 +5,9 @@ use Rattle.node_tree.specs.declared.context.Context.TheVariants.{Loop, Pool}
 use Rattle.table_words.specs.Layouts.{OfControl, index}
 use Rattle.op_slot.proofs.Staying.{stays-on}
 use Rattle.exec_recv.proofs.Asiding.{aside-on}
+use Rattle.loop_serve.specs.Since.{OnlyLooks}
 use Rattle.loop_serve.specs.Serving.{IsUnready, WasUnready}
-use Rattle.loop_serve.proofs.Read.{since-before, since-after}
+use Rattle.loop_serve.proofs.Read.{looks-on, since-before, since-after}
 use Rattle.loop_serve.proofs.Took.{first-serves}
 use Rattle.run_loop.proofs.Served.{none-taken, one-taken, one-later, serves-after, serves-more}
 use Rattle.run_loop.proofs.serving.take_node.Goals as goal
@@ -28,7 +29,7 @@ returns-then-is_some g c =
       rests = c.serve_place.ensures.rests;
       aside = c.serve_place.ensures.aside;
       served = λ first serves.
-          serves-more does board c.args.taken c.one_more.result first old.me new.me c.one_more.ensures.one c.serve_place.ensures.aside serves one;
+          serves-more does board c.args.taken c.one_more.result first old.me new.me some c.one_more.ensures.one c.serve_place.ensures.aside serves one;
       none = λ zero. absurd (omega (arith, some, zero));
     }
 
@@ -42,7 +43,9 @@ returns-then-not-helps g c =
       stays = c.serve_place.ensures.stays;
       rests = c.serve_place.ensures.rests;
       aside = c.serve_place.ensures.aside;
-      served = λ first serves. serves-after does board c.args.taken first old.me new.me serves c.serve_place.ensures.aside;
+      served = λ first serves.
+          serves-after does board c.args.taken first old.me new.me serves
+          (none-taken c.serve_place.result (OnlyLooks old.me new.me) (sym c.is_some.ensures ∙ c.if-is_some.false) c.serve_place.ensures.looks);
       none = λ zero. (
         zero,
         record {
@@ -69,7 +72,7 @@ returns-then-is_some-2 g c =
       rests = c.serve_place-2.ensures.rests;
       aside = aside;
       served = λ first serves.
-          serves-more does board c.args.taken c.one_more-then-is_some-2.result first old.me new.me c.one_more-then-is_some-2.ensures.one aside
+          serves-more does board c.args.taken c.one_more-then-is_some-2.result first old.me new.me some c.one_more-then-is_some-2.ensures.one aside
           serves (one-later does board old.me between.me new.me c.serve_place.ensures.aside one);
       none = λ zero. absurd (omega (arith, some, zero));
     }
@@ -86,7 +89,13 @@ returns g c =
       stays = stays-on board old between new c.serve_place.ensures.stays c.serve_place-2.ensures.stays;
       rests = c.serve_place-2.ensures.rests;
       aside = aside;
-      served = λ first serves. serves-after (g.T.Stepper.does c.args.stepper.now) board c.args.taken first old.me new.me serves aside;
+      served = λ first serves.
+          serves-after (g.T.Stepper.does c.args.stepper.now) board c.args.taken first old.me new.me serves
+          (looks-on old.me between.me new.me
+          (none-taken c.serve_place.result (OnlyLooks old.me between.me) (sym c.is_some.ensures ∙ c.if-is_some.false)
+          c.serve_place.ensures.looks)
+          (none-taken c.serve_place-2.result (OnlyLooks between.me new.me) (sym c.is_some-2.ensures ∙ c.if-is_some-2.false)
+          c.serve_place-2.ensures.looks));
       none = λ zero. (
         zero,
         record {

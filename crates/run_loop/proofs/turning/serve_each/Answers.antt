@@ -3,6 +3,7 @@ use Rattle.std.proofs.lemmas.Option.{slice_get-get_or}
 use Rattle.op_slot.proofs.Staying.{stays-here, stays-on}
 use Rattle.exec_recv.specs.Asides.{Aside}
 use Rattle.exec_recv.proofs.Asiding.{aside-here, aside-on}
+use Rattle.loop_serve.proofs.Read.{looks-here}
 use Rattle.run_loop.specs.Serves.{Serves}
 use Rattle.run_loop.specs.Turns.{AreLeft}
 use Rattle.run_loop.proofs.Served.{serves-after, serves-more}
@@ -17,7 +18,7 @@ loop-name-init g c =
       stays = stays-here c.args.table.now c.args.hand.now c.requires.hand;
       rests = c.requires.rests;
       aside = aside-here c.args.hand.now.me;
-      served = aside-here c.args.hand.now.me;
+      served = looks-here c.args.hand.now.me;
       met = λ k name below. absurd (omega (arith, below));
       none = λ zero k name below. absurd (omega (arith, below));
     }
@@ -40,17 +41,20 @@ loop-name-preserved g c =
       served = elim c.if-serve_name.branch [
         | then-serve_name w ↦
             subst (λ n. Serves does board n old.me new.me) (sym w.taken-is)
-            (serves-more does board c.loop-name.taken w.one_more-taken.result old.me between.me new.me w.one_more-taken.ensures.one
-            c.serve_name.ensures.aside before.served (c.serve_name.ensures.served w.if-serve_name.true))
+            (let one = c.serve_name.ensures.served w.if-serve_name.true in
+            serves-more does board c.loop-name.taken w.one_more-taken.result old.me between.me new.me w.one_more-taken.ensures.some
+            w.one_more-taken.ensures.one c.serve_name.ensures.aside before.served
+            (record { name = _; from = one.0; serves = one.1 }))
         | else-serve_name w ↦
             subst (λ n. Serves does board n old.me new.me) (sym w.taken-is)
-            (serves-after does board c.loop-name.taken old.me between.me new.me before.served c.serve_name.ensures.aside)
+            (serves-after does board c.loop-name.taken old.me between.me new.me before.served
+            (c.serve_name.ensures.looks w.if-serve_name.false))
       ];
-      met = met-more board c.args.helps old.me between.me new.me c.args.told.now c.loop-name.name-index _
+      met = met-more does board c.args.helps old.me between.me new.me c.args.told.now c.loop-name.name-index _
           (slice_get-get_or c.args.told.now c.loop-name.name-index _ c.loop-name-test.true) before.aside c.serve_name.ensures.aside before.met
           (λ inner.
           elim c.if-serve_name.branch [
-            | then-serve_name w ↦ inl (c.serve_name.ensures.taken w.if-serve_name.true)
+            | then-serve_name w ↦ inl (c.serve_name.ensures.served w.if-serve_name.true)
             | else-serve_name w ↦ inr (c.serve_name.ensures.left w.if-serve_name.false inner)
           ]);
       none = λ zero.

@@ -12,6 +12,6 @@ invariant-loop-name g l = record {
   rests : IsAtRest l.hand.me.0;
   aside : KeepsAside l.fn.hand.me l.hand.me;
   served : Serves (g.T.Stepper.does l.stepper) l.table l.taken l.fn.hand.me l.hand.me;
-  met : AreMet l.table l.fn.hand.me l.hand.me l.helps l.told l.name-index;
+  met : AreMet (g.T.Stepper.does l.stepper) l.table l.fn.hand.me l.hand.me l.helps l.told l.name-index;
   none : l.taken ≡ 0 → AreLeft l.table l.fn.hand.me l.hand.me l.helps l.told l.name-index;
 }

@@ -7,10 +7,8 @@ use Rattle.table_steps.specs.Takes.{rest_word}
 use Rattle.op_slot.proofs.Staying.{stays-here, stays-on}
 use Rattle.exec_recv.specs.Over.{IsOver}
 use Rattle.exec_recv.proofs.Asiding.{aside-here, aside-on}
-use Rattle.loop_serve.specs.Serving.{TakesWord}
-use Rattle.loop_serve.proofs.Read.{moved-before, since-before, since-after}
-use Rattle.loop_serve.proofs.Took.{first-serves}
-use Rattle.run_loop.proofs.Served.{one-later}
+use Rattle.loop_serve.proofs.Read.{since-before, since-after, looks-here, looks-on}
+use Rattle.loop_serve.proofs.Took.{first-serves, serves-before}
 use Rattle.run_loop.proofs.turning.serve_name.Goals as goal
 
 pub is_inner-requires : goal.is_inner-requires
@@ -58,21 +56,23 @@ returns-clause-left g c left inner =
           since-before i (λ word. word ≢ rest_word x rest.Pool) old between new c.serve.ensures.aside (c.serve-2.ensures.missed left);
     }
 
+pub returns-then-not-is_inner-clause-looks : goal.returns-then-not-is_inner-clause-looks
+returns-then-not-is_inner-clause-looks g c looks = looks-here c.args.hand.now.me
+
 pub returns-then-serve-clause-served : goal.returns-then-serve-clause-served
-returns-then-serve-clause-served g c served =
-    record { name = c.args.name; from = rest.Loop; serves = c.serve.ensures.served c.if-serve.true }
+returns-then-serve-clause-served g c served = (rest.Loop, c.serve.ensures.served c.if-serve.true)
+
+pub returns-then-not-helps-clause-looks : goal.returns-then-not-helps-clause-looks
+returns-then-not-helps-clause-looks g c looks = c.serve.ensures.looks c.if-serve.false
 
 pub returns-clause-served : goal.returns-clause-served
-returns-clause-served g c served =
-    one-later (g.T.Stepper.does c.args.stepper.now) c.args.table.now c.args.hand.now.me c.serve.new.hand.me c.serve-2.new.hand.me
-    c.serve.ensures.aside (record { name = c.args.name; from = rest.Pool; serves = c.serve-2.ensures.served served })
-
-pub returns-then-serve-clause-taken : goal.returns-then-serve-clause-taken
-returns-then-serve-clause-taken g c taken = (rest.Loop, (c.serve.ensures.served c.if-serve.true).taken)
-
-pub returns-clause-taken : goal.returns-clause-taken
-returns-clause-taken g c taken = (
+returns-clause-served g c served = (
   rest.Pool,
-  moved-before (control_index c.args.table.now c.args.name) (TakesWord rest.Pool c.args.name) c.args.hand.now.me c.serve.new.hand.me
-      c.serve-2.new.hand.me c.serve.ensures.aside (c.serve-2.ensures.served taken).taken,
+  serves-before (g.T.Stepper.does c.args.stepper.now) c.args.table.now rest.Pool c.args.name c.args.hand.now.me c.serve.new.hand.me
+      c.serve-2.new.hand.me c.serve.ensures.aside (c.serve-2.ensures.served served),
 )
+
+pub returns-clause-looks : goal.returns-clause-looks
+returns-clause-looks g c looks =
+    looks-on c.args.hand.now.me c.serve.new.hand.me c.serve-2.new.hand.me (c.serve.ensures.looks c.if-serve.false)
+    (c.serve-2.ensures.looks looks)

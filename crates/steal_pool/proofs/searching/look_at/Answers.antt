@@ -4,8 +4,8 @@ use Rattle.node_tree.specs.declared.context.Context.TheVariants.{Pool}
 use Rattle.table_words.specs.Layouts.{OfControl, index}
 use Rattle.op_slot.proofs.Staying.{stays-on}
 use Rattle.exec_recv.proofs.Asiding.{aside-on}
-use Rattle.loop_serve.proofs.Read.{looked-rests, looked-aside, read-unready}
-use Rattle.steal_pool.proofs.Searched.{finds-before, served-before}
+use Rattle.loop_serve.proofs.Read.{looked-rests, looked-aside, looked-only, read-unready}
+use Rattle.steal_pool.proofs.Searched.{finds-before, looks-before, served-before}
 use Rattle.steal_pool.proofs.searching.look_at.Goals as goal
 
 pub returns-in-None : goal.returns-in-None
@@ -21,6 +21,7 @@ returns-in-None g c =
       aside = looked-aside i read.word old.me new.me read.me_is;
       served = tt;
       none = λ not. (not, read-unready board Pool c.args.block c.args.node c.ready_at.result old new read c.in-None.is);
+      looks = looked-only i read.word old.me new.me read.me_is;
       still = λ not. refl {a = c.args.found.now};
     }
 
@@ -36,6 +37,7 @@ returns-then-is_ok g c =
       aside = looked-aside i read.word old.me new.me read.me_is;
       served = tt;
       none = λ not. absurd (both_ways true not refl);
+      looks = looked-only i read.word old.me new.me read.me_is;
       still = λ not. absurd (both_ways c.args.submits not c.if-submits.true);
     }
 
@@ -53,13 +55,14 @@ returns-else-submits g c =
     let between = c.ready_at.new.hand in
     let new = c.serve_place.new.hand in
     let read = c.ready_at.ensures.read in
-    let looked = looked-aside (index board.frame.layout (OfControl c.args.block c.args.node)) read.word old.me between.me read.me_is in
+    let looked = looked-only (index board.frame.layout (OfControl c.args.block c.args.node)) read.word old.me between.me read.me_is in
     record {
       stays = stays-on board old between new c.ready_at.ensures.stays c.serve_place.ensures.stays;
       rests = c.serve_place.ensures.rests;
-      aside = aside-on old.me between.me new.me looked c.serve_place.ensures.aside;
-      served = served-before board old.me between.me new.me does c.serve_place.result looked c.serve_place.ensures.served;
-      none = finds-before board old.me between.me new.me c.args.block c.args.node c.args.found.now c.serve_place.result looked
+      aside = aside-on old.me between.me new.me looked.aside c.serve_place.ensures.aside;
+      served = served-before board old.me between.me new.me does c.serve_place.result looked.aside c.serve_place.ensures.served;
+      none = finds-before board old.me between.me new.me c.args.block c.args.node c.args.found.now c.serve_place.result looked.aside
           c.serve_place.ensures.unready;
+      looks = looks-before board old.me between.me new.me c.serve_place.result looked c.serve_place.ensures.looks;
       still = λ not. refl {a = c.args.found.now};
     }

@@ -1,7 +1,8 @@
 use Rattle.std.proofs.Common.{◌≡◌, length, arith, refl, ap, ◌∙◌}
 use Rattle.life_rules.specs.declared.event.Resting.TheVariants.{Pool}
 use Rattle.op_slot.proofs.Staying.{stays-here, stays-on}
-use Rattle.exec_recv.proofs.Asiding.{aside-here, aside-on}
+use Rattle.exec_recv.proofs.Asiding.{aside-on}
+use Rattle.loop_serve.proofs.Read.{looks-here, looks-on}
 use Rattle.loop_serve.proofs.Took.{serves-before}
 use Rattle.steal_pool.proofs.Searched.{nodes-more, nodes-all}
 use Rattle.steal_pool.proofs.searching.search_block.Goals as goal
@@ -11,7 +12,7 @@ loop-node-init g c =
     record {
       stays = stays-here c.args.table.now c.args.hand.now c.requires.hand;
       rests = c.requires.rests;
-      aside = aside-here c.args.hand.now.me;
+      looks = looks-here c.args.hand.now.me;
       none = λ not. (not, λ node below inner. absurd (omega (arith, below)));
       still = λ not. refl;
     }
@@ -26,12 +27,12 @@ loop-node-preserved g c =
     record {
       stays = stays-on board old between new before.stays c.look_at.ensures.stays;
       rests = c.look_at.ensures.rests;
-      aside = aside-on old.me between.me new.me before.aside c.look_at.ensures.aside;
+      looks = looks-on old.me between.me new.me before.looks c.in-None.ensures.looks;
       none = λ not.
           let here = c.in-None.ensures.none not in
           let earlier = before.none here.0 in (
             earlier.0,
-            nodes-more board old.me between.me new.me c.args.block c.loop-node.node before.aside c.look_at.ensures.aside earlier.1 here.1,
+            nodes-more board old.me between.me new.me c.args.block c.loop-node.node before.looks.aside c.look_at.ensures.aside earlier.1 here.1,
           );
       still = λ not. c.look_at.ensures.still not ∙ before.still not;
     }
@@ -46,10 +47,11 @@ returns-in-Some g c =
     record {
       stays = stays-on board old between new before.stays c.look_at.ensures.stays;
       rests = c.look_at.ensures.rests;
-      aside = aside-on old.me between.me new.me before.aside c.look_at.ensures.aside;
-      served = serves-before (g.T.Stepper.does c.args.stepper.now) board Pool c.in-Some.name old.me between.me new.me before.aside
+      aside = aside-on old.me between.me new.me before.looks.aside c.look_at.ensures.aside;
+      served = serves-before (g.T.Stepper.does c.args.stepper.now) board Pool c.in-Some.name old.me between.me new.me before.looks.aside
           c.in-Some.ensures.served;
       none = tt;
+      looks = tt;
       still = λ not. c.look_at.ensures.still not ∙ before.still not;
     }
 
@@ -62,8 +64,9 @@ returns g c =
     record {
       stays = last.stays;
       rests = last.rests;
-      aside = last.aside;
+      aside = last.looks.aside;
       served = tt;
+      looks = last.looks;
       none = λ not.
           let all = last.none not in (
             all.0,

@@ -2,6 +2,7 @@ use Rattle.std.proofs.Common.{false, refl}
 use Rattle.std.proofs.lemmas.Bool.{both_ways}
 use Rattle.op_slot.proofs.Staying.{stays-here}
 use Rattle.exec_recv.proofs.Asiding.{aside-here}
+use Rattle.loop_serve.proofs.Read.{looks-here}
 use Rattle.steal_pool.proofs.taking.serve_name.Goals as goal
 
 pub returns-then-not-is_place : goal.returns-then-not-is_place
@@ -11,4 +12,5 @@ returns-then-not-is_place g c =
       rests = c.requires.rests;
       aside = aside-here c.args.hand.now.me;
       served = λ is. absurd (both_ways false refl is);
+      looks = λ _. looks-here c.args.hand.now.me;
     }

@@ -1,7 +1,8 @@
 use Rattle.std.proofs.Common.{arith}
 use Rattle.life_rules.specs.declared.event.Resting.TheVariants.{Pool}
 use Rattle.op_slot.proofs.Staying.{stays-here, stays-on}
-use Rattle.exec_recv.proofs.Asiding.{aside-here, aside-on}
+use Rattle.exec_recv.proofs.Asiding.{aside-on}
+use Rattle.loop_serve.proofs.Read.{looks-here, looks-on}
 use Rattle.loop_serve.proofs.Took.{serves-before}
 use Rattle.steal_pool.proofs.taking.take_next.Goals as goal
 
@@ -10,7 +11,7 @@ asked-init g c =
     record {
       stays = stays-here c.args.table.now c.args.hand.now c.requires.hand;
       rests = c.requires.rests;
-      aside = aside-here c.args.hand.now.me;
+      looks = looks-here c.args.hand.now.me;
       most = omega arith;
     }
 
@@ -25,7 +26,7 @@ asked-preserved g c =
     record {
       stays = stays-on c.args.table.now old between new before.stays c.serve_name.ensures.stays;
       rests = c.serve_name.ensures.rests;
-      aside = aside-on old.me between.me new.me before.aside c.serve_name.ensures.aside;
+      looks = looks-on old.me between.me new.me before.looks (c.serve_name.ensures.looks c.if-serve_name.false);
       most = omega (arith, most, fewer);
     }
 
@@ -41,10 +42,11 @@ returns-then-serve_name g c =
     record {
       stays = stays-on board old between new before.stays c.serve_name.ensures.stays;
       rests = c.serve_name.ensures.rests;
-      aside = aside-on old.me between.me new.me before.aside c.serve_name.ensures.aside;
+      aside = aside-on old.me between.me new.me before.looks.aside c.serve_name.ensures.aside;
       most = omega (arith, most, fewer);
-      served = serves-before (g.T.Stepper.does c.args.stepper.now) board Pool c.in-Some.name old.me between.me new.me before.aside
+      served = serves-before (g.T.Stepper.does c.args.stepper.now) board Pool c.in-Some.name old.me between.me new.me before.looks.aside
           (c.serve_name.ensures.served c.if-serve_name.true);
+      looks = tt;
     }
 
 pub returns : goal.returns
@@ -55,7 +57,8 @@ returns g c =
     record {
       stays = last.stays;
       rests = last.rests;
-      aside = last.aside;
+      aside = last.looks.aside;
       most = omega (arith, most, fewer);
       served = tt;
+      looks = last.looks;
     }

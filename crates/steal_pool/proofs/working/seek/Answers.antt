@@ -2,6 +2,7 @@ use Rattle.std.proofs.Common.{arith}
 use Rattle.life_rules.specs.declared.event.Resting.TheVariants.{Pool}
 use Rattle.op_slot.proofs.Staying.{stays-on}
 use Rattle.exec_recv.proofs.Asiding.{aside-on}
+use Rattle.loop_serve.proofs.Read.{looks-on}
 use Rattle.loop_serve.proofs.Took.{serves-before}
 use Rattle.steal_pool.proofs.Searched.{works-before}
 use Rattle.steal_pool.proofs.working.seek.Goals as goal
@@ -23,7 +24,7 @@ returns-then-not-found g c =
       rests = c.search.ensures.rests;
       aside = c.search.ensures.aside;
       most = omega arith;
-      works = (c.in-None.ensures.none c.if-not-found.true).1;
+      works = record { idle = (c.in-None.ensures.none c.if-not-found.true).1; looks = c.in-None.ensures.looks };
     }
 
 pub returns-in-Some-take_next : goal.returns-in-Some-take_next
@@ -47,13 +48,13 @@ returns g c =
     let old = c.args.hand.now in
     let between = c.take_next.new.hand in
     let new = c.take_any.new.hand in
-    let aside = aside-on old.me c.search.new.hand.me between.me c.search.ensures.aside c.take_next.ensures.aside in
+    let looks = looks-on old.me c.search.new.hand.me between.me c.in-None.ensures.looks c.in-None-take_next.ensures.looks in
     record {
       stays = stays-on board old between new
           (stays-on board old c.search.new.hand between c.search.ensures.stays c.take_next.ensures.stays) c.take_any.ensures.stays;
       rests = c.take_any.ensures.rests;
-      aside = aside-on old.me between.me new.me aside c.take_any.ensures.aside;
+      aside = aside-on old.me between.me new.me looks.aside c.take_any.ensures.aside;
       most = c.take_next.ensures.most;
-      works = works-before board old.me between.me new.me (g.T.Stepper.does c.args.stepper.now) c.take_any.result aside
+      works = works-before board old.me between.me new.me (g.T.Stepper.does c.args.stepper.now) c.take_any.result looks
           c.take_any.ensures.works;
     }

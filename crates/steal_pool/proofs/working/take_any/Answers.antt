@@ -16,5 +16,5 @@ returns-in-None g c =
       stays = c.search.ensures.stays;
       rests = c.search.ensures.rests;
       aside = c.search.ensures.aside;
-      works = (c.in-None.ensures.none (c.search.ensures.still refl)).1;
+      works = record { idle = (c.in-None.ensures.none (c.search.ensures.still refl)).1; looks = c.in-None.ensures.looks };
     }

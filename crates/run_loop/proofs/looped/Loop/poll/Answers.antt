@@ -33,7 +33,7 @@ returns-clause-served g c = c.serve_delays.ensures.served c.args.self.now.hand.m
 pub returns-clause-met : goal.returns-clause-met
 returns-clause-met g c =
     let old = c.args.self.now in
-    met-later c.args.table.now old.helps old.hand.me c.poll_names-taken.new.self.hand.me c.serve_delays.new.hand.me (told old)
+    met-later (g.T.Stepper.does c.args.stepper.now) c.args.table.now old.helps old.hand.me c.poll_names-taken.new.self.hand.me c.serve_delays.new.hand.me (told old)
     c.poll_names-taken.ensures.met c.serve_delays.ensures.aside
 
 pub returns-clause-none : goal.returns-clause-none

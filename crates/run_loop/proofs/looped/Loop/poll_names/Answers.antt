@@ -9,5 +9,5 @@ returns-clause-none g c zero =
 
 pub returns-clause-met : goal.returns-clause-met
 returns-clause-met g c =
-    subst (AreAllMet c.args.table.now c.args.self.now.hand.me c.serve_each-taken.new.hand.me c.args.self.now.helps)
+    subst (AreAllMet (g.T.Stepper.does c.args.stepper.now) c.args.table.now c.args.self.now.hand.me c.serve_each-taken.new.hand.me c.args.self.now.helps)
     (c.deref.ensures.value ∙ ap (λ names. names.list.items) c.swap.ensures.y_after) c.serve_each-taken.ensures.met

@@ -1,6 +1,7 @@
-use Rattle.std.proofs.Common.{arith, subst}
+use Rattle.std.proofs.Common.{◌≡◌, arith, subst}
 use Rattle.exec_recv.proofs.Asiding.{aside-on}
 use Rattle.run_loop.specs.Loops.{told}
+use Rattle.run_loop.specs.Serves.{Serves}
 use Rattle.run_loop.specs.Turns.{TakesNothing}
 use Rattle.run_loop.proofs.Served.{serves-later}
 use Rattle.run_loop.proofs.Turned.{nothing-later}
@@ -24,13 +25,19 @@ returns-clause-none g c zero =
 
 pub returns-clause-served : goal.returns-clause-served
 returns-clause-served g c =
-    serves-later (g.T.Stepper.does c.args.stepper.now) c.args.table.now c.scan_blocks.result c.args.self.now.hand.me
-    c.poll-taken.new.self.hand.me c.scan_blocks.new.hand.me c.poll-taken.ensures.aside c.scan_blocks.ensures.served
+    let does = g.T.Stepper.does c.args.stepper.now in
+    let board = c.args.table.now in
+    let old = c.args.self.now.hand.me in
+    let between = c.poll-taken.new.self.hand.me in
+    let none = c.if-taken-gt0.false in
+    let zero : c.poll-taken.result ≡ 0 = omega (arith, none) in
+    serves-later does board c.scan_blocks.result old between c.scan_blocks.new.hand.me
+    (subst (λ n. Serves does board n old between) zero c.poll-taken.ensures.served) c.scan_blocks.ensures.served
 
 pub returns-clause-met : goal.returns-clause-met
 returns-clause-met g c =
     let old = c.args.self.now in
-    met-later c.args.table.now old.helps old.hand.me c.poll-taken.new.self.hand.me c.scan_blocks.new.hand.me (told old)
+    met-later (g.T.Stepper.does c.args.stepper.now) c.args.table.now old.helps old.hand.me c.poll-taken.new.self.hand.me c.scan_blocks.new.hand.me (told old)
     c.poll-taken.ensures.met c.scan_blocks.ensures.aside
 
 pub returns-clause-turn : goal.returns-clause-turn

@@ -2,7 +2,7 @@ use Rattle.std.proofs.Common.{false, refl}
 use Rattle.std.proofs.lemmas.Bool.{both_ways}
 use Rattle.exec_recv.proofs.Asiding.{aside-on}
 use Rattle.loop_serve.proofs.Read.{looked-rests}
-use Rattle.steal_pool.proofs.Searched.{same-on, scope-aside, then-ended}
+use Rattle.steal_pool.proofs.Searched.{same-on, scope-looks, then-ended}
 use Rattle.steal_pool.proofs.worker.Worker.has_ended.Goals as goal
 
 pub returns-in-Took : goal.returns-in-Took
@@ -28,6 +28,6 @@ returns-in-Idle g c =
         rests = looked-rests 0 read.word between.me new.me read.me_is worked.ready.rests;
       };
       same = same-on old between new worked.same c.is_joined.ensures.stays.same;
-      aside = aside-on old.me between.me new.me worked.aside (scope-aside board c.is_joined.result old.me between.me new.me read);
-      ended = λ is. then-ended board c.is_joined.result old.me between.me new.me read worked.aside c.in-Idle.ensures.works is;
+      aside = aside-on old.me between.me new.me worked.aside (scope-looks board c.is_joined.result old.me between.me new.me read).aside;
+      ended = λ is. then-ended board c.is_joined.result old.me between.me new.me read c.in-Idle.ensures.works is;
     }

@@ -23,6 +23,6 @@ returns g c =
       ready = record { of_table = stays.hand; rests = c.seek.ensures.rests };
       same = stays.same;
       aside = aside-on old.me between.me new.me c.take_next.ensures.aside c.seek.ensures.aside;
-      works = works-before board old.me between.me new.me (g.T.Stepper.does c.args.stepper.now) c.seek.result c.take_next.ensures.aside
+      works = works-before board old.me between.me new.me (g.T.Stepper.does c.args.stepper.now) c.seek.result c.in-None.ensures.looks
           c.seek.ensures.works;
     }
