@@ -10,18 +10,16 @@ use Rattle.plan_shape.specs.Blueprint.{Blueprint}
 use Rattle.table_steps.specs.Views.{Board}
 use Rattle.table_steps.specs.Claims.{Seated}
 use Rattle.table_steps.specs.Readings.{IsBegunAs}
-use Rattle.table_steps.specs.Takes.{resting_in}
 use Rattle.node_images.specs.Makes.{CompletesInPlace}
 use Rattle.exec_start.specs.declared.entry.Entry.{Entry}
 use Rattle.exec_start.specs.declared.item.Item.{Item}
 use Rattle.exec_start.specs.Items.{start_in}
 use Rattle.exec_start.specs.Parcels.{Delivery}
 use Rattle.exec_recv.specs.declared.next.Next.{Next}
-use Rattle.exec_recv.specs.declared.next.Next.TheVariants.{Ready}
 use Rattle.exec_recv.specs.Steppable.{CanStep}
 use Rattle.start_laws.specs.Leaves.{leaf_of}
 use Rattle.node_steps.specs.Completes.{CompletesWith}
-use Rattle.node_steps.specs.Leaves.{IsLeftAt}
+use Rattle.node_steps.specs.Leaves.{IsLeftIn}
 use Rattle.node_steps.specs.Midway.{KeepsOthers}
 use Rattle.node_steps.specs.Starts.{StartsOne, StartsTop}
 use Rattle.node_steps.specs.TakenOut.{newest_in}
@@ -30,20 +28,21 @@ use Rattle.exec_adapt.specs.Images.{adapted_to}
 use Rattle.exec_adapt.specs.Kinds.{adapted}
 
 module _ (board : Board Blueprint) (x : Name) where
-  -- There was no memory for this completion, which doesn't stand in place: x delivered that, or goes on
-  -- later, in the loop.
-  pub record Wants (done : Completion) (next : Next) (m' : Seated Item Entry) : Type 0 where
+  -- There was no memory for this completion, which doesn't stand in place: x delivered that, or was left
+  -- ready in the loop, with this parcel of its child, where it has one.
+  pub record Wants (kept : Option Delivery) (done : Completion) (next : Next)
+      (m' : Seated Item Entry) : Type 0 where
     pub large : CompletesInPlace done → ⊥
-    pub how : CompletesWith board x NoMemory next m' ⊎ (next ≡ Ready Loop)
+    pub how : CompletesWith board x NoMemory next m' ⊎ IsLeftIn board x Loop kept next m'
 
-  -- x completed with this, or there was no memory for it
-  abbrev pub EndsWith : Completion → Next → Seated Item Entry → Type 0
-  EndsWith done next m' = CompletesWith board x done next m' ⊎ Wants done next m'
+  -- x, which has this parcel of its child, completed with this, or there was no memory for it
+  abbrev pub EndsWith : Option Delivery → Completion → Next → Seated Item Entry → Type 0
+  EndsWith kept done next m' = CompletesWith board x done next m' ⊎ Wants kept done next m'
 
   -- A factory completes with what its start tells, and what it found of requests.
   pub record MakesOwn (node : Node) (next : Next) (m m' : Seated Item Entry) : Type 0 where
     pub ends : (can : CanStep board x m) →
-        (found : Bool) × EndsWith (leaf_of node found (start_in can.item)) next m'
+        (found : Bool) × EndsWith None (leaf_of node found (start_in can.item)) next m'
 
   -- An adaptor starts its child, and completes with what it makes of the child's completion.
   pub record Adapts (node : Node) (child : ℕ) (next : Next) (m m' : Seated Item Entry) :
@@ -52,7 +51,7 @@ module _ (board : Board Blueprint) (x : Name) where
         StartsOne board x child next m m'
     pub ends : (can : CanStep board x m) (parcel : Delivery) →
         newest_in (can.kid child) can.item ≡ Some parcel →
-        EndsWith (adapted_to node parcel.completion) next m'
+        EndsWith (Some parcel) (adapted_to node parcel.completion) next m'
 
   -- the child's word was read: where it said that the child has begun, the receiver node was left with
   -- its start alone, and else the child was started
@@ -71,19 +70,14 @@ module _ (board : Board Blueprint) (x : Name) where
     pub keeps : KeepsOthers board x m middle
     pub reads : ReadsTop start n next middle m'
 
-  -- x was left ready in the loop with this parcel of its child, which is collected there
-  pub record HandsOver (parcel : Delivery) (next : Next) (m' : Seated Item Entry) : Type 0 where
-    pub next_is : next ≡ Ready Loop
-    pub start : List Entry
-    pub from : Seated Item Entry
-    pub left : IsLeftAt board x start (Some parcel) (resting_in Loop) from m'
-
-  -- The receiver node starts its child, and keeps the parcel with which the child completes.
+  -- The receiver node starts its child, and is left ready in the loop with the parcel with which the
+  -- child completes, which is collected there.
   pub record Receives (child : ℕ) (next : Next) (m m' : Seated Item Entry) : Type 0 where
     pub begins : (can : CanStep board x m) → newest_in (can.kid child) can.item ≡ None →
         StartsRoot child next m m'
     pub ends : (can : CanStep board x m) (parcel : Delivery) →
-        newest_in (can.kid child) can.item ≡ Some parcel → HandsOver parcel next m'
+        newest_in (can.kid child) can.item ≡ Some parcel →
+        IsLeftIn board x Loop (Some parcel) next m'
 
 -- so it is by the node of the plan: the receiver node is none of it
 abbrev pub AdvancesAs : Blueprint → Board Blueprint → Name → Option Node → Next →

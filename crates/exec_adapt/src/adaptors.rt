@@ -51,8 +51,8 @@ fn deliver_image<G: Gate, R: Wait + Sync>(
     requires may { MayPass table.now name env parcel hand.old.me }
     requires unnamed { names_error node.now parcel.completion ≡ false }
     ensures stays { Stays table.now hand.old hand.new }
-    ensures ends { EndsWith table.now name (adapted_to node.now parcel.completion) result
-        hand.new.me }
+    ensures ends { EndsWith table.now name (Some parcel) (adapted_to node.now parcel.completion)
+        result hand.new.me }
     ensures stepped { IsStepped table.now name hand.old.me hand.new.me result }
 {
     let saw = parcel.saw();
@@ -90,8 +90,8 @@ fn pass_on<G: Gate, R: Wait + Sync>(
     requires start { IsStartOf env node.now }
     requires may { MayPass table.now name env parcel hand.old.me }
     ensures stays { Stays table.now hand.old hand.new }
-    ensures ends { EndsWith table.now name (adapted_to node.now parcel.completion) result
-        hand.new.me }
+    ensures ends { EndsWith table.now name (Some parcel) (adapted_to node.now parcel.completion)
+        result hand.new.me }
     ensures stepped { IsStepped table.now name hand.old.me hand.new.me result }
 {
     if runs_job(node, parcel.completion()) {

@@ -38,7 +38,8 @@ pub(crate) fn deliver_error<G: Gate, R: Wait + Sync>(
     requires inner { is_root table.now.frame.tree name.node ≡ false }
     requires may { MayName table.now name env kept saw error.now hand.old.me }
     ensures stays { Stays table.now hand.old hand.new }
-    ensures ends { EndsWith table.now name (Completion.Error error.now) result hand.new.me }
+    ensures ends { EndsWith table.now name kept (Completion.Error error.now) result
+        hand.new.me }
     ensures stepped { IsStepped table.now name hand.old.me hand.new.me result }
 {
     let mut done = Completion::Stopped;

@@ -1,5 +1,5 @@
 //! The steps of nodes that complete by themselves ([exec.factories], [exec.read.env]).
-ghost use Rattle.std.specs.Prelude.{◌≡◌, ◌||◌, false, slice_get, Some};
+ghost use Rattle.std.specs.Prelude.{◌≡◌, ◌||◌, false, slice_get, None, Some};
 ghost use Rattle.std.specs.Thread.{IsSync};
 ghost use Rattle.node_tree.specs.Tree.{is_root};
 ghost use Rattle.plan_kinds.specs.Runnable.{IsRunnable};
@@ -97,8 +97,8 @@ fn deliver_leaf<G: Gate, R: Wait + Sync>(
     requires may { MakesLeaf table.now name env node.now saw hand.old.me }
     requires unnamed { is_error node.now ≡ false }
     ensures stays { Stays table.now hand.old hand.new }
-    ensures ends { EndsWith table.now name (leaf_of node.now (asked_of env || saw) env) result
-        hand.new.me }
+    ensures ends { EndsWith table.now name None (leaf_of node.now (asked_of env || saw) env)
+        result hand.new.me }
     ensures stepped { IsStepped table.now name hand.old.me hand.new.me result }
 {
     let found = either(env.asked(), saw);

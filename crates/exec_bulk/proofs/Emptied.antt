@@ -1,10 +1,11 @@
 -- How the homes of a bulk's parts are emptied, one after the other, and what lay there is added up.
-use Rattle.std.proofs.Common.{◌≡◌, inl, inr, ℕ, zero, suc, ◌+◌, ◌<◌, ◌≤◌, min, true, false, ◌==◌, ℤ, List, refl, sym, ap, ◌∙◌, subst, arith}
+use Rattle.std.proofs.Common.{◌≡◌, ◌≢◌, inl, inr, ℕ, zero, suc, ◌+◌, ◌<◌, ◌≤◌, min, true, false, ◌==◌, ℤ, List, refl, sym, ap, ◌∙◌, subst, arith}
 use Rattle.std.specs.Prelude.{Option, Some, None, IfSome, slice_get}
 use Rattle.std.specs.Option.{option_map, option_map_or}
 use Rattle.std.proofs.lemmas.Bool.{cases_lt, cond-true, cond-false, eq-eqb, ne_eqb}
 use Rattle.std.proofs.lemmas.Option.{same_Some}
 use Rattle.common_lemmas.proofs.Bool.{either}
+use Rattle.exec_value.specs.declared.outcome.Completion.TheVariants.{NoMemory}
 use Rattle.exec_job.specs.declared.job.Job.{Job}
 use Rattle.life_rules.specs.declared.event.Name.{Name}
 use Rattle.plan_rules.specs.declared.node.Node.TheVariants.{Part}
@@ -28,8 +29,9 @@ use Rattle.node_steps.specs.Midway.{Emptying}
 use Rattle.node_steps.specs.TakenOut.{IsFoundBelow, IsEmptying, TakesBelow}
 use Rattle.node_steps.proofs.Frames.{others-here, others-on}
 use Rattle.exec_bulk.specs.declared.joining.Made.{Made}
+use Rattle.exec_bulk.specs.declared.joining.Made.TheVariants.{Want}
 use Rattle.exec_bulk.specs.Made.{IsMade, IsOfShare}
-use Rattle.exec_bulk.specs.Opens.{emptied, HasParts, HasDrawn, TakesPart, TakesParts}
+use Rattle.exec_bulk.specs.Opens.{emptied, HasDelivered, HaveDelivered, HasParts, HasDrawn, TakesPart, TakesParts}
 use Rattle.exec_bulk.specs.Rows.{first_part}
 use Rattle.exec_bulk.proofs.Places.{part-at, bulk-large}
 
@@ -59,6 +61,19 @@ emptied-none first (suc n) k kid none =
     either (first + n == k)
     (λ t. cond-true (first + n == k) None (emptied first n kid k) t)
     (λ f. cond-false (first + n == k) None (emptied first n kid k) f ∙ emptied-none first n k kid none)
+
+-- a part that wants memory, or isn't done, has delivered nothing else
+same-parcel : (a b : Delivery) → Some (Done a) ≡ Some (Done b) → a ≡ b
+same-parcel a b e = cc
+
+none-done : (a : Delivery) → None ≡ Some (Done a) → ⊥
+none-done a e = cc
+
+wants-one : (answer : Option Delivery) (inside : Option Item) → inside ≡ option_map Done answer →
+    IfSome answer (λ (parcel : Delivery). parcel.completion ≡ NoMemory) → HasDelivered inside → ⊥
+wants-one None inside lay wanted has = none-done has.parcel (sym lay ∙ has.full)
+wants-one (Some parcel) inside lay wanted has =
+    has.able (ap (λ (p : Delivery). p.completion) (same-parcel has.parcel parcel (sym has.full ∙ lay)) ∙ wanted)
 
 -- what a part delivered is what the job makes of its share of the row that was drawn
 module _ (board : Board Blueprint) (x : Name) (start : List Entry) (least : ℕ) (kid : ℕ → Option Item) (job : Job) (whole : List ℤ)
@@ -103,9 +118,9 @@ module _ (board : Board Blueprint) (x : Name) where
         is = takes.left lies.start lies.least lies.kid lies.is;
       }
 
-  pub parts-none : (count : ℕ) (made : Made) (m : Seated Item Entry) → ((job : Job) (whole : List ℤ) → IsMade made job whole 0) →
+  pub parts-none : (count : ℕ) (made : Made) (m : Seated Item Entry) → ((job : Job) (whole : List ℤ) → IsMade made job whole 0) → made ≢ Want →
       TakesParts board x 0 count made m m
-  parts-none count made m none =
+  parts-none count made m none able =
       let zero_is : 0 ≡ min 0 count = omega arith in
       record {
         beside = others-here board x m;
@@ -113,6 +128,7 @@ module _ (board : Board Blueprint) (x : Name) where
         heard = refl;
         left = λ start least kid lies. lies;
         made_is = λ start least kid job whole lies drawn. subst (λ k. IsMade made job whole k) zero_is (none job whole);
+        wants = λ start least kid lies is have. able is;
       }
 
   -- so the homes are being emptied still
@@ -162,6 +178,23 @@ module _ (board : Board Blueprint) (x : Name) where
                 (subst (λ k. IsMade before job whole k) at old)
           ]
 
+    -- where the parts want memory now, one of them does, or isn't done
+    more-wants : (start : List Entry) (least : ℕ) (kid : ℕ → Option Item) → Emptying board x start least kid m → after ≡ Want →
+        HaveDelivered first (min (suc part) count) kid → ⊥
+    more-wants start least kid lies is have =
+        elim (cases_lt part count) [
+          | inl inside ↦
+              let now = was.left start least kid lies in
+              let lay : kid (first + part) ≡ option_map Done next.answer =
+              sym (emptied-past first part (first + part) kid (omega arith)) ∙ next.takes.lay start least (emptied first part kid) now in
+              elim (next.wants inside is) [
+                | inl before_is ↦ was.wants start least kid lies before_is (λ i lower. have i (omega (arith, lower, inside)))
+                | inr wanted ↦ wants-one next.answer (kid (first + part)) lay wanted (have part (omega (arith, inside)))
+              ]
+          | inr outside ↦
+              was.wants start least kid lies (sym (next.passes outside) ∙ is) (λ i lower. have i (omega (arith, lower, outside)))
+        ]
+
     pub parts-more : TakesParts board x (part + 1) count after m m2
     parts-more =
         let on : suc part ≡ part + 1 = omega arith in
@@ -172,4 +205,5 @@ module _ (board : Board Blueprint) (x : Name) where
           heard = next.takes.heard ∙ was.heard;
           left = λ start least kid lies. next.takes.left start least (emptied first part kid) (was.left start least kid lies);
           made_is = more-made;
+          wants = more-wants;
         })

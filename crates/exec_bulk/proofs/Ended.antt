@@ -1,5 +1,5 @@
 -- How a bulk completes.
-use Rattle.std.proofs.Common.{◌≡◌, inl, ℕ, ◌≤◌, Bool, ℤ, List, [], ◌∷◌, sym, ap, ◌∙◌, subst, arith}
+use Rattle.std.proofs.Common.{◌≡◌, ℕ, ◌≤◌, Bool, ℤ, List, [], ◌∷◌, sym, ap, ◌∙◌, subst, arith}
 use Rattle.std.specs.Prelude.{Some, None}
 use Rattle.exec_value.specs.declared.data.Datum.TheVariants.{Row}
 use Rattle.exec_value.specs.declared.outcome.Completion.{Completion}
@@ -20,12 +20,11 @@ use Rattle.exec_recv.specs.declared.next.Next.{Next}
 use Rattle.start_laws.specs.BulkLaws.{front_made}
 use Rattle.start_laws.specs.Nodes.{IsStartOf}
 use Rattle.start_laws.proofs.ImageCases.{images-allowed}
-use Rattle.node_steps.specs.Completes.{MayComplete, IsCompleted}
+use Rattle.node_steps.specs.Completes.{MayComplete, IsCompleted, CompletesWith}
 use Rattle.node_steps.proofs.Frames.{emptying-less}
 use Rattle.exec_bulk.specs.declared.joining.Made.{Made}
 use Rattle.exec_bulk.specs.Ends.{HasChild, EndsRow}
 use Rattle.exec_bulk.specs.Rows.{numbers_in, parts_for}
-use Rattle.exec_bulk.specs.Steps.{EndsWith}
 use Rattle.exec_bulk.proofs.Making.{whole-made, least-row, passes-none, least-none, row-is}
 use Rattle.exec_bulk.proofs.Places.{bulk-large}
 
@@ -128,11 +127,11 @@ module _ (board : Board Blueprint) (x : Name) (start : List Entry) (saw : Bool) 
 pub made-ends : (board : Board Blueprint) (x : Name) (start : List Entry) (saw : Bool) (done : Completion) (job : Job) (whole : List ℤ) →
     done ≡ row_ending (front_made job whole (parts_for whole)) → (image : Delivery) →
     image ≡ record { start = start; completion = done; saw = saw } → (next : Next) (m m' : Seated Item Entry) →
-    IsCompleted board x image next m m' → EndsWith board x (row_ending (each_of job 0 whole)) next m'
+    IsCompleted board x image next m m' → CompletesWith board x (row_ending (each_of job 0 whole)) next m'
 made-ends board x start saw done job whole same image is next m m' completed =
-    inl (record {
+    record {
       from = m;
       parcel = image;
       done_is = ap (λ (p : Delivery). p.completion) is ∙ same ∙ ap row_ending (whole-made job whole);
       completed = completed;
-    })
+    }

@@ -1,5 +1,5 @@
 -- Where the step of a bulk goes on.
-use Rattle.std.proofs.Common.{◌≡◌, inl, inr, ℕ, ◌≤◌, ◌==◌, Bool, true, false, ℤ, List, [], ◌∷◌, length, refl, sym, ap, ◌∙◌, subst, arith}
+use Rattle.std.proofs.Common.{◌≡◌, ◌⊎◌, inl, inr, ℕ, ◌≤◌, ◌==◌, Bool, true, false, ℤ, List, [], ◌∷◌, length, refl, sym, ap, ◌∙◌, subst, arith}
 use Rattle.std.specs.Prelude.{Contains, Option, Some, None, IfSome, slice_get}
 use Rattle.std.specs.Option.{option_map}
 use Rattle.std.proofs.lemmas.Bool.{cases_lt, both_ways, eq-eqb, eqb-true}
@@ -29,14 +29,15 @@ use Rattle.node_steps.specs.Heard.{has_heard}
 use Rattle.node_steps.specs.Midway.{Ready}
 use Rattle.node_steps.specs.Starts.{RunsBelow, asked_for_child, MayRun}
 use Rattle.node_steps.proofs.Frames.{emptying-less}
+use Rattle.exec_bulk.specs.declared.joining.Made.TheVariants.{Want}
 use Rattle.exec_bulk.specs.declared.opening.Opened.{Opened}
 use Rattle.exec_bulk.specs.Ends.{HasChild, HasParted}
 use Rattle.exec_bulk.specs.Made.{IsMade}
-use Rattle.exec_bulk.specs.Opens.{Opens}
-use Rattle.exec_bulk.specs.Rows.{numbers_in, parts_for}
+use Rattle.exec_bulk.specs.Opens.{HaveDelivered, Opens}
+use Rattle.exec_bulk.specs.Rows.{numbers_in, parts_for, first_part}
 use Rattle.exec_bulk.specs.Begins.{BeginsParts}
 use Rattle.node_steps.specs.Completes.{CompletesWith}
-use Rattle.exec_bulk.specs.Steps.{EndsWith, EndsAsMade, CutsRow, BeginsChild, GoesOnByChild, EndsByParts}
+use Rattle.exec_bulk.specs.Steps.{Wants, EndsAsMade, CutsRow, BeginsChild, GoesOnByChild, EndsByParts}
 use Rattle.exec_bulk.proofs.Making.{row-is}
 
 -- the parcel in a full home
@@ -110,9 +111,13 @@ module _ (board : Board Blueprint) (x : Name) (child : ℕ) (opened : Opened) (m
   goes-else is next m'' can found full =
       absurd (no-parcel found (sym (ap (option_map Done) is) ∙ sym (opens.below_is can) ∙ full))
 
+  abbrev EndsOrWants : (ℕ → Option Item) → List ℤ → Completion → Next → Seated Item Entry → Type 0
+  EndsOrWants kid whole done next m'' =
+      CompletesWith board x done next m'' ⊎ Wants board x (HaveDelivered (first_part x.node) (parts_for whole) kid) done next m''
+
   -- and of one that was kept, where none was found, what it does once the parts are done
   pub ends-kept : (job : Job) → opens.job ≡ job → (kept : Delivery) → opened.kept ≡ Some kept → (next : Next) (m'' : Seated Item Entry) →
-      EndsAsMade board x opened.made next m'' → EndsByParts board x child job next m m''
+      (1 ≤ length (numbers_in kept.completion) → EndsAsMade board x opened.made next m'') → EndsByParts board x child job next m m''
   ends-kept job job_is kept is next m'' ends can other none full some =
       let whole = numbers_in kept.completion in
       let same : other ≡ kept = same_Some other kept (sym full ∙ opens.kept_is can ∙ is) in
@@ -120,10 +125,20 @@ module _ (board : Board Blueprint) (x : Name) (child : ℕ) (opened : Opened) (m
       let made : IsMade opened.made opens.job whole (parts_for whole) =
       subst (λ (o : Option Delivery). IfSome o (λ (p : Delivery). IsMade opened.made opens.job (numbers_in p.completion)
       (parts_for (numbers_in p.completion)))) is opens.made in
-      subst (λ (p : Delivery). EndsWith board x (bulk_of job p.completion) next m'') (sym same)
-      (subst (λ (j : Job). EndsWith board x (bulk_of j kept.completion) next m'') job_is
-      (subst (λ (d : Completion). EndsWith board x d next m'') (sym (ap (bulk_of opens.job) (row-is kept.completion some_kept)))
-      (ends opens.job whole made)))
+      let wants : opened.made ≡ Want → HaveDelivered (first_part x.node) (parts_for whole) can.kid → ⊥ =
+      subst (λ (o : Option Delivery). IfSome o (λ (p : Delivery). opened.made ≡ Want → HaveDelivered (first_part x.node)
+      (parts_for (numbers_in p.completion)) can.kid → ⊥)) is (opens.wants can none) in
+      subst (λ (p : Delivery). EndsOrWants can.kid (numbers_in p.completion) (bulk_of job p.completion) next m'') (sym same)
+      (subst (λ (j : Job). EndsOrWants can.kid whole (bulk_of j kept.completion) next m'') job_is
+      (subst (λ (d : Completion). EndsOrWants can.kid whole d next m'') (sym (ap (bulk_of opens.job) (row-is kept.completion some_kept)))
+      (elim (ends some_kept opens.job whole made) [
+        | inl done ↦ inl done
+        | inr want ↦
+            inr (record {
+              large = λ able stands. want.large (λ wanted. wants wanted able) stands;
+              ends = want.ends;
+            })
+      ])))
 
   pub ends-found : (job : Job) (parcel : Delivery) → opened.below ≡ Some parcel → (next : Next) (m'' : Seated Item Entry) →
       EndsByParts board x child job next m m''

@@ -1,13 +1,16 @@
 -- What is made of a row, share by share.
-use Rattle.std.proofs.Common.{◌≡◌, inl, inr, ℕ, suc, ◌+◌, ◌*◌, ◌<◌, ◌≤◌, min, ℤ, List, [], ◌∷◌, ◌++◌, length, take, take_all, Some, Result, Ok, Err, refl, sym, ap, ap₂, ◌∙◌, arith}
-use Rattle.std.specs.Prelude.{◌/◌, ◌%◌}
+use Rattle.std.proofs.Common.{◌≡◌, inl, inr, ℕ, suc, ◌+◌, ◌*◌, ◌<◌, ◌≤◌, min, ℤ, List, [], ◌∷◌, ◌++◌, length, take, take_all, Some, None, Result, Ok, Err, refl, sym, ap, ap₂, ◌∙◌, subst, arith}
+use Rattle.std.specs.Prelude.{◌/◌, ◌%◌, ⊤, IsOk}
 use Rattle.std.proofs.lemmas.Bool.{cases_lt}
+use Rattle.std.proofs.lemmas.List.Elements.{All-head}
+use Rattle.exec_value.specs.Place.{IsInPlace}
 use Rattle.exec_value.specs.declared.data.Datum.TheVariants.{Row}
 use Rattle.exec_value.specs.declared.outcome.Completion.{Completion}
 use Rattle.exec_value.specs.declared.outcome.Completion.TheVariants.{Value, Error, Stopped, NoMemory}
 use Rattle.exec_job.specs.Element.{at_index}
 use Rattle.exec_job.specs.declared.fault.JobFault.{JobFault}
 use Rattle.exec_job.specs.declared.job.Job.{Job}
+use Rattle.node_images.specs.Makes.{CompletesInPlace}
 use Rattle.plan_rules.specs.Bulks.{in_front, each_of, row_ending, bulk_of}
 use Rattle.plan_rules.specs.declared.node.Node.TheVariants.{Bulk}
 use Rattle.plan_shape.specs.declared.limits.TheConstants.{BULK_PARTS}
@@ -15,6 +18,9 @@ use Rattle.exec_start.specs.Bounds.{least_when_done}
 use Rattle.exec_start.specs.Shares.{first_index}
 use Rattle.start_laws.specs.BulkLaws.{share_made, front_made, made_behind}
 use Rattle.start_laws.proofs.Rows.{shares-made}
+use Rattle.exec_bulk.specs.declared.joining.Made.{Made}
+use Rattle.exec_bulk.specs.declared.joining.Made.TheVariants.{Numbers, Failed, Want}
+use Rattle.exec_bulk.specs.Made.{IsMade}
 use Rattle.exec_bulk.specs.Rows.{numbers_in, parts_for}
 
 -- the name of an error
@@ -31,6 +37,47 @@ unfolding name_in
 err-of (Ok zs) name e = cc
 err-of (Err other) name e = ap Err (ap name_in e)
 
+-- behind what was made without a fault
+ok-behind : (front : Result (List ℤ) (List ℕ)) (ys : List ℤ) → IsOk front → IsOk (made_behind front (Ok ys))
+ok-behind (Ok xs) ys ok = refl
+ok-behind (Err name) ys ok = cc
+
+fault-behind : (front : Result (List ℤ) (List ℕ)) (name : List ℕ) → IsOk front → made_behind front (Err name) ≡ Err name
+fault-behind (Ok xs) name ok = refl
+fault-behind (Err other) name ok = cc
+
+-- a completion that is neither an error nor want of memory, as the end of a share, is the row of its numbers
+pub row-of : (done : Completion) (made : Result (List ℤ) (List ℕ)) → ((name : List ℕ) → done ≡ Error name → ⊥) → done ≡ row_ending made →
+    row_ending made ≡ Value (Row (numbers_in done) ∷ [])
+row-of done (Ok ys) other e = ap (λ (l : List ℤ). Value (Row l ∷ [])) (sym (ap numbers_in e))
+row-of done (Err name) other e = absurd (other name e)
+
+-- no share ends so
+pub stopped-none : (made : Result (List ℤ) (List ℕ)) → Stopped ≡ row_ending made → ⊥
+stopped-none (Ok ys) e = cc
+stopped-none (Err name) e = cc
+
+-- a row doesn't stand in place
+row-large : (made : Result (List ℤ) (List ℕ)) → IsOk made → CompletesInPlace (row_ending made) → ⊥
+row-large (Ok ys) ok stands = All-head IsInPlace (Row ys) [] stands.each
+row-large (Err name) ok stands = cc
+
+-- no part failed
+abbrev pub HasNumbers : Made → Type 0
+HasNumbers (Numbers numbers) = ⊤
+HasNumbers made = ⊥
+
+pub front-ok : (made : Made) (job : Job) (whole : List ℤ) (part : ℕ) → HasNumbers made → IsMade made job whole part →
+    IsOk (front_made job whole part)
+front-ok (Numbers (Some numbers)) job whole part has is = subst (λ (r : Result (List ℤ) (List ℕ)). IsOk r) (sym is) refl
+front-ok (Numbers None) job whole part has is = is
+front-ok (Failed name) job whole part has is = absurd has
+front-ok Want job whole part has is = absurd has
+
+pub numbers-large : (made : Made) (job : Job) (whole : List ℤ) (part : ℕ) → HasNumbers made → IsMade made job whole part →
+    CompletesInPlace (row_ending (front_made job whole part)) → ⊥
+numbers-large made job whole part has is stands = row-large (front_made job whole part) (front-ok made job whole part has is) stands
+
 -- one share more
 module _ (job : Job) (whole : List ℤ) (part : ℕ) (within : part < BULK_PARTS) where
   pub numbers-more : (front ys : List ℤ) → front_made job whole part ≡ Ok front →
@@ -38,10 +85,18 @@ module _ (job : Job) (whole : List ℤ) (part : ℕ) (within : part < BULK_PARTS
   numbers-more front ys before share =
       shares-made.goes_on job whole part within ∙ ap₂ made_behind before (ok-of (share_made job whole part) ys share)
 
-  pub fault-more : (front : List ℤ) (name : List ℕ) → front_made job whole part ≡ Ok front →
-      row_ending (share_made job whole part) ≡ Error name → front_made job whole (part + 1) ≡ Err name
-  fault-more front name before share =
-      shares-made.goes_on job whole part within ∙ ap₂ made_behind before (err-of (share_made job whole part) name share)
+  pub ok-more : (ys : List ℤ) → IsOk (front_made job whole part) → row_ending (share_made job whole part) ≡ Value (Row ys ∷ []) →
+      IsOk (front_made job whole (part + 1))
+  ok-more ys before share =
+      subst (λ (r : Result (List ℤ) (List ℕ)). IsOk r)
+      (sym (shares-made.goes_on job whole part within ∙ ap (made_behind (front_made job whole part)) (ok-of (share_made job whole part) ys share)))
+      (ok-behind (front_made job whole part) ys before)
+
+  pub fault-more : (name : List ℕ) → IsOk (front_made job whole part) → row_ending (share_made job whole part) ≡ Error name →
+      front_made job whole (part + 1) ≡ Err name
+  fault-more name before share =
+      shares-made.goes_on job whole part within ∙ ap (made_behind (front_made job whole part)) (err-of (share_made job whole part) name share)
+      ∙ fault-behind (front_made job whole part) name before
 
   pub fault-stays : (name : List ℕ) → front_made job whole part ≡ Err name → front_made job whole (part + 1) ≡ Err name
   fault-stays name before =

@@ -1,8 +1,8 @@
 -- How the step of a bulk goes on from what lay in the homes.
-use Rattle.std.proofs.Common.{◌≡◌, inl, inr, ℕ, ◌*◌, ◌≤◌, min, true, ◌==◌, ℤ, List, [], ◌∷◌, length, refl, sym, ap, ◌∙◌, subst, arith}
+use Rattle.std.proofs.Common.{◌≡◌, inl, inr, ℕ, ◌+◌, ◌*◌, ◌≤◌, min, true, ◌==◌, ℤ, List, [], ◌∷◌, length, refl, sym, ap, ◌∙◌, subst, arith}
 use Rattle.std.specs.Prelude.{Option, Some, None, is_some, IfSome, slice_get}
 use Rattle.std.specs.Option.{option_map, option_map_or}
-use Rattle.std.proofs.lemmas.Bool.{cond-true, cond-false, eq-eqb}
+use Rattle.std.proofs.lemmas.Bool.{cond-true, cond-false, eq-eqb, eqb-true}
 use Rattle.std.proofs.lemmas.Option.{same_Some}
 use Rattle.common_lemmas.specs.Sums.{one, total}
 use Rattle.common_lemmas.proofs.Bool.{either}
@@ -46,9 +46,10 @@ use Rattle.node_steps.proofs.Frames.{others-on, emptying-less, emptying-none, na
 use Rattle.node_steps.proofs.Places.{start-of}
 use Rattle.node_steps.proofs.Telling.{found-done, kept-from}
 use Rattle.exec_bulk.specs.declared.joining.Made.{Made}
+use Rattle.exec_bulk.specs.declared.joining.Made.TheVariants.{Want}
 use Rattle.exec_bulk.specs.declared.opening.Opened.{Opened}
 use Rattle.exec_bulk.specs.Made.{IsMade}
-use Rattle.exec_bulk.specs.Opens.{emptied, HasDrawn, TakesParts, Opens}
+use Rattle.exec_bulk.specs.Opens.{emptied, HasDelivered, HaveDelivered, HasDrawn, TakesParts, Opens}
 use Rattle.exec_bulk.specs.Rows.{numbers_in, numbers_kept, parts_for, first_part}
 use Rattle.exec_bulk.proofs.Emptied.{emptied-here, emptied-none}
 use Rattle.exec_bulk.proofs.Places.{bulk-plain, bulk-child, bulk-kids}
@@ -77,6 +78,13 @@ fewer n k kid done full =
 
 put-none : (n k : ℕ) (kid : ℕ → Option Item) → n ≡ k → put_at n None kid k ≡ None
 put-none n k kid same = cond-true (n == k) None (kid k) (eq-eqb n k same)
+
+-- of a home that was empty nothing was taken
+put-same : (n k : ℕ) (kid : ℕ → Option Item) → kid n ≡ None → put_at n None kid k ≡ kid k
+put-same n k kid none =
+    either (n == k)
+    (λ t. cond-true (n == k) None (kid k) t ∙ sym none ∙ ap kid (eqb-true n k t))
+    (λ f. cond-false (n == k) None (kid k) f)
 
 module _ (board : Board Blueprint) (x : Name) (m : Seated Item Entry) (can : CanStep board x m) (n : ℕ) (child : is_child board.frame.tree x.node n ≡ true)
     (done : Item) (full : can.kid n ≡ Some done) where
@@ -236,6 +244,17 @@ module _ (board : Board Blueprint) (plan : Blueprint) (x : Name) (child : ℕ) (
       (parts.made_is (start_at own) (least_of (item_at own)) kids job whole
       (left board plan x child job over runnable at own below made count m0 m1 m2 m3 can took next parts starts) (drawn whole lot))
 
+  -- where they want memory, one of them does, or isn't done
+  wants-kept : (other : CanStep board x m0) → other.kid child ≡ None → (o : Option Delivery) → count ≡ parts_for (numbers_kept o) →
+      IfSome o (λ (parcel : Delivery). made ≡ Want → HaveDelivered (first_part x.node) (parts_for (numbers_in parcel.completion)) other.kid → ⊥)
+  wants-kept other none None so = tt
+  wants-kept other none (Some parcel) so = λ is have.
+      let all : min BULK_PARTS count ≡ parts_for (numbers_in parcel.completion) = omega (arith, so) in
+      parts.wants (start_at own) (least_of (item_at own)) (put_at child None other.kid)
+      (next.left (start_at own) (least_of (item_at own)) other.kid (took.left other)) is
+      (λ i within. subst (λ (o : Option Item). HasDelivered o) (sym (put-same child (first_part x.node + i) other.kid none))
+      (have i (omega (arith, within, all))))
+
   pub opens : (opened : Opened) → opened.env ≡ start_at own → opened.kept ≡ parcel_in (item_at own) → opened.below ≡ below → opened.made ≡ made →
       count ≡ parts_for (numbers_kept opened.kept) → Opens board x child opened m0 m3
   opens opened env_is kept_is below_same made_same so =
@@ -272,6 +291,12 @@ module _ (board : Board Blueprint) (plan : Blueprint) (x : Name) (child : ℕ) (
             (subst (λ (d : Made). IfSome kept (λ (parcel : Delivery). IsMade d job (numbers_in parcel.completion)
             (parts_for (numbers_in parcel.completion)))) (sym made_same)
             (made-kept kept (so ∙ ap (λ (o : Option Delivery). parts_for (numbers_kept o)) kept_is) (kept-lot own child job its-start)));
+        wants = λ other none.
+            subst (λ (o : Option Delivery). IfSome o (λ (parcel : Delivery). opened.made ≡ Want → HaveDelivered (first_part x.node)
+            (parts_for (numbers_in parcel.completion)) other.kid → ⊥)) (sym kept_is)
+            (subst (λ (d : Made). IfSome kept (λ (parcel : Delivery). d ≡ Want → HaveDelivered (first_part x.node)
+            (parts_for (numbers_in parcel.completion)) other.kid → ⊥)) (sym made_same)
+            (wants-kept other none kept (so ∙ ap (λ (o : Option Delivery). parts_for (numbers_kept o)) kept_is)));
       }
     where
       below-any : (other : CanStep board x m0) → other.kid child ≡ option_map Done below

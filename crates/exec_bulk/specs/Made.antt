@@ -1,5 +1,5 @@
 -- What the parts of a bulk come to, one after the other.
-use Rattle.std.specs.Prelude.{◌≡◌, ◌≢◌, ⊤, ℕ, ◌+◌, ◌<◌, ℤ, List, Option, Ok, Err, IfSome}
+use Rattle.std.specs.Prelude.{◌≡◌, ◌≢◌, ◌⊎◌, ⊤, ℕ, ◌+◌, ◌<◌, ℤ, List, Option, Some, None, Ok, Err, IsOk, IfSome}
 use Rattle.exec_value.specs.declared.outcome.Completion.{Completion}
 use Rattle.exec_value.specs.declared.outcome.Completion.TheVariants.{NoMemory}
 use Rattle.exec_job.specs.declared.job.Job.{Job}
@@ -10,9 +10,11 @@ use Rattle.start_laws.specs.BulkLaws.{share_made, front_made}
 use Rattle.exec_bulk.specs.declared.joining.Made.{Made}
 use Rattle.exec_bulk.specs.declared.joining.Made.TheVariants.{Numbers, Failed, Want}
 
--- This is what the job makes of the shares before this one. Nothing is said where memory is wanted.
+-- This is what the job makes of the shares before this one: the numbers, where there was memory for
+-- them, or the error of the first that failed. Nothing is said where a part wants memory.
 abbrev pub IsMade : Made → Job → List ℤ → ℕ → Type 0
-IsMade (Numbers made) job whole part = front_made job whole part ≡ Ok made.items
+IsMade (Numbers (Some made)) job whole part = front_made job whole part ≡ Ok made.items
+IsMade (Numbers None) job whole part = IsOk (front_made job whole part)
 IsMade (Failed name) job whole part = front_made job whole part ≡ Err name
 IsMade Want job whole part = ⊤
 
@@ -27,3 +29,8 @@ AddsPart found before after =
     (job : Job) (whole : List ℤ) (part : ℕ) → part < BULK_PARTS →
     IfSome found (λ parcel. IsOfShare job whole part parcel.completion) →
     IsMade before job whole part → IsMade after job whole (part + 1)
+
+-- and where a part wants memory then, one wanted it before, or this one does, or isn't done
+abbrev pub WantsAfter : Option Delivery → Made → Made → Type 0
+WantsAfter found before after =
+    after ≡ Want → (before ≡ Want) ⊎ IfSome found (λ parcel. parcel.completion ≡ NoMemory)

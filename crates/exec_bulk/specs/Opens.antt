@@ -1,6 +1,7 @@
 -- How the step of a bulk opens: the homes of the node, of its child and of its parts are emptied.
-use Rattle.std.specs.Prelude.{◌≡◌, ℕ, zero, suc, ◌+◌, ◌<◌, ◌≤◌, min, ℤ, true, List, Option, Some, None, IfSome}
+use Rattle.std.specs.Prelude.{◌≡◌, ◌≢◌, ℕ, zero, suc, ◌+◌, ◌<◌, ◌≤◌, min, ℤ, true, List, Option, Some, None, IfSome}
 use Rattle.std.specs.Option.{option_map, option_map_or}
+use Rattle.exec_value.specs.declared.outcome.Completion.TheVariants.{NoMemory}
 use Rattle.exec_job.specs.declared.job.Job.{Job}
 use Rattle.life_rules.specs.declared.event.Name.{Name}
 use Rattle.node_tree.specs.Tree.{is_child}
@@ -25,8 +26,9 @@ use Rattle.node_steps.specs.Heard.{has_heard}
 use Rattle.node_steps.specs.Midway.{Emptying, Ready, KeepsOthers}
 use Rattle.node_steps.specs.TakenOut.{TakesBelow}
 use Rattle.exec_bulk.specs.declared.joining.Made.{Made}
+use Rattle.exec_bulk.specs.declared.joining.Made.TheVariants.{Want}
 use Rattle.exec_bulk.specs.declared.opening.Opened.{Opened}
-use Rattle.exec_bulk.specs.Made.{IsMade, AddsPart}
+use Rattle.exec_bulk.specs.Made.{IsMade, AddsPart, WantsAfter}
 use Rattle.exec_bulk.specs.Rows.{numbers_in, parts_for, first_part}
 
 -- the homes of the first so many nodes from this one on were emptied
@@ -37,6 +39,16 @@ emptied first (suc n) kid = put_at (first + n) None (emptied first n kid)
 -- what the hand was told that the last await of x fixed
 abbrev pub lot_at : Name → Seated Item Entry → Option (List ℤ)
 lot_at x m = option_map_or (λ (e : Held Entry). e.lot) (held_at m.0 x) None
+
+-- a parcel lies in this home, and isn't want of memory
+pub record HasDelivered (inside : Option Item) : Type 0 where
+  pub parcel : Delivery
+  pub full : inside ≡ Some (Done parcel)
+  pub able : parcel.completion ≢ NoMemory
+
+-- so it is of the homes of the first so many nodes from this one on
+abbrev pub HaveDelivered : ℕ → ℕ → (ℕ → Option Item) → Type 0
+HaveDelivered first n kid = (i : ℕ) → i < n → HasDelivered (kid (first + i))
 
 module _ (board : Board Blueprint) (x : Name) where
   -- the nodes before x are children of it: its parts
@@ -61,9 +73,11 @@ module _ (board : Board Blueprint) (x : Name) where
     pub answer : Option Delivery
     pub takes : TakesBelow board x (first_part x.node + part) answer m m'
     pub adds : part < count → AddsPart answer before after
+    pub wants : part < count → WantsAfter answer before after
     pub passes : count ≤ part → after ≡ before
 
-  -- the homes of the first n parts were emptied, and those among the first so many were added
+  -- The homes of the first n parts were emptied, and those among the first so many were added. Where
+  -- they want memory, one of them does, or isn't done.
   pub record TakesParts (n count : ℕ) (made : Made) (m m' : Seated Item Entry) : Type 0 where
     pub beside : KeepsOthers board x m m'
     pub same_held : held_at m'.0 x ≡ held_at m.0 x
@@ -74,9 +88,12 @@ module _ (board : Board Blueprint) (x : Name) where
     pub made_is : (start : List Entry) (least : ℕ) (kid : ℕ → Option Item) (job : Job)
         (whole : List ℤ) → Emptying board x start least kid m →
         HasDrawn start job whole kid m → IsMade made job whole (min n count)
+    pub wants : (start : List Entry) (least : ℕ) (kid : ℕ → Option Item) →
+        Emptying board x start least kid m → made ≡ Want →
+        HaveDelivered (first_part x.node) (min n count) kid → ⊥
 
   -- The homes are empty. The child's parcel lay in its home, or is kept. Where a row is kept, this is
-  -- what the job makes of it.
+  -- what the job makes of it; and where the parts want memory, one of them does, or isn't done.
   pub record Opens (child : ℕ) (opened : Opened) (m m' : Seated Item Entry) : Type 0 where
     pub beside : KeepsOthers board x m m'
     pub job : Job
@@ -94,3 +111,6 @@ module _ (board : Board Blueprint) (x : Name) where
     pub made : IfSome opened.kept
         (λ parcel. IsMade opened.made job (numbers_in parcel.completion)
         (parts_for (numbers_in parcel.completion)))
+    pub wants : (can : CanStep board x m) → can.kid child ≡ None → IfSome opened.kept
+        (λ parcel. opened.made ≡ Want → HaveDelivered (first_part x.node)
+        (parts_for (numbers_in parcel.completion)) can.kid → ⊥)

@@ -1,5 +1,5 @@
 -- What the step of a bulk, and that of a part, does ([exec.bulk]).
-use Rattle.std.specs.Prelude.{◌≡◌, ◌⊎◌, ⊤, ℕ, ◌≤◌, ℤ, Bool, true, false, List, [], length, Option, Some, None}
+use Rattle.std.specs.Prelude.{◌≡◌, ◌≢◌, ◌⊎◌, ⊤, ℕ, ◌≤◌, ℤ, Bool, true, false, List, [], length, Option, Some, None}
 use Rattle.std.specs.List.{range_with_len}
 use Rattle.exec_value.specs.declared.outcome.Completion.{Completion}
 use Rattle.exec_value.specs.declared.outcome.Completion.TheVariants.{NoMemory}
@@ -11,6 +11,7 @@ use Rattle.plan_rules.specs.Bulks.{each_of, row_ending, bulk_of, job_of_bulk, pa
 use Rattle.plan_rules.specs.declared.node.Node.{Node}
 use Rattle.plan_rules.specs.declared.node.Node.TheVariants.{Bulk, Part}
 use Rattle.plan_shape.specs.Blueprint.{Blueprint}
+use Rattle.node_images.specs.Makes.{CompletesInPlace}
 use Rattle.table_steps.specs.Awaits.{AwaitsAt}
 use Rattle.table_steps.specs.Claims.{Seated}
 use Rattle.table_steps.specs.Lefts.{LeavesControl}
@@ -24,14 +25,17 @@ use Rattle.exec_start.specs.Entries.{args_of}
 use Rattle.exec_start.specs.Items.{start_in, parcel_in}
 use Rattle.exec_start.specs.Parcels.{Delivery}
 use Rattle.exec_recv.specs.declared.next.Next.{Next}
-use Rattle.exec_recv.specs.declared.next.Next.TheVariants.{Rest, Ready}
+use Rattle.exec_recv.specs.declared.next.Next.TheVariants.{Rest}
 use Rattle.exec_recv.specs.Steppable.{CanStep}
 use Rattle.node_steps.specs.declared.taken.AtHome.{AtHome}
 use Rattle.node_steps.specs.declared.taken.AtHome.TheVariants.{Start as Unbegun, Rest as Rested}
 use Rattle.node_steps.specs.Completes.{CompletesWith}
+use Rattle.node_steps.specs.Leaves.{IsLeftIn}
 use Rattle.node_steps.specs.Starts.{StartsOne}
 use Rattle.exec_bulk.specs.declared.joining.Made.{Made}
+use Rattle.exec_bulk.specs.declared.joining.Made.TheVariants.{Want}
 use Rattle.exec_bulk.specs.Made.{IsMade}
+use Rattle.exec_bulk.specs.Opens.{HaveDelivered}
 use Rattle.exec_bulk.specs.Rows.{numbers_in, parts_for, first_part}
 
 -- the node has begun nothing yet
@@ -71,9 +75,10 @@ module _ (board : Board Blueprint) (x : Name) where
         AwaitsParts done next m' ⊎ CompletesWith board x NoMemory next m'
     pub passes : numbers_in done ≡ [] → CompletesWith board x done next m'
 
-  -- a node that has begun nothing yet is left ready in the pool
-  abbrev pub HopsFirst : Next → Seated Item Entry → Type 0
-  HopsFirst next m = (can : CanStep board x m) → IsUnbegun can.item → next ≡ Ready Pool
+  -- a node that has begun nothing yet is left ready in the pool, with its start alone
+  abbrev pub HopsFirst : Next → Seated Item Entry → Seated Item Entry → Type 0
+  HopsFirst next m m' =
+      (can : CanStep board x m) → IsUnbegun can.item → IsLeftIn board x Pool None next m'
 
   -- a part that was in the pool completes with what its bulk's job makes of its share, or there was no
   -- memory
@@ -95,20 +100,31 @@ module _ (board : Board Blueprint) (x : Name) where
       (can : CanStep board x m) (parcel : Delivery) → can.kid child ≡ Some (Done parcel) →
       CutsRow parcel.completion next m'
 
-  -- whatever job and row these were made of, x completes with what the job makes of the row, or there
-  -- was no memory
+  -- x delivered want of memory: where this is so, there was none for this completion, which doesn't
+  -- stand in place
+  pub record Wants (able : Type 0) (done : Completion) (next : Next) (m' : Seated Item Entry) :
+      Type 0 where
+    pub large : able → CompletesInPlace done → ⊥
+    pub ends : CompletesWith board x NoMemory next m'
+
+  -- whatever job and row these were made of, x completes with what the job makes of the row; or a part
+  -- wants memory, or there was none for that
   abbrev pub EndsAsMade : Made → Next → Seated Item Entry → Type 0
   EndsAsMade made next m' =
       (job : Job) (whole : List ℤ) → IsMade made job whole (parts_for whole) →
-      EndsWith (row_ending (each_of job 0 whole)) next m'
+      CompletesWith board x (row_ending (each_of job 0 whole)) next m'
+      ⊎ Wants (made ≢ Want) (row_ending (each_of job 0 whole)) next m'
 
   -- when x keeps its child's parcel, with a row with numbers, its parts are done: it completes with
-  -- what the bulk makes of that, or there was no memory
+  -- what the bulk makes of that; or a part wants memory, or there was none for that, which doesn't
+  -- stand in place
   abbrev pub EndsByParts : ℕ → Job → Next → Seated Item Entry → Seated Item Entry → Type 0
   EndsByParts child job next m m' =
       (can : CanStep board x m) (kept : Delivery) → can.kid child ≡ None →
       parcel_in can.item ≡ Some kept → 1 ≤ length (numbers_in kept.completion) →
-      EndsWith (bulk_of job kept.completion) next m'
+      CompletesWith board x (bulk_of job kept.completion) next m'
+      ⊎ Wants (HaveDelivered (first_part x.node) (parts_for (numbers_in kept.completion)) can.kid)
+      (bulk_of job kept.completion) next m'
 
   -- a bulk of this child starts it, goes on by what it completed with, and then by its parts
   pub record StepsBulk (child : ℕ) (job : Job) (next : Next) (m m' : Seated Item Entry) :
@@ -119,7 +135,7 @@ module _ (board : Board Blueprint) (x : Name) where
 
   -- a part is left ready in the pool first, and then completes
   pub record StepsPart (bulk : ℕ) (next : Next) (m m' : Seated Item Entry) : Type 0 where
-    pub hops : HopsFirst next m
+    pub hops : HopsFirst next m m'
     pub ends : EndsShare bulk next m m'
 
   -- so it is by the kind of the node

@@ -105,7 +105,7 @@ fn step_bulk<G: Gate, R: Wait + Sync>(
 /// parts as there are numbers, eight at most, each with its share; of anything else it completes with
 /// the same. Once the last part has reported, it completes with the row that the parts make, or with
 /// the error of the least failing index. A part goes into the pool, and completes there with what the
-/// bulk's job makes of its share.
+/// bulk's job makes of its share. The parts' starts want memory, and so does each row that is made.
 ///
 /// Step: those of its start, of its child's end, or of its parts' end.
 /// Needs: the node is a bulk, or a part of one. The table is over the plan, whose kinds match. The

@@ -1,5 +1,5 @@
 //! How a bulk completes ([exec.bulk]).
-ghost use Rattle.std.specs.Prelude.{◌≡◌, [], false};
+ghost use Rattle.std.specs.Prelude.{◌≡◌, ◌≤◌, [], false, length};
 ghost use Rattle.std.specs.Thread.{IsSync};
 ghost use Rattle.node_tree.specs.Tree.{is_root};
 ghost use Rattle.table_steps.specs.Views.{IsHandOf, Stays};
@@ -97,7 +97,8 @@ pub(crate) fn end_parts<G: Gate, R: Wait + Sync>(
     requires inner { is_root table.now.frame.tree name.node ≡ false }
     requires has { HasParted table.now name env kept made hand.old.me }
     ensures stays { Stays table.now hand.old hand.new }
-    ensures ends { EndsAsMade table.now name made result hand.new.me }
+    ensures ends { 1 ≤ length (numbers_in kept.completion) →
+        EndsAsMade table.now name made result hand.new.me }
     ensures stepped { IsStepped table.now name hand.old.me hand.new.me result }
 {
     if numbers_of(kept.completion()).is_empty() {

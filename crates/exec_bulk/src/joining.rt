@@ -1,11 +1,13 @@
 //! How what the parts of a bulk delivered comes together ([exec.bulk]).
-ghost use Rattle.std.specs.Prelude.{ℕ, ◌+◌, ◌<◌, ℤ, List, [], ◌∷◌, ◌≡◌, IfSome};
+ghost use Rattle.std.specs.Prelude.{ℕ, ◌+◌, ◌<◌, ℤ, List, [], ◌∷◌, ◌≡◌, ◌≢◌, IsSome, IfSome};
 ghost use Rattle.exec_job.specs.declared.job.Job.{Job};
+ghost use Rattle.node_images.specs.Makes.{CompletesInPlace};
 ghost use Rattle.plan_rules.specs.Bulks.{row_ending};
 ghost use Rattle.plan_shape.specs.declared.limits.TheConstants.{BULK_PARTS};
 ghost use Rattle.start_laws.specs.BulkLaws.{front_made};
-ghost use Rattle.exec_bulk.specs.Made.{IsMade, IsOfShare, AddsPart};
+ghost use Rattle.exec_bulk.specs.Made.{IsMade, IsOfShare, AddsPart, WantsAfter};
 
+use crate::rows::numbers_at;
 use exec_value::{Completion, Data, Datum, NUMBERS, Nums, Txt};
 use node_steps::Parcel;
 use std::alloc::Global;
@@ -13,54 +15,71 @@ use std::alloc::Global;
 /// What the parts so far come to, in the order of the row.
 #[derive(Drop)]
 pub(crate) enum Made {
-    /// What the job made of the numbers, none of which failed.
-    Numbers(Vec<i64>),
+    /// What the job made of the numbers, none of which failed; none where there is no memory for them.
+    Numbers(Option<Vec<i64>>),
     /// The error of the first that failed.
     Failed(Txt),
-    /// A part wanted memory, or there is none for the numbers.
+    /// A part wanted memory, or isn't done.
     Want,
 }
 
-// The numbers with those of one part more.
-fn append(numbers: Vec<i64>, more: &[i64]) -> Made
+// The numbers with those of one part more. None where there is no memory for them.
+fn append(numbers: Option<Vec<i64>>, more: &[i64]) -> Option<Vec<i64>>
     ensures { (job : Job) (whole : List ℤ) (part : ℕ) → part < BULK_PARTS →
         IsOfShare job whole part (Completion.Value (Datum.Row more.now ∷ [])) →
-        IsMade (Made.Numbers numbers) job whole part → IsMade result job whole (part + 1) }
+        IsMade (Made.Numbers numbers) job whole part →
+        IsMade (Made.Numbers result) job whole (part + 1) }
 {
-    let mut joined = numbers;
-    match joined.extend_from_slice(more) {
-        Ok(()) => Made::Numbers(joined),
-        Err(_) => Made::Want,
+    match numbers {
+        Some(mut joined) => match joined.extend_from_slice(more) {
+            Ok(()) => Some(joined),
+            Err(_) => None,
+        },
+        None => None,
     }
 }
 
-// The numbers with what one part more completed with.
-fn behind(numbers: Vec<i64>, done: Completion) -> Made
-    ensures { (job : Job) (whole : List ℤ) (part : ℕ) → part < BULK_PARTS →
+// The numbers with what one part more completed with. No part completes stopped.
+fn behind(numbers: Option<Vec<i64>>, done: Completion) -> Made
+    ensures made { (job : Job) (whole : List ℤ) (part : ℕ) → part < BULK_PARTS →
         IsOfShare job whole part done → IsMade (Made.Numbers numbers) job whole part →
         IsMade result job whole (part + 1) }
+    ensures wants { result ≡ Made.Want → done ≡ Completion.NoMemory }
 {
     match done {
-        Completion::Value(values) => match values.as_slice() {
-            [Datum::Row(row)] => append(numbers, row.as_slice()),
-            _ => Made::Want,
-        },
-        Completion::Error(name) => Made::Failed(name),
-        _ => Made::Want,
+        Completion::Value(values) => {
+            let made = append(numbers, numbers_at(values.as_slice()));
+            drop(values);
+            Made::Numbers(made)
+        }
+        Completion::Error(name) => {
+            drop(numbers);
+            Made::Failed(name)
+        }
+        Completion::Stopped => {
+            drop(numbers);
+            Made::Numbers(None)
+        }
+        Completion::NoMemory => {
+            drop(numbers);
+            Made::Want
+        }
     }
 }
 
 impl Made {
     /// No part yet.
     pub(crate) fn none(alloc: Global) -> Made
-        ensures { (job : Job) (whole : List ℤ) → IsMade result job whole 0 }
+        ensures made { (job : Job) (whole : List ℤ) → IsMade result job whole 0 }
+        ensures able { result ≢ Made.Want }
     {
-        Made::Numbers(Vec::new(alloc))
+        Made::Numbers(Some(Vec::new(alloc)))
     }
 
     /// One part more: its parcel, where it is done. The error of the first that failed stays.
     pub(crate) fn add(self, found: Option<Parcel>) -> Made
-        ensures { AddsPart found self result }
+        ensures adds { AddsPart found self result }
+        ensures wants { WantsAfter found self result }
     {
         match self {
             Made::Numbers(numbers) => match found {
@@ -78,14 +97,18 @@ impl Made {
         }
     }
 
-    /// What they complete with together: the row of the numbers, or the error. None where there is no
-    /// memory for it.
+    /// What they complete with together: the row of the numbers, or the error. None where a part wants
+    /// memory, or there is none for the row. An error is at hand, and wants none.
     pub(crate) fn finish(self, alloc: Global) -> Option<Completion>
-        ensures { (job : Job) (whole : List ℤ) (part : ℕ) → IsMade self job whole part →
+        ensures made { (job : Job) (whole : List ℤ) (part : ℕ) → IsMade self job whole part →
             IfSome result (λ done. done ≡ row_ending (front_made job whole part)) }
+        ensures in_place { (job : Job) (whole : List ℤ) (part : ℕ) → IsMade self job whole part →
+            self ≢ Made.Want → CompletesInPlace (row_ending (front_made job whole part)) →
+            IsSome result }
     {
         match self {
-            Made::Numbers(numbers) => {
+            Made::Numbers(None) => None,
+            Made::Numbers(Some(numbers)) => {
                 if numbers.len() > NUMBERS {
                     return None;
                 }

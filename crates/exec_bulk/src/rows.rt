@@ -18,16 +18,24 @@ fn no_numbers<'a>() -> &'a [i64]
     &[]
 }
 
+/// The numbers of data that are one row; of any other none.
+pub(crate) fn numbers_at(values: &[Datum]) -> &[i64]
+    ensures numbers { result.now ≡ numbers_in (Completion.Value values.now) }
+    ensures few { length result.now ≤ NUMBERS }
+{
+    match values {
+        [Datum::Row(row)] => row.as_slice(),
+        _ => no_numbers(),
+    }
+}
+
 /// The numbers of a completion that is one row; of any other none.
 pub(crate) fn numbers_of(done: &Completion) -> &[i64]
     ensures numbers { result.now ≡ numbers_in done.now }
     ensures few { length result.now ≤ NUMBERS }
 {
     match done {
-        Completion::Value(values) => match values.as_slice() {
-            [Datum::Row(row)] => row.as_slice(),
-            _ => no_numbers(),
-        },
+        Completion::Value(values) => numbers_at(values.as_slice()),
         _ => no_numbers(),
     }
 }

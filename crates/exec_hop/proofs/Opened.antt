@@ -2,7 +2,6 @@
 use Rattle.std.specs.Prelude.{is_some, IfSome, MatchOption}
 use Rattle.std.specs.Option.{option_map}
 use Rattle.std.proofs.Common.{◌≡◌, ℕ, true, false, List, Option, Some, None, refl, sym, ap, ◌∙◌, subst, arith}
-use Rattle.std.proofs.lemmas.Option.{same_Some}
 use Rattle.common_lemmas.specs.Sums.{one}
 use Rattle.life_rules.specs.declared.event.Name.{Name}
 use Rattle.node_tree.specs.Tree.{has_source, is_unstoppable}
@@ -18,7 +17,6 @@ use Rattle.exec_start.specs.Fits.{IsItemOf}
 use Rattle.exec_start.specs.Items.{parcel_in, saw_in}
 use Rattle.exec_start.specs.Parcels.{Delivery, IsDelivery}
 use Rattle.exec_start.specs.Starts.{IsStart}
-use Rattle.exec_recv.specs.Steppable.{CanStep}
 use Rattle.start_laws.specs.Nodes.{IsStartOf}
 use Rattle.start_laws.proofs.Knowing.{from-plain}
 use Rattle.node_steps.specs.declared.taken.AtHome.{AtHome}
@@ -26,61 +24,39 @@ use Rattle.node_steps.specs.declared.taken.AtHome.TheVariants.{Start as Unbegun,
 use Rattle.node_steps.specs.declared.taken.TakenOut.{TakenOut}
 use Rattle.node_steps.specs.Heard.{MaySee}
 use Rattle.node_steps.specs.Midway.{Ready}
-use Rattle.node_steps.specs.TakenOut.{item_at, start_at, least_known, IsFoundBelow, IsOnlyChild, TakesOwn, TakesBelow}
+use Rattle.node_steps.specs.TakenOut.{item_at, start_at, least_known, IsFoundBelow, TakesOut}
 use Rattle.node_steps.proofs.Frames.{emptying-less}
-use Rattle.node_steps.proofs.Opened.{takes-both, takes-one}
 use Rattle.node_steps.proofs.Telling.{found-done, kept-from}
 use Rattle.exec_hop.specs.declared.opening.AtHand.{AtHand}
 use Rattle.exec_hop.specs.Kinds.{hop_child}
-use Rattle.exec_hop.specs.Openings.{item_of, TakesAll, HasParcel, Opens}
+use Rattle.exec_hop.specs.Openings.{item_of, HasParcel, Opens}
 use Rattle.node_steps.proofs.Places.{source-none, start-of}
 use Rattle.exec_hop.proofs.Places.{Hopping, hop-plain, hop-runs, hop-keeps}
 
--- what was taken is what lay there
-module _ (board : Board Blueprint) (x : Name) (own : AtHome) (m m1 : Seated Item Entry) (can : CanStep board x m) (took : TakesOwn board x own m m1) where
-  pub all-both : (n : ℕ) → IsOnlyChild board x (Some n) → (below : Option Delivery) (m2 : Seated Item Entry) → TakesBelow board x n below m1 m2 →
-      TakesAll board x (Some n) (record { own = own; below = below }) m m2
-  all-both n only below m2 next =
-      record {
-        takes = takes-both board x own m m1 can took n only below m2 next;
-        item = took.item;
-        lay = λ other k names.
-            subst (λ i. other.kid i ≡ option_map Done below) (same_Some n k names)
-            (next.lay (start_at own) (least_of (item_at own)) other.kid (took.left other));
-      }
-
-  pub all-one : IsOnlyChild board x None → TakesAll board x None (record { own = own; below = None }) m m1
-  all-one only =
-      record {
-        takes = takes-one board x own m m1 can took only;
-        item = took.item;
-        lay = λ other k names. cc;
-      }
-
 -- The step of a node that hops or shelters was opened.
 module _ (board : Board Blueprint) (x : Name) (node : Node) (hops : Hopping board x node) (taken : TakenOut) (m0 m : Seated Item Entry)
-    (all : TakesAll board x (hop_child node) taken m0 m) (starts : IsStart (start_at taken.own)) where
+    (all : TakesOut board x (hop_child node) taken m0 m) (starts : IsStart (start_at taken.own)) where
   abbrev start : List Entry
   start = start_at taken.own
 
   own-of : IsStartOf start node
-  own-of = start-of board hops.plan x node hops.over hops.stands start (least_known taken) (λ _. None) m hops.runnable all.takes.ready starts
+  own-of = start-of board hops.plan x node hops.over hops.stands start (least_known taken) (λ _. None) m hops.runnable all.ready starts
 
   plain : has_source board.frame.tree x.node ≡ false
   plain = source-none board hops.plan x node hops.over hops.stands (hop-plain node hops.is)
 
   own-ready : Ready board x start 0 m
-  own-ready = emptying-less board x start m (least_known taken) 0 (λ _. None) (omega arith) all.takes.ready
+  own-ready = emptying-less board x start m (least_known taken) 0 (λ _. None) (omega arith) all.ready
 
   -- what the child's home tells
   abbrev Below : Option ℕ → Type 0
   Below o = MatchOption o (taken.below ≡ None) (λ n. IfSome taken.below (IsFoundBelow board x start n m))
 
   no-parcel : (parcel : Delivery) → hop_child node ≡ None → taken.below ≡ Some parcel → ⊥
-  no-parcel parcel names e = let none : taken.below ≡ None = subst Below names all.takes.below in cc
+  no-parcel parcel names e = let none : taken.below ≡ None = subst Below names all.below in cc
 
   found-there : (n : ℕ) (parcel : Delivery) → hop_child node ≡ Some n → taken.below ≡ Some parcel → IsFoundBelow board x start n m parcel
-  found-there n parcel names e = subst (λ o. IfSome o (IsFoundBelow board x start n m)) e (subst Below names all.takes.below)
+  found-there n parcel names e = subst (λ o. IfSome o (IsFoundBelow board x start n m)) e (subst Below names all.below)
 
   below-here : (o : Option ℕ) → hop_child node ≡ o → (below : Option Delivery) → taken.below ≡ below →
       IfSome below (HasParcel board x start m)
@@ -89,7 +65,7 @@ module _ (board : Board Blueprint) (x : Name) (node : Node) (hops : Hopping boar
   below-here (Some n) names (Some parcel) e = record {
     ready = emptying-less board x start m (least_known taken) 1 (λ _. None)
         (let full : one (is_some taken.below) ≡ 1 = ap (λ (o : Option Delivery). one (is_some o)) e in omega (arith, full))
-        all.takes.ready;
+        all.ready;
     from = from-plain start parcel n _
         (found-done board x start n m parcel (found-there n parcel names e) starts plain) node own-of
         (hop-runs node hops.is n names);
@@ -117,17 +93,17 @@ module _ (board : Board Blueprint) (x : Name) (node : Node) (hops : Hopping boar
           let least : least_of (item_at taken.own) ≡ 1 =
           ap least_of rest ∙ ap (λ o. least_at_rest o (Some parcel)) own-of.node_is ∙ hop-keeps node hops.is parcel in
           record {
-            ready = emptying-less board x start m (least_known taken) 1 (λ _. None) (omega (arith, least)) all.takes.ready;
-            from = kept-from board x start m parcel (subst (λ (i : Item). IsItemOf i x.node) rest all.takes.of)
-                (subst (λ (i : Item). IfSome (parcel_in i) IsDelivery) rest all.takes.kept)
-                (subst (λ (i : Item). MaySee board x (saw_in i) m) rest all.takes.saw);
+            ready = emptying-less board x start m (least_known taken) 1 (λ _. None) (omega (arith, least)) all.ready;
+            from = kept-from board x start m parcel (subst (λ (i : Item). IsItemOf i x.node) rest all.of)
+                (subst (λ (i : Item). IfSome (parcel_in i) IsDelivery) rest all.kept)
+                (subst (λ (i : Item). MaySee board x (saw_in i) m) rest all.saw);
           }
 
   -- the step has this at hand
   pub hop-opens : (hand : AtHand) → hand.env ≡ start → parcel_in (item_at taken.own) ≡ hand.kept → taken.below ≡ hand.below →
       item_at taken.own ≡ item_of hand → Opens board x node hand m0 m
   hop-opens hand env kept below item = record {
-    beside = all.takes.beside;
+    beside = all.beside;
     at = subst (λ (s : List Entry). IsStartOf s node) (sym env) own-of;
     ready = subst (λ (s : List Entry). Ready board x s 0 m) (sym env) own-ready;
     below = subst (λ (s : List Entry). IfSome hand.below (HasParcel board x s m)) (sym env)

@@ -1,5 +1,5 @@
 -- What the step of a hop, and that of a node that shelters its child, does.
-use Rattle.std.specs.Prelude.{◌≡◌, ◌⊎◌, ⊤, ℕ, List, [], Option, Some, None}
+use Rattle.std.specs.Prelude.{◌≡◌, ◌⊎◌, ⊤, ℕ, [], Option, Some, None}
 use Rattle.exec_value.specs.declared.outcome.Completion.{Completion}
 use Rattle.exec_value.specs.declared.outcome.Completion.TheVariants.{Value, Stopped}
 use Rattle.life_rules.specs.declared.event.Name.{Name}
@@ -9,17 +9,15 @@ use Rattle.plan_rules.specs.declared.node.Node.TheVariants.{Schedule, StartsOn, 
 use Rattle.plan_shape.specs.Blueprint.{Blueprint}
 use Rattle.table_steps.specs.Views.{Board}
 use Rattle.table_steps.specs.Claims.{Seated}
-use Rattle.table_steps.specs.Takes.{resting_in}
 use Rattle.exec_start.specs.declared.entry.Entry.{Entry}
 use Rattle.exec_start.specs.declared.item.Item.{Item}
 use Rattle.exec_start.specs.declared.item.Item.TheVariants.{Start, Done}
 use Rattle.exec_start.specs.Items.{parcel_in}
 use Rattle.exec_start.specs.Parcels.{Delivery}
 use Rattle.exec_recv.specs.declared.next.Next.{Next}
-use Rattle.exec_recv.specs.declared.next.Next.TheVariants.{Ready}
 use Rattle.exec_recv.specs.Steppable.{CanStep}
 use Rattle.node_steps.specs.Completes.{CompletesWith}
-use Rattle.node_steps.specs.Leaves.{IsLeftAt}
+use Rattle.node_steps.specs.Leaves.{IsLeftIn}
 use Rattle.node_steps.specs.Starts.{StartsOne}
 
 -- the node has begun nothing yet
@@ -35,17 +33,10 @@ module _ (board : Board Blueprint) (x : Name) where
   abbrev pub EndsWith : Completion → Next → Seated Item Entry → Type 0
   EndsWith done next m' = CompletesWith board x done next m' ⊎ HasStopped next m'
 
-  -- x was left ready in the context, with this parcel of its child, where it has one
-  pub record IsLeftIn (on : Context) (kept : Option Delivery) (next : Next)
-      (m' : Seated Item Entry) : Type 0 where
-    pub next_is : next ≡ Ready on
-    pub start : List Entry
-    pub from : Seated Item Entry
-    pub left : IsLeftAt board x start kept (resting_in on) from m'
-
-  -- so it was, or it completed stopped
+  -- x was left ready in the context, with this parcel of its child, where it has one, or completed
+  -- stopped
   abbrev pub LandsIn : Context → Option Delivery → Next → Seated Item Entry → Type 0
-  LandsIn on kept next m' = IsLeftIn on kept next m' ⊎ HasStopped next m'
+  LandsIn on kept next m' = IsLeftIn board x on kept next m' ⊎ HasStopped next m'
 
   -- A `schedule` hops at once. When it is taken there it completes with no data, or stopped.
   pub record HopsAlone (on : Context) (next : Next) (m m' : Seated Item Entry) : Type 0 where

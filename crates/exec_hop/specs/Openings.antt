@@ -1,5 +1,5 @@
 -- What a step has at hand, once the homes are emptied.
-use Rattle.std.specs.Prelude.{◌≡◌, ℕ, true, false, if◌then◌else◌, List, Option, Some, IfSome}
+use Rattle.std.specs.Prelude.{◌≡◌, ℕ, true, false, if◌then◌else◌, List, Some, IfSome}
 use Rattle.std.specs.Option.{option_map}
 use Rattle.life_rules.specs.declared.event.Name.{Name}
 use Rattle.node_tree.specs.Tree.{is_unstoppable}
@@ -15,10 +15,8 @@ use Rattle.exec_start.specs.Parcels.{Delivery}
 use Rattle.exec_recv.specs.Steppable.{CanStep}
 use Rattle.start_laws.specs.Holding.{IsFromBelow}
 use Rattle.start_laws.specs.Nodes.{IsStartOf}
-use Rattle.node_steps.specs.declared.taken.TakenOut.{TakenOut}
 use Rattle.node_steps.specs.Heard.{has_heard}
 use Rattle.node_steps.specs.Midway.{Ready, KeepsOthers}
-use Rattle.node_steps.specs.TakenOut.{item_at, TakesOut}
 use Rattle.exec_hop.specs.declared.opening.AtHand.{AtHand}
 use Rattle.exec_hop.specs.Kinds.{hop_child}
 
@@ -27,13 +25,6 @@ abbrev pub item_of : AtHand → Item
 item_of hand = if hand.unbegun then Start hand.env else Rest hand.env hand.kept
 
 module _ (board : Board Blueprint) (x : Name) where
-  -- The homes were emptied: what was taken is what lay in them when the step began.
-  pub record TakesAll (child : Option ℕ) (taken : TakenOut) (m m' : Seated Item Entry) : Type 0 where
-    pub takes : TakesOut board x child taken m m'
-    pub item : (can : CanStep board x m) → can.item ≡ item_at taken.own
-    pub lay : (can : CanStep board x m) (n : ℕ) → child ≡ Some n →
-        can.kid n ≡ option_map Done taken.below
-
   -- The child of x, which has this start, has completed with this parcel.
   pub record HasParcel (start : List Entry) (m : Seated Item Entry) (parcel : Delivery) :
       Type 0 where

@@ -2,16 +2,14 @@
 ghost use Rattle.std.specs.Prelude.{◌≡◌, slice_get, Some};
 ghost use Rattle.plan_kinds.specs.Runnable.{IsRunnable};
 ghost use Rattle.table_steps.specs.Views.{IsHandOf, Stays};
-ghost use Rattle.op_slot.specs.Tends.{HasPlaces};
 ghost use Rattle.exec_recv.specs.Over.{IsOver};
 ghost use Rattle.exec_recv.specs.Beginnings.{AllCanStart};
 ghost use Rattle.exec_recv.specs.Steppable.{CanStep};
-ghost use Rattle.node_steps.specs.TakenOut.{IsOnlyChild};
 ghost use Rattle.exec_hop.specs.Kinds.{HopsOrShelters, hop_child};
-ghost use Rattle.exec_hop.specs.Openings.{TakesAll, Opens};
+ghost use Rattle.exec_hop.specs.Openings.{Opens};
 
 use life_rules::Name;
-use node_steps::{AtHome, Env, Item, Parcel, TakenOut, take_below, take_own};
+use node_steps::{AtHome, Env, Item, Parcel, TakenOut, take_out};
 use op_slot::{Hand, OpTable};
 use plan_rules::{Node, NodeId};
 use plan_shape::Plan;
@@ -26,31 +24,6 @@ pub(crate) struct AtHand {
     pub kept: Option<Parcel>,
     /// The child's parcel, where it lay in the child's home.
     pub below: Option<Parcel>,
-}
-
-// Takes what lies in the node's own home, and the child's parcel.
-fn take_all(
-    table: &OpTable<Item>,
-    hand: &mut Hand<Item>,
-    name: Name,
-    child: Option<NodeId>,
-) -> TakenOut
-    requires hand { IsHandOf table.now hand.old }
-    requires places { HasPlaces table.now.frame name }
-    requires only { IsOnlyChild table.now name child }
-    requires can { CanStep table.now name hand.old.me }
-    requires starts { AllCanStart table.now hand.old.me }
-    ensures stays { Stays table.now hand.old hand.new }
-    ensures takes { TakesAll table.now name child result hand.old.me hand.new.me }
-{
-    let own = take_own(table, hand, name);
-    match child {
-        Some(child) => {
-            let below = take_below(table, hand, name, child);
-            TakenOut { own, below }
-        }
-        None => TakenOut { own, below: None },
-    }
 }
 
 /// Opens the step of a node that hops or shelters: its start, and what its child completed with.
@@ -75,7 +48,7 @@ pub(crate) fn open(
 {
     let _ = plan;
     let _ = node;
-    let TakenOut { own, below } = take_all(table, hand, name, child);
+    let TakenOut { own, below } = take_out(table, hand, name, child);
     match own {
         AtHome::Start(env) => {
             env.known();

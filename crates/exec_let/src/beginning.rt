@@ -6,7 +6,7 @@ ghost use Rattle.table_steps.specs.Views.{IsHandOf, Stays};
 ghost use Rattle.exec_recv.specs.Nexts.{IsStepped};
 ghost use Rattle.exec_recv.specs.Over.{IsOver};
 ghost use Rattle.exec_let.specs.Ends.{MayPick, Picks};
-ghost use Rattle.exec_let.specs.Lets.{Awaits, Defers};
+ghost use Rattle.exec_let.specs.Lets.{Awaits, FindsBegun};
 
 use exec_value::Data;
 use life_rules::Name;
@@ -45,7 +45,7 @@ pub(crate) fn begin_body(
     requires picks { Picks node.now parcel.completion values body }
     ensures stays { Stays table.now hand.old hand.new }
     ensures begins { Awaits table.now name result hand.new.me body values
-        ⊎ Defers table.now name result hand.new.me parcel.completion }
+        ⊎ FindsBegun table.now name result hand.new.me body parcel }
     ensures stepped { IsStepped table.now name hand.old.me hand.new.me result }
 {
     let _ = node;

@@ -1,5 +1,6 @@
 //! What a let's child has for its bodies ([exec.let]).
-ghost use Rattle.std.specs.Prelude.{◌≡◌, None, IfOk, IsOk};
+ghost use Rattle.std.specs.Prelude.{◌≡◌, IfOk, IsOk, IfSome};
+ghost use Rattle.exec_value.specs.Place.{AreInPlace};
 ghost use Rattle.plan_rules.specs.Images.{error_data, stopped_data, value_data};
 ghost use Rattle.start_laws.specs.Lets.{channel_of};
 ghost use Rattle.exec_let.specs.Kinds.{IsLet, is_small};
@@ -11,7 +12,7 @@ use std::alloc::{AllocError, Global};
 // The data of a value.
 fn copy_value(alloc: Global, done: &Completion) -> Result<Option<Data>, AllocError>
     ensures on { IfOk result (λ data_. data_ ≡ value_data done.now) }
-    ensures none { value_data done.now ≡ None → IsOk result }
+    ensures in_place { IfSome (value_data done.now) AreInPlace → IsOk result }
 {
     match done {
         Completion::Value(values) => Ok(Some(copy_data(alloc, values)?)),
@@ -22,7 +23,7 @@ fn copy_value(alloc: Global, done: &Completion) -> Result<Option<Data>, AllocErr
 // The name of an error, as data.
 fn copy_error(alloc: Global, done: &Completion) -> Result<Option<Data>, AllocError>
     ensures on { IfOk result (λ data_. data_ ≡ error_data done.now) }
-    ensures none { error_data done.now ≡ None → IsOk result }
+    ensures in_place { IfSome (error_data done.now) AreInPlace → IsOk result }
 {
     match done {
         Completion::Error(name) => { Ok(Some(Data::one(alloc, Datum::Text(name.clone()?)))) }
@@ -40,7 +41,8 @@ fn copy_stopped(alloc: Global, done: &Completion) -> Option<Data>
     }
 }
 
-/// A copy of the data that the completion has on the let's channel; none where it is on another.
+/// A copy of the data that the completion has on the let's channel; none where it is on another. Data
+/// that stand in place want no memory.
 pub(crate) fn copy_channel(
     alloc: Global,
     node: &Node,
@@ -48,7 +50,7 @@ pub(crate) fn copy_channel(
 ) -> Result<Option<Data>, AllocError>
     requires { IsLet node.now }
     ensures on { IfOk result (λ data_. data_ ≡ channel_of node.now done.now) }
-    ensures none { channel_of node.now done.now ≡ None → IsOk result }
+    ensures in_place { IfSome (channel_of node.now done.now) AreInPlace → IsOk result }
 {
     match node {
         Node::LetValue { .. } => copy_value(alloc, done),

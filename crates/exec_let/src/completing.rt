@@ -5,11 +5,12 @@ ghost use Rattle.node_tree.specs.Tree.{is_root};
 ghost use Rattle.table_steps.specs.Views.{IsHandOf, Stays};
 ghost use Rattle.exec_recv.specs.Nexts.{IsStepped};
 ghost use Rattle.exec_recv.specs.Over.{IsOver};
+ghost use Rattle.node_steps.specs.Completes.{CompletesWith};
 ghost use Rattle.exec_let.specs.Ends.{MayEnd, MayPick};
 ghost use Rattle.exec_let.specs.Openings.{HasBody};
 ghost use Rattle.start_laws.specs.Nodes.{IsStartOf};
 ghost use Rattle.exec_let.specs.Kinds.{IsLet};
-ghost use Rattle.exec_let.specs.Lets.{EndsWith, Defers};
+ghost use Rattle.exec_let.specs.Lets.{Defers};
 
 use crate::channel::is_small;
 use exec_value::Completion;
@@ -39,7 +40,7 @@ pub(crate) fn end_with<G: Gate, R: Wait + Sync>(
     requires inner { is_root table.now.frame.tree name.node ≡ false }
     requires may { MayEnd table.now name env done saw hand.old.me }
     ensures stays { Stays table.now hand.old hand.new }
-    ensures ends { EndsWith table.now name result hand.new.me done }
+    ensures ends { CompletesWith table.now name done result hand.new.me }
     ensures stepped { IsStepped table.now name hand.old.me hand.new.me result }
 {
     let own = Parcel::of(&env, done, saw);
@@ -66,7 +67,7 @@ pub(crate) fn end_as_body<G: Gate, R: Wait + Sync>(
     requires at { IsStartOf env node.now }
     requires has { HasBody table.now name node.now env hand.old.me parcel }
     ensures stays { Stays table.now hand.old hand.new }
-    ensures ends { EndsWith table.now name result hand.new.me parcel.completion }
+    ensures ends { CompletesWith table.now name parcel.completion result hand.new.me }
     ensures stepped { IsStepped table.now name hand.old.me hand.new.me result }
 {
     let _ = node;
@@ -104,7 +105,7 @@ pub(crate) fn end_wanting<G: Gate, R: Wait + Sync>(
     requires inner { is_root table.now.frame.tree name.node ≡ false }
     requires may { MayPick table.now name env node.now parcel hand.old.me }
     ensures stays { Stays table.now hand.old hand.new }
-    ensures defers { Defers table.now name result hand.new.me parcel.completion }
+    ensures defers { Defers table.now name result hand.new.me parcel }
     ensures stepped { IsStepped table.now name hand.old.me hand.new.me result }
 {
     let _ = node;

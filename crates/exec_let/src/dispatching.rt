@@ -75,8 +75,8 @@ fn step_let<G: Gate, R: Wait + Sync>(
 /// a body had completed, the child was started, or read as begun. Where the child had
 /// completed on the let's channel, the body that the pick names for these data is awaited, with
 /// them as its arguments; where the pick names none the let has completed with what it answers; or
-/// there was no memory. On another channel it has completed as the child, and where a body had
-/// completed, as the body.
+/// there was no memory for these data or for that answer, one of which doesn't stand in place. On
+/// another channel it has completed as the child, and where a body had completed, as the body.
 pub fn advance_let<G: Gate, R: Wait + Sync>(
     rt: &R,
     alloc: Global,

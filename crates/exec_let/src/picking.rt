@@ -48,8 +48,7 @@ fn pick<G: Gate, R: Wait + Sync>(
     requires may { MayPick table.now name env node.now parcel hand.old.me }
     requires on { channel_of node.now parcel.completion ≡ Some values }
     ensures stays { Stays table.now hand.old hand.new }
-    ensures goes { ByData table.now name result hand.new.me node.now (Some values)
-        parcel.completion }
+    ensures goes { ByData table.now name result hand.new.me node.now (Some values) parcel }
     ensures stepped { IsStepped table.now name hand.old.me hand.new.me result }
 {
     gate.pass(
@@ -97,7 +96,7 @@ pub(crate) fn go_on<G: Gate, R: Wait + Sync>(
     requires inner { is_root table.now.frame.tree name.node ≡ false }
     requires may { MayPick table.now name env node.now parcel hand.old.me }
     ensures stays { Stays table.now hand.old hand.new }
-    ensures goes { GoesOn table.now name result hand.new.me node.now parcel.completion }
+    ensures goes { GoesOn table.now name result hand.new.me node.now parcel }
     ensures stepped { IsStepped table.now name hand.old.me hand.new.me result }
 {
     match copy_channel(alloc, node, parcel.completion()) {

@@ -5,6 +5,7 @@ use Rattle.life_rules.specs.declared.event.Name.{Name}
 use Rattle.life_rules.specs.declared.event.Resting.{Resting}
 use Rattle.life_rules.specs.declared.words.ControlWord.TheVariants.{Busy}
 use Rattle.life_rules.specs.Words.{resting_at}
+use Rattle.node_tree.specs.declared.context.Context.{Context}
 use Rattle.plan_shape.specs.Blueprint.{Blueprint}
 use Rattle.plan_kinds.specs.Small.{IsSmall}
 use Rattle.table_steps.specs.Views.{Board, aim_at}
@@ -12,6 +13,7 @@ use Rattle.table_steps.specs.Claims.{Seated}
 use Rattle.table_steps.specs.Lefts.{LeavesControl}
 use Rattle.table_steps.specs.Rests.{RestsAt}
 use Rattle.table_steps.specs.Slots.{home_at}
+use Rattle.table_steps.specs.Takes.{resting_in}
 use Rattle.exec_start.specs.declared.entry.Entry.{Entry}
 use Rattle.exec_start.specs.declared.item.Item.{Item}
 use Rattle.exec_start.specs.declared.item.Item.TheVariants.{Rest}
@@ -20,6 +22,8 @@ use Rattle.exec_start.specs.Entries.{plan_of}
 use Rattle.exec_start.specs.Fits.{KeepsChild, MayRest}
 use Rattle.exec_start.specs.Items.{completion_in, saw_in}
 use Rattle.exec_start.specs.Parcels.{Delivery}
+use Rattle.exec_recv.specs.declared.next.Next.{Next}
+use Rattle.exec_recv.specs.declared.next.Next.TheVariants.{Ready as IsReadyIn}
 use Rattle.exec_recv.specs.Asides.{KeepsAside}
 use Rattle.node_steps.specs.Heard.{MaySee}
 use Rattle.node_steps.specs.Midway.{Ready}
@@ -45,3 +49,12 @@ module _ (board : Board Blueprint) (x : Name) (start : List Entry) (kept : Optio
     pub home : home_at board.frame.layout full x ≡ Some (Some (Rest start kept))
     pub rested : LeavesControl (aim_at board x) (Busy 0) (resting_at to) (RestsAt (aim_at board x))
         full m'
+
+-- x was left ready in the context, with this parcel of its child, where it has one, from somewhere in
+-- its step
+pub record IsLeftIn (board : Board Blueprint) (x : Name) (on : Context) (kept : Option Delivery)
+    (next : Next) (m' : Seated Item Entry) : Type 0 where
+  pub next_is : next ≡ IsReadyIn on
+  pub start : List Entry
+  pub from : Seated Item Entry
+  pub left : IsLeftAt board x start kept (resting_in on) from m'

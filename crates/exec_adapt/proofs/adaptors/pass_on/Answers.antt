@@ -1,4 +1,4 @@
-use Rattle.std.proofs.Common.{◌≡◌, true, ℕ, List, sym, ap, ◌∙◌, subst}
+use Rattle.std.proofs.Common.{◌≡◌, true, ℕ, List, Some, sym, ap, ◌∙◌, subst}
 use Rattle.exec_value.specs.declared.outcome.Completion.{Completion}
 use Rattle.exec_value.specs.declared.outcome.Completion.TheVariants.{Error}
 use Rattle.exec_adapt.specs.Adapts.{EndsWith}
@@ -28,7 +28,7 @@ pub returns-then-names_error-clause-ends : goal.returns-then-names_error-clause-
 returns-then-names_error-clause-ends g c =
     let named : names_error c.args.node.now c.args.parcel.completion ≡ true =
     ap (names_error c.args.node.now) (sym c.completion-2.ensures) ∙ sym c.names_error.ensures ∙ c.if-names_error.true in
-    subst (λ (d : Completion). EndsWith c.args.table.now c.args.name d c.deliver_error.result c.deliver_error.new.hand.me)
+    subst (λ (d : Completion). EndsWith c.args.table.now c.args.name (Some c.args.parcel) d c.deliver_error.result c.deliver_error.new.hand.me)
     (ap (λ (name : List ℕ). Error name) c.own_name-error.ensures ∙ sym (image-named c.args.node.now c.args.parcel.completion named))
     c.deliver_error.ensures.ends
 

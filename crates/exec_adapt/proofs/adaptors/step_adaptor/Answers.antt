@@ -1,4 +1,4 @@
-use Rattle.std.proofs.Common.{sym, ◌∙◌, subst}
+use Rattle.std.proofs.Common.{Some, sym, ◌∙◌, subst}
 use Rattle.exec_start.specs.Parcels.{Delivery}
 use Rattle.exec_recv.proofs.Places.{over-places}
 use Rattle.node_steps.proofs.Frames.{stepped-after}
@@ -64,7 +64,7 @@ returns-in-Some-clause-adapts g c =
       begins = λ can none. absurd (found-some c.args.table.now c.args.name c.args.child c.take_out.result c.args.hand.now.me c.take_out.new.hand.me c.take_out.ensures.takes
           c.at_hand-env.result.1 c.at_hand-env.ensures.parcel can c.in-Some.parcel c.in-Some.is none);
       ends = λ can other there.
-          subst (λ (p : Delivery). EndsWith c.args.table.now c.args.name (adapted_to c.args.node.now p.completion) c.pass_on.result c.pass_on.new.hand.me)
+          subst (λ (p : Delivery). EndsWith c.args.table.now c.args.name (Some p) (adapted_to c.args.node.now p.completion) c.pass_on.result c.pass_on.new.hand.me)
           (found-same c.args.table.now c.args.name c.args.child c.take_out.result c.args.hand.now.me c.take_out.new.hand.me c.take_out.ensures.takes
           c.at_hand-env.result.1 c.at_hand-env.ensures.parcel can c.in-Some.parcel c.in-Some.is other there)
           c.pass_on.ensures.ends;

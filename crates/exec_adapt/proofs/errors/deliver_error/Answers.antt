@@ -15,5 +15,10 @@ pub returns-in-Err-clause-ends : goal.returns-in-Err-clause-ends
 returns-in-Err-clause-ends g c =
     inr (record {
       large = λ in_place. let ok = c.in-Err.ensures.in_place in_place in cc;
-      how = inr c.leave_at_rest.ensures.next;
+      how = inr (record {
+        next_is = c.leave_at_rest.ensures.next;
+        start = c.args.env;
+        from = c.args.hand.now.me;
+        left = c.leave_at_rest.ensures.left;
+      });
     })

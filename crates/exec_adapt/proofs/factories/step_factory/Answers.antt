@@ -1,4 +1,4 @@
-use Rattle.std.proofs.Common.{false, ◌||◌, List, sym, ap, ◌∙◌, subst}
+use Rattle.std.proofs.Common.{false, ◌||◌, List, None, sym, ap, ◌∙◌, subst}
 use Rattle.plan_rules.specs.declared.node.Node.{Node}
 use Rattle.exec_start.specs.Entries.{asked_of}
 use Rattle.exec_start.specs.Items.{start_in}
@@ -75,7 +75,7 @@ returns-in-JustError-clause-makes g c =
     record {
       ends = λ can. (
         false,
-        subst (λ (n : Node). EndsWith c.args.table.now c.args.name (leaf_of n false (start_in can.item)) c.deliver_error.result c.deliver_error.new.hand.me)
+        subst (λ (n : Node). EndsWith c.args.table.now c.args.name None (leaf_of n false (start_in can.item)) c.deliver_error.result c.deliver_error.new.hand.me)
             (sym c.in-JustError.is) c.deliver_error.ensures.ends,
       );
     }
@@ -85,7 +85,7 @@ returns-in_default-clause-makes g c =
     record {
       ends = λ can. (
         asked_of c.at_hand-env.result.0 || c.finds_request-saw.result,
-        subst (λ (s : List Entry). EndsWith c.args.table.now c.args.name
+        subst (λ (s : List Entry). EndsWith c.args.table.now c.args.name None
             (leaf_of c.args.node.now (asked_of c.at_hand-env.result.0 || c.finds_request-saw.result) s) c.deliver_leaf.result c.deliver_leaf.new.hand.me)
             (c.at_hand-env.ensures.env ∙ ap start_in (sym (c.take_out.ensures.takes.item can))) c.deliver_leaf.ensures.ends,
       );

@@ -1,10 +1,12 @@
 use Rattle.std.specs.Prelude.{Some}
 use Rattle.std.proofs.Common.{ℕ, ◌-◌, length, sym, ◌∙◌, subst}
+use Rattle.node_tree.specs.declared.context.Context.TheVariants.{Loop}
 use Rattle.exec_start.specs.Parcels.{Delivery}
 use Rattle.exec_recv.proofs.Places.{over-places}
+use Rattle.node_steps.specs.Leaves.{IsLeftIn}
 use Rattle.node_steps.specs.TakenOut.{TakesOut}
 use Rattle.node_steps.proofs.Frames.{stepped-after}
-use Rattle.exec_adapt.specs.Adapts.{ReadsTop, HandsOver}
+use Rattle.exec_adapt.specs.Adapts.{ReadsTop}
 use Rattle.exec_adapt.proofs.Found.{found-same, found-some, found-none}
 use Rattle.exec_adapt.proofs.Receiving.{root-is, top-only, top-leaves, top-may, top-idle}
 use Rattle.exec_adapt.proofs.receiver.step_receiver.Goals as goal
@@ -59,7 +61,7 @@ returns-in-Some-clause-receives c =
           c.root_of-root.ensures c.take_out.ensures.takes)
           c.at_hand-env.result.1 c.at_hand-env.ensures.parcel can c.in-Some.parcel c.in-Some.is none);
       ends = λ can other there.
-          subst (λ (p : Delivery). HandsOver c.args.table.now c.args.name p c.leave_at_rest.result c.leave_at_rest.new.hand.me)
+          subst (λ (p : Delivery). IsLeftIn c.args.table.now c.args.name Loop (Some p) c.leave_at_rest.result c.leave_at_rest.new.hand.me)
           (found-same c.args.table.now c.args.name (length c.args.plan.now.nodes - 1) c.take_out.result c.args.hand.now.me c.take_out.new.hand.me
           (subst (λ (n : ℕ). TakesOut c.args.table.now c.args.name (Some n) c.take_out.result c.args.hand.now.me c.take_out.new.hand.me)
           c.root_of-root.ensures c.take_out.ensures.takes)

@@ -9,7 +9,8 @@ pub loop-part-init : goal.loop-part-init
 loop-part-init c =
     record {
       stays = stays-here c.args.table.now c.args.hand.now c.requires.hand;
-      takes = parts-none c.args.table.now c.args.name c.args.count c.none-made.result c.args.hand.now.me c.none-made.ensures;
+      takes = parts-none c.args.table.now c.args.name c.args.count c.none-made.result c.args.hand.now.me c.none-made.ensures.made
+          c.none-made.ensures.able;
     }
 
 pub take_part-made-requires-clause-emptying : goal.take_part-made-requires-clause-emptying

@@ -48,7 +48,12 @@ returns-then-begun-clause-steps g c =
 pub returns-clause-steps : goal.returns-clause-steps
 returns-clause-steps g c =
     record {
-      hops = λ other unbegun. c.leave_at_rest.ensures.next;
+      hops = λ other unbegun. record {
+        next_is = c.leave_at_rest.ensures.next;
+        start = c.at_hand-env.result.0;
+        from = c.take_own.new.hand.me;
+        left = c.leave_at_rest.ensures.left;
+      };
       ends = λ other begun.
           absurd (begun (part-rested c.args.table.now c.args.plan.now c.args.name c.args.bulk c.requires.node.0 c.requires.over c.requires.kinds
           c.requires.node.1 c.take_own.result c.args.hand.now.me c.take_own.new.hand.me c.requires.can c.take_own.ensures.takes

@@ -4,18 +4,17 @@ use Rattle.exec_start.specs.Items.{parcel_in}
 use Rattle.exec_start.specs.Starts.{IsStart}
 use Rattle.exec_recv.proofs.Places.{over-places}
 use Rattle.node_steps.specs.declared.taken.AtHome.{AtHome}
-use Rattle.node_steps.specs.TakenOut.{item_at, start_at, IsOnlyChild}
-use Rattle.exec_hop.specs.Openings.{TakesAll}
+use Rattle.node_steps.specs.TakenOut.{item_at, start_at, IsOnlyChild, TakesOut}
 use Rattle.exec_hop.proofs.Opened.{hop-opens}
 use Rattle.exec_hop.proofs.Places.{hop-only}
 use Rattle.exec_hop.proofs.opening.open.Goals as goal
 
-pub take_all-own-requires-clause-places : goal.take_all-own-requires-clause-places
-take_all-own-requires-clause-places c =
+pub take_out-own-requires-clause-places : goal.take_out-own-requires-clause-places
+take_out-own-requires-clause-places c =
     over-places c.args.table.now c.args.plan.now c.args.name c.requires.over c.requires.can.place
 
-pub take_all-own-requires-clause-only : goal.take_all-own-requires-clause-only
-take_all-own-requires-clause-only c =
+pub take_out-own-requires-clause-only : goal.take_out-own-requires-clause-only
+take_out-own-requires-clause-only c =
     subst (λ (o : Option ℕ). IsOnlyChild c.args.table.now c.args.name o) (sym c.requires.child)
     (hop-only c.args.table.now c.args.name c.args.node.now
     (record {
@@ -36,9 +35,9 @@ returns-in-Start-clause-opens c =
       stands = c.requires.node;
       is = c.requires.hops;
     })
-    c.take_all-own.result c.args.hand.now.me c.take_all-own.new.hand.me
-    (subst (λ (o : Option ℕ). TakesAll c.args.table.now c.args.name o c.take_all-own.result c.args.hand.now.me c.take_all-own.new.hand.me)
-    c.requires.child c.take_all-own.ensures.takes)
+    c.take_out-own.result c.args.hand.now.me c.take_out-own.new.hand.me
+    (subst (λ (o : Option ℕ). TakesOut c.args.table.now c.args.name o c.take_out-own.result c.args.hand.now.me c.take_out-own.new.hand.me)
+    c.requires.child c.take_out-own.ensures.takes)
     (subst IsStart (sym (ap start_at c.in-Start.is)) c.known.ensures)
     _ (sym (ap start_at c.in-Start.is)) (ap (λ (o : AtHome). parcel_in (item_at o)) c.in-Start.is) refl (ap item_at c.in-Start.is)
 
@@ -52,8 +51,8 @@ returns-in-Rest-clause-opens c =
       stands = c.requires.node;
       is = c.requires.hops;
     })
-    c.take_all-own.result c.args.hand.now.me c.take_all-own.new.hand.me
-    (subst (λ (o : Option ℕ). TakesAll c.args.table.now c.args.name o c.take_all-own.result c.args.hand.now.me c.take_all-own.new.hand.me)
-    c.requires.child c.take_all-own.ensures.takes)
+    c.take_out-own.result c.args.hand.now.me c.take_out-own.new.hand.me
+    (subst (λ (o : Option ℕ). TakesOut c.args.table.now c.args.name o c.take_out-own.result c.args.hand.now.me c.take_out-own.new.hand.me)
+    c.requires.child c.take_out-own.ensures.takes)
     (subst IsStart (sym (ap start_at c.in-Rest.is)) c.known-in-Rest.ensures)
     _ (sym (ap start_at c.in-Rest.is)) (ap (λ (o : AtHome). parcel_in (item_at o)) c.in-Rest.is) refl (ap item_at c.in-Rest.is)

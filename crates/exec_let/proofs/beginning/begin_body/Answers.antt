@@ -1,5 +1,5 @@
 use Rattle.std.specs.Prelude.{ℤ}
-use Rattle.std.proofs.Common.{inl, inr, Bool, List, [], refl, sym, ap, ◌∙◌, subst}
+use Rattle.std.proofs.Common.{inl, inr, Bool, List, [], sym, ap, ◌∙◌, subst}
 use Rattle.life_rules.specs.Views.{beside}
 use Rattle.table_steps.specs.Readings.{IsBegunAs}
 use Rattle.exec_start.specs.Entries.{start_below}
@@ -80,14 +80,15 @@ returns-clause-stepped c =
 
 pub returns-then-has_begun-clause-begins : goal.returns-then-has_begun-clause-begins
 returns-then-has_begun-clause-begins c =
-    inr (inl (record {
+    inr (record {
       next_is = c.leave_at_rest.ensures.next;
       start = c.args.env;
-      parcel = c.args.parcel;
-      done_is = refl;
-      from = c.has_begun.new.hand.me;
+      before = c.hear-heard.new.hand.me;
+      middle = c.has_begun.new.hand.me;
+      read = subst (λ (begun : Bool). IsBegunAs c.args.table.now.frame (beside c.args.name c.args.body) begun c.hear-heard.new.hand.me c.has_begun.new.hand.me)
+          c.if-has_begun.true c.has_begun.ensures.begun;
       left = c.leave_at_rest.ensures.left;
-    }))
+    })
 
 pub returns-clause-begins : goal.returns-clause-begins
 returns-clause-begins c = inl (record {

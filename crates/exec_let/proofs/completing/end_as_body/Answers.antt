@@ -1,7 +1,7 @@
 use Rattle.std.proofs.Common.{subst}
 use Rattle.exec_value.specs.declared.outcome.Completion.{Completion}
+use Rattle.node_steps.specs.Completes.{CompletesWith}
 use Rattle.node_steps.proofs.Frames.{ready-is, stepped-after}
-use Rattle.exec_let.specs.Lets.{EndsWith}
 use Rattle.exec_let.proofs.Ended.{body-ends}
 use Rattle.exec_let.proofs.completing.end_as_body.Goals as goal
 
@@ -21,5 +21,5 @@ returns-clause-stepped g c =
 
 pub returns-clause-ends : goal.returns-clause-ends
 returns-clause-ends g c =
-    subst (λ (done : Completion). EndsWith c.args.table.now c.args.name c.end_with.result c.end_with.new.hand.me done)
+    subst (λ (done : Completion). CompletesWith c.args.table.now c.args.name done c.end_with.result c.end_with.new.hand.me)
     c.into_completion.ensures c.end_with.ensures.ends

@@ -1,4 +1,5 @@
-use Rattle.std.proofs.Common.{inl, inr, refl, sym, ap, ◌∙◌}
+use Rattle.std.proofs.Common.{refl, sym, ap, ◌∙◌}
+use Rattle.std.proofs.lemmas.Bool.{both_ways}
 use Rattle.node_steps.specs.Wants.{wanting}
 use Rattle.exec_let.specs.Kinds.{is_small}
 use Rattle.exec_let.proofs.Begun.{pick-leaves}
@@ -20,19 +21,26 @@ deliver_no_memory-requires-clause-large g c κs within =
 
 pub returns-then-is_small-clause-defers : goal.returns-then-is_small-clause-defers
 returns-then-is_small-clause-defers g c =
-    inl (record {
-      next_is = c.leave_at_rest.ensures.next;
-      start = c.args.env;
-      parcel = c.args.parcel;
-      done_is = refl;
-      from = c.args.hand.now.me;
-      left = c.leave_at_rest.ensures.left;
-    })
+    record {
+      later = λ small. record {
+        next_is = c.leave_at_rest.ensures.next;
+        start = c.args.env;
+        from = c.args.hand.now.me;
+        left = c.leave_at_rest.ensures.left;
+      };
+      now = λ large. absurd (both_ways (is_small c.args.parcel.completion) large
+          (ap is_small (sym c.completion.ensures) ∙ sym c.is_small.ensures ∙ c.if-is_small.true));
+    }
 
 pub returns-clause-defers : goal.returns-clause-defers
-returns-clause-defers g c = inr (record {
-  from = c.args.hand.now.me;
-  parcel = wanting c.args.env;
-  is = refl;
-  completed = c.deliver_no_memory.ensures.completed;
-})
+returns-clause-defers g c =
+    record {
+      later = λ small. absurd (both_ways (is_small c.args.parcel.completion)
+          (ap is_small (sym c.completion.ensures) ∙ sym c.is_small.ensures ∙ c.if-is_small.false) small);
+      now = λ large. record {
+        from = c.args.hand.now.me;
+        parcel = wanting c.args.env;
+        done_is = refl;
+        completed = c.deliver_no_memory.ensures.completed;
+      };
+    }

@@ -14,6 +14,6 @@ pub returns-clause-ends : goal.returns-clause-ends
 returns-clause-ends g c = record {
   from = c.args.hand.now.me;
   parcel = c.of-own.result;
-  is = ap (λ (p : Delivery). p.completion) c.of-own.ensures;
+  done_is = ap (λ (p : Delivery). p.completion) c.of-own.ensures;
   completed = c.complete.ensures.completed;
 }

@@ -1,4 +1,5 @@
 use Rattle.std.proofs.Common.{inr, List, ℕ, ◌<◌, length, sym, ap, ◌∙◌, subst}
+use Rattle.exec_job.specs.Answer.{EndsInPlace}
 use Rattle.exec_job.specs.Apply.{TakesData, apply_of, ending}
 use Rattle.exec_job.specs.declared.job.Job.{Job}
 use Rattle.node_images.specs.Picks.{picked_body}
@@ -41,7 +42,7 @@ end_with-requires-clause-may g c κs within =
 
 pub returns-in-Ok-Some-clause-goes : goal.returns-in-Ok-Some-clause-goes
 returns-in-Ok-Some-clause-goes g c =
-    picks-go c.args.table.now c.args.name c.begin_body.result c.begin_body.new.hand.me c.args.node.now c.args.parcel.completion c.args.values
+    picks-go c.args.table.now c.args.name c.begin_body.result c.begin_body.new.hand.me c.args.node.now c.args.parcel c.args.values
     c.in-Ok-Some.body
     (picks-from c.args.node.now c.args.parcel.completion c.args.values c.in-Ok-Some.body c.let_pick.result.now c.let_bodies.result.now
     c.pick_body.new.done c.requires.on c.let_pick.ensures c.let_bodies.ensures c.in-Ok-Some.ensures.answer
@@ -50,10 +51,17 @@ returns-in-Ok-Some-clause-goes g c =
 
 pub returns-in-Ok-None-clause-goes : goal.returns-in-Ok-None-clause-goes
 returns-in-Ok-None-clause-goes g c =
-    answer-goes c.args.table.now c.args.name c.end_with.result c.end_with.new.hand.me c.args.node.now c.args.parcel.completion c.args.values
+    answer-goes c.args.table.now c.args.name c.end_with.result c.end_with.new.hand.me c.args.node.now c.args.parcel c.args.values
     c.pick_body.new.done (c.in-Ok-None.ensures.answer ∙ ap (λ (job : Job). ending (apply_of job c.args.values)) c.let_pick.ensures)
     (ap (picked_body c.pick_body.new.done) (sym c.let_bodies.ensures) ∙ sym c.in-Ok-None.ensures.body ∙ c.in-Ok-None.field-0-is)
     c.end_with.ensures.ends
 
 pub returns-in-Err-clause-goes : goal.returns-in-Err-clause-goes
-returns-in-Err-clause-goes g c = inr c.end_wanting.ensures.defers
+returns-in-Err-clause-goes g c =
+    inr (record {
+      large = λ in_place ends.
+          let ok = c.in-Err.ensures.in_place in_place
+          (subst (λ (job : Job). EndsInPlace (apply_of job c.args.values)) (sym c.let_pick.ensures) ends) in
+          cc;
+      how = c.end_wanting.ensures.defers;
+    })

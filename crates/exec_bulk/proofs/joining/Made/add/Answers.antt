@@ -4,6 +4,6 @@ use Rattle.exec_bulk.specs.Made.{IsMade}
 use Rattle.exec_bulk.proofs.Making.{fault-stays}
 use Rattle.exec_bulk.proofs.joining.Made.add.Goals as goal
 
-pub returns-in-Failed : goal.returns-in-Failed
-returns-in-Failed c job whole part within share made =
+pub returns-in-Failed-clause-adds : goal.returns-in-Failed-clause-adds
+returns-in-Failed-clause-adds c job whole part within share made =
     fault-stays job whole part within c.in-Failed.name (subst (λ (d : Made). IsMade d job whole part) c.in-Failed.is made)
