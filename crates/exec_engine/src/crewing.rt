@@ -28,8 +28,8 @@ fn uses_pool(plan: &Plan) -> bool
     false
 }
 
-// Whether a node goes to the pool: a hop into it ([exec.schedule], [exec.starts.on],
-// [exec.continues.on]).
+// Whether a node is taken in the pool: a hop into it ([exec.schedule], [exec.starts.on],
+// [exec.continues.on]), or a part of a bulk ([exec.bulk]).
 fn goes_to_pool(node: &Node) -> bool
     ensures { result ≡ goes_to_pool node.now }
 {
@@ -37,6 +37,7 @@ fn goes_to_pool(node: &Node) -> bool
         Node::Schedule(on) | Node::StartsOn { on, .. } | Node::ContinuesOn { on, .. } => {
             matches!(on, Context::Pool)
         }
+        Node::Part { .. } => true,
         _ => false,
     }
 }
