@@ -10,6 +10,7 @@ ghost use Rattle.step_tests.specs.Ready.{IsFirst};
 
 mod bulks;
 mod delays;
+mod names;
 
 use exec_io::MemSink;
 use exec_recv::{Gate, OpenGate};
