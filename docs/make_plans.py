@@ -1,9 +1,10 @@
 #!/usr/bin/env python3
-"""Writes docs/PLANS.md: each node and job of a plan with a small plan, records, and what the program printed.
+"""Writes docs/PLANS.md: each node and job of a plan with a small plan, records, and what the program printed. And
+writes docs/plan.schema.json, with the same words on each node and job (docs/make_schema.py).
 
     docs/make_plans.py crates/exec_run/out/exec_run
 
-Each plan is tried against docs/plan.schema.json where Python has the package jsonschema, and so are those of
+Each plan is tried against the schema where Python has the package jsonschema, and so are those of
 tests/cases/plan_files.json: the schema must pass what the program takes, and refuse what it refuses for its form,
 for an unknown name, or for settings that exclude each other.
 """
@@ -13,6 +14,8 @@ import subprocess
 import sys
 import tempfile
 import textwrap
+
+from make_schema import schema_of, schema_text
 
 HERE = os.path.dirname(os.path.abspath(__file__))
 
@@ -383,13 +386,14 @@ REFUSED = [
 FRONT = """# Plans
 
 A plan is a sender expression in JSON. `exec_run run plan.json` runs it for each line of standard input.
-Every example below is a whole plan, and every output is what the program printed: docs/make_plans.py
-wrote this page. docs/plan.schema.json is a JSON Schema of plans, for editors.
+Every example below is a whole plan, and every output is what the program printed: `make docs` writes this page, and
+docs/plan.schema.json, a JSON Schema of plans for editors, with the same words (docs/make_plans.py).
 
 **A plan without an `ahead` runs on the running table**, each record as an operation of its own, and a window of them
 at once. The calling thread serves the loop, and workers serve the pool, each on a thread of its own (`--workers`); with
-no worker the calling thread serves the pool too. A stop request reaches the records that are started after it, and those
-in flight that look for one: in a hop, before a `when_all`, in a `delay` or in a `read_env`.
+no worker the calling thread serves the pool too, and a plan that puts nothing there starts no thread. A stop request
+reaches the records that are started after it, and those in flight that look for one: in a hop, before a `when_all`, in
+a `delay` or in a `read_env`.
 
 A plan with an `ahead` is evaluated plainly: each record whole, when its completion is asked for. No turn of a loop is
 waited for, and children are evaluated one after the other. So a stop request reaches the records that are started after
@@ -440,14 +444,18 @@ nothing, and prints that line.
 """
 
 
+def texts():
+    """What the page says of each node, and of each job."""
+    return {name: text for name, text, _, _ in NODES}, {name: text for name, _, _, text in JOBS}
+
+
 def validator():
     """Says what the schema finds wrong with a plan, or nothing where the package isn't there."""
     try:
         import jsonschema
     except ImportError:
         return None
-    with open(os.path.join(HERE, "plan.schema.json"), encoding="utf-8") as file:
-        schema = jsonschema.Draft4Validator(json.load(file))
+    schema = jsonschema.Draft4Validator(schema_of(*texts()))
     sys.setrecursionlimit(20_000)
     return lambda plan: [error.message for error in schema.iter_errors(plan)]
 
@@ -537,15 +545,18 @@ def main():
     page.append("## Jobs\n\nA job is an operation on the data of a value.\n")
     page += [example(exe, faults, name, text, plan, records) for name, plan, records, text in JOBS]
     page.append(
-        "## Stop rules\n\nIn a record that is started after a stop request each `schedule`, `delay`, `when_all` and hop to a context\n"
-        "ends stopped, save below an `unstoppable`. Up to a window of records are started before the line of the first of\n"
-        "them is written, and a request may stop these too; with a window of one each line is written before the next\n"
-        "record is started.\n"
+        "## Stop rules\n\n"
+        "In a record that is started after a stop request each `schedule`, `delay`, `when_all` and hop to a context\n"
+        "ends stopped, save below an `unstoppable`. Up to a window of records are started before the line of the\n"
+        "first of them is written, and a request may stop these too; with a window of one each line is written\n"
+        "before the next record is started.\n"
     )
-    page += [example(exe, faults, name, text, plan, records, words.split()) for name, text, plan, records, words in SETTINGS]
+    for name, text, plan, records, words in SETTINGS:
+        page.append(example(exe, faults, name, text, plan, records, words.split()))
     page.append(summaries(exe))
-    with open(os.path.join(HERE, "PLANS.md"), "w", encoding="utf-8") as file:
-        file.write("\n".join(page))
+    for name, text in (("PLANS.md", "\n".join(page)), ("plan.schema.json", schema_text(*texts()))):
+        with open(os.path.join(HERE, name), "w", encoding="utf-8") as file:
+            file.write(text)
 
 
 if __name__ == "__main__":

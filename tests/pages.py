@@ -1,72 +1,36 @@
 #!/usr/bin/env python3
-"""Tries what is handed out beside the program: its manual page, what `make install` puts where, the completion of its
-words in bash, and the commands and scripts of docs/SCALE.md.
+"""Tries what is handed out beside the program: its manual page, what `make install` puts where, the script that
+measures, and the commands on README.md and the pages of docs/.
 
     tests/pages.py [--program PATH] [WORD..]     all of them, or those with a WORD in their sentence
 
-A test whose tools aren't installed is told and skipped. The last line is `N passed, M failed`; the status is 1 where
-one failed.
+A command on a page stands in a block `console`, behind `$ `, and below it what it prints. Each block is run, one after
+another in a folder of its own for each page, with the program on the path and samples/ beside it; `$ cat FILE` of a
+file that isn't there makes it. Commands that take long stand in blocks `sh`, where each `make` must be one of the
+Makefile. docs/SCALE.md has tests/scale.py, docs/PLANS.md is written by docs/make_plans.py, and completions have
+tests/completions.py.
+
+A test or block whose tools aren't installed is told and skipped. The last line is `N passed, M failed`; the status is 1
+where one failed.
 """
 import filecmp
 import os
 import re
 import shutil
 import stat
-import subprocess
 import sys
 import tempfile
 
-from check_docs import TOP, text_of
-from run_cases import PROGRAM, main, try_each
-from streams import ADD_ONE, SECONDS, Wrong, attempt, expect, plan_of
+from check_docs import TOP, documents, text_of
+from completions import completion
+from room import Room, ended, try_those
+from run_cases import main
+from streams import Wrong, expect
 
 PAGE = os.path.join("docs", "exec_run.1")
-COMPLETION = os.path.join("completions", "exec_run.bash")
-REFUSED = 3
-# what docs/SCALE.md says for a run's limit, and what stands for it here
-SMALLER = {"1000000": "7", "1000001": "8", "2000000": "14"}
-ONE_RUN = {"lines": "run plan.json", "summary": "run plan.json --summary"}
-NOT_RUN = "On more machines"
-
-WHOLE = "records 2 values 1 errors 1 stopped 0 out-of-memory 0 bad 0 sum 5\n"
-NO_SUMMARIES = [
-    "",
-    "\n",
-    "1 value 6\n",
-    WHOLE.rstrip("\n"),
-    WHOLE + "\n",
-    WHOLE.replace("values 1", "values 2"),
-    WHOLE.replace("values 1 errors 1", "values 0 errors 2"),
-    WHOLE.replace("records 2", "records 02"),
-    WHOLE.replace("sum 5", "sum -0"),
-    WHOLE.replace("sum 5", "sum 5.0"),
-    WHOLE.replace("errors 1", "errors -1"),
-    WHOLE.replace("bad", "bad-record"),
-    WHOLE.replace(" ", "  "),
-]
-
-# words, of which the last is completed, and what comes; bash cuts at `=`
-COMPLETED = [
-    ([""], "run gen replay check"),
-    (["re"], "replay"),
-    (["ne"], ""),
-    (["run", ""], "plan.json plan.old trace.txt"),
-    (["run", "plan"], "plan.json plan.old"),
-    (["check", "t"], "trace.txt"),
-    (["check", "trace.txt", ""], ""),
-    (["run", "plan.json", ""], "--workers --window --order --summary"),
-    (["run", "--s"], "--summary"),
-    (["run", "--summary", "plan.j"], "plan.json"),
-    (["run", "plan.json", "--window", ""], ""),
-    (["run", "plan.json", "--window", "5", "--w"], "--workers"),
-    (["run", "plan.json", "--window", "=", "5", ""], "--workers --order --summary"),
-    (["run", "--order", ""], "fifo lifo"),
-    (["run", "--order", "="], "fifo lifo"),
-    (["run", "--order", "=", "l"], "lifo"),
-    (["gen", "plan.json", ""], ""),
-    (["gen", "plan.json", "5", ""], "--workers --window --order"),
-    (["gen", "--"], "--workers --window --order"),
-]
+MEASURE = os.path.join(TOP, "bench", "measure.py")
+# tools that a new user may not have: a block that calls one is skipped where it isn't installed
+OTHERS = ("jq", "mawk", "parallel")
 
 
 def plain_page():
@@ -79,14 +43,6 @@ def unescaped(text):
     return text.replace("\\-", "-").replace("\\e", "\\")
 
 
-def ended(command, **settings):
-    """The command at its end: its status, and what it wrote."""
-    try:
-        return subprocess.run(command, capture_output=True, text=True, timeout=SECONDS, check=False, **settings)
-    except subprocess.TimeoutExpired:
-        raise Wrong(" ".join(command), f"an end within {SECONDS} seconds", "none") from None
-
-
 def usage_of(program):
     return ended([program]).stderr.splitlines()
 
@@ -95,6 +51,11 @@ def the_page_has_no_warnings(_):
     for command in (["man", "--warnings", "-l", PAGE], ["groff", "-ww", "-man", "-z", PAGE]):
         ran = ended(command, cwd=TOP)
         expect(" ".join(command), (0, ""), (ran.returncode, ran.stderr))
+
+
+def the_page_is_clean_by_mandoc(_):
+    ran = ended(["mandoc", "-T", "lint", PAGE], cwd=TOP)
+    expect("mandoc -T lint", (0, ""), (ran.returncode, ran.stdout))
 
 
 def the_page_says_each_line_of_the_usage_note(program):
@@ -123,164 +84,79 @@ def the_page_has_each_refusal_and_status(_):
     expect("statuses", list("01234567"), statuses)
 
 
+def the_page_has_each_large_limit_of_the_other_pages(_):
+    limits, number = plain_page().split("LIMITS")[1].split("EXIT STATUS")[0], r"(?<![\d,])\d{1,3}(?:,\d{3})+(?![\d,])"
+    plans, traces = (text_of(os.path.join("docs", name)) for name in ("PLANS.md", "TRACES.md"))
+    told = re.findall(number, plans.split("## Nodes")[0] + traces.split("## What a check says")[0])
+    numbers_of_32_bits = "4,294,967,295"
+    for limit in sorted(set(told) - {numbers_of_32_bits}):
+        if not re.search(rf"(?<![\d,]){limit}(?![\d,]*\d)", limits):
+            raise Wrong("a limit on the page", limit, "none")
+
+
+def commands_of(block):
+    """The commands of a block, each with what the page says that it prints."""
+    found = []
+    for line in block.splitlines(keepends=True):
+        if line.startswith("$ "):
+            found.append([line[2:], ""])
+        elif found and found[-1][0].endswith("\\\n"):
+            found[-1][0] += line
+        else:
+            found[-1][1] += line
+    return found
+
+
+def printed(room, block):
+    """The block as it is where its commands print what they print, all in one shell."""
+    script, written = "", 0
+    for command, shown in commands_of(block):
+        made = re.fullmatch(r"cat ([\w.]+)\n", command)
+        if made and not os.path.exists(room.path(made[1])):
+            room.write(made[1], shown)
+        script += f"status=$?; echo '\x1e'; (exit $status)\n{command}"
+        written += 1
+    parts = room.run(script).stdout.split("\x1e\n")[1:]
+    expect("how many commands were run", written, len(parts))
+    return "".join(f"$ {command}{out}" for (command, _), out in zip(commands_of(block), parts))
+
+
 def the_examples_of_the_page_are_what_the_program_prints(program):
     examples = text_of(PAGE).split(".SH EXAMPLES\n.EX\n")[1].split(".EE")[0]
-    lines = unescaped(re.sub(r"\\f[BP]", "", examples)).splitlines()
+    block = unescaped(re.sub(r"\\f[BP]", "", examples))
     with Room(program) as room:
-        room.write("add_one.json", lines[1] + "\n")
-        printed = ""
-        for line in lines:
-            if line.startswith("$ "):
-                printed += line + "\n" + room.run(line[2:]).stdout
-    expect("the examples", "\n".join(lines) + "\n", printed)
+        expect("the examples", block, printed(room, block))
 
 
-class Room:
-    """A folder with the samples, a plan, and the program on the path, where commands are run."""
-
-    def __init__(self, program, plan=plan_of(ADD_ONE).decode()):
-        self.folder = tempfile.TemporaryDirectory()
-        self.name = self.folder.name
-        os.mkdir(self.path("bin"))
-        os.symlink(program, self.path("bin/exec_run"))
-        os.symlink(os.path.join(TOP, "samples"), self.path("samples"))
-        self.write("plan.json", plan)
-
-    def __enter__(self):
-        return self
-
-    def __exit__(self, *_):
-        self.folder.cleanup()
-
-    def path(self, name):
-        return os.path.join(self.name, name)
-
-    def write(self, name, text):
-        with open(self.path(name), "w", encoding="utf-8") as file:
-            file.write(text)
-
-    def read(self, name):
-        with open(self.path(name), encoding="utf-8") as file:
-            return file.read()
-
-    def run(self, commands, given=""):
-        path = f"{self.path('bin')}:{os.environ['PATH']}"
-        return ended(["bash", "-c", commands], cwd=self.name, env={**os.environ, "PATH": path}, input=given)
-
-
-def blocks():
-    """Each block of commands in docs/SCALE.md that is run, with the heading above it."""
-    for section in text_of(os.path.join("docs", "SCALE.md")).split("\n## ")[1:]:
-        if not section.startswith(NOT_RUN):
-            for block in re.findall(r"```sh\n(.*?)```", section, re.S):
-                yield section.split("\n")[0], re.sub(r"\d{7}", lambda number: SMALLER[number[0]], block)
-
-
-def streams_of_records():
-    """Records that are all values, and records of which one is bad, one an error, and the last has no line feed."""
-    numbers = [str(7919 * number % 100003 - 50000) for number in range(31)]
-    yield "\n".join(numbers) + "\n"
-    numbers[6], numbers[12] = "x", "9223372036854775807"
-    yield "\n".join(numbers)
-
-
-def the_commands_of_the_page_on_parts_write_what_one_run_writes(program):
-    found = list(blocks())
-    expect("how many blocks are run", 6, len(found))
-    for records in streams_of_records():
-        for heading, block in found:
-            with Room(program) as room:
-                room.write("records", records)
-                ran = room.run(block)
-                name = re.search(r"> (lines|summary)$", block, re.M)[1]
-                words = "gen plan.json 14" if "exec_run gen" in block else ONE_RUN[name]
-                one = room.run(f"exec_run {words} < records")
-                expect(f"{heading}: notes", "", ran.stderr)
-                expect(f"{heading}: {name}", one.stdout, room.read(name))
-                expect(f"{heading}: the status", one.returncode, ran.returncode)
-
-
-def refusal(room, commands, what, note, given=""):
-    ran = room.run(commands, given)
-    expect(f"{what}: the note", f"refused: {note}\n", ran.stderr)
-    expect(f"{what}: the status", REFUSED, ran.returncode)
-    return ran.stdout
-
-
-def a_part_that_is_not_whole_is_refused(program):
-    changes = [
-        ("echo 7 > b.status", "b.status: the status is 7, and not 0, 1 or 4"),
-        ("rm b.status", "b.status: No such file or directory"),
-        ("rm b.out", "b.out: No such file or directory"),
-        (": > b.status", "b.status: the status is missing, and not 0, 1 or 4"),
-        ("echo 1 > b.status", "b.status: the status is 1, but the lines of b.out say 0"),
-        ("echo 4 > b.status; : > b.out", "b.status: the status is 4, but the lines of b.out say 0"),
-        ("sed -i 2d b.out", "b.out: line 2 isn't that of record 2"),
-        ("sed -i 's/^2 value/2 valued/' b.out", "b.out: line 2 isn't that of record 2"),
-        ("printf '4 value' >> b.out", "b.out: line 4 isn't that of record 4"),
-        ("exec_run gen plan.json 3 > b.out", "b.out: line 1 isn't that of record 1"),
-    ]
-    for change, note in changes:
+def the_commands_on_the_pages_print_what_the_pages_say(program):
+    found = 0
+    for page in documents():
         with Room(program) as room:
-            room.run("for part in a b; do seq 3 | exec_run run plan.json > $part.out; echo $? > $part.status; done")
-            expect("the status of whole parts", 0, room.run("samples/join_lines.py a b").returncode)
-            room.run(change)
-            refusal(room, "samples/join_lines.py a b", change, note)
-    with Room(program) as room:
-        room.run("for n in 1 3; do seq $n | exec_run run plan.json > $n.out; echo $? > $n.status; done")
-        note = "3.out: line 2 wasn't dealt in turn: 1.out has ended before"
-        refusal(room, "samples/join_lines.py --dealt 1 3", "parts that weren't dealt", note)
+            for block in re.findall(r"^```console\n(.*?)^```", text_of(page), re.S | re.M):
+                found += 1
+                missing = [tool for tool in OTHERS if re.search(rf"\b{tool} ", block) and not shutil.which(tool)]
+                if missing:
+                    print(f"skipped pages.py: a block of {page}: {', '.join(missing)} isn't installed")
+                else:
+                    expect(f"a block of {page}", block, printed(room, block))
+    if found < 9:
+        raise Wrong("how many blocks the pages have", "9 or more", str(found))
 
 
-def what_is_no_summary_is_refused(program):
-    with Room(program) as room:
-        for text in NO_SUMMARIES:
-            ran = room.run("samples/add_summaries.py", text)
-            expect(f"{text!r}: the status", REFUSED, ran.returncode)
-            expect(f"{text!r}: out", "", ran.stdout)
-            if not ran.stderr.startswith("refused: "):
-                raise Wrong(f"{text!r}: the note", "refused: ..", ran.stderr)
-        note = "line 2: this isn't a summary"
-        refusal(room, "samples/add_summaries.py", "a line among summaries", note, WHOLE + "1 value 6\n" + WHOLE)
-        room.write("part.out", WHOLE)
-        room.write("part.status", "5\n")
-        note = "part.status: the status is 5, and not 0, 1 or 4"
-        refusal(room, "samples/add_summaries.py part", "a part with a read fault", note)
-        room.write("part.status", "1\n")
-        ran = room.run("samples/add_summaries.py part part | cat - part.out | samples/add_summaries.py")
-        expect("a sum of sums", WHOLE.replace("2", "6").replace(" 1", " 3").replace("5", "15"), ran.stdout)
-        expect("its status", 1, ran.returncode)
+def each_make_on_the_pages_is_one_of_the_makefile(_):
+    known = re.findall(r"^(\w+):", text_of("Makefile"), re.M)
+    for page in documents():
+        for target in sorted(set(re.findall(r"(?:^|`)make (\w+)\b", text_of(page), re.M))):
+            if target not in known:
+                raise Wrong(f"`make {target}` of {page}", "a target of the Makefile", "none")
 
 
-def words_of_the_scripts_that_ask_for_nothing_are_told(program):
-    with Room(program) as room:
-        for words in ("join_lines.py", "join_lines.py --dealt", "join_lines.py --help", "add_summaries.py --help"):
-            ran = room.run(f"samples/{words}")
-            expect(f"{words}: the status", (2, ""), (ran.returncode, ran.stdout))
-
-
-def the_completion_completes(_):
-    script = f"source {os.path.join(TOP, COMPLETION)}\n"
-    script += "complete=$(complete -p exec_run | sed 's/.*-F \\([^ ]*\\).*/\\1/')\n"
-    for words, _ in COMPLETED:
-        quoted = " ".join(f"'{word}'" for word in words)
-        script += f"COMP_WORDS=(exec_run {quoted}); COMP_CWORD={len(words)}; COMPREPLY=(other)\n"
-        script += '$complete exec_run; echo "${COMPREPLY[*]}"\n'
-    with tempfile.TemporaryDirectory() as folder:
-        for name in ("plan.json", "plan.old", "trace.txt"):
-            open(os.path.join(folder, name), "w", encoding="utf-8").close()
-        ran = ended(["bash", "-c", script], cwd=folder)
-    expect("notes", "", ran.stderr)
-    expect("how many answers", len(COMPLETED), ran.stdout.count("\n"))
-    for (words, wanted), came in zip(COMPLETED, ran.stdout.split("\n")):
-        expect(f"after {words}", sorted(wanted.split()), sorted(came.split()))
-
-
-def the_completion_knows_the_words_of_the_usage_note(program):
-    usage, known = "\n".join(usage_of(program)), text_of(COMPLETION)
-    for word in sorted(set(re.findall(r"--\w+|(?<=exec_run )\w+|\w+(?=\|)|(?<=\|)\w+", usage))):
-        if not re.search(rf"(?<![\w-]){word}\b", known):
-            raise Wrong("a word in the completion", word, "none")
+def the_script_that_measures_finds_what_is_due(program):
+    ran = ended([sys.executable, MEASURE, program, "--smaller", "1000", "--rounds", "1", "--no-instructions"])
+    expect("notes", (0, ""), (ran.returncode, ran.stderr))
+    for work in ("add 1", "plan G", "rows of 4,096"):
+        if not re.search(rf"^{work} +exec_run ", ran.stdout, re.M):
+            raise Wrong("a row of the table", work, ran.stdout)
 
 
 def made(folder, *words):
@@ -295,12 +171,14 @@ def files_below(folder):
     return sorted(os.path.relpath(path, folder) for path in found)
 
 
-def make_install_puts_three_files_and_make_uninstall_takes_them_away(program):
+def make_install_puts_its_files_and_make_uninstall_takes_them_away(program):
     for prefix, words in (("usr/local", []), ("opt/exec", ["PREFIX=/opt/exec"])):
         puts = {
             f"{prefix}/bin/exec_run": (program, 0o755),
-            f"{prefix}/share/bash-completion/completions/exec_run": (os.path.join(TOP, COMPLETION), 0o644),
             f"{prefix}/share/man/man1/exec_run.1": (os.path.join(TOP, PAGE), 0o644),
+            f"{prefix}/share/bash-completion/completions/exec_run": (completion("bash"), 0o644),
+            f"{prefix}/share/zsh/site-functions/_exec_run": (completion("zsh"), 0o644),
+            f"{prefix}/share/fish/vendor_completions.d/exec_run.fish": (completion("fish"), 0o644),
         }
         with tempfile.TemporaryDirectory() as folder:
             ran = made(folder, "install", f"PROGRAM={program}", *words)
@@ -324,40 +202,26 @@ def make_install_builds_nothing(_):
         expect("the files", [], files_below(folder))
 
 
-# the tests, each with the tools that it wants
-ON_PARTS = ("bash", "split", "xargs", "sed", "seq", "awk")
 TESTS = [
     (the_page_has_no_warnings, ("man", "groff")),
+    (the_page_is_clean_by_mandoc, ("mandoc",)),
     (the_page_says_each_line_of_the_usage_note, ()),
     (the_page_tells_of_each_word, ()),
     (the_page_has_each_refusal_and_status, ()),
+    (the_page_has_each_large_limit_of_the_other_pages, ()),
     (the_examples_of_the_page_are_what_the_program_prints, ("bash",)),
-    (the_commands_of_the_page_on_parts_write_what_one_run_writes, ON_PARTS),
-    (a_part_that_is_not_whole_is_refused, ON_PARTS),
-    (what_is_no_summary_is_refused, ("bash",)),
-    (words_of_the_scripts_that_ask_for_nothing_are_told, ("bash",)),
-    (the_completion_completes, ("bash", "sed")),
-    (the_completion_knows_the_words_of_the_usage_note, ()),
-    (make_install_puts_three_files_and_make_uninstall_takes_them_away, ("make", "install")),
+    (the_commands_on_the_pages_print_what_the_pages_say, ("bash", "awk", "grep")),
+    (each_make_on_the_pages_is_one_of_the_makefile, ()),
+    (the_script_that_measures_finds_what_is_due, ()),
+    (make_install_puts_its_files_and_make_uninstall_takes_them_away, ("make", "install")),
     (make_install_builds_nothing, ("make",)),
 ]
 
 
 def run(program, words=()):
     """Runs the tests. The answer is how many passed and how many failed."""
-    program = os.path.abspath(program)
-    chosen = []
-    for test, tools in TESTS:
-        sentence = test.__name__.replace("_", " ")
-        missing = [tool for tool in tools if not shutil.which(tool)]
-        if words and not any(word in sentence for word in words):
-            continue
-        if missing:
-            print(f"skipped pages.py: {sentence}: {', '.join(missing)} isn't installed")
-        else:
-            chosen.append((f"pages.py: {sentence}", test))
-    return try_each(chosen, lambda test: attempt(test, program), len(TESTS))
+    return try_those("pages.py", TESTS, program, words)
 
 
 if __name__ == "__main__":
-    sys.exit(main("Tries the manual page, make install, completion and docs/SCALE.md.", run))
+    sys.exit(main("Tries the manual page, make install, the script that measures, and the commands on the pages.", run))

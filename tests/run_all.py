@@ -1,7 +1,8 @@
 #!/usr/bin/env python3
 """Runs the tables of cases, the streams, spoilt plans and random ones over each build of the program, refuses it memory
-(tests/refused_memory.py), tries what is handed out beside it (tests/pages.py), and checks the documents: docs/PLANS.md
-must be what docs/make_plans.py writes with that build.
+(tests/refused_memory.py), tries what is handed out beside it (tests/pages.py, tests/completions.py, tests/scale.py),
+and checks the documents: docs/PLANS.md and docs/plan.schema.json must be what docs/make_plans.py writes with that
+build.
 
     tests/run_all.py [--gate STATUS] [PROGRAM..]
 
@@ -17,14 +18,17 @@ import sys
 import tempfile
 
 import check_docs
+import completions
 import mutate_plans
 import pages
 import random_plans
 import refused_memory
 import run_cases
+import scale
 import streams
 
 BUILDS = ("", ".by-rattle")
+WRITTEN = (os.path.join("docs", "PLANS.md"), os.path.join("docs", "plan.schema.json"))
 
 
 def builds():
@@ -34,22 +38,22 @@ def builds():
 
 
 def cookbook(program):
-    """Writes docs/PLANS.md anew in a copy. The answer is how many checks passed and how many failed."""
-    kept = os.path.join("docs", "PLANS.md")
+    """Writes docs/PLANS.md and the schema anew in a copy. The answer is how many checks passed and how many failed."""
     with tempfile.TemporaryDirectory() as folder:
         for name in ("docs", "tests"):
             shutil.copytree(os.path.join(check_docs.TOP, name), os.path.join(folder, name))
         command = [sys.executable, "docs/make_plans.py", os.path.abspath(program)]
         made = subprocess.run(command, cwd=folder, capture_output=True, check=False)
-        with open(os.path.join(folder, kept), encoding="utf-8") as file:
-            written = file.read()
-    if made.returncode:
-        print(f"FAILED  docs/make_plans.py: {made.stderr.decode(errors='replace').strip()[-400:]}")
-    elif written != check_docs.text_of(kept):
-        print(f"FAILED  {kept} isn't what docs/make_plans.py writes with {program}")
-    else:
-        return 1, 0
-    return 0, 1
+        if made.returncode:
+            print(f"FAILED  docs/make_plans.py: {made.stderr.decode(errors='replace').strip()[-400:]}")
+            return 0, len(WRITTEN)
+        failed = 0
+        for kept in WRITTEN:
+            with open(os.path.join(folder, kept), encoding="utf-8") as file:
+                if file.read() != check_docs.text_of(kept):
+                    print(f"FAILED  {kept} isn't what docs/make_plans.py writes with {program}")
+                    failed += 1
+    return len(WRITTEN) - failed, failed
 
 
 def main():
@@ -63,7 +67,7 @@ def main():
             print(f"FAILED  there is no program {program}")
             counts.append((0, 1))
             continue
-        scripts = (run_cases, streams, mutate_plans, random_plans, refused_memory, pages)
+        scripts = (run_cases, streams, mutate_plans, random_plans, refused_memory, pages, completions, scale)
         found = [it.run(program) for it in scripts]
         found.append(cookbook(program))
         print(f"{program}: {sum(it[0] for it in found)} tests passed, {sum(it[1] for it in found)} not")
