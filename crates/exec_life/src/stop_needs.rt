@@ -112,7 +112,8 @@ impl Parts {
     fn may_forward(&self, hand: u32, place: Place) -> bool
         requires ready { IsReady self.now hand }
         requires place { is_place (shown self.now) place ≡ true }
-        ensures { let s = shown self.now in result ≡ may_forward s (s.view hand) (name_at s place) }
+        ensures { let s = shown self.now in
+            result ≡ may_forward s (s.view hand) (name_at s place) }
     {
         self.runs(hand, place)
             || self.holds(hand, place)

@@ -74,7 +74,8 @@ fn read_numbers(alloc: Global, inner: &[u8]) -> Result<Vec<i64>, RecordFault>
 /// Appends the number of a part.
 fn push_number(numbers: &mut Vec<i64>, part: &[u8]) -> Result<(), RecordFault>
     ensures ok { OnOk result (with_number numbers.old.items part.now ≡ Some numbers.new.items) }
-    ensures bad { result ≡ Err RecordFault.Bad → with_number numbers.old.items part.now ≡ None }
+    ensures bad { result ≡ Err RecordFault.Bad
+        → with_number numbers.old.items part.now ≡ None }
 {
     let number = read_int(part).ok_or(RecordFault::Bad)?;
     if numbers.len() >= NUMBERS {

@@ -68,7 +68,8 @@ impl Tree {
     pub fn open(alloc: Global, nodes: Vec<TreeNode>) -> Result<Tree, TreeFault>
         ensures nodes { IfOk result (λ tree. tree ≡ nodes.items) }
         ensures tree { OnOk result (IsTree nodes.items) }
-        ensures shape { (n : ℕ) → (result ≡ Err (TreeFault.Shape n)) ↔ IsFirstFault nodes.items n }
+        ensures shape { (n : ℕ) →
+            (result ≡ Err (TreeFault.Shape n)) ↔ IsFirstFault nodes.items n }
         ensures no_memory { result ≡ Err TreeFault.NoMemory → IsTree nodes.items }
     {
         if let Some(node) = first_fault(&nodes) {

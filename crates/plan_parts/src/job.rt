@@ -121,7 +121,8 @@ fn fail_job(name: Reading<Txt>) -> Reading<Job>
 
 /// `append` of a text.
 fn append_job(alloc: Global, value: &Value) -> Result<Reading<Job>, AllocError>
-    ensures value { IfOk result (λ reading. reading ≡ job_parts JobWord.Append (view value.now)) }
+    ensures value { IfOk result
+        (λ reading. reading ≡ job_parts JobWord.Append (view value.now)) }
     ensures lawful { IfOk result (λ reading. IfGood reading IsLawfulJob) }
 {
     match text_at(value, "text") {
@@ -159,7 +160,8 @@ fn place_job(place: Reading<u32>) -> Reading<Job>
 
 /// `value_or` with a number or a text.
 fn value_or_job(alloc: Global, value: &Value) -> Result<Reading<Job>, AllocError>
-    ensures value { IfOk result (λ reading. reading ≡ job_parts JobWord.ValueOr (view value.now)) }
+    ensures value { IfOk result
+        (λ reading. reading ≡ job_parts JobWord.ValueOr (view value.now)) }
     ensures lawful { IfOk result (λ reading. IfGood reading IsLawfulJob) }
 {
     match value.get("else") {

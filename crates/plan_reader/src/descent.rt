@@ -79,8 +79,8 @@ impl Walk {
         levels: u32,
     ) -> Result<(), AllocError>
         requires { IsTidy self.old }
-        ensures { OnOk result
-            (self.new ≡ parts (walk levels) (NodeWord.Adaptor adaptor) (view value.now) self.old) }
+        ensures { OnOk result (self.new ≡
+            parts (walk levels) (NodeWord.Adaptor adaptor) (view value.now) self.old) }
     {
         self.child(alloc, value, "child", levels)?;
         let reading = adaptor_node(alloc, adaptor, value, self.last())?;
@@ -208,8 +208,8 @@ impl Walk {
         levels: u32,
     ) -> Result<Vec<NodeId>, AllocError>
         requires { IsTidy self.old }
-        ensures walked { OnOk result
-            (self.new ≡ (each (walk levels) (items_view values.now) (none_listed self.old)).walked) }
+        ensures walked { OnOk result (self.new ≡
+            (each (walk levels) (items_view values.now) (none_listed self.old)).walked) }
         ensures numbers { IfOk result (λ numbers. numbers.items
             ≡ (each (walk levels) (items_view values.now) (none_listed self.old)).numbers) }
     {

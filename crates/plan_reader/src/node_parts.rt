@@ -60,7 +60,8 @@ pub(crate) fn adaptor_node(
     value: &Value,
     child: NodeId,
 ) -> Result<Reading<Node>, AllocError>
-    ensures value { IfOk result (λ reading. reading ≡ adaptor_node adaptor (view value.now) child) }
+    ensures value { IfOk result
+        (λ reading. reading ≡ adaptor_node adaptor (view value.now) child) }
     ensures conditions { IfOk result (λ reading. IfGood reading MeetsConditions) }
 {
     match adaptor {

@@ -184,7 +184,8 @@ impl Walk {
 
     /// Notes a key that isn't one of these.
     pub(crate) fn check_keys(&mut self, known: &[&str], value: &Value)
-        ensures { self.new ≡ check_keys (map (λ key. key.now) known.now) (view value.now) self.old }
+        ensures { self.new ≡
+            check_keys (map (λ key. key.now) known.now) (view value.now) self.old }
     {
         if has_unknown_key(value, known) {
             self.blame(NAME_FAULT);

@@ -59,7 +59,8 @@ fn push_children(
     requires plan { IsPlan plan.now }
     requires node_is { slice_get plan.now.nodes at ≡ Some node.now }
     ensures { OnOk result (order.new.items ≡ order.old.items
-        ++ flat_map (file_order plan.now.nodes) (children_named (below_of node.now) (listed node.now))) }
+        ++ flat_map (file_order plan.now.nodes)
+        (children_named (below_of node.now) (listed node.now))) }
 {
     match below_of(node) {
         Below::Nothing => Ok(()),

@@ -19,7 +19,8 @@ use std::alloc::{AllocError, Global};
 /// The members of a node's object beside its children.
 pub(crate) fn own_members(alloc: Global, node: &Node) -> Result<Members, AllocError>
     requires { MeetsConditions node.now }
-    ensures value { IfOk result (λ members. members_view members.entries ≡ own_members node.now) }
+    ensures value { IfOk result
+        (λ members. members_view members.entries ≡ own_members node.now) }
     ensures held { OnOk result (IsHeldNode node.now) }
 {
     match node {

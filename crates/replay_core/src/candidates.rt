@@ -176,7 +176,8 @@ impl Listing<'_> {
     // The places after whose arming the hand may look.
     fn waiting(&self, alloc: Global) -> Result<Vec<Place>, AllocError>
         ensures { let s = machine self.now.state.now in
-            IfOk result (λ waiting. waiting.items ≡ filter (is_waiting s self.now.hand) (places_of s)) }
+            IfOk result (λ waiting.
+            waiting.items ≡ filter (is_waiting s self.now.hand) (places_of s)) }
     {
         let mut waiting = Vec::new(alloc);
         for place in self.places {
@@ -198,7 +199,8 @@ impl Listing<'_> {
         requires { let s = machine self.now.state.now in
             waiting.now ≡ filter (is_waiting s self.now.hand) (places_of s) }
         ensures { let s = machine self.now.state.now in
-            OnOk result (Keeps s self.now.hand found.old.items found.new.items (looks_at s source)) }
+            OnOk result
+            (Keeps s self.now.hand found.old.items found.new.items (looks_at s source)) }
     {
         for place in waiting {
             let after = Some(*place);
@@ -223,7 +225,8 @@ impl Listing<'_> {
     // Keeps the requests of a source.
     fn keep_requests_at(&self, source: SourceAt, found: &mut Vec<Event>) -> Result<(), AllocError>
         ensures { let s = machine self.now.state.now in
-            OnOk result (Keeps s self.now.hand found.old.items found.new.items (requests_at source)) }
+            OnOk result
+            (Keeps s self.now.hand found.old.items found.new.items (requests_at source)) }
     {
         let failure = false;
         self.keep(Event::Request { source, failure }, found)?;

@@ -25,7 +25,8 @@ pub fn first_state(alloc: Global, setup: &Opening) -> Result<State, AllocError>
 
 /// The hand of an entry does what the entry says, where that is a step; else nothing changes.
 pub fn advance(alloc: Global, state: &mut State, entry: &Entry) -> Result<bool, AllocError>
-    ensures exact { IfOk result (λ taken. taken ≡ is_step (machine state.old) (move_of entry.now)) }
+    ensures exact { IfOk result
+        (λ taken. taken ≡ is_step (machine state.old) (move_of entry.now)) }
     ensures after { OnOk result
         (machine state.new ≡ moved (machine state.old) (move_of entry.now)) }
     ensures table { OnOk result (SameTable (machine state.old) (machine state.new)) }

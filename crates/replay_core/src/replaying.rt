@@ -40,8 +40,8 @@ fn follow(
     entries: &mut Vec<Entry>,
 ) -> Result<(), AllocError>
     requires { choice.hand < (machine state.old).hands }
-    ensures entry { OnOk result
-        (Follows (machine state.old) (machine state.new) choice entries.old.items entries.new.items) }
+    ensures entry { OnOk result (Follows (machine state.old) (machine state.new) choice
+        entries.old.items entries.new.items) }
     ensures table { OnOk result (SameTable (machine state.old) (machine state.new)) }
 {
     let Some(event) = choose(alloc, state, choice)? else {

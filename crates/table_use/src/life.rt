@@ -77,7 +77,8 @@ fn collects(table: &Table, hand: &mut Worker, block: Block, root: Name) -> Resul
     ensures calm { IfOk result (λ _. IsCalm hand.new.me) }
     ensures answer { IfOk result (λ r. r.value ≡ r.number + table.now.frame.over.value) }
     ensures number { IfOk result (λ r. IsNotedNumber root hand.old.me r.number) }
-    ensures emptied { IfOk result (λ _. LeftBlockEmpty table.now block hand.new ⟦<Item as Cargo>⟧) }
+    ensures emptied { IfOk result
+        (λ _. LeftBlockEmpty table.now block hand.new ⟦<Item as Cargo>⟧) }
     ensures notes { IfErr result (λ _. KeepsNotes hand.old.me hand.new.me) }
     ensures steps { IfErr result (λ _. GoesOn hand.old.me hand.new.me) }
     ensures fault { IfErr result (StopsAt table.now hand.old.me hand.new.me root) }

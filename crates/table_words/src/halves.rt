@@ -36,7 +36,8 @@ pub fn words_are_exact()
     ensures control { (w : ℕ) → control_written (stamp_of w) (control_read w) ≡ w }
     ensures callback { (w : ℕ) → code_of w ≤ 4
         → callback_written (stamp_of w) (callback_read w) ≡ w }
-    ensures source { (w : ℕ) → code_of w < 8 → source_written (stamp_of w) (source_read w) ≡ w }
+    ensures source { (w : ℕ) → code_of w < 8
+        → source_written (stamp_of w) (source_read w) ≡ w }
     ensures block { (w : ℕ) → code_of w ≤ 2 → block_written (block_read w) ≡ w }
     ensures scope { (w : ℕ) → w < 2 ^ 36 → scope_written (scope_read w) ≡ w }
 {}

@@ -102,7 +102,8 @@ fn read_plain(word: &[u8], rest: &[u8]) -> Option<Event>
 }
 
 fn read_await(alloc: Global, rest: &[u8]) -> Result<Option<Event>, AllocError>
-    ensures { IfOk result (λ event. event ≡ in_halves Await place_in children_in blank rest.now) }
+    ensures { IfOk result
+        (λ event. event ≡ in_halves Await place_in children_in blank rest.now) }
 {
     let Some(cut) = cut_at(rest, b' ') else {
         return Ok(None);

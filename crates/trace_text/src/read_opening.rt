@@ -22,7 +22,8 @@ impl<'a> Lines<'a> {
     /// The next line, where a line feed ends it.
     pub fn next_line(&mut self) -> Option<&'a [u8]>
         ensures { MatchOption result (cut_at 10 self.old.rest.now ≡ None)
-            (λ line. cut_at 10 self.old.rest.now ≡ Some (record { front = line.now; rest = self.new.rest.now })) }
+            (λ line. cut_at 10 self.old.rest.now
+            ≡ Some (record { front = line.now; rest = self.new.rest.now })) }
     {
         let cut = cut_at(self.rest, b'\n')?;
         self.rest = cut.rest;

@@ -18,7 +18,8 @@ pub fn read_trace(alloc: Global, bytes: &[u8]) -> Result<Trace, TraceFault>
     ensures ok { IfOk result (λ trace. trace_in bytes.now ≡ Ok trace) }
     ensures short { OnOk result (length bytes.now ≤ FILE_BYTES) }
     ensures too_long { (result ≡ Err TraceFault.TooLong) ↔ (FILE_BYTES < length bytes.now) }
-    ensures line { (n : ℕ) → result ≡ Err (TraceFault.Line n) → trace_in bytes.now ≡ Err n }
+    ensures line { (n : ℕ) → result ≡ Err (TraceFault.Line n)
+        → trace_in bytes.now ≡ Err n }
 {
     if bytes.len() > FILE_BYTES {
         return Err(TraceFault::TooLong);
@@ -31,7 +32,8 @@ pub fn read_schedule(alloc: Global, bytes: &[u8]) -> Result<Schedule, TraceFault
     ensures ok { IfOk result (λ schedule. schedule_in bytes.now ≡ Ok schedule) }
     ensures short { OnOk result (length bytes.now ≤ FILE_BYTES) }
     ensures too_long { (result ≡ Err TraceFault.TooLong) ↔ (FILE_BYTES < length bytes.now) }
-    ensures line { (n : ℕ) → result ≡ Err (TraceFault.Line n) → schedule_in bytes.now ≡ Err n }
+    ensures line { (n : ℕ) → result ≡ Err (TraceFault.Line n)
+        → schedule_in bytes.now ≡ Err n }
 {
     if bytes.len() > FILE_BYTES {
         return Err(TraceFault::TooLong);
@@ -72,7 +74,8 @@ fn read_whole_schedule(alloc: Global, bytes: &[u8]) -> Result<Schedule, TraceFau
 // What lines say, all of them.
 fn read_all<T: OnLine>(alloc: Global, opening: &Opening, bytes: &[u8]) -> Result<Vec<T>, TraceFault>
     ensures read { let l = lines_in bytes.now in
-        let read = entries_of (T.said_on opening.now) (length opening.now.nodes + 2) l.ended l.rest [] in
+        let read = entries_of (T.said_on opening.now) (length opening.now.nodes + 2)
+        l.ended l.rest [] in
         MatchResult result (λ items. read ≡ Ok items.items) (IsFaultOf read) }
     ensures few { IfOk result (λ items. length items.items ≤ ENTRIES) }
 {
