@@ -1,3 +1,4 @@
+pub mod AnyNode
 pub mod Agreement
 pub mod FirstError
 pub mod LicenseLaws
