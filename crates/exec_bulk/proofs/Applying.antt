@@ -1,11 +1,14 @@
 -- What a job makes of the elements of a share, one after the other.
-use Rattle.std.proofs.Common.{◌≡◌, ℕ, ◌+◌, ◌<◌, ℤ, List, [], ◌∷◌, ◌++◌, length, get_or, drop, Result, Ok, Err, refl, sym, ap, ◌∙◌, arith}
-use Rattle.std.proofs.lemmas.List.{append_assoc, at_drop_more}
+use Rattle.std.proofs.Common.{◌≡◌, ℕ, ◌+◌, ◌<◌, ℤ, List, [], ◌∷◌, ◌++◌, ◌≤◌, length, get_or, drop, Result, Ok, Err, IsOk, refl, sym, ap, subst, ◌∙◌, arith}
+use Rattle.std.proofs.lemmas.List.{append_assoc, at_drop_more, drop_all}
 use Rattle.exec_job.specs.declared.fault.JobFault.{JobFault}
 use Rattle.exec_job.specs.declared.job.Job.{Job}
 use Rattle.exec_job.specs.Element.{at_index}
 use Rattle.exec_job.specs.Fault.{name_of}
-use Rattle.plan_rules.specs.Bulks.{error_at, in_front, each_of}
+use Rattle.exec_value.specs.declared.limits.TheConstants.{INLINE_BYTES}
+use Rattle.node_images.specs.Makes.{CompletesInPlace}
+use Rattle.plan_rules.specs.Bulks.{error_at, in_front, each_of, row_ending}
+use Rattle.exec_bulk.proofs.Making.{row-large}
 
 -- results that stand before others
 abbrev pub after : List ℤ → Result (List ℤ) (List ℕ) → Result (List ℤ) (List ℕ)
@@ -42,3 +45,16 @@ module _ (job : Job) (first : ℕ) (xs made : List ℤ) (place : ℕ) (d : ℤ) 
   done-fault fault same =
       let behind : Result (List ℤ) (List ℕ) = each_of job (first + place + 1) (drop (place + 1) xs) in
       here ∙ ap (λ answer. after made (in_front (first + place) answer behind)) same
+
+-- where no number fails, it is a row, which doesn't stand in place
+pub none-fails : (job : Job) (first : ℕ) (xs made : List ℤ) (place : ℕ) → IsDoneTo job first xs place made → length xs ≤ place →
+    CompletesInPlace (row_ending (each_of job first xs)) → ⊥
+none-fails job first xs made place done all stands =
+    let row : each_of job first xs ≡ Ok (made ++ []) =
+    done ∙ ap (λ rest. after made (each_of job (first + place) rest)) (drop_all place xs all) in
+    row-large (each_of job first xs) (subst IsOk (sym row) refl) stands
+
+-- the error of a number that fails has no memory only where its name is long
+pub fails-large : (name : List ℕ) (made : Result (List ℤ) (List ℕ)) → made ≡ Err name → (length name ≤ INLINE_BYTES → ⊥) →
+    CompletesInPlace (row_ending made) → ⊥
+fails-large name made is large stands = large (subst (λ (r : Result (List ℤ) (List ℕ)). CompletesInPlace (row_ending r)) is stands)

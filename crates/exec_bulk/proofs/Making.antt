@@ -58,7 +58,7 @@ stopped-none (Ok ys) e = cc
 stopped-none (Err name) e = cc
 
 -- a row doesn't stand in place
-row-large : (made : Result (List ℤ) (List ℕ)) → IsOk made → CompletesInPlace (row_ending made) → ⊥
+pub row-large : (made : Result (List ℤ) (List ℕ)) → IsOk made → CompletesInPlace (row_ending made) → ⊥
 row-large (Ok ys) ok stands = All-head IsInPlace (Row ys) [] stands.each
 row-large (Err name) ok stands = cc
 

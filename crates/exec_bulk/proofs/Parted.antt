@@ -1,6 +1,7 @@
 -- How the step of a part goes on.
 use Rattle.std.proofs.Common.{◌≡◌, ℕ, false, List, refl, sym, ap, ◌∙◌, subst, arith}
 use Rattle.std.specs.Prelude.{Some, None, slice_get}
+use Rattle.exec_value.specs.declared.data.Datum.{Datum}
 use Rattle.exec_value.specs.declared.outcome.Completion.{Completion}
 use Rattle.life_rules.specs.declared.event.Name.{Name}
 use Rattle.plan_rules.specs.Bulks.{job_of_bulk, part_ending}
@@ -19,6 +20,7 @@ use Rattle.exec_start.specs.Parcels.{Delivery, MayDeliver}
 use Rattle.exec_start.specs.Starts.{IsStart}
 use Rattle.exec_recv.specs.Over.{IsOver}
 use Rattle.exec_recv.specs.Steppable.{CanStep}
+use Rattle.exec_recv.specs.declared.next.Next.{Next}
 use Rattle.start_laws.specs.Nodes.{IsStartOf}
 use Rattle.start_laws.proofs.Bounding.{few-begun}
 use Rattle.start_laws.proofs.LeafCases.{leaves-allowed}
@@ -33,7 +35,7 @@ use Rattle.node_steps.proofs.Places.{inner-is, start-of}
 use Rattle.node_steps.proofs.Wanted.{bare-leaves}
 use Rattle.exec_bulk.specs.Ends.{HasShare}
 use Rattle.exec_bulk.specs.Kinds.{HasBulk}
-use Rattle.exec_bulk.specs.Steps.{IsUnbegun, has_begun}
+use Rattle.exec_bulk.specs.Steps.{IsUnbegun, has_begun, EndsPart}
 use Rattle.exec_bulk.proofs.Places.{part-kids, part-large}
 
 -- the homes are empty: a part has no children
@@ -79,13 +81,15 @@ module _ (board : Board Blueprint) (plan : Blueprint) (x : Name) (bulk part : �
       of (Rested start kept) is = cc
 
   -- its share is that of what lay in its home
-  pub share-there : (other : CanStep board x m0) →
-      part_ending (job_of_bulk plan.nodes bulk) (args_of env)
-      ≡ part_ending (job_of_bulk board.frame.over.value.nodes bulk) (args_of (start_in other.item))
-  share-there other =
-      ap (λ (b : Blueprint). part_ending (job_of_bulk b.nodes bulk) (args_of env)) (sym over.over)
-      ∙ ap (λ (s : List Entry). part_ending (job_of_bulk board.frame.over.value.nodes bulk) (args_of s))
-      (env_is ∙ ap start_in (sym (took.item other)))
+  pub share-there : (other : CanStep board x m0) (next : Next) (m' : Seated Item Entry) →
+      EndsPart board x (args_of env) (part_ending (job_of_bulk plan.nodes bulk) (args_of env)) next m' →
+      EndsPart board x (args_of (start_in other.item))
+      (part_ending (job_of_bulk board.frame.over.value.nodes bulk) (args_of (start_in other.item))) next m'
+  share-there other next m' ends =
+      subst (λ (args : List Datum). EndsPart board x args (part_ending (job_of_bulk board.frame.over.value.nodes bulk) args) next m')
+      (ap args_of (env_is ∙ ap start_in (sym (took.item other))))
+      (subst (λ (b : Blueprint). EndsPart board x (args_of env) (part_ending (job_of_bulk b.nodes bulk) (args_of env)) next m')
+      (sym over.over) ends)
 
 -- the part completes with what is made of its share
 module _ (board : Board Blueprint) (plan : Blueprint) (x : Name) (start : List Entry) (bulk : ℕ) (m : Seated Item Entry) (has : HasShare board x start bulk m)

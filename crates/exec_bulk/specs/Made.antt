@@ -1,8 +1,9 @@
 -- What the parts of a bulk come to, one after the other.
-use Rattle.std.specs.Prelude.{◌≡◌, ◌≢◌, ◌⊎◌, ⊤, ℕ, ◌+◌, ◌<◌, ℤ, List, Option, Some, None, Ok, Err, IsOk, IfSome}
+use Rattle.std.specs.Prelude.{◌≡◌, ◌≢◌, ◌⊎◌, ⊤, ℕ, ◌+◌, ◌<◌, ℤ, List, Option, Some, None, Ok, Err, IsOk, IsSome, IfSome}
 use Rattle.exec_value.specs.declared.outcome.Completion.{Completion}
 use Rattle.exec_value.specs.declared.outcome.Completion.TheVariants.{NoMemory}
 use Rattle.exec_job.specs.declared.job.Job.{Job}
+use Rattle.node_images.specs.Makes.{CompletesInPlace}
 use Rattle.plan_rules.specs.Bulks.{row_ending}
 use Rattle.plan_shape.specs.declared.limits.TheConstants.{BULK_PARTS}
 use Rattle.exec_start.specs.Parcels.{Delivery}
@@ -23,6 +24,12 @@ abbrev pub IsOfShare : Job → List ℤ → ℕ → Completion → Type 0
 IsOfShare job whole part done =
     done ≢ NoMemory → done ≡ row_ending (share_made job whole part)
 
+-- one part more, which completed with this, was added to these
+abbrev pub AddsShare : Made → Completion → Made → Type 0
+AddsShare before done after =
+    (job : Job) (whole : List ℤ) (part : ℕ) → part < BULK_PARTS → IsOfShare job whole part done →
+    IsMade before job whole part → IsMade after job whole (part + 1)
+
 -- the next part was added: its parcel, where it is done
 abbrev pub AddsPart : Option Delivery → Made → Made → Type 0
 AddsPart found before after =
@@ -34,3 +41,15 @@ AddsPart found before after =
 abbrev pub WantsAfter : Option Delivery → Made → Made → Type 0
 WantsAfter found before after =
     after ≡ Want → (before ≡ Want) ⊎ IfSome found (λ parcel. parcel.completion ≡ NoMemory)
+
+-- this is what these complete with together, of whatever job and row they are
+abbrev pub JoinsTo : Made → Option Completion → Type 0
+JoinsTo made answer =
+    (job : Job) (whole : List ℤ) (part : ℕ) → IsMade made job whole part →
+    IfSome answer (λ done. done ≡ row_ending (front_made job whole part))
+
+-- and it is there, where it stands in place and no part wants memory
+abbrev pub JoinsInPlace : Made → Option Completion → Type 0
+JoinsInPlace made answer =
+    (job : Job) (whole : List ℤ) (part : ℕ) → IsMade made job whole part → made ≢ Want →
+    CompletesInPlace (row_ending (front_made job whole part)) → IsSome answer

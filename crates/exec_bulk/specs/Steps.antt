@@ -1,6 +1,7 @@
 -- What the step of a bulk, and that of a part, does ([exec.bulk]).
 use Rattle.std.specs.Prelude.{◌≡◌, ◌≢◌, ◌⊎◌, ⊤, ℕ, ◌≤◌, ℤ, Bool, true, false, List, [], length, Option, Some, None}
 use Rattle.std.specs.List.{range_with_len}
+use Rattle.exec_value.specs.declared.data.Datum.{Datum}
 use Rattle.exec_value.specs.declared.outcome.Completion.{Completion}
 use Rattle.exec_value.specs.declared.outcome.Completion.TheVariants.{NoMemory}
 use Rattle.exec_job.specs.declared.job.Job.{Job}
@@ -36,7 +37,7 @@ use Rattle.exec_bulk.specs.declared.joining.Made.{Made}
 use Rattle.exec_bulk.specs.declared.joining.Made.TheVariants.{Want}
 use Rattle.exec_bulk.specs.Made.{IsMade}
 use Rattle.exec_bulk.specs.Opens.{HaveDelivered}
-use Rattle.exec_bulk.specs.Rows.{numbers_in, parts_for, first_part}
+use Rattle.exec_bulk.specs.Rows.{numbers_in, parts_for, first_part, IsWithinRow}
 
 -- the node has begun nothing yet
 abbrev pub IsUnbegun : Item → Type 0
@@ -48,10 +49,6 @@ has_begun (Unbegun start) = false
 has_begun (Rested start kept) = true
 
 module _ (board : Board Blueprint) (x : Name) where
-  -- x completed so, or there was no memory for that
-  abbrev pub EndsWith : Completion → Next → Seated Item Entry → Type 0
-  EndsWith done next m' = CompletesWith board x done next m' ⊎ CompletesWith board x NoMemory next m'
-
   -- x keeps the parcel of its child, which completed with this row, and awaits as many of its parts as
   -- the row has; it owes what it owed then
   pub record AwaitsParts (done : Completion) (next : Next) (m' : Seated Item Entry) :
@@ -80,13 +77,25 @@ module _ (board : Board Blueprint) (x : Name) where
   HopsFirst next m m' =
       (can : CanStep board x m) → IsUnbegun can.item → IsLeftIn board x Pool None next m'
 
-  -- a part that was in the pool completes with what its bulk's job makes of its share, or there was no
-  -- memory
+  -- x delivered want of memory: where this is so, there was none for this completion, which doesn't
+  -- stand in place
+  pub record Wants (able : Type 0) (done : Completion) (next : Next) (m' : Seated Item Entry) :
+      Type 0 where
+    pub large : able → CompletesInPlace done → ⊥
+    pub ends : CompletesWith board x NoMemory next m'
+
+  -- a part with these arguments completes with this; or there was no memory for it, and where the part
+  -- begins within a row, it doesn't stand in place
+  abbrev pub EndsPart : List Datum → Completion → Next → Seated Item Entry → Type 0
+  EndsPart args done next m' =
+      CompletesWith board x done next m' ⊎ Wants (IsWithinRow args) done next m'
+
+  -- a part that was in the pool completes with what its bulk's job makes of its share
   abbrev pub EndsShare : ℕ → Next → Seated Item Entry → Seated Item Entry → Type 0
   EndsShare bulk next m m' =
       (can : CanStep board x m) → (IsUnbegun can.item → ⊥) →
-      EndsWith (part_ending (job_of_bulk board.frame.over.value.nodes bulk)
-      (args_of (start_in can.item))) next m'
+      let args = args_of (start_in can.item) in
+      EndsPart args (part_ending (job_of_bulk board.frame.over.value.nodes bulk) args) next m'
 
   -- when no parcel of the child is there, x starts the child
   abbrev pub BeginsChild : ℕ → Next → Seated Item Entry → Seated Item Entry → Type 0
@@ -99,13 +108,6 @@ module _ (board : Board Blueprint) (x : Name) where
   GoesOnByChild child next m m' =
       (can : CanStep board x m) (parcel : Delivery) → can.kid child ≡ Some (Done parcel) →
       CutsRow parcel.completion next m'
-
-  -- x delivered want of memory: where this is so, there was none for this completion, which doesn't
-  -- stand in place
-  pub record Wants (able : Type 0) (done : Completion) (next : Next) (m' : Seated Item Entry) :
-      Type 0 where
-    pub large : able → CompletesInPlace done → ⊥
-    pub ends : CompletesWith board x NoMemory next m'
 
   -- whatever job and row these were made of, x completes with what the job makes of the row; or a part
   -- wants memory, or there was none for that

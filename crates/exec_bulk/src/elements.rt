@@ -1,17 +1,39 @@
 //! What a part makes of its share.
-ghost use Rattle.std.specs.Prelude.{◌≡◌, ◌≤◌, [], ◌∷◌, length, pos, IsTrue, IfOk, IfSome};
+ghost use Rattle.std.specs.Prelude.{ℕ, ◌≡◌, ◌≢◌, ◌≤◌, [], ◌∷◌, length, pos, IsTrue, IsOk, IfOk, IsSome, IfSome, IfNone};
 ghost use Rattle.exec_value.specs.declared.limits.TheConstants.{NUMBERS};
 ghost use Rattle.exec_job.specs.Takes.{is_element};
-ghost use Rattle.plan_rules.specs.Bulks.{each_of, row_ending};
+ghost use Rattle.exec_job.specs.declared.job.Job.{Job};
+ghost use Rattle.node_images.specs.Makes.{CompletesInPlace};
+ghost use Rattle.plan_rules.specs.Bulks.{each_of, part_of, row_ending};
+ghost use Rattle.exec_bulk.specs.Rows.{IsWithinRow};
 
 use exec_job::{Job, apply_at};
 use exec_value::{Completion, Data, Datum, NUMBERS, Nums};
 use node_images::error_at;
 use std::alloc::{AllocError, Global};
 
+/// What the job makes of the share that a part has as arguments; stopped, where it has none. None where
+/// there is no memory for that, or the share begins where no row goes.
+pub(crate) fn end_share(alloc: Global, job: &Job, args: &Data) -> Option<Completion>
+    requires { IsTrue (is_element job.now) }
+    ensures exact { IfSome result (λ done. done ≡ part_of job.now args.now) }
+    ensures in_place { IsWithinRow args.now → CompletesInPlace (part_of job.now args.now)
+        → IsSome result }
+{
+    match share_in(args) {
+        Some(share) => {
+            if share.first > NUMBERS as u64 {
+                return None;
+            }
+            make_each(alloc, job, share.first as u32, share.numbers).ok()
+        }
+        None => Some(Completion::Stopped),
+    }
+}
+
 /// The row of what the job makes of each number, the first of which has this index in the whole row;
-/// or the error of the first that fails.
-pub(crate) fn make_each(
+/// or the error of the first that fails. A short name of that wants no memory.
+fn make_each(
     alloc: Global,
     job: &Job,
     first: u32,
@@ -20,9 +42,13 @@ pub(crate) fn make_each(
     requires element { IsTrue (is_element job.now) }
     requires few { length numbers.now ≤ NUMBERS }
     requires first { first ≤ NUMBERS }
-    ensures { IfOk result (λ c. c ≡ row_ending (each_of job.now first numbers.now)) }
+    ensures exact { IfOk result (λ c. c ≡ row_ending (each_of job.now first numbers.now)) }
+    ensures in_place { CompletesInPlace (row_ending (each_of job.now first numbers.now))
+        → IsOk result }
 {
-    let mut made = Vec::with_capacity(alloc, numbers.len())?;
+    let Ok(mut made) = Vec::with_capacity(alloc, numbers.len()) else {
+        return fail_first(alloc, job, first, numbers);
+    };
     for (place, number) in numbers.iter().enumerate() {
         let index = first + place as u32;
         match apply_at(job, index, *number) {
@@ -34,21 +60,44 @@ pub(crate) fn make_each(
     Ok(Completion::Value(Data::one(alloc, row)))
 }
 
+/// The error of the first number that fails, where there is no memory for the row.
+fn fail_first(
+    alloc: Global,
+    job: &Job,
+    first: u32,
+    numbers: &[i64],
+) -> Result<Completion, AllocError>
+    requires element { IsTrue (is_element job.now) }
+    requires few { length numbers.now ≤ NUMBERS }
+    requires first { first ≤ NUMBERS }
+    ensures exact { IfOk result (λ c. c ≡ row_ending (each_of job.now first numbers.now)) }
+    ensures in_place { CompletesInPlace (row_ending (each_of job.now first numbers.now))
+        → IsOk result }
+{
+    for (place, number) in numbers.iter().enumerate() {
+        let index = first + place as u32;
+        match apply_at(job, index, *number) {
+            Ok(_) => {}
+            Err(fault) => return Ok(Completion::Error(error_at(alloc, fault, index)?)),
+        }
+    }
+    Err(AllocError)
+}
+
 /// A part's share.
 #[derive(Drop)]
 pub(crate) struct Share<'a> {
     pub numbers: &'a [i64],
     /// The index of the first of them in the whole row.
-    pub first: u32,
+    pub first: u64,
 }
 
-/// The share that a part has as arguments. None where they are none, or its place is no row's; that
-/// doesn't come.
-pub(crate) fn share_in(args: &Data) -> Option<Share<'_>>
+/// The share that a part has as arguments. None where they are none; that doesn't come.
+fn share_in(args: &Data) -> Option<Share<'_>>
     ensures share { IfSome result (λ share. args.now
         ≡ Datum.Row share.numbers.now ∷ Datum.Int (pos share.first) ∷ []) }
     ensures few { IfSome result (λ share. length share.numbers.now ≤ NUMBERS) }
-    ensures first { IfSome result (λ share. share.first ≤ NUMBERS) }
+    ensures none { IfNone result ((job : Job) → part_of job args.now ≡ Completion.Stopped) }
 {
     match args.as_slice() {
         [Datum::Row(row), Datum::Int(first)] => {
@@ -62,13 +111,13 @@ pub(crate) fn share_in(args: &Data) -> Option<Share<'_>>
     }
 }
 
-// The number as an index in a row.
-fn index_in(number: i64) -> Option<u32>
+// The number as an index.
+fn index_in(number: i64) -> Option<u64>
     ensures index { IfSome result (λ index. number ≡ pos index) }
-    ensures within { IfSome result (λ index. index ≤ NUMBERS) }
+    ensures none { IfNone result ((n : ℕ) → number ≢ pos n) }
 {
-    if number < 0 || number > NUMBERS as i64 {
+    if number < 0 {
         return None;
     }
-    Some(number as u32)
+    Some(number as u64)
 }

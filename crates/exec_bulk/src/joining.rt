@@ -1,11 +1,7 @@
 //! How what the parts of a bulk delivered comes together ([exec.bulk]).
-ghost use Rattle.std.specs.Prelude.{ℕ, ◌+◌, ◌<◌, ℤ, List, [], ◌∷◌, ◌≡◌, ◌≢◌, IsSome, IfSome};
+ghost use Rattle.std.specs.Prelude.{ℤ, List, [], ◌∷◌, ◌≡◌, ◌≢◌};
 ghost use Rattle.exec_job.specs.declared.job.Job.{Job};
-ghost use Rattle.node_images.specs.Makes.{CompletesInPlace};
-ghost use Rattle.plan_rules.specs.Bulks.{row_ending};
-ghost use Rattle.plan_shape.specs.declared.limits.TheConstants.{BULK_PARTS};
-ghost use Rattle.start_laws.specs.BulkLaws.{front_made};
-ghost use Rattle.exec_bulk.specs.Made.{IsMade, IsOfShare, AddsPart, WantsAfter};
+ghost use Rattle.exec_bulk.specs.Made.{IsMade, AddsShare, AddsPart, WantsAfter, JoinsTo, JoinsInPlace};
 
 use crate::rows::numbers_at;
 use exec_value::{Completion, Data, Datum, NUMBERS, Nums, Txt};
@@ -25,10 +21,8 @@ pub(crate) enum Made {
 
 // The numbers with those of one part more. None where there is no memory for them.
 fn append(numbers: Option<Vec<i64>>, more: &[i64]) -> Option<Vec<i64>>
-    ensures { (job : Job) (whole : List ℤ) (part : ℕ) → part < BULK_PARTS →
-        IsOfShare job whole part (Completion.Value (Datum.Row more.now ∷ [])) →
-        IsMade (Made.Numbers numbers) job whole part →
-        IsMade (Made.Numbers result) job whole (part + 1) }
+    ensures { let done = Completion.Value (Datum.Row more.now ∷ []) in
+        AddsShare (Made.Numbers numbers) done (Made.Numbers result) }
 {
     match numbers {
         Some(mut joined) => match joined.extend_from_slice(more) {
@@ -41,9 +35,7 @@ fn append(numbers: Option<Vec<i64>>, more: &[i64]) -> Option<Vec<i64>>
 
 // The numbers with what one part more completed with. No part completes stopped.
 fn behind(numbers: Option<Vec<i64>>, done: Completion) -> Made
-    ensures made { (job : Job) (whole : List ℤ) (part : ℕ) → part < BULK_PARTS →
-        IsOfShare job whole part done → IsMade (Made.Numbers numbers) job whole part →
-        IsMade result job whole (part + 1) }
+    ensures made { AddsShare (Made.Numbers numbers) done result }
     ensures wants { result ≡ Made.Want → done ≡ Completion.NoMemory }
 {
     match done {
@@ -100,11 +92,8 @@ impl Made {
     /// What they complete with together: the row of the numbers, or the error. None where a part wants
     /// memory, or there is none for the row. An error is at hand, and wants none.
     pub(crate) fn finish(self, alloc: Global) -> Option<Completion>
-        ensures made { (job : Job) (whole : List ℤ) (part : ℕ) → IsMade self job whole part →
-            IfSome result (λ done. done ≡ row_ending (front_made job whole part)) }
-        ensures in_place { (job : Job) (whole : List ℤ) (part : ℕ) → IsMade self job whole part →
-            self ≢ Made.Want → CompletesInPlace (row_ending (front_made job whole part)) →
-            IsSome result }
+        ensures made { JoinsTo self result }
+        ensures in_place { JoinsInPlace self result }
     {
         match self {
             Made::Numbers(None) => None,

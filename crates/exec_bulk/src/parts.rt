@@ -1,5 +1,5 @@
 //! The step of a part of a bulk ([exec.bulk]).
-ghost use Rattle.std.specs.Prelude.{◌≡◌, false, Some, IfSome};
+ghost use Rattle.std.specs.Prelude.{◌≡◌, false, Some, IsSome, IfSome};
 ghost use Rattle.std.specs.Thread.{IsSync};
 ghost use Rattle.node_tree.specs.Tree.{is_root};
 ghost use Rattle.plan_kinds.specs.Runnable.{IsRunnable};
@@ -11,12 +11,14 @@ ghost use Rattle.exec_recv.specs.Beginnings.{AllCanStart};
 ghost use Rattle.exec_recv.specs.Steppable.{CanStep};
 ghost use Rattle.exec_recv.specs.Nexts.{IsStepped};
 ghost use Rattle.exec_start.specs.Entries.{args_of};
+ghost use Rattle.node_images.specs.Makes.{CompletesInPlace};
 ghost use Rattle.node_steps.specs.TakenOut.{start_at};
 ghost use Rattle.exec_bulk.specs.Ends.{HasShare};
 ghost use Rattle.exec_bulk.specs.Kinds.{IsPartOfBulk, HasBulk};
-ghost use Rattle.exec_bulk.specs.Steps.{has_begun, EndsWith, StepsPart};
+ghost use Rattle.exec_bulk.specs.Rows.{IsWithinRow};
+ghost use Rattle.exec_bulk.specs.Steps.{has_begun, EndsPart, StepsPart};
 
-use crate::elements::{make_each, share_in};
+use crate::elements::end_share;
 use exec_recv::Point;
 use exec_value::Completion;
 use life_rules::Name;
@@ -45,19 +47,19 @@ fn at_hand(own: AtHome) -> (Env, bool)
 }
 
 // What the bulk's job makes of the share that the part has as arguments. None where there is no memory
-// for it.
+// for it, and it doesn't stand in place.
 fn make_share(alloc: Global, plan: &Plan, env: &Env, bulk: NodeId) -> Option<Completion>
     requires plan { IsPlan plan.now }
     requires bulk { HasBulk plan.now.nodes bulk }
-    ensures { IfSome result (λ done.
+    ensures exact { IfSome result (λ done.
         done ≡ part_ending (job_of_bulk plan.now.nodes bulk) (args_of env.now)) }
+    ensures in_place { IsWithinRow (args_of env.now) →
+        CompletesInPlace (part_ending (job_of_bulk plan.now.nodes bulk) (args_of env.now)) →
+        IsSome result }
 {
     match plan.node(bulk) {
-        Node::Bulk { job, .. } => {
-            let share = share_in(env.args())?;
-            make_each(alloc, job, share.first, share.numbers).ok()
-        }
-        _ => None,
+        Node::Bulk { job, .. } => end_share(alloc, job, env.args()),
+        _ => Some(Completion::Stopped),
     }
 }
 
@@ -79,7 +81,7 @@ fn run_part<G: Gate, R: Wait + Sync>(
     requires inner { is_root table.now.frame.tree name.node ≡ false }
     requires has { HasShare table.now name env bulk hand.old.me }
     ensures stays { Stays table.now hand.old hand.new }
-    ensures ends { EndsWith table.now name
+    ensures ends { EndsPart table.now name (args_of env)
         (part_ending (job_of_bulk plan.now.nodes bulk) (args_of env)) result hand.new.me }
     ensures stepped { IsStepped table.now name hand.old.me hand.new.me result }
 {

@@ -1,6 +1,6 @@
 //! A job on each element of a row ([exec.bulk]).
-ghost use Rattle.std.specs.Prelude.{◌≡◌, ◌≤◌, ◌++◌, length, codes, IsTrue, IfOk, OnOk};
-ghost use Rattle.exec_value.specs.declared.limits.TheConstants.{NUMBERS};
+ghost use Rattle.std.specs.Prelude.{◌≡◌, ◌≤◌, ◌++◌, length, codes, IsTrue, IsOk, IfOk, OnOk};
+ghost use Rattle.exec_value.specs.declared.limits.TheConstants.{INLINE_BYTES, NUMBERS};
 ghost use Rattle.exec_job.specs.Fault.{name_of};
 ghost use Rattle.exec_job.specs.Takes.{is_element};
 ghost use Rattle.plan_rules.specs.Bulks.{bulk_of, each_of, error_at, row_ending};
@@ -44,9 +44,11 @@ fn each(alloc: Global, job: &Job, numbers: &[i64]) -> Result<Completion, AllocEr
     Ok(Completion::Value(Data::one(alloc, row)))
 }
 
-/// The name of an element's error: the fault's, `@` and the element's index.
+/// The name of an element's error: the fault's, `@` and the element's index. One of at most 22 bytes
+/// wants no memory.
 pub fn error_at(alloc: Global, fault: JobFault, index: u32) -> Result<Txt, AllocError>
-    ensures { IfOk result (λ name. name ≡ error_at (name_of fault) index) }
+    ensures exact { IfOk result (λ name. name ≡ error_at (name_of fault) index) }
+    ensures in_place { length (error_at (name_of fault) index) ≤ INLINE_BYTES → IsOk result }
 {
     let mut name = Txt::short(alloc, fault.name());
     name.append(&Txt::short(alloc, "@"))?;

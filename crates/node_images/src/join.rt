@@ -31,7 +31,8 @@ pub fn no_children(alloc: Global) -> Together
 
 /// One child more, whose completion is taken from its place.
 pub fn join_child(together: &mut Together, done: &mut Completion)
-    ensures { (c : Completion) → Tells together.old c → Tells together.new (and_then c done.old) }
+    ensures { (c : Completion) → Tells together.old c
+        → Tells together.new (and_then c done.old) }
 {
     let next = mem::replace(done, Completion::Stopped);
     let front = mem::replace(together, Ok(Completion::Stopped));

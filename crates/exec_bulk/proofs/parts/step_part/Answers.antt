@@ -1,8 +1,6 @@
-use Rattle.std.proofs.Common.{sym, ◌∙◌, subst}
-use Rattle.exec_value.specs.declared.outcome.Completion.{Completion}
+use Rattle.std.proofs.Common.{sym, ◌∙◌}
 use Rattle.exec_recv.proofs.Places.{over-places}
 use Rattle.node_steps.proofs.Frames.{stepped-after}
-use Rattle.exec_bulk.specs.Steps.{EndsWith}
 use Rattle.exec_bulk.proofs.Parted.{has-share, part-leaves, part-unbegun, part-rested, share-there}
 use Rattle.node_steps.proofs.Places.{inner-is}
 use Rattle.plan_rules.specs.declared.node.Node.TheVariants.{Part}
@@ -38,10 +36,9 @@ returns-then-begun-clause-steps g c =
           let begun = sym c.at_hand-env.ensures.begun ∙ c.if-begun.true in
           cc;
       ends = λ other begun.
-          subst (λ (d : Completion). EndsWith c.args.table.now c.args.name d c.run_part.result c.run_part.new.hand.me)
-          (share-there c.args.table.now c.args.plan.now c.args.name c.args.bulk c.requires.node.0 c.requires.over c.requires.kinds
+          share-there c.args.table.now c.args.plan.now c.args.name c.args.bulk c.requires.node.0 c.requires.over c.requires.kinds
           c.requires.node.1 c.take_own.result c.args.hand.now.me c.take_own.new.hand.me c.requires.can c.take_own.ensures.takes
-          c.at_hand-env.result.0 c.at_hand-env.ensures.env c.known.ensures other)
+          c.at_hand-env.result.0 c.at_hand-env.ensures.env c.known.ensures other c.run_part.result c.run_part.new.hand.me
           c.run_part.ensures.ends;
     }
 

@@ -10,7 +10,7 @@ returns-in-Err c =
     let number = get_or c.args.numbers.now c.loop-index.index (pos 0) in
     let fits : FitsSigned w64 number = search rules in
     let applied = simp to_z-of_z at (sym c.apply_at.ensures ∙ c.in-Err.is) in
-    let name = c.in_ok-error_at-in-Err.ensures in
+    let name = c.in_ok-error_at-in-Err.ensures.exact in
     let fails = done-fault c.args.job.now c.args.numbers.now c.loop-index.made.items c.loop-index.index
     (pos 0) c.loop-index.invariant.done c.loop-index-test.true c.in-Err.fault applied in
     ap (λ (e : List _). Error e) name ∙ sym (ap row_ending fails)

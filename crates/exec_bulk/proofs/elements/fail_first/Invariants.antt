@@ -1,0 +1,6 @@
+use Rattle.std.specs.Prelude.{ℤ, List}
+use Rattle.exec_bulk.proofs.Applying.{IsDoneTo}
+use Rattle.exec_bulk.proofs.elements.fail_first.Given as goal
+
+abbrev pub invariant-loop-place : goal.invariant-loop-place
+invariant-loop-place l = (made : List ℤ) × IsDoneTo l.job l.first l.numbers l.place made
