@@ -67,7 +67,8 @@ fn work_beside<'s, E, W: Front, T: Stepper + Sync, R: Threads + Wait + Sync>(
     let started = scope.spawn_with(
         Served(Snapshot::of(table)),
         move || -> Hand<Item>
-            requires { IsSync R.row × IsSync T.row × CanServe table.now (T.plan stepper.now) next }
+            requires { IsSync R.row × IsSync T.row
+                × CanServe table.now (T.plan stepper.now) next }
             ensures { HasServed table.entry.now result }
         { serve(rt, alloc, table, stepper, next, backend, order) },
     );
