@@ -16,14 +16,17 @@ use Rattle.table_steps.specs.Slots.{noted_at}
 use Rattle.exec_start.specs.declared.entry.Entry.{Entry}
 use Rattle.exec_start.specs.declared.item.Item.{Item}
 use Rattle.exec_recv.specs.Asides.{Aside, aside_of, KeepsAside}
-use Rattle.run_loop.specs.declared.collecting.Collected.{Collected}
+use Rattle.loop_roots.specs.declared.completing.Collected.{Collected}
 use Rattle.run_loop.specs.declared.looped.Loop.{Loop as Looped}
-use Rattle.run_loop.specs.Collects.{Collects, IsFor, IsListed}
-use Rattle.run_loop.specs.Emptied.{with_released}
-use Rattle.run_loop.specs.Loops.{KeepsCounts, LeavesAside, Raises}
-use Rattle.run_loop.specs.Starts.{CanRun, Starts, with_started}
+use Rattle.loop_roots.specs.Completes.{IsFor, IsListed}
+use Rattle.run_loop.specs.Collects.{Collects}
+use Rattle.loop_roots.specs.Emptied.{with_released}
+use Rattle.loop_roots.specs.Leaves.{LeavesAside}
+use Rattle.run_loop.specs.Loops.{KeepsCounts, Raises}
+use Rattle.loop_roots.specs.Starts.{CanRun, with_started}
+use Rattle.run_loop.specs.Starts.{Starts}
 use Rattle.run_loop.specs.Waits.{IsCollected, HasRun, with_used}
-use Rattle.run_loop.proofs.Growing.{aside-leaves, leaves-then}
+use Rattle.loop_roots.proofs.Growing.{aside-leaves, leaves-then}
 
 abbrev at_noted : Rooted Entry → Name
 at_noted e = e.name

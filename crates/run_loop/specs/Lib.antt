@@ -1,7 +1,6 @@
 pub mod DelayNodes
 pub mod Loops
 pub mod Starts
-pub mod Emptied
 pub mod Collects
 pub mod Turns
 pub mod Delayed
@@ -11,4 +10,6 @@ pub mod Waits
 pub use Rattle.table_steps.specs.Views
 pub use Rattle.exec_recv.specs.Over
 pub use Rattle.loop_walk.specs.Resting
+pub use Rattle.loop_roots.specs.Starts as RootStarts
+pub use Rattle.loop_roots.specs.Completes
 pub use Rattle.loop_serve.specs.Serving

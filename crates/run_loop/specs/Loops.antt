@@ -2,17 +2,14 @@
 use Rattle.std.specs.Prelude.{◌≡◌, ℕ, ◌≤◌, false, List, [], ◌∷◌, ◌++◌, Option, None}
 use Rattle.exec_value.specs.declared.outcome.Completion.{Completion}
 use Rattle.life_rules.specs.declared.event.Name.{Name}
-use Rattle.listed_steps.specs.declared.seen.Seen.{Seen}
 use Rattle.atomic_table.specs.declared.shared.Seat.{Seat}
 use Rattle.loop_delays.specs.Delays.{DelayList, places, delay_at}
 use Rattle.plan_shape.specs.Blueprint.{Blueprint}
 use Rattle.run_tally.specs.Tallied.{Tallied, IsSmallTally, new_tally, raised}
 use Rattle.table_rules.specs.declared.view.View.{View}
 use Rattle.table_steps.specs.Views.{Board, IsHandOf, knows}
-use Rattle.table_steps.specs.Claims.{Seated}
 use Rattle.exec_start.specs.declared.entry.Entry.{Entry}
 use Rattle.exec_start.specs.declared.item.Item.{Item}
-use Rattle.exec_recv.specs.Asides.{Aside, aside_of, SeesMore}
 use Rattle.loop_walk.specs.Resting.{IsAtRest}
 use Rattle.run_loop.specs.declared.looped.Loop.{Loop as Looped}
 use Rattle.run_loop.specs.declared.delay_node.DelayNode.{DelayNode}
@@ -75,11 +72,3 @@ pub record KeepsDelays (old new : Looped) : Type 0 where
 pub record Raises (completion : Completion) (old new : Tallied) : Type 0 where
   pub small : IsSmallTally old → new ≡ raised completion old
   pub full : ¬ IsSmallTally old → new ≡ old
-
--- Beside nodes and starts this is what the hand's view says afterwards. Its list of steps only grew,
--- and a request that was seen is seen still.
-pub record LeavesAside (aside : Aside) (m m' : Seated Item Entry) : Type 0 where
-  pub is : aside_of m'.0 ≡ aside
-  pub fresh : List Seen
-  pub grown : m'.0.steps ≡ fresh ++ m.0.steps
-  pub sees : SeesMore m m'

@@ -8,13 +8,14 @@ use Rattle.table_steps.specs.Claims.{root_name}
 use Rattle.table_steps.specs.Slots.{noted_at}
 use Rattle.exec_start.specs.declared.entry.Entry.{Entry}
 use Rattle.exec_recv.specs.Asides.{Aside, aside_of}
-use Rattle.run_loop.specs.declared.collecting.Collected.{Collected}
+use Rattle.loop_roots.specs.declared.completing.Collected.{Collected}
 use Rattle.run_loop.specs.declared.looped.Loop.{Loop as Looped}
 use Rattle.run_loop.specs.declared.waiting.Waited.{Waited}
 use Rattle.run_loop.specs.declared.waiting.Waited.TheVariants.{Completed, NoBlock}
-use Rattle.run_loop.specs.Collects.{IsFor}
-use Rattle.run_loop.specs.Emptied.{with_released}
-use Rattle.run_loop.specs.Loops.{KeepsCounts, LeavesAside, Raises}
+use Rattle.loop_roots.specs.Completes.{IsFor}
+use Rattle.loop_roots.specs.Emptied.{with_released}
+use Rattle.loop_roots.specs.Leaves.{LeavesAside}
+use Rattle.run_loop.specs.Loops.{KeepsCounts, Raises}
 use Rattle.run_loop.specs.Starts.{FindsNoBlock}
 
 -- The loop collected one operation more, which completed so. It helps as before.

@@ -1,11 +1,10 @@
 //! A loop of operations on one hand of a running table over a plan: hand 0, which starts
 //! operations, takes what is ready in the loop, and collects what they completed with.
 //!
-//! It stands on loop_serve, by which it serves a node, on loop_walk, by which it goes on, on
-//! loop_delays, which lists the delays that it saw parked, and on op_slot, exec_recv and
-//! exec_start. It keeps one promise: what is collected is want of memory, or is allowed for the
-//! start with which its operation began, and it saw a stop request only where the scope's request
-//! stands.
+//! It stands on loop_roots, which starts and ends an operation, on loop_serve, by which it serves a
+//! node, and on loop_delays, which lists the delays that it saw parked. It keeps one promise: what
+//! is collected is want of memory, or is allowed for the start with which its operation began, and
+//! it saw a stop request only where the scope's request stands.
 //!
 //!     env --start--> an operation --poll, turn--> ready at its root --collect--> Collected
 //!      |                                                                            ^
@@ -26,7 +25,6 @@
 mod collecting;
 mod delay_node;
 mod delaying;
-mod emptying;
 mod listing;
 mod looped;
 mod names;
@@ -36,9 +34,8 @@ mod starting;
 mod turning;
 mod waiting;
 
-pub use collecting::Collected;
 pub use exec_recv::{Env, Gate, Item, Stepper};
+pub use loop_roots::{Block, Collected};
 pub use looped::Loop;
-pub use op_slot::Block;
 pub use run_tally::Tally;
 pub use waiting::Waited;

@@ -31,7 +31,8 @@ impl Names {
 
     /// Adds a name at the back. Without memory for it all stays as it was.
     pub fn add(&mut self, name: Name) -> Result<(), AllocError>
-        ensures added { IfOk result (λ _. self.new.list.items ≡ self.old.list.items ++ name ∷ []) }
+        ensures added { IfOk result
+            (λ _. self.new.list.items ≡ self.old.list.items ++ name ∷ []) }
         ensures same { IfErr result (λ _. self.new.list.items ≡ self.old.list.items) }
     {
         self.list.push(name)?;

@@ -1,39 +1,19 @@
 //! How an operation is started.
-ghost use Rattle.std.specs.Prelude.{◌≡◌, ◌≤◌, IfOk, IfErr};
+ghost use Rattle.std.specs.Prelude.{◌≡◌, IfOk, IfErr};
 ghost use Rattle.std.specs.Thread.{IsSync};
 ghost use Rattle.plan_kinds.specs.Runnable.{IsRunnable};
-ghost use Rattle.table_steps.specs.Views.{IsHandOf, IsSameHand, Stays, knows};
+ghost use Rattle.table_steps.specs.Views.{IsSameHand};
 ghost use Rattle.exec_recv.specs.Over.{IsOver};
-ghost use Rattle.loop_walk.specs.Resting.{IsAtRest};
 ghost use Rattle.run_loop.specs.Loops.{IsReady, KeepsCounts, KeepsDelays};
-ghost use Rattle.run_loop.specs.Starts.{CanRun, IsPlaced, MissesEach, Starts, WentOn, FindsNoBlock};
+ghost use Rattle.loop_roots.specs.Starts.{CanRun};
+ghost use Rattle.run_loop.specs.Starts.{Starts, WentOn, FindsNoBlock};
 
 use crate::looped::Loop;
 use exec_recv::{Env, Item, Stepper};
-use loop_walk::go_on;
-use op_slot::{Block, Hand, OpTable, claim_from, put_home};
+use loop_roots::begin_root;
+use op_slot::{Block, OpTable};
 use std::alloc::Global;
 use std::sync::Wait;
-
-// Claims a free block, and puts the start into the home of its root. The environment comes back
-// where no block was free.
-fn place(table: &OpTable<Item>, hand: &mut Hand<Item>, from: u32, env: Env) -> Result<Block, Env>
-    requires hand { IsHandOf table.now hand.old }
-    requires over { IsOver table.now table.now.frame.over.value }
-    requires from { from ≤ table.now.frame.layout.blocks }
-    requires rests { IsAtRest (knows hand.old) }
-    requires start { CanRun table.now env }
-    ensures stays { Stays table.now hand.old hand.new }
-    ensures placed { IfOk result (λ b. IsPlaced table.now b env hand.old.me hand.new.me) }
-    ensures back { IfErr result (λ back. back ≡ env) }
-    ensures none { IfErr result (λ _. MissesEach table.now from hand.old hand.new) }
-{
-    let Some(block) = claim_from(table, hand, from) else {
-        return Err(env);
-    };
-    put_home(table, hand, table.root(block), Item::Start(env));
-    Ok(block)
-}
 
 impl Loop {
     /// Starts an operation in a free block, and goes on with it until the hand is at rest. The
@@ -70,21 +50,15 @@ impl Loop {
         ensures back { IfErr result (λ back. back ≡ env) }
         ensures none { IfErr result (λ _. FindsNoBlock table.now self.old self.new) }
     {
-        let block = match place(table, &mut self.hand, self.next, env) {
-            Ok(block) => block,
-            Err(env) => return Err(env),
-        };
-        let root = table.root(block);
-        table.begin(&mut self.hand, root);
-        go_on(
+        begin_root(
             rt,
             alloc,
             table,
             &mut self.hand,
+            self.next,
             stepper,
-            root,
+            env,
             &mut self.names,
-        );
-        Ok(block)
+        )
     }
 }

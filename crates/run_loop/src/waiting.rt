@@ -5,13 +5,13 @@ ghost use Rattle.plan_kinds.specs.Runnable.{IsRunnable};
 ghost use Rattle.table_steps.specs.Views.{IsSameHand};
 ghost use Rattle.exec_recv.specs.Over.{IsOver};
 ghost use Rattle.run_loop.specs.Loops.{IsReady};
-ghost use Rattle.run_loop.specs.Starts.{CanRun};
-ghost use Rattle.run_loop.specs.Collects.{IsListed};
+ghost use Rattle.loop_roots.specs.Starts.{CanRun};
+ghost use Rattle.loop_roots.specs.Completes.{IsListed};
 ghost use Rattle.run_loop.specs.Waits.{IsCollected, Waits};
 
-use crate::collecting::Collected;
 use crate::looped::Loop;
 use exec_recv::{Env, Item, Stepper};
+use loop_roots::Collected;
 use op_slot::{Block, OpTable};
 use std::alloc::Global;
 use std::sync::Wait;

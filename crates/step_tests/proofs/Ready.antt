@@ -20,7 +20,7 @@ use Rattle.exec_start.proofs.Beginning.{record-kinds}
 use Rattle.loop_walk.specs.Resting.{IsAtRest}
 use Rattle.run_loop.specs.declared.looped.Loop.{Loop as Looped}
 use Rattle.run_loop.specs.Loops.{IsOpened, IsReady}
-use Rattle.run_loop.specs.Starts.{CanRun}
+use Rattle.loop_roots.specs.Starts.{CanRun}
 use Rattle.step_tests.specs.Ready.{IsFirst}
 
 -- a plan that was read, and is whole, can be evaluated

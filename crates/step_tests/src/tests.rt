@@ -3,9 +3,9 @@ ghost use Rattle.std.specs.Prelude.{◌≡◌, IfOk, IfSome};
 ghost use Rattle.std.specs.Thread.{IsSync};
 ghost use Rattle.plan_kinds.specs.Runnable.{IsRunnable};
 ghost use Rattle.exec_recv.specs.Over.{IsOver};
-ghost use Rattle.run_loop.specs.Collects.{IsListed};
+ghost use Rattle.loop_roots.specs.Completes.{IsListed};
 ghost use Rattle.run_loop.specs.Loops.{IsReady};
-ghost use Rattle.run_loop.specs.Starts.{CanRun};
+ghost use Rattle.loop_roots.specs.Starts.{CanRun};
 ghost use Rattle.step_tests.specs.Ready.{IsFirst};
 
 mod bulks;

@@ -9,8 +9,8 @@ use Rattle.run_rules.specs.PlanTerms.{AllowsRecord}
 use Rattle.run_rules.proofs.PlanLaws.{plan-covers}
 use Rattle.record_loop.specs.Works.{Begun, Work, MayComplete}
 use Rattle.exec_start.specs.Entries.{record_start}
-use Rattle.run_loop.specs.declared.collecting.Collected.{Collected}
-use Rattle.run_loop.specs.Collects.{IsFor}
+use Rattle.loop_roots.specs.declared.completing.Collected.{Collected}
+use Rattle.loop_roots.specs.Completes.{IsFor}
 use Rattle.table_run.specs.Runs.{WantsMemory}
 
 -- what is allowed under the requests that an operation saw is allowed under those that were made

@@ -15,9 +15,10 @@ use Rattle.exec_start.specs.declared.entry.Entry.{Entry}
 use Rattle.exec_start.specs.declared.item.Item.{Item}
 use Rattle.exec_start.specs.Entries.{record_start}
 use Rattle.exec_recv.specs.Asides.{Aside, aside_of}
-use Rattle.run_loop.specs.declared.collecting.Collected.{Collected}
+use Rattle.loop_roots.specs.declared.completing.Collected.{Collected}
 use Rattle.run_loop.specs.declared.looped.Loop.{Loop as Looped}
-use Rattle.run_loop.specs.Collects.{IsListed, Collects as CollectsBlock}
+use Rattle.loop_roots.specs.Completes.{IsListed}
+use Rattle.run_loop.specs.Collects.{Collects as CollectsBlock}
 use Rattle.run_loop.specs.Loops.{IsReady}
 use Rattle.table_run.specs.declared.tickets.Operation.{Operation}
 use Rattle.table_run.specs.Calls.{with_left, LeavesWith, Enters}

@@ -17,7 +17,7 @@ use Rattle.exec_start.specs.declared.item.Item.{Item}
 use Rattle.exec_recv.specs.Asides.{Aside, aside_of}
 use Rattle.run_loop.specs.declared.looped.Loop.{Loop as Looped}
 use Rattle.run_loop.specs.Starts.{Starts}
-use Rattle.run_loop.proofs.Claimed.{missed-grows}
+use Rattle.loop_roots.proofs.Claimed.{missed-grows}
 use Rattle.table_run.specs.declared.tickets.Operation.{Operation}
 use Rattle.table_run.specs.Calls.{LeavesSame, Enters}
 use Rattle.table_run.specs.Runs.{root_of}

@@ -13,7 +13,7 @@ use Rattle.exec_start.specs.Entries.{record_start}
 use Rattle.exec_start.specs.HasKinds.{HasKinds}
 use Rattle.exec_start.specs.Starts.{IsReceiverStart}
 use Rattle.exec_recv.specs.Over.{IsOver}
-use Rattle.run_loop.specs.Starts.{CanRun}
+use Rattle.loop_roots.specs.Starts.{CanRun}
 
 module _ (plan : Blueprint) (is : IsPlan plan) (datum : Datum) (number : ℕ) (asked : Bool) where
   abbrev root : ℕ

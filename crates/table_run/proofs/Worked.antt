@@ -17,9 +17,9 @@ use Rattle.table_steps.specs.Views.{Board, knows}
 use Rattle.exec_start.specs.declared.entry.Entry.{Entry}
 use Rattle.exec_start.specs.Entries.{record_start}
 use Rattle.exec_recv.specs.Asides.{Aside, aside_of}
-use Rattle.run_loop.specs.declared.collecting.Collected.{Collected}
+use Rattle.loop_roots.specs.declared.completing.Collected.{Collected}
 use Rattle.run_loop.specs.declared.looped.Loop.{Loop as Looped}
-use Rattle.run_loop.specs.Collects.{IsFor}
+use Rattle.loop_roots.specs.Completes.{IsFor}
 use Rattle.table_run.specs.declared.tickets.Operation.{Operation}
 use Rattle.table_run.specs.Calls.{with_left, LeavesWith, Enters}
 use Rattle.table_run.specs.Moves.{KeepsRun, LeavesRun}

@@ -5,7 +5,7 @@ use Rattle.plan_shape.specs.Blueprint.{Blueprint}
 use Rattle.record_loop.specs.Works.{Collects}
 use Rattle.table_steps.specs.Views.{knows}
 use Rattle.exec_recv.specs.Nexts.{Doing}
-use Rattle.run_loop.specs.Emptied.{WasNotReady}
+use Rattle.loop_roots.specs.Emptied.{WasNotReady}
 use Rattle.run_loop.specs.Turns.{MeetsAll}
 use Rattle.table_run.specs.declared.tickets.Operation.{Operation}
 use Rattle.table_run.specs.Runs.{Run, WantsMemory, work_of}

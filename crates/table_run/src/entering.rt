@@ -6,7 +6,7 @@ ghost use Rattle.table_steps.specs.Views.{knows};
 ghost use Rattle.table_steps.specs.ScopeEntries.{MayEnter};
 ghost use Rattle.exec_recv.specs.Over.{IsOver};
 ghost use Rattle.run_loop.specs.Loops.{IsReady, KeepsCounts};
-ghost use Rattle.run_loop.specs.Starts.{CanRun};
+ghost use Rattle.loop_roots.specs.Starts.{CanRun};
 ghost use Rattle.table_run.specs.Calls.{LeavesSame, Enters};
 
 use crate::tickets::Operation;

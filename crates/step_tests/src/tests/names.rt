@@ -3,7 +3,7 @@ ghost use Rattle.std.specs.Prelude.{◌≡◌, IfSome};
 ghost use Rattle.std.specs.Thread.{IsSync};
 ghost use Rattle.plan_kinds.specs.Runnable.{IsRunnable};
 ghost use Rattle.exec_recv.specs.Over.{IsOver};
-ghost use Rattle.run_loop.specs.Collects.{IsListed};
+ghost use Rattle.loop_roots.specs.Completes.{IsListed};
 ghost use Rattle.run_loop.specs.Loops.{IsReady};
 
 use super::{opened, plan_of, started};

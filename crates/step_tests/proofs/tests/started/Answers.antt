@@ -6,7 +6,7 @@ use Rattle.exec_value.specs.Kinds.{HasKind}
 use Rattle.plan_rules.specs.declared.settings.Settings.{Settings}
 use Rattle.exec_start.specs.declared.entry.Entry.{Entry}
 use Rattle.exec_start.specs.Entries.{record_start}
-use Rattle.run_loop.specs.Starts.{CanRun}
+use Rattle.loop_roots.specs.Starts.{CanRun}
 use Rattle.step_tests.proofs.Ready.{record-runs}
 use Rattle.step_tests.proofs.tests.started.Goals as goal
 

@@ -1,4 +1,4 @@
-use Rattle.run_loop.specs.Collects.{IsListed}
+use Rattle.loop_roots.specs.Completes.{IsListed}
 use Rattle.run_loop.specs.Loops.{IsReady}
 use Rattle.step_tests.proofs.tests.turns_until.Given as goal
 

@@ -2,7 +2,7 @@ use Rattle.std.proofs.Common.{◌≡◌, ◌+◌, ◌%◌, length, sym, ap, ◌�
 use Rattle.std.specs.Prelude.{Some}
 use Rattle.std.proofs.lemmas.List.{length-set}
 use Rattle.exec_value.specs.Kinds.{HasKind}
-use Rattle.run_loop.specs.Starts.{CanRun}
+use Rattle.loop_roots.specs.Starts.{CanRun}
 use Rattle.table_run.specs.Runs.{Run, run_of}
 use Rattle.table_run.proofs.Changed.{shown-free, shown-start, entered-by, has-entered-sound}
 use Rattle.table_run.proofs.Starting.{can-run}
