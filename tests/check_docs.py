@@ -6,7 +6,7 @@
 The table of crates in docs/ARCHITECTURE.md has each crate of crates.txt once, in its order, with the crates that it
 stands on; --write writes the rows so, and keeps what each crate is. Each call that its drawings name is a function of a
 file beside it. Each name in docs/PROVED.md stands in some crate, and each file that README.md or a page of docs/ names
-is there. The last line is `N passed, M failed`; the status is 1 where one failed.
+is there. Code in docs/LIBRARY.md stands so in the file that was named last before it. The last line is `N passed, M failed`; the status is 1 where one failed.
 """
 import os
 import re
@@ -15,6 +15,7 @@ import sys
 TOP = os.path.dirname(os.path.dirname(os.path.abspath(__file__)))
 TABLE = "docs/ARCHITECTURE.md"
 PROVED = "docs/PROVED.md"
+QUOTING = "docs/LIBRARY.md"
 UNTOLD = "?"
 HEAD = "| crate | what it is | stands on |"
 ROW = re.compile(r"\| (\w+) \| (.+?) \| ?(.*?) ?\|")
@@ -136,9 +137,33 @@ def faults_of_names():
     return [f"{PROVED}: nothing is called {name}" for name in named if name not in known]
 
 
+def quotes():
+    """The pieces of code that docs/LIBRARY.md quotes, each with the file that was named last before it. A line `..` ends
+    a piece and begins another."""
+    file, piece = "", None
+    for line in text_of(QUOTING).splitlines():
+        if line.startswith("```") or (piece is not None and line == ".."):
+            if piece:
+                yield file, "\n".join(piece)
+            piece = [] if line in ("..", "```rust", "```antt") else None
+        elif piece is not None:
+            piece.append(line)
+        else:
+            file = (PATH.findall(line) or [file])[-1]
+
+
+def faults_of_quotes():
+    """The pieces that don't stand so in their files."""
+    said, pieces = [], list(quotes())
+    for file, piece in pieces:
+        if not (os.path.isfile(os.path.join(TOP, file)) and f"\n{piece}\n" in f"\n{text_of(file)}"):
+            said.append(f"{QUOTING}: {file or 'no file'} doesn't have `{piece.splitlines()[0].strip()} ..` so")
+    return said if pieces else [f"{QUOTING} quotes no code"]
+
+
 def run():
     """Checks the documents. The answer is how many checks passed and how many failed."""
-    found = [faults_of_table(), faults_of_drawings(), faults_of_names(), faults_of_paths()]
+    found = [faults_of_table(), faults_of_drawings(), faults_of_names(), faults_of_paths(), faults_of_quotes()]
     for fault in sum(found, []):
         print(f"FAILED  {fault}")
     failed = sum(1 for faults in found if faults)

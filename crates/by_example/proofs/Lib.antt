@@ -1,0 +1,6 @@
+mod AddingNodes
+mod AdderKinds
+mod AdderAllowed
+mod OneHands
+mod OneRun
+mod LineLaws

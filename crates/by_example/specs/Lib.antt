@@ -1,0 +1,4 @@
+pub mod Adder
+pub mod Answers
+pub mod OneHand
+pub mod Streams

@@ -1,0 +1,61 @@
+//! One is added to each number of a stream, by operations on workers.
+ghost use Rattle.std.specs.Prelude.{IfOk, vec_len};
+ghost use Rattle.std.specs.Thread.{IsSync};
+ghost use Rattle.record_loop.specs.declared.printer.Form.{Form};
+ghost use Rattle.record_runs.specs.Endings.{EndsLines, begins, supply};
+ghost use Rattle.record_runs.specs.Layers.{ending_in};
+ghost use Rattle.run_crew.specs.Crews.{IsCrew};
+ghost use Rattle.by_example.specs.Adder.{pool_adder};
+ghost use Rattle.by_example.specs.Streams.{AddsOneToEach};
+ghost use Rattle.by_example.specs.declared.streaming.TheConstants.{WINDOW};
+
+use crate::planning::plan_pool_adder;
+use exec_io::Sink;
+use exec_recv::OpenGate;
+use record_loop::{Form, RecordSource};
+use record_runs::{Account, run_lines};
+use run_crew::Crew;
+use std::alloc::{AllocError, Global};
+use std::sync::Wait;
+use std::thread::Threads;
+
+/// So many lines are worked on at once.
+pub const WINDOW: usize = 64;
+
+/// Adds one to the number of each line of a source, and writes a line for each, in order: by
+/// operations that start on the pool ([exec.starts.on]), where the workers of a crew run them, each
+/// in a thread of its own. Where no thread can be started the calling thread does their work. It
+/// fails only for want of memory, and what it promises holds if it returns.
+///
+/// Afterwards: what `run_lines` promises for the plan. So the line of each number is that of the
+/// next number, or of the error `overflow`, and each other line is a bad record, whatever the
+/// workers did; and the table was closed with its scope joined and each block given back.
+pub fn add_lines<R: Threads + Wait + Sync, S: RecordSource, K: Sink>(
+    rt: &R,
+    alloc: Global,
+    crew: Crew,
+    records: &mut S,
+    out: &mut K,
+) -> Result<Account, AllocError>
+    requires sync { IsSync R.row }
+    requires crew { IsCrew crew.workers (vec_len crew.backends) }
+    ensures ends { EndsLines (begins pool_adder WINDOW Form.Lines (K.told out.old))
+        (supply (S.told records.old) (S.reads records.old))
+        (supply (S.told records.new) (S.reads records.new)) (K.told out.new) (ending_in result) }
+    ensures adds { IfOk result
+        (AddsOneToEach S.told K.told records.old records.new out.old out.new) }
+{
+    let gate = OpenGate;
+    let plan = plan_pool_adder(alloc)?;
+    run_lines(
+        rt,
+        alloc,
+        &plan,
+        WINDOW,
+        Form::Lines,
+        crew,
+        &gate,
+        records,
+        out,
+    )
+}
