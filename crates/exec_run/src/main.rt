@@ -2,33 +2,23 @@
 //! trace, or replays a schedule.
 //!
 //! The program is `exec_engine::run` over the files of the system and its standard streams. The
-//! adapters tell nothing of what these hold: that the system does as it says is taken on trust.
+//! adapters of std_streams tell nothing of what these hold: that the system does as it says is taken
+//! on trust.
 #![tactic(auto)]
 
 ghost use Rattle.std.specs.Prelude.{◌≡◌, vec_len};
 ghost use Rattle.exec_words.specs.declared.number.TheConstants.{MOST_WORKERS};
 
-mod faults;
-mod shelf;
-mod sink;
-mod source;
-#[cfg(test)]
-mod tests;
-
 use exec_engine::{Backend, Status, Tally, run};
 use exec_recv::OpenGate;
 use exec_words::MOST_WORKERS;
 use pool_backends::RingBackend;
-use shelf::FileShelf;
-use sink::Writing;
-use source::Reading;
 use std::alloc::AllocError;
-use std::env;
-use std::io::{BufWriter, ErrorKind};
+use std::io::BufWriter;
 use std::process::ExitCode;
-use std::rt::Env;
 use std::sync::Wait;
 use std::thread::Threads;
+use std_streams::{FileShelf, Reading, Writing, words_of_command};
 
 /// How many bytes of output are kept back at most.
 const OUT_BYTES: usize = 65_536;
@@ -89,14 +79,4 @@ fn run_words<T: Threads + Wait + Sync>(
     // What a failed write left in the buffer isn't written any more.
     let _ = out.into_inner().into_parts();
     Ok(status)
-}
-
-/// The words after the program's name. A command line with a word that isn't UTF-8 is faulty, and
-/// so is one without words, which is the answer then.
-fn words_of_command<R: Env + AllocGlobal>(rt: &R) -> Result<Vec<String>, AllocError> {
-    match env::args(rt) {
-        Ok(all) => all.skip(1).collect(rt.alloc()),
-        Err(error) if error.kind() == ErrorKind::OutOfMemory => Err(AllocError),
-        Err(_) => Ok(Vec::new(rt.alloc())),
-    }
 }
