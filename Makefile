@@ -9,6 +9,7 @@
 
 PREFIX ?= /usr/local
 PROGRAM := crates/exec_run/out/exec_run
+SHOWS := crates/exec_show/out/exec_show
 PLAN := samples/add_one.json
 NUMBERS := samples/numbers.txt
 
@@ -29,6 +30,9 @@ run: $(PROGRAM)
 $(PROGRAM): $(wildcard crates/*/src/*.rt crates/*/specs/*.antt)
 	cd crates/exec_run && rt run -- gen data/plan.json 1
 
+$(SHOWS): $(wildcard crates/*/src/*.rt crates/*/specs/*.antt)
+	cd crates/exec_show && rt run -- plan data/plan.json
+
 test:
 	.ci/run
 
@@ -38,7 +42,7 @@ stress: $(PROGRAM)
 bench: $(PROGRAM)
 	bench/measure.py $(PROGRAM)
 
-docs: $(PROGRAM)
+docs: $(PROGRAM) $(SHOWS)
 	docs/make_plans.py $(PROGRAM)
 	tests/check_docs.py --write
 

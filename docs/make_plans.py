@@ -4,6 +4,8 @@ writes docs/plan.schema.json, with the same words on each node and job (docs/mak
 
     docs/make_plans.py crates/exec_run/out/exec_run
 
+Pictures are what exec_show prints, built beside it.
+
 Each plan is tried against the schema where Python has the package jsonschema, and so are those of
 tests/cases/plan_files.json: the schema must pass what the program takes, and refuse what it refuses for its form,
 for an unknown name, or for settings that exclude each other.
@@ -444,6 +446,25 @@ nothing, and prints that line.
 """
 
 
+PICTURES = """## Pictures
+
+`exec_show plan plan.json`, a program beside `exec_run`, reads no records: it prints the plan as a digraph in the
+language of Graphviz, for `dot -Tsvg`. A box is a node, with its number and the name that the standard has for it;
+arrows go to its children, in order, and then to the bodies of a let. The parts of a bulk are not drawn. A box says
+
+- in which contexts the node is started, and in which it completes. Where a hop finds a stop that was requested before its
+  record was started, it completes where it was started, and so may what follows it. A plan with an `ahead` is evaluated
+  plainly and enters no context: there a box has those that the plan names;
+- which stop source its callback is registered on: that of the scope, that of a `when_all`, by its number, or none below
+  an `unstoppable`;
+- what it can complete with: `set_value` with the kinds of the data, `set_error`, `set_stopped`. What isn't named never
+  comes, want of memory aside.
+
+Of a file that is no plan it prints in one line for which of the causes above it is refused. The exit status is 0 with a
+picture, 1 with such a line, and otherwise as above.
+"""
+
+
 def texts():
     """What the page says of each node, and of each job."""
     return {name: text for name, text, _, _ in NODES}, {name: text for name, _, _, text in JOBS}
@@ -533,6 +554,28 @@ def summaries(exe):
     )
 
 
+def shower(exe):
+    """The program that shows, as it was built beside this one."""
+    crates, ending = os.path.split(os.path.dirname(os.path.dirname(exe)))[0], os.path.basename(exe)[len("exec_run"):]
+    return os.path.join(crates, "exec_show", "out", "exec_show" + ending)
+
+
+def pictures(exe):
+    hop = {"do": "starts_on", "on": "pool", "child": then(INPUT, "mul", n=2)}
+    plan = plan_of(then({"do": "when_all", "children": [hop, INPUT]}, "sum"))
+    status, picture, notes = call(shower(exe), plan, [], command="plan")
+    if status or notes:
+        sys.exit(f"a picture: {status} {notes}")
+    bad = plan_of(then(INPUT, "append", text="x"))
+    status, sentence, notes = call(shower(exe), bad, [], command="plan")
+    if status != 1 or notes:
+        sys.exit(f"a refusal: {status} {notes}")
+    return (
+        f"{PICTURES}\n```json\n{compact(plan)}\n```\n\ngives\n\n```text\n{picture}```\n\n"
+        f"```json\n{compact(bad)}\n```\n\ngives\n\n```text\n{sentence}```\n"
+    )
+
+
 def main():
     exe = os.path.abspath(sys.argv[1])
     faults = validator()
@@ -554,6 +597,7 @@ def main():
     for name, text, plan, records, words in SETTINGS:
         page.append(example(exe, faults, name, text, plan, records, words.split()))
     page.append(summaries(exe))
+    page.append(pictures(exe))
     for name, text in (("PLANS.md", "\n".join(page)), ("plan.schema.json", schema_text(*texts()))):
         with open(os.path.join(HERE, name), "w", encoding="utf-8") as file:
             file.write(text)

@@ -1,8 +1,8 @@
 #!/usr/bin/env python3
-"""Runs the tables of cases, the streams, spoilt plans and random ones over each build of the program, refuses it memory
-(tests/refused_memory.py), tries what is handed out beside it (tests/pages.py, tests/completions.py, tests/scale.py),
-and checks the documents: docs/PLANS.md and docs/plan.schema.json must be what docs/make_plans.py writes with that
-build.
+"""Runs the tables of cases, the streams, spoilt plans and random ones over each build of the program, and over that of
+exec_show beside it; reads its pictures (tests/pictures.py), refuses the program memory (tests/refused_memory.py), tries
+what is handed out beside it (tests/pages.py, tests/completions.py, tests/scale.py), and checks the documents:
+docs/PLANS.md and docs/plan.schema.json must be what docs/make_plans.py writes with that build.
 
     tests/run_all.py [--gate STATUS] [PROGRAM..]
 
@@ -21,6 +21,7 @@ import check_docs
 import completions
 import mutate_plans
 import pages
+import pictures
 import random_plans
 import refused_memory
 import run_cases
@@ -67,7 +68,9 @@ def main():
             print(f"FAILED  there is no program {program}")
             counts.append((0, 1))
             continue
-        scripts = (run_cases, streams, mutate_plans, random_plans, refused_memory, pages, completions, scale)
+        scripts = (
+            run_cases, streams, mutate_plans, random_plans, pictures, refused_memory, pages, completions, scale
+        )  # fmt: skip
         found = [it.run(program) for it in scripts]
         found.append(cookbook(program))
         print(f"{program}: {sum(it[0] for it in found)} tests passed, {sum(it[1] for it in found)} not")

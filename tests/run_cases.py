@@ -7,6 +7,7 @@ Each file of tests/cases is a JSON list of cases. A case is an object:
 
     name      a sentence, no two alike in a file
     words     what the program is called with
+    program   another program of crates.txt that is called, as it was built beside PATH; exec_run where none is said
     files     the files that lie where it runs: a text as it is, any other JSON value written compactly
     pieces    files by pieces: a list of texts, and of [text, N] for N times that text
     bytes     files by their bytes, in hexadecimal
@@ -33,14 +34,15 @@ HERE = os.path.dirname(os.path.abspath(__file__))
 CASES = os.path.join(HERE, "cases")
 PROGRAM = os.path.join(os.path.dirname(HERE), "crates", "exec_run", "out", "exec_run")
 SECONDS = 120
+RUNS = "exec_run"
 MOST_SHOWN = 400
 FULL = ("out", "notes")
 
 # the keys of a case with the type of each
 NEEDED = {"name": str, "words": list, "out": (str, list), "notes": (str, list), "status": int}
 FURTHER = {
-    "files": dict, "pieces": dict, "bytes": dict, "input": (str, list), "repeat": dict, "input_bytes": str,
-    "full": (str, list), "memory": int,
+    "program": str, "files": dict, "pieces": dict, "bytes": dict, "input": (str, list), "repeat": dict,
+    "input_bytes": str, "full": (str, list), "memory": int,
 }  # fmt: skip
 
 
@@ -133,9 +135,15 @@ def check_form(case):
     want(0 <= case["status"] <= 255, "a status is from 0 to 255")
 
 
+def beside(program, name):
+    """The program of this name, in the same build as exec_run is here."""
+    folder, ending = os.path.dirname(program), os.path.basename(program).removeprefix(RUNS)
+    return os.path.join(os.path.dirname(os.path.dirname(folder)), name, os.path.basename(folder), name + ending)
+
+
 def command_of(program, case):
     """The command that runs the case."""
-    command = [program, *case["words"]]
+    command = [beside(program, case["program"]) if "program" in case else program, *case["words"]]
     if "memory" in case:
         command = ["sh", "-c", f'ulimit -c 0; ulimit -d {case["memory"]}; exec "$0" "$@"', *command]
     return command

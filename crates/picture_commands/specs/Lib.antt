@@ -1,0 +1,4 @@
+pub mod Asks
+pub mod Reasons
+pub mod Answers
+pub mod Shows

@@ -1,0 +1,12 @@
+-- How a text grows.
+use Rattle.std.specs.Prelude.{◌≡◌, ℕ, ◌++◌, List}
+use Rattle.std.specs.Borrow.{Bor}
+use Rattle.std.specs.List.{flat_map}
+
+-- These bytes were added.
+pub record Adds (old new bytes : List ℕ) : Type 0 where
+  pub added : new ≡ old ++ bytes
+
+-- Texts, one after the other.
+abbrev pub joined_pieces : List (Bor (List ℕ)) → List ℕ
+joined_pieces pieces = flat_map (λ piece. piece.now) pieces

@@ -1,0 +1,40 @@
+-- The contexts in which a node may be.
+use Rattle.std.specs.Prelude.{ℕ, List, codes}
+use Rattle.node_tree.specs.declared.context.Context.{Context}
+use Rattle.node_tree.specs.declared.context.Context.TheVariants as context
+use Rattle.plan_rules.specs.declared.node.Node.{Node}
+use Rattle.plan_rules.specs.declared.node.Node.TheVariants.{Schedule, Delay, StartsOn, ContinuesOn, Bulk, Part}
+use Rattle.plan_picture.specs.declared.home.Home.{Home}
+use Rattle.plan_picture.specs.declared.home.Home.TheVariants.{Loop, Pool, Either}
+
+-- this context and no other
+abbrev pub home_of : Context → Home
+home_of context.Loop = Loop
+home_of context.Pool = Pool
+
+-- the contexts of both
+abbrev pub either : Home → Home → Home
+either Loop Loop = Loop
+either Pool Pool = Pool
+either first second = Either
+
+-- what a box says of the contexts
+abbrev pub home_word : Home → List ℕ
+home_word Loop = codes "the loop"
+home_word Pool = codes "the pool"
+home_word Either = codes "the loop or the pool"
+
+-- where a node starts its children, where it is started there itself
+abbrev pub entered : Node → Home → Home
+entered (StartsOn on child) start = home_of on
+entered node start = start
+
+-- where a node completes, where all below it complete there; a bulk goes on in the pool, where its
+-- parts are, unless its row has no number
+abbrev pub left : Node → Home → Home
+left (Schedule on) home = home_of on
+left (ContinuesOn child on) home = home_of on
+left (Delay turns) home = Loop
+left (Part bulk part) home = Pool
+left (Bulk child job) home = either home Pool
+left node home = home

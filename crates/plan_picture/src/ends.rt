@@ -1,0 +1,95 @@
+//! Where a node completes.
+ghost use Rattle.std.specs.Prelude.{◌≡◌, IfOk};
+ghost use Rattle.plan_picture.specs.Homes.{entered, left};
+ghost use Rattle.plan_picture.specs.Ends.{end_of, end_of_children, end_of_all};
+
+use crate::home::{Home, either, home_of};
+use crate::runs::{bodies_of, run_by};
+use plan_rules::{Node, NodeId};
+use plan_shape::Plan;
+use std::alloc::{AllocError, Global};
+
+/// Where a node starts its children, where it is started there itself.
+pub(crate) fn entered(node: &Node, start: Home) -> Home
+    ensures { result ≡ entered node.now start }
+{
+    match node {
+        Node::StartsOn { on, .. } => home_of(*on),
+        _ => start,
+    }
+}
+
+/// Where a node completes, where all below it complete there.
+fn left(node: &Node, home: Home) -> Home
+    ensures { result ≡ left node.now home }
+{
+    match node {
+        Node::Schedule(on) | Node::ContinuesOn { on, .. } => home_of(*on),
+        Node::Delay(_) => Home::Loop,
+        Node::Part { .. } => Home::Pool,
+        Node::Bulk { .. } => either(home, Home::Pool),
+        _ => home,
+    }
+}
+
+/// Where node `number` completes, where it is started there, as far as so many steps down tell.
+#[cycle(ends)]
+pub(crate) fn end_of(
+    alloc: Global,
+    plan: &Plan,
+    steps: u32,
+    number: NodeId,
+    start: Home,
+) -> Result<Home, AllocError>
+    ensures { IfOk result (λ home. home ≡ end_of plan.now.nodes steps number start) }
+{
+    if steps == 0 || number >= plan.size() {
+        return Ok(start);
+    }
+    let node = plan.node(number);
+    let children = run_by(alloc, node)?;
+    let own = end_of_children(alloc, plan, steps - 1, &children, entered(node, start))?;
+    let all = end_of_all(alloc, plan, steps - 1, bodies_of(node), own, own)?;
+    Ok(left(node, all))
+}
+
+/// Where the children of a node complete, all started there; where there is none, that is here.
+#[cycle(ends)]
+pub(crate) fn end_of_children(
+    alloc: Global,
+    plan: &Plan,
+    steps: u32,
+    children: &[NodeId],
+    start: Home,
+) -> Result<Home, AllocError>
+    ensures { IfOk result
+        (λ home. home ≡ end_of_children (end_of plan.now.nodes steps) start children.now) }
+{
+    match children {
+        [] => Ok(start),
+        [first, later @ ..] => {
+            let home = end_of(alloc, plan, steps, *first, start)?;
+            end_of_all(alloc, plan, steps, later, start, home)
+        }
+    }
+}
+
+/// These contexts and those where nodes complete, all started there.
+#[cycle(ends)]
+fn end_of_all(
+    alloc: Global,
+    plan: &Plan,
+    steps: u32,
+    nodes: &[NodeId],
+    start: Home,
+    others: Home,
+) -> Result<Home, AllocError>
+    ensures { IfOk result
+        (λ home. home ≡ end_of_all (end_of plan.now.nodes steps) start others nodes.now) }
+{
+    let mut home = others;
+    for node in nodes {
+        home = either(home, end_of(alloc, plan, steps, *node, start)?);
+    }
+    Ok(home)
+}
