@@ -1,0 +1,11 @@
+pub mod Seats
+pub mod Balances
+pub mod Weights
+pub mod Rounds
+pub mod Effects
+pub mod Stands
+pub mod Totals
+pub mod Steps
+pub mod Settles
+pub mod Opens
+pub mod Kept

@@ -1,0 +1,120 @@
+-- A round of steals, as far as it has come.
+use Rattle.std.proofs.Common.{◌≡◌, ◌≢◌, ℕ, zero, suc, ◌+◌, ◌<◌, ◌≤◌, List, [], ◌∷◌, ◌++◌, length, map, get_or, set, sum_by, ⊎_elim, arith, refl, sym, ap, ◌∙◌, subst}
+use Rattle.std.specs.Prelude.{slice_get, Some}
+use Rattle.std.proofs.lemmas.Bool.{cases_eq}
+use Rattle.std.proofs.lemmas.List.{map-set}
+use Rattle.std.proofs.lemmas.List.Sums.{sum_by-append}
+use Rattle.life_rules.specs.declared.event.Name.{Name}
+use Rattle.deck_relay.specs.declared.tokens.Tokens.{Tokens}
+use Rattle.deck_relay.specs.declared.thefts.Theft.{Theft}
+use Rattle.deck_relay.specs.Rule.{taking}
+use Rattle.deck_relay.specs.Decks.{theft_view, theft_deque, all_taken, stolen_of}
+use Rattle.deck_relay.specs.Moves.{IsOnceMore, Missed}
+use Rattle.deck_relay.proofs.Seats.{got, no-more, map-same, map-got}
+
+module _ {X : Type 0} where
+  -- what an index reads is there
+  pub read : (l : List X) (i : ℕ) (d : X) → i < length l → slice_get l i ≡ Some (get_or l i d)
+  read [] i d short = absurd (let no : ⊥ = omega (arith, short) in no)
+  read (y ∷ l) zero d short = refl
+  read (y ∷ l) (suc i) d short = read l i d (omega (arith, short))
+
+  got-here : (l : List X) (i : ℕ) (new x : X) → i < length l → slice_get (set l i new) i ≡ Some x → new ≡ x
+  got-here [] i new x short e = absurd (let no : ⊥ = omega (arith, short) in no)
+  got-here (y ∷ l) zero new x short e = got new x e
+  got-here (y ∷ l) (suc i) new x short e = got-here l i new x (omega (arith, short)) e
+
+  got-else : (l : List X) (i j : ℕ) (new : X) → j ≢ i → slice_get (set l i new) j ≡ slice_get l j
+  got-else [] i j new apart = refl
+  got-else (y ∷ l) zero zero new apart = absurd (apart refl)
+  got-else (y ∷ l) zero (suc j) new apart = refl
+  got-else (y ∷ l) (suc i) zero new apart = refl
+  got-else (y ∷ l) (suc i) (suc j) new apart = got-else l i j new (λ e. apart (ap suc e))
+
+-- the round was at each place below this one
+pub record Round (place at : ℕ) (old new : List Theft) : Type 0 where
+  pub deques : map theft_deque new ≡ map theft_deque old
+  pub views : map theft_view new ≡ map theft_view old
+  pub missed : (k : ℕ) (before after : Theft) → k < at → k ≢ place → slice_get old k ≡ Some before → slice_get new k ≡ Some after → Missed before after
+  pub rest : (k : ℕ) → at ≤ k → slice_get new k ≡ slice_get old k
+
+at-least : (k at : ℕ) → k ≡ at → at ≤ k
+at-least k at same = omega (arith, same)
+
+nearer : (k at : ℕ) → k < at + 1 → k ≢ at → k < at
+nearer k at below differs = omega (arith, below, differs)
+
+beyond : (k at : ℕ) → at + 1 ≤ k → k ≢ at
+beyond k at far same = omega (arith, same, far)
+
+far-enough : (k at : ℕ) → at + 1 ≤ k → at ≤ k
+far-enough k at far = omega (arith, far)
+
+pub begins : (place : ℕ) (thefts : List Theft) → Round place 0 thefts thefts
+begins place thefts =
+    record {
+      deques = refl;
+      views = refl;
+      missed = λ k before after below apart was is. absurd (let no : ⊥ = omega (arith, below) in no);
+      rest = λ k far. refl;
+    }
+
+-- one more place, where the steal missed
+pub misses : (place at : ℕ) (old now : List Theft) (before after : Theft) → Round place at old now → at < length now → slice_get now at ≡ Some before →
+    theft_deque after ≡ theft_deque before → theft_view after ≡ theft_view before → Missed before after → Round place (at + 1) old (set now at after)
+misses place at old now before after round short here deque view missed =
+    record {
+      deques = map-same theft_deque now at before after here deque ∙ round.deques;
+      views = map-same theft_view now at before after here view ∙ round.views;
+      missed = λ k first last below apart was is. ⊎_elim
+          (λ same.
+          let was-here : first ≡ before =
+          got first before (sym was ∙ sym (round.rest k (at-least k at same)) ∙ ap (slice_get now) same ∙ here) in
+          let is-here : after ≡ last = got-here now at after last short (ap (slice_get (set now at after)) (sym same) ∙ is) in
+          subst (λ (y : Theft × Theft). Missed y.0 y.1) (λ i. (sym was-here i, is-here i)) missed)
+          (λ differs. round.missed k first last (nearer k at below differs) apart was (sym (got-else now at k after differs) ∙ is))
+          (cases_eq k at);
+      rest = λ k far. got-else now at k after (beyond k at far) ∙ round.rest k (far-enough k at far);
+    }
+
+-- the place that is passed over
+pub passes : (place at : ℕ) (old now : List Theft) → Round place at old now → at ≡ place → Round place (at + 1) old now
+passes place at old now round is =
+    record {
+      deques = round.deques;
+      views = round.views;
+      missed = λ k first last below apart was here. ⊎_elim (λ same. absurd (apart (same ∙ is)))
+          (λ differs. round.missed k first last (nearer k at below differs) apart was here) (cases_eq k at);
+      rest = λ k far. round.rest k (far-enough k at far);
+    }
+
+-- a name that one pass took
+taken-once : (name : Name) (views : List Tokens) (i : ℕ) (v w : Tokens) → slice_get views i ≡ Some v → w ≡ taking v (name ∷ []) →
+    IsOnceMore name (all_taken views) (all_taken (set views i w))
+taken-once name [] i v w here is weight = absurd (no-more v here)
+taken-once name (x ∷ xs) zero v w here is weight =
+    let same : x ≡ v = got x v here in
+    let one : sum_by weight w.taken ≡ sum_by weight (v.taken ++ name ∷ []) = ap (λ (u : Tokens). sum_by weight u.taken) is in
+    let two = sum_by-append weight v.taken (name ∷ []) in
+    let was : sum_by weight x.taken ≡ sum_by weight v.taken = ap (λ (u : Tokens). sum_by weight u.taken) same in
+    let a = sum_by-append weight w.taken (all_taken xs) in
+    let b = sum_by-append weight x.taken (all_taken xs) in
+    omega (arith, one, two, was, a, b)
+taken-once name (x ∷ xs) (suc i) v w here is weight =
+    let later = taken-once name xs i v w here is weight in
+    let a = sum_by-append weight x.taken (all_taken (set xs i w)) in
+    let b = sum_by-append weight x.taken (all_taken xs) in
+    omega (arith, later, a, b)
+
+pub steals : (place at : ℕ) (old now : List Theft) (before after : Theft) (name : Name) → Round place at old now → slice_get now at ≡ Some before →
+    theft_view after ≡ taking (theft_view before) (name ∷ []) → IsOnceMore name (stolen_of old) (stolen_of (set now at after))
+steals place at old now before after name round here is weight =
+    let once = taken-once name (map theft_view now) at (theft_view before) (theft_view after) (map-got theft_view now at before here) is weight in
+    let new : sum_by weight (stolen_of (set now at after)) ≡ sum_by weight (all_taken (set (map theft_view now) at (theft_view after))) =
+    ap (λ l. sum_by weight (all_taken l)) (map-set theft_view now at after) in
+    let was : sum_by weight (stolen_of now) ≡ sum_by weight (stolen_of old) = ap (λ l. sum_by weight (all_taken l)) round.views in
+    omega (arith, once, new, was)
+
+pub keeps-deques : (place at : ℕ) (old now : List Theft) (before after : Theft) → Round place at old now → slice_get now at ≡ Some before →
+    theft_deque after ≡ theft_deque before → map theft_deque (set now at after) ≡ map theft_deque old
+keeps-deques place at old now before after round here same = map-same theft_deque now at before after here same ∙ round.deques

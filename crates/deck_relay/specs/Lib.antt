@@ -1,0 +1,9 @@
+pub mod Rule
+pub mod Decks
+pub mod Moves
+pub mod Relays
+pub mod Lending
+pub mod Columns
+pub mod Openings
+pub mod Adding
+pub mod Steals

@@ -1,0 +1,87 @@
+//! The calls of a deck.
+ghost use Rattle.std.specs.Prelude.{◌≡◌, ◌<◌, IfOk, IfErr, IfSome, IfNone, length};
+ghost use Rattle.deck_relay.specs.Decks.{IsSameDeck};
+ghost use Rattle.deck_relay.specs.Moves.{Gives, HandsBack, Takes, FindsNone};
+
+use crate::deck::Deck;
+use crate::deques::{Gives as Joins, Takes as Leaves};
+use crate::queues::{Fetches, Offers};
+use crate::stealing::steal_round;
+use life_rules::Name;
+use sleepers::Sleeper;
+use std::sync::Wait;
+
+impl Deck {
+    /// Its place in the relay, which is its sleeper's.
+    pub fn place(&self) -> u32
+        ensures { result ≡ self.now.place }
+    {
+        self.place
+    }
+
+    /// The sleeper of the deck's hand.
+    pub fn sleeper(&self) -> &Sleeper
+        ensures { result.now ≡ self.now.sleeper }
+    {
+        &self.sleeper
+    }
+
+    /// Gives each hand of the relay a token, so that it looks once more.
+    pub fn wake_all(&self) {
+        self.sleeper.wake_all();
+    }
+
+    /// Adds the name to the shared queue, and wakes a hand that sleeps. The name comes back only
+    /// where the queue was full at a step of this call.
+    pub fn offer<R: Wait>(&mut self, rt: &R, name: Name) -> Result<(), Name>
+        ensures same { IsSameDeck self.old self.new }
+        ensures offered { IfOk result (λ _. Gives name self.old self.new) }
+        ensures back { IfErr result (HandsBack name self.old self.new) }
+    {
+        let queue = &self.queue.line;
+        match queue.push_as::<Offers, R>(rt, &mut self.pass, name) {
+            Ok(()) => {
+                self.sleeper.wake_one();
+                Ok(())
+            }
+            Err(back) => Err(back),
+        }
+    }
+
+    /// Adds the name to the deck's own deque, or to the shared queue where the deque hands it back,
+    /// and wakes a hand that sleeps. The name comes back only where the shared queue was full at a
+    /// step of this call.
+    pub fn push<R: Wait>(&mut self, rt: &R, name: Name) -> Result<(), Name>
+        ensures same { IsSameDeck self.old self.new }
+        ensures pushed { IfOk result (λ _. Gives name self.old self.new) }
+        ensures back { IfErr result (HandsBack name self.old self.new) }
+    {
+        match self.own.push_as::<Joins>(name) {
+            Ok(()) => {
+                self.sleeper.wake_one();
+                Ok(())
+            }
+            Err(back) => self.offer(rt, back),
+        }
+    }
+
+    /// Takes a name from the deck's own deque, else from the shared queue, else by one round of
+    /// steals. None only where, each at a step of this call, its deque and the shared queue were
+    /// read as empty, and each other deque was read as empty or its steal was lost.
+    pub fn take<R: Wait>(&mut self, rt: &R) -> Option<Name>
+        ensures same { IsSameDeck self.old self.new }
+        ensures taken { IfSome result (λ name. Takes name self.old self.new) }
+        ensures none { IfNone result (FindsNone self.old self.new) }
+    {
+        match self.own.pop_as::<Leaves>() {
+            Some(name) => return Some(name),
+            None => {}
+        }
+        let queue = &self.queue.line;
+        match queue.pop_as::<Fetches, R>(rt, &mut self.pass) {
+            Some(name) => return Some(name),
+            None => {}
+        }
+        steal_round(self.thefts.as_mut_slice(), self.place)
+    }
+}

@@ -1,0 +1,4 @@
+pub mod Rule
+pub mod Posts
+pub mod Moves
+pub mod Law

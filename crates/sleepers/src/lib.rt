@@ -1,0 +1,21 @@
+//! Hands that sleep while there is nothing to do, and how they are woken.
+//!
+//! Each hand has a sleeper, with a parker of its own. Two words are shared, each on cache lines of
+//! its own: which hands are asleep, a bit for each, and how many search for names. At most one hand
+//! searches: who makes a name ready wakes another only where nobody searches, and takes the bit of
+//! the one that it wakes, which is counted as searching from then on.
+//!
+//!     awake --try_search--> searching --leave_search--> awake
+//!     awake --lie_down--> asleep --park--> woken --get_up--> awake, or searching
+//!     asleep --wake_one, wake, wake_all--> woken
+//!
+//! A hand lies down first, looks once more, and parks only then; so what becomes ready in between
+//! finds its bit. A token that comes late costs one round. That a hand that parks is woken isn't
+//! claimed: the proof sees no sleeping. Nothing rests on this crate but the time that a run takes.
+#![tactic(auto)]
+
+mod opening;
+mod sleeper;
+
+pub use opening::open;
+pub use sleeper::{MOST_HANDS, Sleeper};
