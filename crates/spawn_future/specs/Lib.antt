@@ -1,0 +1,10 @@
+pub mod Slots
+pub mod Keeping
+pub mod Opened
+pub mod Spawns
+pub mod Polls
+pub mod Sweeps
+-- the definitions that the public contracts cite
+pub use Rattle.table_steps.specs.Views
+pub use Rattle.exec_recv.specs.Over
+pub use Rattle.loop_roots.specs.Starts

@@ -1,0 +1,39 @@
+//! Futures of a scope (P3149, `spawn_future`): operations that hand 0 of a running table starts for
+//! an owner ahead of their results, each with an association of the scope, and polls or abandons
+//! later.
+//!
+//! It stands on count_scope for the associations, and on loop_roots, which starts and ends an
+//! operation. It keeps one promise: each future that is kept has an association of its own and a
+//! block of its own, whose root's start the hand has noted, until `poll` or `sweep` ends it. Then
+//! its block is given back, and after that its association is left. What `poll` gives is want of
+//! memory, or allowed for the child that the start names.
+//!
+//!     spawn --associate--> association --begin_root-----------> kept for its owner
+//!        |                                                              |          |
+//!        +--Full, Scope, NoBlock--> the environment comes back     poll |          | abandon
+//!                                                                       v          v
+//!                         Ready: block given back, association left <---+      abandoned
+//!                                                                                  | sweep
+//!                         its completion is dropped, block and association too <---+
+//!
+//! An abandoned operation runs to its end: no stop is requested of it. Between two calls the hand
+//! is at rest. No call after `open` wants memory but what a step of a node takes.
+#![tactic(auto)]
+
+mod entering;
+mod future;
+mod futures;
+mod limits;
+mod naming;
+mod polling;
+mod slots;
+mod spawning;
+mod sweeping;
+
+pub use exec_recv::{Env, Gate, Item, Stepper};
+pub use futures::Futures;
+pub use limits::MOST_FUTURES;
+pub use loop_walk::Mail;
+pub use op_slot::{Hand, OpTable};
+pub use polling::Polled;
+pub use spawning::SpawnFault;
