@@ -4,7 +4,7 @@ use plan_shape::Plan;
 /// A plan, and whether the job of each bulk is an element job. Where one isn't, another stands in
 /// for it in the plan.
 #[derive(Drop)]
-pub(crate) struct Found {
-    pub(crate) plan: Plan,
-    pub(crate) elements: bool,
+pub struct Found {
+    pub plan: Plan,
+    pub elements: bool,
 }

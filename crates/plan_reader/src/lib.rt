@@ -27,5 +27,10 @@ mod settings;
 mod walk;
 
 pub use fault::PlanFault;
+pub use found::Found;
 pub use law::{levels_suffice, limits};
-pub use read::{MOST_PLAN_BYTES, read_plan};
+pub use node_parts::{adaptor_node, leaf_node, let_node};
+pub use node_word::{Adaptor, Leaf, Let, NodeWord, node_keys, node_named};
+pub use plan::{MOST_LEVELS, known_settings};
+pub use read::{MOST_PLAN_BYTES, found_in, read_plan};
+pub use settings::is_first_version;

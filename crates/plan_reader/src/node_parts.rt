@@ -19,11 +19,7 @@ use serde_json::Value;
 use std::alloc::{AllocError, Global};
 
 /// A node without children.
-pub(crate) fn leaf_node(
-    alloc: Global,
-    leaf: Leaf,
-    value: &Value,
-) -> Result<Reading<Node>, AllocError>
+pub fn leaf_node(alloc: Global, leaf: Leaf, value: &Value) -> Result<Reading<Node>, AllocError>
     ensures value { IfOk result (λ reading. reading ≡ leaf_node leaf (view value.now)) }
     ensures conditions { IfOk result (λ reading. IfGood reading MeetsConditions) }
 {
@@ -54,7 +50,7 @@ pub(crate) fn leaf_node(
 }
 
 /// A node over this child.
-pub(crate) fn adaptor_node(
+pub fn adaptor_node(
     alloc: Global,
     adaptor: Adaptor,
     value: &Value,
@@ -98,7 +94,7 @@ pub(crate) fn adaptor_node(
 }
 
 /// A node over this child and these bodies.
-pub(crate) fn let_node(
+pub fn let_node(
     alloc: Global,
     binding: Let,
     value: &Value,

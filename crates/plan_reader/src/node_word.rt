@@ -49,7 +49,7 @@ pub enum NodeWord {
 }
 
 /// The node of this name, in a plan of version 1 or a later one.
-pub(crate) fn node_named(is_first: bool, name: &str) -> Option<NodeWord>
+pub fn node_named(is_first: bool, name: &str) -> Option<NodeWord>
     ensures { result ≡ node_named is_first name.now }
 {
     match early_node_named(name) {
@@ -152,7 +152,7 @@ fn other_node_named(name: &str) -> Option<NodeWord>
 }
 
 /// The keys that a node has.
-pub(crate) fn node_keys(word: NodeWord) -> &'static [&'static str]
+pub fn node_keys(word: NodeWord) -> &'static [&'static str]
     ensures { map (λ key. key.now) result.now ≡ node_keys word }
 {
     match word {

@@ -31,7 +31,7 @@ pub(crate) fn plan_of(alloc: Global, value: &Value) -> Result<Found, PlanFault>
 }
 
 /// The settings of a file that has no unknown key.
-fn known_settings(value: &Value) -> Reading<Settings>
+pub fn known_settings(value: &Value) -> Reading<Settings>
     ensures value { result ≡ known_settings (view value.now) }
     ensures settings { IfGood result AreSettings }
 {

@@ -37,7 +37,7 @@ pub fn read_plan(alloc: Global, bytes: &[u8]) -> Result<Plan, PlanFault>
 
 /// The plan of these bytes, of whose kinds nothing is said yet.
 #[tactic(auto, unfolding(crate::specs::Plans::found_in))]
-fn found_in(alloc: Global, bytes: &[u8]) -> Result<Found, PlanFault>
+pub fn found_in(alloc: Global, bytes: &[u8]) -> Result<Found, PlanFault>
     ensures ok { IfOk result (λ found. found_in bytes.now ≡ Ok found) }
     ensures err { IfErr result (λ fault. fault ≢ PlanFault.NoMemory
         → found_in bytes.now ≡ Err fault) }

@@ -39,7 +39,7 @@ fn with_rules(parts: ((u32, Kind), (ScopeKind, (Option<u32>, bool)))) -> Setting
 }
 
 /// Whether the version is the number 1.
-pub(crate) fn is_first_version(value: &Value) -> bool
+pub fn is_first_version(value: &Value) -> bool
     ensures { result ≡ is_first_version (view value.now) }
 {
     match number_at(value, "version") {

@@ -1,5 +1,5 @@
 -- What a small plan's evaluation may want memory for.
-use Rattle.std.specs.Prelude.{◌≡◌, ◌⊎◌, ℕ, ◌<◌, Bool, List, length, All}
+use Rattle.std.specs.Prelude.{◌≡◌, ◌⊎◌, ℕ, ◌<◌, Bool, List, Some, length, slice_get, All}
 use Rattle.exec_value.specs.Place.{AreInPlace}
 use Rattle.exec_value.specs.declared.data.Datum.{Datum}
 use Rattle.exec_value.specs.declared.limits.TheConstants.{INLINE_BYTES}
@@ -7,10 +7,15 @@ use Rattle.exec_value.specs.declared.outcome.Completion.TheVariants.{Error}
 use Rattle.exec_job.specs.Apply.{TakesData, apply_of, EndsInPlace}
 use Rattle.exec_job.specs.declared.job.Job.{Job}
 use Rattle.plan_rules.specs.Settle.{settle_of}
+use Rattle.plan_rules.specs.declared.node.Node.{Node}
 use Rattle.plan_kinds.specs.Runnable.{RunsWith}
 use Rattle.plan_shape.specs.Blueprint.{Blueprint}
 use Rattle.plan_settle.specs.declared.evaluation.Evaluation.{Evaluation}
 use Rattle.plan_kinds.specs.Small.{IsSmall}
+
+-- node n of the plan that is run is this one
+abbrev pub NodeIs : Evaluation → ℕ → Node → Type 0
+NodeIs run n node = slice_get run.plan.now.nodes n ≡ Some node
 
 -- some node of the plan runs so that it settles, for the record of this number, to an error whose name
 -- doesn't stand in place: a node's own name, which is copied then

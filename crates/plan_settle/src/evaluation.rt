@@ -1,10 +1,10 @@
 //! How a node is evaluated, by its kind: each call puts the node's completion in the place that it is
 //! given, where no completion is moved on the way up.
-ghost use Rattle.std.specs.Prelude.{◌≡◌, Some, IfSome, false, slice_get};
+ghost use Rattle.std.specs.Prelude.{◌≡◌, IfSome, false};
 ghost use Rattle.plan_rules.specs.Settle.{let_of, unless_asked};
 ghost use Rattle.plan_rules.specs.declared.node.Node.{Node};
 ghost use Rattle.plan_kinds.specs.Runnable.{IsRunnable, RunsWith};
-ghost use Rattle.plan_settle.specs.Runs.{MayPick};
+ghost use Rattle.plan_settle.specs.Runs.{MayPick, NodeIs};
 
 use exec_job::Job;
 use exec_value::{Completion, Data};
@@ -59,7 +59,7 @@ impl Evaluation<'_> {
     ) -> Result<(), AllocError>
         requires runnable { IsRunnable self.now.plan.now }
         requires runs { RunsWith self.now.plan.now at args.now }
-        requires node_is { slice_get self.now.plan.now.nodes at ≡ Some node.now }
+        requires node_is { NodeIs self.now at node.now }
         ensures { Settles self.now (settled_case self.now node.now args.now) done.new result }
     {
         let alloc = self.alloc;
@@ -159,7 +159,7 @@ impl Evaluation<'_> {
     ) -> Result<(), AllocError>
         requires runnable { IsRunnable self.now.plan.now }
         requires runs { RunsWith self.now.plan.now at args.now }
-        requires node_is { slice_get self.now.plan.now.nodes at ≡ Some node.now }
+        requires node_is { NodeIs self.now at node.now }
         requires is_let { IsLet node.now }
         ensures { Settles self.now (settled_case self.now node.now args.now) done.new result }
     {
@@ -231,7 +231,7 @@ impl Evaluation<'_> {
     ) -> Result<(), AllocError>
         requires runnable { IsRunnable self.now.plan.now }
         requires runs { RunsWith self.now.plan.now at args.now }
-        requires node_is { slice_get self.now.plan.now.nodes at ≡ Some (Node.WhenAll children.now) }
+        requires node_is { NodeIs self.now at (Node.WhenAll children.now) }
         ensures { Settles self.now
             (settled_case self.now (Node.WhenAll children.now) args.now) done.new result }
     {
@@ -263,7 +263,7 @@ impl Evaluation<'_> {
     ) -> Result<(), AllocError>
         requires runnable { IsRunnable self.now.plan.now }
         requires runs { RunsWith self.now.plan.now at args.now }
-        requires node_is { slice_get self.now.plan.now.nodes at ≡ Some (Node.Ahead first second) }
+        requires node_is { NodeIs self.now at (Node.Ahead first second) }
         ensures { Settles self.now
             (settled_case self.now (Node.Ahead first second) args.now) done.new result }
     {
