@@ -70,6 +70,7 @@ pub fn begin_root<T: Stepper, M: Mail, R: Wait + Sync>(
         (λ b. GoesOnWith (T.does stepper.now) table.now b env hand.old.me hand.new.me) }
     ensures back { IfErr result (λ back. back ≡ env) }
     ensures none { IfErr result (λ _. MissesEach table.now from hand.old hand.new) }
+    ensures mail { M.keeps mail.old mail.new }
 {
     let block = match place(table, hand, from, env) {
         Ok(block) => block,

@@ -75,6 +75,7 @@ pub fn serve<T: Stepper, M: Mail, R: Wait + Sync>(
         ServesNode (T.does stepper.now) table.now from name hand.old.me hand.new.me }
     ensures missed { result ≡ false → WasMissed table.now hand.old.me hand.new.me from name }
     ensures looks { result ≡ false → OnlyLooks hand.old.me hand.new.me }
+    ensures mail { M.keeps mail.old mail.new }
 {
     stepper.pass(rt, Point::Take(name));
     if !take_up(table, hand, name, from) {
@@ -117,6 +118,7 @@ pub fn serve_place<T: Stepper, M: Mail, R: Wait + Sync>(
         ServesNode (T.does stepper.now) table.now (resting_in on) name hand.old.me hand.new.me) }
     ensures unready { IfNone result (WasUnready table.now hand.old.me hand.new.me on block node) }
     ensures looks { IfNone result (OnlyLooks hand.old.me hand.new.me) }
+    ensures mail { M.keeps mail.old mail.new }
 {
     let from = resting(on);
     for _ in rt.forever() {

@@ -8,6 +8,7 @@ use Rattle.exec_start.specs.declared.item.Item.{Item}
 use Rattle.exec_recv.specs.declared.next.Next.{Next}
 use Rattle.exec_recv.specs.Asides.{KeepsAside}
 use Rattle.exec_recv.specs.Nexts.{Doing, IsStepped}
+use Rattle.loop_walk.specs.Resting.{CanGoOn}
 
 -- The node x was stepped, which did what a step of its does. What the view has beside nodes and
 -- starts is as that step left it, but for requests that the hand has seen and the list of its steps.
@@ -18,3 +19,10 @@ pub record HasStepped (does : Doing) (board : Board Blueprint) (x : Name)
   pub did : does board x next m between
   pub stepped : IsStepped board x m between next
   pub after : KeepsAside between m'
+
+-- The hand could go on with x, and a step of x left it so.
+pub record WasStepped (board : Board Blueprint) (x : Name) (next : Next) (m : Seated Item Entry)
+    : Type 0 where
+  pub before : Seated Item Entry
+  pub can : CanGoOn board x before
+  pub stepped : IsStepped board x before m next

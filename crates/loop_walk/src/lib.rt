@@ -8,9 +8,11 @@
 //!     go_on(x) --step--> Go(y) ----------------------> step of y
 //!                 |----> Ready(on), to the mail --+
 //!                 +----> Rest, Parked ------------+--owed, begin--> step of what it owed
-//!                                                 +--owes nothing-> at rest
+//!                 |                               +--owes nothing-> at rest
+//!     go_after ---+
 //!
-//! The loop, the workers of the pool and futures go on in this way.
+//! The loop, the workers of the pool and futures go on in this way; `go_after` where a step was made
+//! without a stepper.
 #![tactic(auto)]
 
 mod mail;
@@ -18,4 +20,4 @@ mod walking;
 
 pub use exec_recv::{Gate, Item, Next, Stepper};
 pub use mail::Mail;
-pub use walking::go_on;
+pub use walking::{go_after, go_on};

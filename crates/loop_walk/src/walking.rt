@@ -6,7 +6,7 @@ ghost use Rattle.table_steps.specs.Views.{IsHandOf, Stays, knows};
 ghost use Rattle.exec_recv.specs.Asides.{KeepsAside};
 ghost use Rattle.exec_recv.specs.Over.{IsOver};
 ghost use Rattle.loop_walk.specs.Resting.{IsAtRest, OwesOnly, CanGoOn, GoesOn};
-ghost use Rattle.loop_walk.specs.Stepped.{HasStepped};
+ghost use Rattle.loop_walk.specs.Stepped.{HasStepped, WasStepped};
 
 use crate::mail::Mail;
 use exec_recv::{Item, Next, Stepper};
@@ -30,6 +30,36 @@ fn begin_owed<T: Stepper>(table: &OpTable<Item>, hand: &mut Hand<Item>, stepper:
     Some(name)
 }
 
+// After a step of the node: the hand may step the node that is answered; with none it is at rest.
+fn find_next<T: Stepper, M: Mail, R: Wait + Sync>(
+    rt: &R,
+    table: &OpTable<Item>,
+    hand: &mut Hand<Item>,
+    stepper: &T,
+    name: Name,
+    next: Next,
+    mail: &mut M,
+) -> Option<Name>
+    requires sync { IsSync R.row }
+    requires hand { IsHandOf table.now hand.old }
+    requires over { IsOver table.now (T.plan stepper.now) }
+    requires after { WasStepped table.now name next hand.old.me }
+    ensures stays { Stays table.now hand.old hand.new }
+    ensures aside { KeepsAside hand.old.me hand.new.me }
+    ensures next { GoesOn table.now result hand.new.me }
+    ensures mail { M.keeps mail.old mail.new }
+{
+    match next {
+        Next::Go(next) => Some(next),
+        Next::Ready(on) => {
+            mail.ready(rt, name, on);
+            begin_owed(table, hand, stepper)
+        }
+        Next::Rest => begin_owed(table, hand, stepper),
+        Next::Parked => begin_owed(table, hand, stepper),
+    }
+}
+
 // Steps the node. Then the hand may step the node that is answered; with none it is at rest.
 fn step_once<T: Stepper, M: Mail, R: Wait + Sync>(
     rt: &R,
@@ -48,16 +78,50 @@ fn step_once<T: Stepper, M: Mail, R: Wait + Sync>(
     ensures stays { Stays table.now hand.old hand.new }
     ensures first { HasStepped (T.does stepper.now) table.now name hand.old.me hand.new.me }
     ensures next { GoesOn table.now result hand.new.me }
+    ensures mail { M.keeps mail.old mail.new }
 {
-    match stepper.step(rt, alloc, table, hand, name) {
-        Next::Go(next) => Some(next),
-        Next::Ready(on) => {
-            mail.ready(rt, name, on);
-            begin_owed(table, hand, stepper)
+    let next = stepper.step(rt, alloc, table, hand, name);
+    find_next(rt, table, hand, stepper, name, next, mail)
+}
+
+/// Goes on after a step of the node that was made elsewhere and left it so: it steps the node that
+/// Go names, and where there is none begins one whose start it owes and steps that, until it owes
+/// none. What is said of `go_on` is said of this.
+///
+/// Step: those of the steps, and of the begins.
+/// Needs: the table is over the stepper's plan, whose kinds match. Before that step the hand might
+/// step the node, and had nothing besides but starts that it owed, none of a root; and the step
+/// ended as a step does.
+/// Afterwards: the hand is at rest. All else that its view says is as before, but for requests that
+/// it has seen and the list of its steps.
+pub fn go_after<T: Stepper, M: Mail, R: Wait + Sync>(
+    rt: &R,
+    alloc: Global,
+    table: &OpTable<Item>,
+    hand: &mut Hand<Item>,
+    stepper: &T,
+    name: Name,
+    next: Next,
+    mail: &mut M,
+)
+    requires sync { IsSync R.row }
+    requires hand { IsHandOf table.now hand.old }
+    requires over { IsOver table.now (T.plan stepper.now) }
+    requires kinds { IsRunnable (T.plan stepper.now) }
+    requires after { WasStepped table.now name next hand.old.me }
+    ensures stays { Stays table.now hand.old hand.new }
+    ensures rests { IsAtRest (knows hand.new) }
+    ensures aside { KeepsAside hand.old.me hand.new.me }
+    ensures mail { M.keeps mail.old mail.new }
+{
+    let mut going = find_next(rt, table, hand, stepper, name, next, mail);
+    for _ in rt.forever() {
+        match going {
+            Some(next) => going = step_once(rt, alloc, table, hand, stepper, next, mail),
+            None => return,
         }
-        Next::Rest => begin_owed(table, hand, stepper),
-        Next::Parked => begin_owed(table, hand, stepper),
     }
+    unreachable!()
 }
 
 /// Steps the node, and goes on: it steps the node that Go names, and where there is none begins one
@@ -88,13 +152,8 @@ pub fn go_on<T: Stepper, M: Mail, R: Wait + Sync>(
     ensures first { HasStepped (T.does stepper.now) table.now name hand.old.me hand.new.me }
     ensures rests { IsAtRest (knows hand.new) }
     ensures aside { KeepsAside hand.old.me hand.new.me }
+    ensures mail { M.keeps mail.old mail.new }
 {
-    let mut going = step_once(rt, alloc, table, hand, stepper, name, mail);
-    for _ in rt.forever() {
-        match going {
-            Some(next) => going = step_once(rt, alloc, table, hand, stepper, next, mail),
-            None => return,
-        }
-    }
-    unreachable!()
+    let next = stepper.step(rt, alloc, table, hand, name);
+    go_after(rt, alloc, table, hand, stepper, name, next, mail);
 }

@@ -41,6 +41,14 @@ impl Names {
 }
 
 impl Mail for Names {
+    ghost use Rattle.std.specs.Prelude.{⊤};
+
+    ghost keeps = { λ _ _. ⊤ };
+
+    ghost none = { λ _. tt };
+
+    ghost on = { λ _ _ _ _ _. tt };
+
     fn ready<R: Wait + Sync>(&mut self, rt: &R, name: Name, on: Context) {
         let _ = rt;
         let _ = on;

@@ -16,6 +16,14 @@ pub struct Offers {
 }
 
 impl Mail for Offers {
+    ghost use Rattle.std.specs.Prelude.{⊤};
+
+    ghost keeps = { λ _ _. ⊤ };
+
+    ghost none = { λ _. tt };
+
+    ghost on = { λ _ _ _ _ _. tt };
+
     fn ready<R: Wait + Sync>(&mut self, rt: &R, name: Name, on: Context) {
         let _ = rt;
         match on {

@@ -20,6 +20,7 @@ returns-then-not-take_up g c =
       served = λ is. absurd (both_ways false refl is);
       missed = λ _. lost-missed c.args.table.now c.args.from c.args.name old new lost;
       looks = λ _. looked-only _ _ old new lost.2;
+      mail = g.met.M.Mail.none c.args.mail.now;
     }
 
 pub go_on-requires-clause-can : goal.go_on-requires-clause-can
@@ -55,4 +56,5 @@ returns g c =
           };
       missed = λ is. absurd (both_ways true is refl);
       looks = λ is. absurd (both_ways true is refl);
+      mail = c.go_on.ensures.mail;
     }

@@ -17,6 +17,7 @@ loop-init g c =
       stays = stays-here c.args.table.now c.args.hand.now c.requires.hand;
       rests = c.requires.rests;
       looks = looks-here c.args.hand.now.me;
+      mail = g.met.M.Mail.none c.args.mail.now;
     }
 
 pub serve-requires-clause-place : goal.serve-requires-clause-place
@@ -51,6 +52,7 @@ loop-preserved g c =
       rests = c.serve.ensures.rests;
       looks = looks-on c.args.hand.now.me c.ready_at.new.hand.me c.serve.new.hand.me
           (looks-on c.args.hand.now.me c.loop.hand.me c.ready_at.new.hand.me before.looks looked) (c.serve.ensures.looks c.if-serve.false);
+      mail = g.met.M.Mail.on _ _ _ before.mail c.serve.ensures.mail;
     }
 
 pub returns-then-serve : goal.returns-then-serve
@@ -74,6 +76,7 @@ returns-then-serve g c =
           (serves-before does board c.resting-from.result name old.me between.me new.me before (c.serve.ensures.served c.if-serve.true));
       unready = tt;
       looks = tt;
+      mail = g.met.M.Mail.on _ _ _ c.loop.invariant.mail c.serve.ensures.mail;
     }
 
 pub returns-in-None-ready_at : goal.returns-in-None-ready_at
@@ -92,4 +95,5 @@ returns-in-None-ready_at g c =
       unready = since-before i (IsUnready c.args.on) old.me round.me new.me c.loop.invariant.looks.aside
           (read-unready board c.args.on c.args.block c.args.node c.ready_at.result round new read c.in-None-ready_at.is);
       looks = looks-on old.me round.me new.me c.loop.invariant.looks (looked-only i read.word round.me new.me read.me_is);
+      mail = c.loop.invariant.mail;
     }

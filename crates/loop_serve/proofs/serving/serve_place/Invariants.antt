@@ -10,4 +10,5 @@ invariant-loop g l = record {
   stays : Stays l.table l.fn.hand l.hand;
   rests : IsAtRest l.hand.me.0;
   looks : OnlyLooks l.fn.hand.me l.hand.me;
+  mail : g.M.Mail.keeps l.fn.mail l.mail;
 }

@@ -1,7 +1,7 @@
 use Rattle.table_steps.specs.Views.{Stays}
+use Rattle.exec_recv.specs.Asides.{KeepsAside}
 use Rattle.loop_walk.specs.Resting.{GoesOn}
-use Rattle.loop_walk.specs.Stepped.{HasStepped}
-use Rattle.loop_walk.proofs.walking.go_on.Given as goal
+use Rattle.loop_walk.proofs.walking.go_after.Given as goal
 
 abbrev pub invariant-loop : goal.invariant-loop
 invariant-loop g l = record {
@@ -9,5 +9,6 @@ invariant-loop g l = record {
   finite : (goal.iterator-loop g).is_finite l.iterator';
   stays : Stays l.table l.fn.hand l.hand;
   goes : GoesOn l.table l.going l.hand.me;
-  first : HasStepped (g.T.Stepper.does l.stepper) l.table l.fn.name l.fn.hand.me l.hand.me;
+  aside : KeepsAside l.fn.hand.me l.hand.me;
+  mail : g.M.Mail.keeps l.fn.mail l.mail;
 }
