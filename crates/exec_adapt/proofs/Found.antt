@@ -16,6 +16,7 @@ use Rattle.exec_recv.specs.Steppable.{CanStep}
 use Rattle.node_steps.specs.declared.taken.TakenOut.{TakenOut}
 use Rattle.node_steps.specs.TakenOut.{item_at, newest_in, TakesOut}
 use Rattle.exec_adapt.specs.Openings.{newest, parcel_at}
+use Rattle.exec_adapt.specs.Tops.{TakesTop}
 
 newest-laid : (below : Option Delivery) (own : Item) → newest_in (option_map Done below) own ≡ newest below (parcel_in own)
 newest-laid None own = refl
@@ -24,12 +25,25 @@ newest-laid (Some parcel) own = refl
 none-some : (parcel : Delivery) → None ≡ Some parcel → ⊥
 none-some parcel e = cc
 
-module _ (board : Board Blueprint) (x : Name) (child : ℕ) (taken : TakenOut) (m0 m : Seated Item Entry)
-    (takes : TakesOut board x (Some child) taken m0 m) (found : Option Delivery) (found_is : found ≡ parcel_at taken) (can : CanStep board x m0) where
+-- what lay in the homes of x and of its child when the step began
+pub record Lay (board : Board Blueprint) (x : Name) (child : ℕ) (taken : TakenOut) (m : Seated Item Entry) : Type 0 where
+  pub item : (can : CanStep board x m) → can.item ≡ item_at taken.own
+  pub below : (can : CanStep board x m) → can.kid child ≡ option_map Done taken.below
+
+pub taken-lay : (board : Board Blueprint) (x : Name) (child : ℕ) (taken : TakenOut) (m0 m : Seated Item Entry) → TakesOut board x (Some child) taken m0 m →
+    Lay board x child taken m0
+taken-lay board x child taken m0 m takes = record { item = takes.item; below = λ can. takes.lay can child refl }
+
+pub top-lay : (plan : Blueprint) (board : Board Blueprint) (x : Name) (child : ℕ) (taken : TakenOut) (m0 m : Seated Item Entry) →
+    TakesTop plan board x child taken m0 m → Lay board x child taken m0
+top-lay plan board x child taken m0 m takes = record { item = takes.item; below = takes.lay }
+
+module _ (board : Board Blueprint) (x : Name) (child : ℕ) (taken : TakenOut) (m0 : Seated Item Entry)
+    (laid : Lay board x child taken m0) (found : Option Delivery) (found_is : found ≡ parcel_at taken) (can : CanStep board x m0) where
   lay : newest_in (can.kid child) can.item ≡ found
   lay =
-      ap (λ (o : Option Item). newest_in o can.item) (takes.lay can child refl)
-      ∙ ap (newest_in (option_map Done taken.below)) (takes.item can) ∙ newest-laid taken.below (item_at taken.own) ∙ sym found_is
+      ap (λ (o : Option Item). newest_in o can.item) (laid.below can)
+      ∙ ap (newest_in (option_map Done taken.below)) (laid.item can) ∙ newest-laid taken.below (item_at taken.own) ∙ sym found_is
 
   pub found-same : (parcel : Delivery) → found ≡ Some parcel → (other : Delivery) → newest_in (can.kid child) can.item ≡ Some other →
       parcel ≡ other

@@ -2,5 +2,8 @@ pub mod Making
 pub mod Places
 pub mod Adapting
 pub mod Leafing
+pub mod TopPlaces
+pub mod Emptied
+pub mod TopTaken
 pub mod Receiving
 pub mod Found

@@ -120,18 +120,18 @@ factory-plain (ReadEnv query) is = refl
 factory-plain node is = absurd is
 
 -- what is advanced, and is no adaptor, is a factory
-pub factory-is : (plan : Blueprint) (node : Node) → CanAdvance plan (Some node) → adapted node ≡ None → IsFactory node
-factory-is plan Input can none = tt
-factory-is plan (Just values) can none = tt
-factory-is plan (JustError name) can none = tt
-factory-is plan JustStopped can none = tt
-factory-is plan (ReadEnv query) can none = tt
-factory-is plan (Then x job) can none = cc
-factory-is plan (UponError x job) can none = cc
-factory-is plan (UponStopped x job) can none = cc
-factory-is plan (StoppedAsOptional x of) can none = cc
-factory-is plan (StoppedAsError x name) can none = cc
-factory-is plan node can none = absurd can
+pub factory-is : (node : Node) → CanAdvance (Some node) → adapted node ≡ None → IsFactory node
+factory-is Input can none = tt
+factory-is (Just values) can none = tt
+factory-is (JustError name) can none = tt
+factory-is JustStopped can none = tt
+factory-is (ReadEnv query) can none = tt
+factory-is (Then x job) can none = cc
+factory-is (UponError x job) can none = cc
+factory-is (UponStopped x job) can none = cc
+factory-is (StoppedAsOptional x of) can none = cc
+factory-is (StoppedAsError x name) can none = cc
+factory-is node can none = absurd can
 
 -- a node of the plan, in the table over it
 module _ (board : Board Blueprint) (plan : Blueprint) (x : Name) (node : Node) (over : IsOver board plan)

@@ -1,22 +1,15 @@
--- How the step of the receiver node goes on, where the plan's root alone stands below it.
-use Rattle.std.specs.Prelude.{Contains, slice_get, max, is_some, IfSome}
-use Rattle.std.specs.Option.{option_map_or}
-use Rattle.std.proofs.Common.{◌≡◌, inl, inr, ℕ, ◌+◌, ◌-◌, ◌≤◌, Bool, true, false, List, [], ◌∷◌, length, Option, Some, None, refl, sym, ap, ◌∙◌, subst, arith}
-use Rattle.std.proofs.lemmas.Bool.{both_ways, eq-eqb}
+-- How the step of the receiver node goes on.
+use Rattle.std.specs.Prelude.{Contains, max, is_some, IfSome}
+use Rattle.std.proofs.Common.{◌≡◌, inl, inr, ℕ, ◌≤◌, Bool, true, List, [], ◌∷◌, length, Option, Some, None, refl, sym, ap, ◌∙◌, subst, arith}
+use Rattle.std.proofs.lemmas.Bool.{both_ways}
 use Rattle.std.proofs.lemmas.Option.{same_Some}
 use Rattle.common_lemmas.specs.Sums.{one}
 use Rattle.exec_value.specs.declared.outcome.Completion.TheVariants.{NoMemory}
 use Rattle.life_rules.specs.declared.event.Name.{Name}
 use Rattle.life_rules.specs.Views.{beside}
-use Rattle.node_tree.specs.declared.node.TreeNode.{TreeNode}
-use Rattle.node_tree.specs.Tree.{is_root, is_child, has_source}
-use Rattle.plan_shape.specs.Blueprint.{Blueprint, IsPlan}
-use Rattle.plan_shape.specs.PlanTree.{tree_of}
-use Rattle.plan_shape.proofs.TreeLemmas.{tree_of-receiver}
+use Rattle.plan_shape.specs.Blueprint.{Blueprint}
 use Rattle.plan_kinds.specs.Runnable.{IsRunnable}
 use Rattle.plan_kinds.specs.Small.{IsSmall}
-use Rattle.plan_kinds.specs.TreeLaws.{ShowsPlan, IsTop}
-use Rattle.plan_kinds.proofs.Trees.{trees-show}
 use Rattle.table_steps.specs.Views.{Board, IsPlaceIn}
 use Rattle.table_steps.specs.Claims.{Seated}
 use Rattle.table_steps.specs.Readings.{KnowsIdle, IsIdleStill}
@@ -34,7 +27,7 @@ use Rattle.exec_start.proofs.Collecting.{receiver-none}
 use Rattle.exec_start.proofs.KindsBelow.{option-in}
 use Rattle.exec_recv.specs.Over.{IsOver}
 use Rattle.start_laws.proofs.Bounding.{few-begun}
-use Rattle.start_laws.proofs.Knowing.{from-top, places-tell}
+use Rattle.start_laws.proofs.Knowing.{from-top}
 use Rattle.start_laws.proofs.Pairs.{none-some}
 use Rattle.node_steps.specs.declared.taken.AtHome.{AtHome}
 use Rattle.node_steps.specs.declared.taken.AtHome.TheVariants.{Start as Unbegun, Rest as Rested}
@@ -43,19 +36,15 @@ use Rattle.node_steps.specs.Heard.{MaySee}
 use Rattle.node_steps.specs.Leaves.{MayLeave}
 use Rattle.node_steps.specs.Midway.{Ready, KeepsReady}
 use Rattle.node_steps.specs.Starts.{RunsBelow, asked_for_child, MayRun}
-use Rattle.node_steps.specs.TakenOut.{item_at, start_at, least_known, IsFoundBelow, IsOnlyChild, TakesOut}
+use Rattle.node_steps.specs.TakenOut.{item_at, start_at, least_known, IsFoundBelow}
 use Rattle.node_steps.proofs.Frames.{emptying-less}
 use Rattle.node_steps.proofs.Reading.{above-is, begun-idle}
 use Rattle.node_steps.proofs.Started.{run-stands, run-still}
 use Rattle.node_steps.proofs.Telling.{found-done, kept-from, from-keeps}
 use Rattle.exec_adapt.specs.Ends.{MayPass}
-use Rattle.exec_adapt.specs.Kinds.{SpawnsNone}
 use Rattle.exec_adapt.specs.Openings.{newest, parcel_at}
-
--- the node that stands on top of a plan without `ahead` is its root
-top-root : (plan : Blueprint) → SpawnsNone plan → (n : ℕ) → IsTop plan.nodes n → n ≡ length plan.nodes - 1
-top-root plan spawns n (inl last) = omega (arith, last)
-top-root plan spawns n (inr spawned) = absurd (spawns spawned.ahead n spawned.second spawned.node)
+use Rattle.exec_adapt.specs.Tops.{TakesTop}
+use Rattle.exec_adapt.proofs.TopPlaces.{small-spawns, last-node, source-none, only-root, top-start}
 
 -- no parcel is at hand where none lay in either home
 none-below : (below kept : Option Delivery) → newest below kept ≡ None → below ≡ None
@@ -96,119 +85,70 @@ begun-leaves board plan x start n asked m m' over runnable is may idle answer be
       };
     }
 
+-- what the start of the receiver node tells
+top-runs : (start : List Entry) → IsReceiverStart start → (n : ℕ) → child_of start ≡ Some n → RunsBelow start n
+top-runs [] is n names = absurd is
+top-runs (e ∷ p ∷ above) is n names = absurd is
+top-runs (e ∷ []) is n names =
+    subst (λ o. Contains (run_below o e) n) (sym (receiver-none e is)) (option-in e.child n names)
+
+top-asked : (start : List Entry) → IsReceiverStart start → asked_of start ≡ asked_for_child start
+top-asked [] is = absurd is
+top-asked (e ∷ p ∷ above) is = absurd is
+top-asked (e ∷ []) is = sym (ap (λ o. asked_below o e.asked) (receiver-none e is))
+
+keeps-one : (start : List Entry) → IsReceiverStart start → (parcel : Delivery) → least_of (Rest start (Some parcel)) ≡ 1
+keeps-one [] is parcel = absurd is
+keeps-one (e ∷ p ∷ above) is parcel = absurd is
+keeps-one (e ∷ []) is parcel = ap (λ o. least_at_rest o (Some parcel)) (receiver-none e is)
+
 -- The receiver node, in a table over a plan.
-module _ (board : Board Blueprint) (plan : Blueprint) (x : Name) (root : ℕ) (over : IsOver board plan) (spawns : SpawnsNone plan)
-    (root_is : root ≡ length plan.nodes - 1) (behind : length plan.nodes ≤ x.node) (place : IsPlaceIn board x) where
-  shows : ShowsPlan plan.nodes (tree_of plan.nodes)
-  shows = trees-show plan over.is_plan
-
-  size : length board.frame.tree ≡ length plan.nodes + 1
-  size = ap length over.tree ∙ shows.size
-
-  -- it stands behind the plan's root
-  pub last-node : x.node ≡ length plan.nodes
-  last-node = let within = place.node in let nodes = over.nodes in omega (arith, behind, within, nodes, size)
-
-  pub root-is : is_root board.frame.tree x.node ≡ true
-  root-is = eq-eqb (x.node + 1) (length board.frame.tree) (omega (arith, last-node, size))
-
-  -- the root alone stands below it
-  pub top-only : IsOnlyChild board x (Some root)
-  top-only =
-      let some = over.is_plan.some in
-      record {
-        is = λ n names.
-            let same = same_Some root n names in
-            subst (λ k. is_child board.frame.tree k n ≡ true) (sym last-node)
-            (subst (λ t. is_child t (length plan.nodes) n ≡ true) (sym over.tree)
-            ((shows.below n).1 (inl (omega (arith, same, root_is, some)))));
-        only = λ n below.
-            ap (λ (k : ℕ). Some k)
-            (root_is
-            ∙ sym (top-root plan spawns n ((shows.below n).0
-            (subst (λ t. is_child t (length plan.nodes) n ≡ true) over.tree
-            (subst (λ k. is_child board.frame.tree k n ≡ true) last-node below)))));
-      }
-
-  pub source-none : has_source board.frame.tree x.node ≡ false
-  source-none =
-      ap (λ o. option_map_or (λ (one : TreeNode). one.source) o false)
-      (ap (slice_get board.frame.tree) last-node ∙ ap (λ t. slice_get t (length plan.nodes)) over.tree ∙ tree_of-receiver plan.nodes)
-
-  -- its start is one of the receiver node, and names the root
-  module _ (start : List Entry) (least : ℕ) (m : Seated Item Entry) (ready : Ready board x start least m) (is : IsStart start) where
-    same-plan : plan_of start ≡ plan
-    same-plan = ready.key ∙ over.over
-
-    pub top-start : IsReceiverStart start
-    top-start =
-        places-tell.receiver start is (subst (λ (b : Blueprint). IsPlan b) (sym same-plan) over.is_plan)
-        (ready.node ∙ last-node ∙ ap (λ (b : Blueprint). length b.nodes) (sym same-plan))
-
-  names-root : (start : List Entry) → IsReceiverStart start → plan_of start ≡ plan → child_of start ≡ Some root
-  names-root [] is same = absurd is
-  names-root (e ∷ p ∷ above) is same = absurd is
-  names-root (e ∷ []) is same =
-      is.names
-      ∙ ap (λ (k : ℕ). Some k)
-      (top-root plan spawns is.top (subst (λ (b : Blueprint). IsTop b.nodes is.top) same is.is_top) ∙ sym root_is)
-
-  top-runs : (start : List Entry) → IsReceiverStart start → plan_of start ≡ plan → RunsBelow start root
-  top-runs [] is same = absurd is
-  top-runs (e ∷ p ∷ above) is same = absurd is
-  top-runs (e ∷ []) is same =
-      subst (λ o. Contains (run_below o e) root) (sym (receiver-none e is)) (option-in e.child root (names-root (e ∷ []) is same))
-
-  top-asked : (start : List Entry) → IsReceiverStart start → asked_of start ≡ asked_for_child start
-  top-asked [] is = absurd is
-  top-asked (e ∷ p ∷ above) is = absurd is
-  top-asked (e ∷ []) is = sym (ap (λ o. asked_below o e.asked) (receiver-none e is))
-
-  keeps-one : (start : List Entry) → IsReceiverStart start → (parcel : Delivery) → least_of (Rest start (Some parcel)) ≡ 1
-  keeps-one [] is parcel = absurd is
-  keeps-one (e ∷ p ∷ above) is parcel = absurd is
-  keeps-one (e ∷ []) is parcel = ap (λ o. least_at_rest o (Some parcel)) (receiver-none e is)
-
-  pass-from : (own : AtHome) (below : Option Delivery) (m : Seated Item Entry) →
+module _ (board : Board Blueprint) (plan : Blueprint) (x : Name) (over : IsOver board plan) (behind : length plan.nodes ≤ x.node)
+    (place : IsPlaceIn board x) where
+  pass-from : (own : AtHome) (below : Option Delivery) (child : ℕ) (m : Seated Item Entry) →
       Ready board x (start_at own) (max (least_of (item_at own)) (one (is_some below))) m →
       IsItemOf (item_at own) x.node → MaySee board x (saw_in (item_at own)) m → IfSome (parcel_in (item_at own)) IsDelivery →
-      IfSome below (IsFoundBelow board x (start_at own) root m) → IsStart (start_at own) → IsReceiverStart (start_at own) →
+      IfSome below (IsFoundBelow board x (start_at own) child m) → IsStart (start_at own) → IsReceiverStart (start_at own) →
       (parcel : Delivery) → newest below (parcel_in (item_at own)) ≡ Some parcel → MayPass board x (start_at own) parcel m
-  pass-from own (Some q) m ready of saw kept found starts top parcel e =
+  pass-from own (Some q) child m ready of saw kept found starts top parcel e =
       let start = start_at own in
-      let done = found-done board x start root m q found starts source-none in
+      let done = found-done board x start child m q found starts (source-none board plan x over behind place) in
       subst (λ (p : Delivery). MayPass board x start p m) (same_Some q parcel e)
       (record {
         ready = emptying-less board x start m (max (least_of (item_at own)) 1) 1 (λ _. None) (omega arith) ready;
-        from = from-top start q root _ done top;
+        from = from-top start q child _ done top;
       })
-  pass-from (Rested start (Some q)) None m ready of saw kept found starts top parcel e =
+  pass-from (Rested start (Some q)) None child m ready of saw kept found starts top parcel e =
       let least : least_of (Rest start (Some q)) ≡ 1 = keeps-one start top q in
       subst (λ (p : Delivery). MayPass board x start p m) (same_Some q parcel e)
       (record {
         ready = emptying-less board x start m (max (least_of (Rest start (Some q))) 0) 1 (λ _. None) (omega (arith, least)) ready;
         from = kept-from board x start m q of kept saw;
       })
-  pass-from (Rested start None) None m ready of saw kept found starts top parcel e = none-some e
-  pass-from (Unbegun start) None m ready of saw kept found starts top parcel e = none-some e
+  pass-from (Rested start None) None child m ready of saw kept found starts top parcel e = none-some e
+  pass-from (Unbegun start) None child m ready of saw kept found starts top parcel e = none-some e
 
   -- The homes were emptied.
-  module _ (taken : TakenOut) (m0 m : Seated Item Entry) (takes : TakesOut board x (Some root) taken m0 m)
-      (env : List Entry) (env_is : env ≡ start_at taken.own) (starts : IsStart env) where
+  module _ (child : ℕ) (taken : TakenOut) (m0 m : Seated Item Entry) (takes : TakesTop plan board x child taken m0 m)
+      (env : List Entry) (env_is : env ≡ start_at taken.own) where
     own-ready : Ready board x env (least_known taken) m
     own-ready = subst (λ (s : List Entry). Ready board x s (least_known taken) m) (sym env_is) takes.ready
 
-    own-top : IsReceiverStart env
-    own-top = top-start env (least_known taken) m own-ready starts
+    same-plan : plan_of env ≡ plan
+    same-plan = own-ready.key ∙ over.over
 
-    -- where no parcel is at hand, and the plan is small, it was just begun: the root hasn't begun
-    pub top-idle : parcel_at taken ≡ None → IsSmall (plan_of env) → KnowsIdle x root m
+    own-top : IsReceiverStart env
+    own-top = top-start board plan x over behind place env own-ready.node same-plan (subst IsStart (sym env_is) takes.starts)
+
+    -- where no parcel is at hand, and the plan is small, it was just begun: the child hasn't begun
+    pub top-idle : parcel_at taken ≡ None → IsSmall (plan_of env) → KnowsIdle x child m
     top-idle none small =
         let kind : plan_of (start_at taken.own) ≡ plan_of env = ap (λ (s : List Entry). plan_of s) (sym env_is) in
         let last : x.node ≡ length (plan_of (start_at taken.own)).nodes =
-        last-node ∙ ap (λ (b : Blueprint). length b.nodes) (sym (own-ready.key ∙ over.over) ∙ sym kind) in
-        elim (takes.alone (none-below taken.below (parcel_in (item_at taken.own)) none)) [
-          | inl begun ↦ begun-idle board x root m (top-only.is root refl) begun
+        last-node board plan x over behind place ∙ ap (λ (b : Blueprint). length b.nodes) (sym same-plan ∙ sym kind) in
+        let only = only-root board plan x over behind place (small-spawns plan (subst (λ (b : Blueprint). IsSmall b) same-plan small)) child takes.top in
+        elim (takes.alone only (none-below taken.below (parcel_in (item_at taken.own)) none)) [
+          | inl begun ↦ begun-idle board x child m (only.is child refl) begun
           | inr rests ↦
               absurd (none-kept taken.own (none-parcel taken.below (parcel_in (item_at taken.own)) none)
               (rests.kept (subst (λ (b : Blueprint). IsSmall b) (sym kind) small) last))
@@ -217,7 +157,7 @@ module _ (board : Board Blueprint) (plan : Blueprint) (x : Name) (root : ℕ) (o
     taken-passes : (parcel : Delivery) → parcel_at taken ≡ Some parcel → MayPass board x env parcel m
     taken-passes parcel e =
         subst (λ (s : List Entry). MayPass board x s parcel m) (sym env_is)
-        (pass-from taken.own taken.below m takes.ready takes.of takes.saw takes.kept takes.below (subst IsStart env_is starts)
+        (pass-from taken.own taken.below child m takes.ready takes.of takes.saw takes.kept takes.below takes.starts
         (subst IsReceiverStart env_is own-top) parcel e)
 
     -- with the parcel of the child it may rest
@@ -231,13 +171,13 @@ module _ (board : Board Blueprint) (plan : Blueprint) (x : Name) (root : ℕ) (o
           rests = record { rest = tt; kept = λ small last. pass.from.small small };
         }
 
-    -- else the root can be started
-    pub top-may : (asked : Bool) → asked ≡ asked_of env → MayRun board x env root asked m
+    -- else the child can be started
+    pub top-may : (asked : Bool) → asked ≡ asked_of env → MayRun board x env child asked m
     top-may asked asked_is =
         let none : least_of (Rest env None) ≡ 0 = few-begun.top_idle env own-top in
         record {
           ready = emptying-less board x env m (least_known taken) (least_of (Rest env None)) (λ _. None) (omega (arith, none)) own-ready;
           few = omega (arith, none);
-          runs = top-runs env own-top (own-ready.key ∙ over.over);
+          runs = top-runs env own-top child (ap child_of env_is ∙ takes.names);
           asked_is = asked_is ∙ top-asked env own-top;
         }

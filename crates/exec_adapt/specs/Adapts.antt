@@ -1,11 +1,12 @@
 -- What the step of a factory, that of an adaptor and that of the receiver node do ([exec.recv]).
-use Rattle.std.specs.Prelude.{◌≡◌, ◌⊎◌, ℕ, ◌-◌, Bool, true, false, List, length, Option, Some, None, MatchOption}
+use Rattle.std.specs.Prelude.{◌≡◌, ◌⊎◌, ℕ, Bool, true, false, List, Option, Some, None, MatchOption}
 use Rattle.exec_value.specs.declared.outcome.Completion.{Completion}
 use Rattle.exec_value.specs.declared.outcome.Completion.TheVariants.{NoMemory}
 use Rattle.life_rules.specs.declared.event.Name.{Name}
 use Rattle.life_rules.specs.Views.{beside}
 use Rattle.node_tree.specs.declared.context.Context.TheVariants.{Loop}
 use Rattle.plan_rules.specs.declared.node.Node.{Node}
+use Rattle.plan_kinds.specs.TreeLaws.{IsTop}
 use Rattle.plan_shape.specs.Blueprint.{Blueprint}
 use Rattle.table_steps.specs.Views.{Board}
 use Rattle.table_steps.specs.Claims.{Seated}
@@ -13,6 +14,7 @@ use Rattle.table_steps.specs.Readings.{IsBegunAs}
 use Rattle.node_images.specs.Makes.{CompletesInPlace}
 use Rattle.exec_start.specs.declared.entry.Entry.{Entry}
 use Rattle.exec_start.specs.declared.item.Item.{Item}
+use Rattle.exec_start.specs.Entries.{child_of}
 use Rattle.exec_start.specs.Items.{start_in}
 use Rattle.exec_start.specs.Parcels.{Delivery}
 use Rattle.exec_recv.specs.declared.next.Next.{Next}
@@ -79,10 +81,19 @@ module _ (board : Board Blueprint) (x : Name) where
         newest_in (can.kid child) can.item ≡ Some parcel →
         IsLeftIn board x Loop (Some parcel) next m'
 
+-- So it is with the child that the start of x names, which is one of those that an operation runs: the
+-- plan's root, or where the plan has an `ahead` the first child of one.
+pub record ReceivesTop (plan : Blueprint) (board : Board Blueprint) (x : Name) (next : Next)
+    (m m' : Seated Item Entry) : Type 0 where
+  pub child : ℕ
+  pub top : IsTop plan.nodes child
+  pub names : (can : CanStep board x m) → child_of (start_in can.item) ≡ Some child
+  pub receives : Receives board x child next m m'
+
 -- so it is by the node of the plan: the receiver node is none of it
 abbrev pub AdvancesAs : Blueprint → Board Blueprint → Name → Option Node → Next →
     Seated Item Entry → Seated Item Entry → Type 0
-AdvancesAs plan board x None next m m' = Receives board x (length plan.nodes - 1) next m m'
+AdvancesAs plan board x None next m m' = ReceivesTop plan board x next m m'
 AdvancesAs plan board x (Some node) next m m' =
     MatchOption (adapted node) (MakesOwn board x node next m m')
     (λ child. Adapts board x node child next m m')

@@ -1,8 +1,7 @@
 -- Which nodes this crate steps.
-use Rattle.std.specs.Prelude.{◌≡◌, ⊤, ℕ, Bool, true, false, Option, Some, None, slice_get}
+use Rattle.std.specs.Prelude.{⊤, ℕ, Bool, true, false, Option, Some, None}
 use Rattle.plan_rules.specs.declared.node.Node.{Node}
-use Rattle.plan_rules.specs.declared.node.Node.TheVariants.{Input, Just, JustError, JustStopped, ReadEnv, Then, UponError, UponStopped, StoppedAsOptional, StoppedAsError, Ahead}
-use Rattle.plan_shape.specs.Blueprint.{Blueprint}
+use Rattle.plan_rules.specs.declared.node.Node.TheVariants.{Input, Just, JustError, JustStopped, ReadEnv, Then, UponError, UponStopped, StoppedAsOptional, StoppedAsError}
 
 -- the node completes by itself: as the plan says, or with what its environment answers
 abbrev pub IsFactory : Node → Type 0
@@ -36,22 +35,17 @@ adapted (StoppedAsOptional child of) = Some child
 adapted (StoppedAsError child name) = Some child
 adapted node = None
 
--- the plan has no `ahead`: its root alone stands below the receiver node
-abbrev pub SpawnsNone : Blueprint → Type 0
-SpawnsNone plan = (n first second : ℕ) → slice_get plan.nodes n ≡ Some (Ahead first second) → ⊥
-
--- The node is one of these. The receiver node, which is none of the plan's, is stepped where the
--- plan has no `ahead`.
-abbrev pub CanAdvance : Blueprint → Option Node → Type 0
-CanAdvance plan None = SpawnsNone plan
-CanAdvance plan (Some Input) = ⊤
-CanAdvance plan (Some (Just values)) = ⊤
-CanAdvance plan (Some (JustError name)) = ⊤
-CanAdvance plan (Some JustStopped) = ⊤
-CanAdvance plan (Some (ReadEnv query)) = ⊤
-CanAdvance plan (Some (Then child job)) = ⊤
-CanAdvance plan (Some (UponError child job)) = ⊤
-CanAdvance plan (Some (UponStopped child job)) = ⊤
-CanAdvance plan (Some (StoppedAsOptional child of)) = ⊤
-CanAdvance plan (Some (StoppedAsError child name)) = ⊤
-CanAdvance plan (Some node) = ⊥
+-- The node is one of these, or the receiver node, which is none of the plan's.
+abbrev pub CanAdvance : Option Node → Type 0
+CanAdvance None = ⊤
+CanAdvance (Some Input) = ⊤
+CanAdvance (Some (Just values)) = ⊤
+CanAdvance (Some (JustError name)) = ⊤
+CanAdvance (Some JustStopped) = ⊤
+CanAdvance (Some (ReadEnv query)) = ⊤
+CanAdvance (Some (Then child job)) = ⊤
+CanAdvance (Some (UponError child job)) = ⊤
+CanAdvance (Some (UponStopped child job)) = ⊤
+CanAdvance (Some (StoppedAsOptional child of)) = ⊤
+CanAdvance (Some (StoppedAsError child name)) = ⊤
+CanAdvance (Some node) = ⊥

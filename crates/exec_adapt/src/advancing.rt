@@ -39,15 +39,15 @@ fn adapted(node: &Node) -> Option<NodeId>
 /// ([exec.recv]).
 ///
 /// Step: those of the node's kind.
-/// Needs: the node is of these kinds; the receiver node is that of a plan without `ahead`. The
-/// table is over the plan, whose kinds match. The hand makes no scan and runs no callback, and since
-/// it came to hold the node it has made no step on it, and has moved nothing of its home and of its
-/// children's. Each start that the hand owes can begin.
+/// Needs: the node is of these kinds. The table is over the plan, whose kinds match. The hand makes
+/// no scan and runs no callback, and since it came to hold the node it has made no step on it, and
+/// has moved nothing of its home and of its children's. Each start that the hand owes can begin.
 /// Afterwards: Go names the node that the hand holds in place of this one, and may step next; else
-/// it holds none in its place. Each start that the hand owes can begin. A factory has completed with
-/// what it makes. An adaptor has started its child, or, where that had completed, completed with what
-/// it makes of that; the receiver node keeps it, ready in the loop. Or there was no memory, for what
-/// doesn't stand in place.
+/// it holds none in its place. Each start that the hand owes can begin. A factory has completed
+/// with what it makes. An adaptor has started its child, or, where that had completed, completed
+/// with what it makes of that. The receiver node has started the child that its start names, or
+/// keeps what that completed with, ready in the loop. Or there was no memory, for what doesn't stand
+/// in place.
 pub fn advance<G: Gate, R: Wait + Sync>(
     rt: &R,
     alloc: Global,
@@ -61,7 +61,7 @@ pub fn advance<G: Gate, R: Wait + Sync>(
     requires hand { IsHandOf table.now hand.old }
     requires over { IsOver table.now plan.now }
     requires kinds { IsRunnable plan.now }
-    requires kind { CanAdvance plan.now (slice_get plan.now.nodes name.node) }
+    requires kind { CanAdvance (slice_get plan.now.nodes name.node) }
     requires can { CanStep table.now name hand.old.me }
     requires starts { AllCanStart table.now hand.old.me }
     ensures stays { Stays table.now hand.old hand.new }

@@ -9,6 +9,7 @@
 //!     factory   Start --> Done(what it makes)
 //!     adaptor   Start --start_unbegun_child--> Rest .. its child is done --> Done(the image)
 //!     receiver  Start --start_top--> Rest .. its child is done --> Rest(with the child's parcel)
+//!               its child is the one that its start names: the root, or the first of an `ahead`
 //!
 //! Where a long name of an error wants memory, the node goes on later, in the loop. What else wants
 //! memory is delivered so; small plans have nothing of the kind.
@@ -21,5 +22,6 @@ mod factories;
 mod images;
 mod opening;
 mod receiver;
+mod tops;
 
 pub use advancing::advance;

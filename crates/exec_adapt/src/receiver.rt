@@ -1,5 +1,5 @@
 //! The step of the receiver node, under which the operation of a record runs ([exec.recv]).
-ghost use Rattle.std.specs.Prelude.{◌≡◌, ◌≤◌, ◌-◌, true, length};
+ghost use Rattle.std.specs.Prelude.{◌≡◌, ◌≤◌, true, length};
 ghost use Rattle.node_tree.specs.Tree.{is_root};
 ghost use Rattle.plan_kinds.specs.Small.{IsSmall};
 ghost use Rattle.plan_kinds.specs.Runnable.{IsRunnable};
@@ -11,24 +11,17 @@ ghost use Rattle.exec_recv.specs.Beginnings.{AllCanStart};
 ghost use Rattle.exec_recv.specs.Steppable.{CanStep};
 ghost use Rattle.exec_recv.specs.Nexts.{IsStepped};
 ghost use Rattle.node_steps.specs.Starts.{MayRun};
-ghost use Rattle.exec_adapt.specs.Adapts.{ReadsTop, Receives};
-ghost use Rattle.exec_adapt.specs.Kinds.{SpawnsNone};
+ghost use Rattle.exec_adapt.specs.Adapts.{ReadsTop, ReceivesTop};
 
 use crate::opening::at_hand;
+use crate::tops::{TakenTop, take_top};
 use life_rules::Name;
-use node_steps::{Env, Item, Next, leave_at_rest, start_top, take_out};
+use node_steps::{Env, Item, Next, leave_at_rest, start_top};
 use node_tree::Context;
 use op_slot::{Hand, OpTable};
 use plan_rules::NodeId;
 use plan_shape::Plan;
 use std::alloc::Global;
-
-// The plan's root.
-fn root_of(plan: &Plan) -> NodeId
-    ensures { result ≡ length plan.now.nodes - 1 }
-{
-    plan.size() - 1
-}
 
 // Reads whether the child has begun, and starts it where it hasn't. When the receiver node was just
 // begun it hasn't; that it has doesn't come later either. Then the node is left ready in the loop,
@@ -77,22 +70,20 @@ pub(crate) fn step_receiver(
     requires over { IsOver table.now plan.now }
     requires kinds { IsRunnable plan.now }
     requires behind { length plan.now.nodes ≤ name.node }
-    requires spawns { SpawnsNone plan.now }
     requires can { CanStep table.now name hand.old.me }
     requires starts { AllCanStart table.now hand.old.me }
     ensures stays { Stays table.now hand.old hand.new }
-    ensures receives { Receives table.now name (length plan.now.nodes - 1) result
-        hand.old.me hand.new.me }
+    ensures receives { ReceivesTop plan.now table.now name result hand.old.me hand.new.me }
     ensures stepped { IsStepped table.now name hand.old.me hand.new.me result }
 {
-    let root = root_of(plan);
-    let (env, found) = at_hand(take_out(table, hand, name, Some(root)));
+    let TakenTop { child, taken } = take_top(plan, table, hand, name);
+    let (env, found) = at_hand(taken);
     env.known();
     match found {
         Some(parcel) => leave_at_rest(table, hand, name, env, Some(parcel), Context::Loop),
         None => {
             let asked = env.asked();
-            start_unbegun_top(alloc, plan, table, hand, name, env, root, asked)
+            start_unbegun_top(alloc, plan, table, hand, name, env, child, asked)
         }
     }
 }

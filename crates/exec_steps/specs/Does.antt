@@ -1,5 +1,5 @@
 -- What a step of a node does, by the node's kind.
-use Rattle.std.specs.Prelude.{◌≡◌, ⊤, Option, Some, None, slice_get}
+use Rattle.std.specs.Prelude.{◌≡◌, Option, slice_get}
 use Rattle.atomic_table.specs.declared.shared.Seat.{Seat}
 use Rattle.life_rules.specs.declared.event.Name.{Name}
 use Rattle.plan_shape.specs.Blueprint.{Blueprint}
@@ -11,13 +11,14 @@ use Rattle.exec_start.specs.declared.item.Item.{Item}
 use Rattle.exec_recv.specs.declared.next.Next.{Next}
 use Rattle.exec_recv.specs.Nexts.{IsStepped}
 use Rattle.exec_adapt.specs.Adapts.{AdvancesAs}
+use Rattle.exec_ahead.specs.Parks.{ParksAs}
 use Rattle.exec_hop.specs.Hops.{HopsAs}
 use Rattle.exec_let.specs.Lets.{AsLet}
 use Rattle.exec_all.specs.Steps.{AdvancesAll}
 use Rattle.exec_bulk.specs.Steps.{BulkSteps}
 use Rattle.exec_delay.specs.Steps.{StepsDelay}
 use Rattle.exec_steps.specs.declared.choosing.Advance.{Advance}
-use Rattle.exec_steps.specs.declared.choosing.Advance.TheVariants.{Plain, Hop, Let, Join, Row, Wait}
+use Rattle.exec_steps.specs.declared.choosing.Advance.TheVariants.{Plain, Hop, Let, Join, Row, Wait, Spawn}
 use Rattle.exec_steps.specs.Kinds.{advance_at}
 
 module _ (plan : Blueprint) (board : Board Blueprint) (x : Name) (next : Next)
@@ -32,14 +33,14 @@ module _ (plan : Blueprint) (board : Board Blueprint) (x : Name) (next : Next)
     pub is : done old new
 
   -- what the call says that steps the node
-  abbrev pub DoesBy : Option Advance → Type 0
-  DoesBy (Some Plain) = AdvancesAs plan board x (slice_get plan.nodes x.node) next m m'
-  DoesBy (Some Hop) = HopsAs board x (slice_get plan.nodes x.node) next m m'
-  DoesBy (Some Let) = AsLet board x (slice_get plan.nodes x.node) next m m'
-  DoesBy (Some Join) = OnHand (AdvancesAll plan board x next)
-  DoesBy (Some Row) = BulkSteps board x (slice_get plan.nodes x.node) next m m'
-  DoesBy (Some Wait) = OnHand (StepsDelay board x next)
-  DoesBy None = ⊤
+  abbrev pub DoesBy : Advance → Type 0
+  DoesBy Plain = AdvancesAs plan board x (slice_get plan.nodes x.node) next m m'
+  DoesBy Hop = HopsAs board x (slice_get plan.nodes x.node) next m m'
+  DoesBy Let = AsLet board x (slice_get plan.nodes x.node) next m m'
+  DoesBy Join = OnHand (AdvancesAll plan board x next)
+  DoesBy Row = BulkSteps board x (slice_get plan.nodes x.node) next m m'
+  DoesBy Wait = OnHand (StepsDelay board x next)
+  DoesBy Spawn = ParksAs board x (slice_get plan.nodes x.node) next m m'
 
   -- It is a step, which leaves what each step leaves, and does what the node's kind asks for.
   pub record Does : Type 0 where

@@ -1,9 +1,9 @@
 //! What steps the nodes of a plan, each by its kind.
-ghost use Rattle.std.specs.Prelude.{◌≡◌, ◌↔◌, IsSome, IfSome};
-ghost use Rattle.exec_steps.specs.Kinds.{AllAdvance};
+ghost use Rattle.std.specs.Prelude.{◌≡◌};
 
-use crate::choosing::{Advance, advance_at, all_advance};
+use crate::choosing::{Advance, advance_at};
 use exec_adapt::advance;
+use exec_ahead::advance_ahead;
 use exec_all::advance_all;
 use exec_bulk::advance_bulk;
 use exec_delay::advance_delay;
@@ -17,7 +17,7 @@ use std::alloc::Global;
 use std::marker::Model;
 use std::sync::Wait;
 
-/// What steps the nodes of a plan all of whose nodes have steps over hands. It is seen as the plan.
+/// What steps the nodes of a plan over hands. It is seen as the plan.
 #[derive(Drop)]
 pub struct NodeSteps<'a, G> {
     plan: &'a Plan,
@@ -26,32 +26,23 @@ pub struct NodeSteps<'a, G> {
 
 impl<'a, G> Model for NodeSteps<'a, G> {
     ghost use Rattle.plan_shape.specs.Blueprint.{Blueprint};
-    ghost use Rattle.exec_steps.specs.Kinds.{AllAdvance};
 
     ghost Value = { Blueprint };
 
     ghost view = { λ s. s.plan.now };
-
-    ghost invariant = { λ s. AllAdvance s.plan.now };
 }
 
 impl<'a, G: Gate> NodeSteps<'a, G> {
-    /// What steps the nodes of this plan, past this gate. None where a node of the plan is an
-    /// `ahead`, which has no step over hands.
-    pub fn of(plan: &'a Plan, gate: &'a G) -> Option<NodeSteps<'a, G>>
-        ensures plan { IfSome result (λ stepper. stepper ≡ plan.now) }
-        ensures runs { IsSome result ↔ AllAdvance plan.now }
+    /// What steps the nodes of this plan, past this gate.
+    pub fn of(plan: &'a Plan, gate: &'a G) -> NodeSteps<'a, G>
+        ensures { result ≡ plan.now }
     {
-        if all_advance(plan) {
-            return Some(NodeSteps { plan, gate });
-        }
-        None
+        NodeSteps { plan, gate }
     }
 
     /// The plan.
     pub fn plan(&self) -> &'a Plan
-        ensures is { result.now ≡ self.now }
-        ensures runs { AllAdvance self.now }
+        ensures { result.now ≡ self.now }
     {
         self.plan
     }
@@ -85,6 +76,7 @@ impl<'a, G: Gate> Stepper for NodeSteps<'a, G> {
             Advance::Join => advance_all(rt, alloc, self.plan, table, hand, name, self.gate),
             Advance::Row => advance_bulk(rt, alloc, self.plan, table, hand, name, self.gate),
             Advance::Wait => advance_delay(rt, alloc, self.plan, table, hand, name, self.gate),
+            Advance::Spawn => advance_ahead(self.plan, table, hand, name),
         }
     }
 }

@@ -5,7 +5,7 @@ use Rattle.node_steps.proofs.Frames.{stepped-after}
 use Rattle.node_steps.proofs.Places.{inner-is}
 use Rattle.exec_adapt.specs.Adapts.{EndsWith}
 use Rattle.exec_adapt.specs.Images.{adapted_to}
-use Rattle.exec_adapt.proofs.Found.{found-same, found-some, found-none}
+use Rattle.exec_adapt.proofs.Found.{taken-lay, found-same, found-some, found-none}
 use Rattle.exec_adapt.proofs.Places.{adaptor-is, adaptor-only}
 use Rattle.exec_adapt.proofs.Adapting.{env-of, taken-passes, taken-runs}
 use Rattle.exec_adapt.proofs.adaptors.step_adaptor.Goals as goal
@@ -61,11 +61,11 @@ returns-in-None-clause-stepped g c =
 pub returns-in-Some-clause-adapts : goal.returns-in-Some-clause-adapts
 returns-in-Some-clause-adapts g c =
     record {
-      begins = λ can none. absurd (found-some c.args.table.now c.args.name c.args.child c.take_out.result c.args.hand.now.me c.take_out.new.hand.me c.take_out.ensures.takes
+      begins = λ can none. absurd (found-some c.args.table.now c.args.name c.args.child c.take_out.result c.args.hand.now.me (taken-lay c.args.table.now c.args.name c.args.child c.take_out.result c.args.hand.now.me c.take_out.new.hand.me c.take_out.ensures.takes)
           c.at_hand-env.result.1 c.at_hand-env.ensures.parcel can c.in-Some.parcel c.in-Some.is none);
       ends = λ can other there.
           subst (λ (p : Delivery). EndsWith c.args.table.now c.args.name (Some p) (adapted_to c.args.node.now p.completion) c.pass_on.result c.pass_on.new.hand.me)
-          (found-same c.args.table.now c.args.name c.args.child c.take_out.result c.args.hand.now.me c.take_out.new.hand.me c.take_out.ensures.takes
+          (found-same c.args.table.now c.args.name c.args.child c.take_out.result c.args.hand.now.me (taken-lay c.args.table.now c.args.name c.args.child c.take_out.result c.args.hand.now.me c.take_out.new.hand.me c.take_out.ensures.takes)
           c.at_hand-env.result.1 c.at_hand-env.ensures.parcel can c.in-Some.parcel c.in-Some.is other there)
           c.pass_on.ensures.ends;
     }
@@ -79,6 +79,6 @@ returns-in-None-clause-adapts g c =
         keeps = c.take_out.ensures.takes.beside;
         reads = c.start_unbegun_child.ensures.starts;
       };
-      ends = λ can other there. absurd (found-none c.args.table.now c.args.name c.args.child c.take_out.result c.args.hand.now.me c.take_out.new.hand.me c.take_out.ensures.takes
+      ends = λ can other there. absurd (found-none c.args.table.now c.args.name c.args.child c.take_out.result c.args.hand.now.me (taken-lay c.args.table.now c.args.name c.args.child c.take_out.result c.args.hand.now.me c.take_out.new.hand.me c.take_out.ensures.takes)
           c.at_hand-env.result.1 c.at_hand-env.ensures.parcel can c.in-None.is other there);
     }
