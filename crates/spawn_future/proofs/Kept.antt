@@ -34,7 +34,7 @@ name_of e = e.name
 first-noted : (e : Rooted Entry) (l : List (Rooted Entry)) → find_by name_of (e ∷ l) e.name ≡ Some e
 first-noted e l = cond-true (same e.name e.name) (Some e) (find_by name_of l e.name) (same-refl e.name)
 
-others-noted : (e : Rooted Entry) (l : List (Rooted Entry)) (y : Name) → (e.name ≡ y → ⊥) →
+pub others-noted : (e : Rooted Entry) (l : List (Rooted Entry)) (y : Name) → (e.name ≡ y → ⊥) →
     find_by name_of (e ∷ l) y ≡ find_by name_of l y
 others-noted e l y apart = cond-false (same e.name y) (Some e) (find_by name_of l y) (same-other e.name y apart)
 
@@ -95,7 +95,7 @@ module _ (board : Board Blueprint) where
 
   module _ (slots : List (Option Future)) (t : ℕ) (within : t < length slots) (m m' : Seated Item Entry) (kept : AreKept board slots m) where
     -- a root of which no start is noted is none of theirs
-    unnoted-apart : (x : Name) → noted_at m.0 x ≡ None → (u : ℕ) (p : Future) → Has slots u p → x ≡ root_of board p → ⊥
+    pub unnoted-apart : (x : Name) → noted_at m.0 x ≡ None → (u : ℕ) (p : Future) → Has slots u p → x ≡ root_of board p → ⊥
     unnoted-apart x none u p has at =
         let start = (kept.each u p has).noted in
         let gone : noted_at m.0 (root_of board p) ≡ None = ap (noted_at m.0) (sym at) ∙ none in

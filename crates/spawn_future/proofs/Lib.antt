@@ -5,3 +5,6 @@ pub mod Kept
 pub mod Entered
 pub mod Spawned
 pub mod Swept
+pub mod Counted
+pub mod Served
+pub mod Turned

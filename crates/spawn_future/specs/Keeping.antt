@@ -46,6 +46,14 @@ pub record IsKeeping (board : Board Blueprint) (slots : List (Option Future))
   pub settled : MayEnter (knows hand)
   pub keeps : AreKept board slots hand.me
 
+-- So it does while it holds a node.
+pub record KeepsAtHand (board : Board Blueprint) (slots : List (Option Future))
+    (hand : Seat (Option Item) (View Item Entry)) : Type 0 where
+  pub hand_of : IsHandOf board hand
+  pub first : (knows hand).number ≡ 0
+  pub settled : MayEnter (knows hand)
+  pub keeps : AreKept board slots hand.me
+
 -- Whichever hand kept the futures in the first slots keeps those in the others.
 abbrev pub KeepsOn : List (Option Future) → List (Option Future) → Type 0
 KeepsOn old new =

@@ -47,6 +47,7 @@ pub(crate) fn enter<T: Stepper, M: Mail, R: Wait + Sync>(
     ensures rests { IsAtRest (knows hand.new) }
     ensures entered { IfOk result (λ e. Enters table.now e.block env hand.old.me hand.new.me) }
     ensures out { IfErr result (IsKeptOut table.now env hand.old hand.new) }
+    ensures mail { M.keeps mail.old mail.new }
 {
     let association = match associate(table, hand) {
         Ok(association) => association,

@@ -1,12 +1,13 @@
 //! Futures of a scope (P3149, `spawn_future`): operations that hand 0 of a running table starts for
 //! an owner ahead of their results, each with an association of the scope, and polls or abandons
-//! later.
+//! later. The owners are the `ahead` nodes of operations, which `turn` serves.
 //!
-//! It stands on count_scope for the associations, and on loop_roots, which starts and ends an
-//! operation. It keeps one promise: each future that is kept has an association of its own and a
-//! block of its own, whose root's start the hand has noted, until `poll` or `sweep` ends it. Then
-//! its block is given back, and after that its association is left. What `poll` gives is want of
-//! memory, or allowed for the child that the start names.
+//! It stands on count_scope for the associations, on loop_roots, which starts and ends an operation,
+//! and on serve_ahead, which takes an `ahead` and goes on with it. It keeps one promise: each future
+//! that is kept has an association of its own and a block of its own, whose root's start the hand
+//! has noted, until `poll`, `sweep` or `turn` ends it. Then its block is given back, and after that
+//! its association is left. What `poll` gives is want of memory, or allowed for the child that the
+//! start names.
 //!
 //!     spawn --associate--> association --begin_root-----------> kept for its owner
 //!        |                                                              |          |
@@ -15,6 +16,9 @@
 //!                         Ready: block given back, association left <---+      abandoned
 //!                                                                                  | sweep
 //!                         its completion is dropped, block and association too <---+
+//!
+//!     turn: a parked `ahead` --> its first child is spawned, its second started, it waits parked
+//!           its second is done --> poll, and it completes with both; or abandon, with the failure
 //!
 //! An abandoned operation runs to its end: no stop is requested of it. Between two calls the hand
 //! is at rest. No call after `open` wants memory but what a step of a node takes.
@@ -26,9 +30,11 @@ mod futures;
 mod limits;
 mod naming;
 mod polling;
+mod serving;
 mod slots;
 mod spawning;
 mod sweeping;
+mod turning;
 
 pub use exec_recv::{Env, Gate, Item, Stepper};
 pub use futures::Futures;

@@ -72,6 +72,7 @@ impl Futures {
         ensures spawned { IfOk result
             (λ _. Spawns table.now owner env self.old self.new hand.old hand.new) }
         ensures slots { IfErr result (λ _. self.new ≡ self.old) }
+        ensures mail { M.keeps mail.old mail.new }
         ensures refused { IfErr result (Refuses table.now env self.old hand.old hand.new) }
     {
         let _ = first;

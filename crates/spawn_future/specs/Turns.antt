@@ -1,0 +1,84 @@
+-- What a turn does with the `ahead` nodes that are parked.
+use Rattle.std.specs.Prelude.{◌≡◌, ℕ, ◌<◌, false, List, [], ◌∷◌, length, Option, Some, slice_get}
+use Rattle.atomic_table.specs.declared.shared.Seat.{Seat}
+use Rattle.life_rules.specs.Words.{is_parked}
+use Rattle.plan_rules.specs.declared.node.Node.TheVariants.{Ahead}
+use Rattle.plan_shape.specs.Blueprint.{Blueprint}
+use Rattle.table_rules.specs.declared.view.View.{View}
+use Rattle.table_words.specs.Controls.{control_read}
+use Rattle.table_words.specs.Layouts.{OfControl, index}
+use Rattle.table_steps.specs.Views.{Board}
+use Rattle.table_steps.specs.Claims.{Seated}
+use Rattle.exec_start.specs.declared.entry.Entry.{Entry}
+use Rattle.exec_start.specs.declared.item.Item.{Item}
+use Rattle.loop_serve.specs.Since.{HasReadSince, OnlyLooks}
+use Rattle.serve_ahead.specs.declared.taking.AheadAt.{AheadAt}
+use Rattle.serve_ahead.specs.Takes.{IsAheadIn}
+use Rattle.spawn_future.specs.declared.future.Future.{Future}
+use Rattle.spawn_future.specs.Counts.{BeginsAndEnds}
+use Rattle.spawn_future.specs.Serves.{ServesAhead}
+
+-- The word of the block's node was read, and didn't say that it is parked.
+abbrev pub WasUnparked : Board Blueprint → ℕ → ℕ → Seated Item Entry → Seated Item Entry → Type 0
+WasUnparked board block node m m' =
+    HasReadSince (index board.frame.layout (OfControl block node))
+    (λ word. is_parked (control_read word) ≡ false) m m'
+
+-- The node's word was read so in each block.
+abbrev pub AreAllUnparked : Board Blueprint → ℕ → Seated Item Entry → Seated Item Entry → Type 0
+AreAllUnparked board node m m' =
+    (block : ℕ) → block < board.frame.layout.blocks → WasUnparked board block node m m'
+
+-- Where the node is an `ahead`, it was.
+abbrev pub IsUnparked : Board Blueprint → Blueprint → ℕ → Seated Item Entry → Seated Item Entry
+    → Type 0
+IsUnparked board plan node m m' =
+    (first second : ℕ) → slice_get plan.nodes node ≡ Some (Ahead first second) →
+    AreAllUnparked board node m m'
+
+-- So it was of the first so many nodes.
+abbrev pub AreUnparked : Board Blueprint → Blueprint → ℕ → Seated Item Entry → Seated Item Entry
+    → Type 0
+AreUnparked board plan count m m' =
+    (node : ℕ) → node < count → IsUnparked board plan node m m'
+
+-- The place's word was read so, no word was moved, and no future either.
+pub record PassesPlace (board : Board Blueprint) (block node : ℕ) (old new : List (Option Future))
+    (m m' : Seated Item Entry) : Type 0 where
+  pub slots : new ≡ old
+  pub looks : OnlyLooks m m'
+  pub unparked : WasUnparked board block node m m'
+
+module _ (board : Board Blueprint) (plan : Blueprint) where
+  -- An `ahead` of the plan was served, after words were looked at, and then came this.
+  pub record ServesNext (at : AheadAt)
+      (Then : List (Option Future) → Seat (Option Item) (View Item Entry) → Type 0)
+      (old : List (Option Future)) (hand : Seat (Option Item) (View Item Entry)) : Type 0 where
+    pub ahead : IsAheadIn plan at
+    pub found : Seat (Option Item) (View Item Entry)
+    pub looks : OnlyLooks hand.me found.me
+    pub slots : List (Option Future)
+    pub served : Seat (Option Item) (View Item Entry)
+    pub serves : ServesAhead board at old slots found served
+    pub others : Then slots served
+
+  -- These were served, one after the other. Beside that words were only looked at.
+  abbrev pub ServesEach : List AheadAt → List (Option Future) → List (Option Future)
+      → Seat (Option Item) (View Item Entry) → Seat (Option Item) (View Item Entry) → Type 0
+  ServesEach [] old new hand hand' = (new ≡ old) × OnlyLooks hand.me hand'.me
+  ServesEach (at ∷ others) old new hand hand' =
+      ServesNext at (λ slots served. ServesEach others slots new served hand') old hand
+
+  -- One was served.
+  pub record ServesPlace (old new : List (Option Future))
+      (hand hand' : Seat (Option Item) (View Item Entry)) : Type 0 where
+    pub at : AheadAt
+    pub serves : ServesEach (at ∷ []) old new hand hand'
+
+  -- So many were served.
+  pub record Turns (old new : List (Option Future))
+      (hand hand' : Seat (Option Item) (View Item Entry)) (count : ℕ) : Type 0 where
+    pub leaves : BeginsAndEnds board old new hand.me hand'.me
+    pub each : List AheadAt
+    pub count_is : count ≡ length each
+    pub serves : ServesEach each old new hand hand'
