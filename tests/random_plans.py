@@ -3,9 +3,8 @@
 
     tests/random_plans.py [--program PATH] [--count N] [--seed S]
 
-Each plan matches in its kinds, so the program takes it. It runs as it is, over the running table where each of its
-nodes has a step there, and as its twin, which is evaluated plainly; by windows of 1, 3 and 64, some under a stop rule.
-Of both each line must be one that plan_model.py allows the record under the stop requests that it may have seen. Where
+Each plan matches in its kinds, so the program takes it. It runs as it is, and as its twin, in which an operation is
+spawned ahead of it (`ahead`); by windows of 1, 3 and 64, some under a stop rule. Of both each line must be one that plan_model.py allows the record under the stop requests that it may have seen. Where
 that is a single line (no child of a `when_all` fails and no stop was requested) it must be that one. The last line is
 `N passed, M failed`; the status is 1 where one failed.
 """
@@ -172,11 +171,18 @@ def make_plan(dice):
     return plan | ({"stop_after": dice.randint(1, 5)} if rule == 0 else {"on_error": "stop"} if rule == 1 else {})
 
 
-def twin_of(plan):
-    """The same in a let's first body, which is picked. The second has an `ahead`, by which all is evaluated plainly."""
-    ahead = {"do": "ahead", "first": {"do": "just_stopped"}, "second": {"do": "just_stopped"}}
-    pick = {"job": "give", "values": [0]}
-    root = {"do": "let_value", "child": {"do": "input"}, "pick": pick, "bodies": [plan["root"], ahead]}
+SPAWNED = [
+    {"do": "starts_on", "on": "pool", "child": {"do": "read_env", "query": "record"}},
+    {"do": "continues_on", "on": "loop", "child": {"do": "just", "values": [1, "b"]}},
+    {"do": "delay", "turns": 20},
+    {"do": "starts_on", "on": "pool", "child": {"do": "just_error", "error": "spawned"}},
+    {"do": "just_stopped"},
+]
+
+
+def twin_of(plan, number=0):
+    """The same as the second child of an `ahead`, whose first is spawned before it and is one of `SPAWNED`."""
+    root = {"do": "ahead", "first": SPAWNED[number % len(SPAWNED)], "second": plan["root"]}
     return plan | {"version": 2, "root": root}
 
 
@@ -249,7 +255,7 @@ def run(program, count=COUNT, seed=SEED):
         plan = make_plan(dice)
         data = make_records(dice, plan["input"])
         window = dice.choice([1, 3, 64])
-        for title, one in ((f"plan {number}", plan), (f"plan {number}, its twin", twin_of(plan))):
+        for title, one in ((f"plan {number}", plan), (f"plan {number}, its twin", twin_of(plan, number))):
             chosen.append((f"random_plans.py: {title}", (one, data, window)))
     return try_each(chosen, lambda it: try_one(program, *it), os.cpu_count() or 1)
 

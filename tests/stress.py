@@ -4,11 +4,12 @@
     tests/stress.py [--program PATH] [--runs N] [--minutes M] [--seed S] [--kept FOLDER]
 
 N runs (1,000) are made with each of 1, 2, 4 and 16 workers, on all cores and on one each: of plan G, and of nested
-`when_all` with delays, hops and failures, with and without a stop rule, by windows of 1 to 256, in both orders. Each
-line must be one that plan_model.py allows the record under the stop requests that it may have seen; where that is a
-single line it must be that one. A run that takes longer than a minute hangs: its plan, records and words are kept in
-FOLDER (stress-kept), and so are those of one with a wrong line. After M minutes (30) no further run is begun. It isn't
-part of `make test`. The last line is `N passed, M failed`; the status is 1 where one failed.
+`when_all` with delays, hops and failures, in three of ten runs as a child of an `ahead`, with and without a stop rule,
+by windows of 1 to 256, in both orders. Each line must be one that plan_model.py allows the record under the stop
+requests that it may have seen; where that is a single line it must be that one. A run that takes longer than a minute
+hangs: its plan, records and words are kept in FOLDER (stress-kept), and so are those of one with a wrong line. After M
+minutes (30) no further run is begun. It isn't part of `make test`. The last line is `N passed, M failed`; the status is
+1 where one failed.
 """
 import argparse
 import json
@@ -27,6 +28,7 @@ from run_cases import PROGRAM
 
 WORKERS = (1, 2, 4, 16)
 WINDOWS = (1, 2, 3, 8, 64, 256)
+WITH_AHEAD = 192
 RUNS = 1_000
 MINUTES = 30
 SECONDS = 60
@@ -71,6 +73,12 @@ def nested(dice, deep):
     ])  # fmt: skip
 
 
+def ahead(dice, root):
+    """An `ahead` of which this is one child: where the second fails the first is abandoned."""
+    first, second = dice.choice([(root, leaf(dice)), (leaf(dice), root), (root, INPUT)])
+    return {"do": "ahead", "first": first, "second": second}
+
+
 def with_rule(dice, plan, count):
     """The plan with no stop rule, or one of both."""
     return plan | dice.choice([{}, {"stop_after": dice.randint(1, count)}, {"on_error": "stop"}])
@@ -84,6 +92,7 @@ class Run:
         is_g = dice.random() < 0.3
         count = dice.randint(1, MOST_RECORDS if is_g else FEW_RECORDS)
         root = G if is_g else {"do": "when_all", "children": [nested(dice, DEEP - 1) for _ in range(2)]}
+        root = ahead(dice, root) if dice.random() < 0.3 else root
         self.data = [dice.choice(DATA) for _ in range(count)]
         self.window = dice.choice(WINDOWS)
         self.plan = with_rule(dice, {"version": 2, "input": "int", "root": root}, count)
@@ -107,7 +116,8 @@ class Run:
         lines = ran.stdout.decode().split("\n")
         if ran.returncode not in (0, 1) or ran.stderr or lines.pop() or len(lines) != len(self.data):
             return f"status 0 or 1, no notes, and a line for each record, not {ran.returncode} {ran.stderr[-200:]!r}"
-        for record, (datum, state) in enumerate(zip(self.data, states_of(self.plan, self.window, lines)), 1):
+        window = min(self.window, WITH_AHEAD) if self.plan["root"]["do"] == "ahead" else self.window
+        for record, (datum, state) in enumerate(zip(self.data, states_of(self.plan, window, lines)), 1):
             may = {plan_model.line(record, it) for it in self.allowed(datum, state)}
             if lines[record - 1] not in may:
                 return f"as line {record} one of {sorted(may)}, not {lines[record - 1]!r}"

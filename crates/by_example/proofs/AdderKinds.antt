@@ -1,10 +1,9 @@
--- The kinds of the plans that add one match, they are small, and their nodes have steps.
+-- The kinds of the plans that add one match, and they are small.
 use Rattle.std.proofs.Common.{◌≡◌, ℕ, zero, suc, ◌<◌, refl, sym, ◌∙◌, subst, arith}
 use Rattle.std.specs.Prelude.{pos, IsTrue}
 use Rattle.std.proofs.lemmas.Bool.{false≢true}
 use Rattle.std.proofs.lemmas.Option.{same_Some, slice_get_within}
 use Rattle.exec_job.specs.declared.job.Job.TheVariants.{Add}
-use Rattle.exec_steps.specs.Kinds.{AllAdvance}
 use Rattle.exec_value.specs.declared.kinds.Kind.TheVariants.{Int}
 use Rattle.node_tree.specs.declared.context.Context.TheVariants.{Pool}
 use Rattle.plan_kinds.specs.Gives.{int_alone}
@@ -16,7 +15,7 @@ use Rattle.plan_rules.specs.declared.node.Node.TheVariants.{Input, Then, StartsO
 use Rattle.plan_shape.specs.Blueprint.{Blueprint}
 use Rattle.by_example.specs.Adder.{adder, pool_adder}
 use Rattle.by_example.specs.Answers.{IsOfInts}
-use Rattle.by_example.proofs.AddingNodes.{IsNode, AreNodes, all-match, all-small, all-advance}
+use Rattle.by_example.proofs.AddingNodes.{IsNode, AreNodes, all-match, all-small}
 
 -- the two nodes of the one plan
 adder-nodes : AreNodes adder.nodes
@@ -54,9 +53,6 @@ pub adder-of-ints : (plan steps : Blueprint) → plan ≡ adder → steps ≡ ad
 adder-of-ints plan steps is same runs =
     subst (λ (p : Blueprint). IsOfInts p) (sym is) (record { runs = subst (λ (p : Blueprint). IsRunnable p) same runs; small = adder-small })
 
-pub adder-advances : AllAdvance adder
-adder-advances = all-advance adder adder-nodes
-
 -- the three nodes of the other
 pool-nodes : AreNodes pool_adder.nodes
 pool-nodes zero node at = subst (IsNode 0) (same_Some Input node at) IsNode.is_input
@@ -84,6 +80,3 @@ pool-matches = all-match pool_adder.nodes pool-nodes pool-matching
 
 pub pool-small : IsSmall pool_adder
 pool-small = all-small pool_adder refl pool-nodes pool-values
-
-pub pool-advances : AllAdvance pool_adder
-pool-advances = all-advance pool_adder pool-nodes

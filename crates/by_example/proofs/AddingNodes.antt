@@ -1,9 +1,8 @@
--- The nodes of plans that add one: their kinds match, none wants memory, and each has a step.
-use Rattle.std.proofs.Common.{◌≡◌, ℕ, ◌<◌, true, List, [], ◌∷◌, length, inl, inr, refl, sym, subst, arith}
-use Rattle.std.specs.Prelude.{pos, slice_get, Contains, IsTrue, Some, is_some}
+-- The nodes of plans that add one: their kinds match, and none wants memory.
+use Rattle.std.proofs.Common.{◌≡◌, ℕ, ◌<◌, List, [], ◌∷◌, length, inl, inr, refl, sym, subst, arith}
+use Rattle.std.specs.Prelude.{pos, slice_get, Contains, IsTrue, Some}
 use Rattle.std.proofs.lemmas.List.Elements.{Contains-push_cases}
 use Rattle.exec_job.specs.declared.job.Job.TheVariants.{Add}
-use Rattle.exec_steps.specs.Kinds.{AllAdvance, advance_of}
 use Rattle.exec_value.specs.declared.kinds.Kind.{Kind}
 use Rattle.exec_value.specs.declared.kinds.Kind.TheVariants.{Int}
 use Rattle.node_tree.specs.declared.context.Context.TheVariants.{Pool}
@@ -69,11 +68,6 @@ small-node is_input = tt
 small-node is_then = tt
 small-node is_start = tt
 
-advances : {n : ℕ} {node : Node} → IsNode n node → is_some (advance_of node) ≡ true
-advances is_input = refl
-advances is_then = refl
-advances is_start = refl
-
 pub all-match : (nodes : List Node) → AreNodes nodes → ((n : ℕ) → n < length nodes → IsTrue (kinds_match nodes n int_alone)) →
     KindsMatch nodes Int
 all-match nodes are each n a reached =
@@ -89,6 +83,3 @@ all-small plan int are each = record {
       let so = runs-so plan.nodes are (subst (λ (k : Kind). Reaches plan.nodes k n a) int reached) in
       subst (λ (s : Shape). IsSmallShape (sig_of plan.nodes n s).value) (sym so.shape) (each n so.within);
 }
-
-pub all-advance : (plan : Blueprint) → AreNodes plan.nodes → AllAdvance plan
-all-advance plan are n node at = advances (are n node at)

@@ -24,17 +24,17 @@ use Rattle.record_loop.specs.ReadStarts.{ReadStart}
 use Rattle.record_loop.specs.declared.printer.Form.TheVariants.{Lines}
 use Rattle.record_loop.specs.declared.ending.Ending.{Ending}
 use Rattle.record_runs.specs.Endings.{EndsLines, Supply, WantsMemory, begins, supply}
-use Rattle.record_runs.specs.Layers.{IsRunBy, ending_in}
+use Rattle.record_runs.specs.Accounts.{ending_in}
 use Rattle.record_runs.specs.declared.account.Account.{Account}
-use Rattle.record_runs.specs.declared.account.Layer.{Layer}
-use Rattle.record_runs.specs.declared.account.Layer.TheVariants.{Plain, Table}
+use Rattle.record_runs.specs.Opened.{IsClosedAfter, blocks_for}
+use Rattle.table_steps.specs.declared.closing.Closing.{Closing}
 use Rattle.run_rules.specs.Lawful.{Lawful, MayEnd, datum_of}
 use Rattle.run_rules.specs.PlanTerms.{AllowsRecord, terms_of}
 use Rattle.by_example.specs.Adder.{pool_adder}
-use Rattle.by_example.specs.Streams.{AddsOneToEach, RanOnTable, answered, number_of, outcome_of}
+use Rattle.by_example.specs.Streams.{AddsOneToEach, answered, number_of, outcome_of}
 use Rattle.by_example.specs.declared.streaming.TheConstants.{WINDOW}
 use Rattle.by_example.proofs.AdderAllowed.{pool-adds}
-use Rattle.by_example.proofs.AdderKinds.{pool-small, pool-advances}
+use Rattle.by_example.proofs.AdderKinds.{pool-small}
 
 -- a list that has the image of each element has the images
 mapped : {A B : Type 0} (f : A → B) (xs : List A) (ys : List B) → length ys ≡ length xs →
@@ -88,9 +88,9 @@ all-lines window lines outcomes lawful =
     mapped outcome_of lines outcomes lawful.as_many
     (λ i line outcome at bt. one-line window (i + 1) line outcome (lawful.each i line outcome at bt))
 
-on-table : (layer : Layer) → IsRunBy pool_adder WINDOW layer → RanOnTable layer
-on-table Plain none = none pool-advances
-on-table (Table closing) runs = record { joined = runs.joined; back = runs.back }
+-- its table has no spare blocks
+closed-plain : (closing : Closing) → IsClosedAfter (blocks_for pool_adder WINDOW) closing → IsClosedAfter WINDOW closing
+closed-plain closing closed = record { joined = closed.joined; back = closed.back }
 
 -- a run of a plan that is this one keeps its promise, and that one
 pub same-ends : (plan : Blueprint) → plan ≡ pool_adder → (old new : Supply) (before after : SinkView) (answer : Result Ending AllocError) →
@@ -100,8 +100,8 @@ same-ends plan is old new before after answer ends =
 
 module _ {S K : Type 0} (source : S → SourceView) (sink : K → SinkView) (old new : S) (before after : K) where
   adds-lines : (account : Account) → Ran WantsMemory (begins pool_adder WINDOW Lines (sink before)) (source old) (source new) (sink after) account.ending →
-      IsRunBy pool_adder WINDOW account.layer → AddsOneToEach source sink old new before after account
-  adds-lines account ran layer =
+      IsClosedAfter (blocks_for pool_adder WINDOW) account.closing → AddsOneToEach source sink old new before after account
+  adds-lines account ran closed =
       let lines = records_of ran.bytes account.ending.end in
       record {
         bytes = ran.bytes;
@@ -110,14 +110,14 @@ module _ {S K : Type 0} (source : S → SourceView) (sink : K → SinkView) (old
         all = ran.all;
         printed = subst (λ (l : List Outcome). Finished Lines (sink before) (sink after) account.ending.summary account.ending.lost l)
             (all-lines WINDOW lines ran.answered.outcomes ran.answered.lawful) ran.answered.finished;
-        table = on-table account.layer layer;
+        closed = closed-plain account.closing closed;
       }
 
   pub ends-adding : (plan : Blueprint) → plan ≡ pool_adder → (first last : Option (List ReadStart)) (answer : Result Account AllocError) →
       EndsLines (begins plan WINDOW Lines (sink before)) (supply (source old) first) (supply (source new) last) (sink after) (ending_in answer) →
-      IfOk answer (λ account. IsRunBy plan WINDOW account.layer) → IfOk answer (AddsOneToEach source sink old new before after)
-  ends-adding plan is first last (Ok account) ends layer =
+      IfOk answer (λ account. IsClosedAfter (blocks_for plan WINDOW) account.closing) → IfOk answer (AddsOneToEach source sink old new before after)
+  ends-adding plan is first last (Ok account) ends closed =
       adds-lines account
       (subst (λ (p : Blueprint). Ran WantsMemory (begins p WINDOW Lines (sink before)) (source old) (source new) (sink after) account.ending) is ends.ran)
-      (subst (λ (p : Blueprint). IsRunBy p WINDOW account.layer) is layer)
-  ends-adding plan is first last (Err e) ends layer = tt
+      (subst (λ (p : Blueprint). IsClosedAfter (blocks_for p WINDOW) account.closing) is closed)
+  ends-adding plan is first last (Err e) ends closed = tt

@@ -12,8 +12,6 @@ use Rattle.record_loop.specs.Reading.{Reads}
 use Rattle.record_loop.specs.declared.printer.Form.TheVariants.{Lines}
 use Rattle.record_runs.specs.Opened.{IsClosedAfter}
 use Rattle.record_runs.specs.declared.account.Account.{Account}
-use Rattle.record_runs.specs.declared.account.Layer.{Layer}
-use Rattle.record_runs.specs.declared.account.Layer.TheVariants.{Plain, Table}
 use Rattle.by_example.specs.Adder.{next_of}
 use Rattle.by_example.specs.declared.streaming.TheConstants.{WINDOW}
 
@@ -29,13 +27,9 @@ answered (Some number) = Done (next_of number)
 abbrev pub outcome_of : List ℕ → Outcome
 outcome_of line = answered (number_of line)
 
--- it was run on a table, which was closed with its scope joined and each block given back
-abbrev pub RanOnTable : Layer → Type 0
-RanOnTable Plain = ⊥
-RanOnTable (Table closing) = IsClosedAfter WINDOW closing
-
 -- Of the source bytes were read until the end that the account names, and each of their lines was
--- answered so in the sink, in order, but those of a rest that was read when a write was lost.
+-- answered so in the sink, in order, but those of a rest that was read when a write was lost. The
+-- table was closed with its scope joined and each block given back.
 pub record AddsOneToEach {S K : Type 0} (source : S → SourceView) (sink : K → SinkView) (old new : S)
     (before after : K) (account : Account) : Type 0 where
   pub bytes : List ℕ
@@ -44,4 +38,4 @@ pub record AddsOneToEach {S K : Type 0} (source : S → SourceView) (sink : K �
   pub all : account.ending.lost ≡ false → rest ≡ []
   pub printed : Finished Lines (sink before) (sink after) account.ending.summary account.ending.lost
       (map outcome_of (records_of bytes account.ending.end))
-  pub table : RanOnTable account.layer
+  pub closed : IsClosedAfter WINDOW account.closing

@@ -75,8 +75,5 @@ pub(crate) fn adder_steps<'a>(
     }
     // Asked for what it says of every plan.
     let _ = plan.size();
-    match NodeSteps::of(plan, gate) {
-        Some(steps) => Ok(steps),
-        None => unreachable!(),
-    }
+    Ok(NodeSteps::of(plan, gate))
 }

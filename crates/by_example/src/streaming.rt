@@ -3,7 +3,7 @@ ghost use Rattle.std.specs.Prelude.{IfOk, vec_len};
 ghost use Rattle.std.specs.Thread.{IsSync};
 ghost use Rattle.record_loop.specs.declared.printer.Form.{Form};
 ghost use Rattle.record_runs.specs.Endings.{EndsLines, begins, supply};
-ghost use Rattle.record_runs.specs.Layers.{ending_in};
+ghost use Rattle.record_runs.specs.Accounts.{ending_in};
 ghost use Rattle.run_crew.specs.Crews.{IsCrew};
 ghost use Rattle.by_example.specs.Adder.{pool_adder};
 ghost use Rattle.by_example.specs.Streams.{AddsOneToEach};

@@ -6,7 +6,7 @@ use Rattle.exec_io.specs.Untouched.{IsUntouched}
 use Rattle.exec_io.specs.Views.{SourceView, SinkView}
 use Rattle.record_runs.specs.declared.account.Account.{Account}
 use Rattle.record_runs.specs.Endings.{EndsLines, EndsCounted, Supply, WantsMemory, begins}
-use Rattle.record_runs.specs.Layers.{ending_in}
+use Rattle.record_runs.specs.Accounts.{ending_in}
 use Rattle.plan_shape.specs.Blueprint.{Blueprint}
 use Rattle.record_lines.specs.declared.ending.End.TheVariants.{Ended, Fault}
 use Rattle.record_lines.specs.Records.{records_of}

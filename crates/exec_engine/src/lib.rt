@@ -9,8 +9,8 @@
 //! command is (`CommandEnds`), which lines are lawful for the records that were taken (`Lines`, over
 //! run_rules), and what each status says of them (`Says`) and of notes (`Noted`). It holds for any
 //! number of workers and any backends. A run's records are worked on by record_runs, over the running
-//! table with a crew of workers (run_crew) or plainly. It stands on these, plan_reader, exec_words,
-//! exec_status and trace_commands.
+//! table with a crew of workers (run_crew). It stands on these, plan_reader, exec_words, exec_status
+//! and trace_commands.
 #![tactic(auto)]
 
 mod crewing;

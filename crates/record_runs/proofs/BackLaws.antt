@@ -1,5 +1,5 @@
 -- What becomes of the hands of a run, and what its table leaves.
-use Rattle.std.proofs.Common.{◌≡◌, ◌<◌, ℕ, ◌+◌, ◌-◌, zero, suc, List, [], ◌∷◌, ◌++◌, length, All, refl, sym, ap, ◌∙◌, subst, inl, inr, arith}
+use Rattle.std.proofs.Common.{◌≡◌, ◌+◌, zero, suc, List, [], ◌∷◌, ◌++◌, length, All, refl, sym, ap, ◌∙◌, subst, arith}
 use Rattle.std.specs.Prelude.{Option}
 use Rattle.std.proofs.lemmas.List.{length-append}
 use Rattle.std.proofs.lemmas.List.Elements.{All-append}
@@ -10,7 +10,7 @@ use Rattle.life_rules.specs.declared.scope.ScopeState.TheVariants.{Joined}
 use Rattle.listed_steps.specs.declared.seen.Seen.{Seen}
 use Rattle.plan_shape.specs.Blueprint.{Blueprint}
 use Rattle.run_crew.specs.Crews.{HasServed, IsSpare}
-use Rattle.table_kept.proofs.AnyOf.{any-left, any-right}
+use Rattle.table_kept.proofs.AnyOf.{any-left}
 use Rattle.table_rules.specs.Named.{AnyOf, Each}
 use Rattle.table_rules.specs.Traces.{all_steps}
 use Rattle.table_rules.specs.declared.view.View.{View}

@@ -1,5 +1,5 @@
 -- What the hands of a run are before it.
-use Rattle.std.proofs.Common.{◌≡◌, ◌<◌, ℕ, ◌+◌, zero, suc, List, [], ◌∷◌, length, All, refl, sym, ap, ◌∙◌, subst, arith}
+use Rattle.std.proofs.Common.{◌≡◌, ℕ, ◌+◌, zero, suc, List, [], ◌∷◌, All, refl, sym, ap, ◌∙◌, subst, arith}
 use Rattle.std.specs.Prelude.{Option, remove, slice_index_or}
 use mathlib.Core.Option.{some}
 use lib.ListN.{get_elem?}
@@ -21,11 +21,11 @@ abbrev TheHand : Type 0
 TheHand = Seat (Option Item) (View Item Entry)
 
 -- what is stepped is the plan
-pub stepped-over : (board : Board Blueprint) (plan stepped : Blueprint) → CanRunOn board plan stepped → IsOver board stepped
-stepped-over board plan stepped runs = subst (λ (p : Blueprint). IsOver board p) (sym runs.stepper) runs.for.over
+pub stepped-over : (board : Board Blueprint) (plan : Blueprint) (window : ℕ) (stepped : Blueprint) → CanRunOn board plan window stepped → IsOver board stepped
+stepped-over board plan window stepped runs = subst (λ (p : Blueprint). IsOver board p) (sym runs.stepper) runs.for.over
 
-pub stepped-runs : (board : Board Blueprint) (plan stepped : Blueprint) → CanRunOn board plan stepped → IsRunnable stepped
-stepped-runs board plan stepped runs = subst (λ (p : Blueprint). IsRunnable p) (sym runs.stepper) runs.kinds
+pub stepped-runs : (board : Board Blueprint) (plan : Blueprint) (window : ℕ) (stepped : Blueprint) → CanRunOn board plan window stepped → IsRunnable stepped
+stepped-runs board plan window stepped runs = subst (λ (p : Blueprint). IsRunnable p) (sym runs.stepper) runs.kinds
 
 -- a hand that has done nothing is spare
 untouched-spare : (board : Board Blueprint) (number : ℕ) (hand : TheHand) → IsHandOf board hand → knows hand ≡ fresh_with number (knows hand).splits → IsSpare board hand
@@ -64,9 +64,9 @@ rest-spare board workers (first ∷ others) rest fresh is =
     (λ h hand at. let each = fresh.each (suc h) hand at in untouched-spare board (suc h) hand each.0 each.2))
 
 -- and spare hands can serve
-pub all-serve : (board : Board Blueprint) (plan stepped : Blueprint) (hands : List TheHand) → CanRunOn board plan stepped → All (IsSpare board) hands → All (CanServe board stepped) hands
-all-serve board plan stepped hands runs spare =
-    λ k d low. record { over = stepped-over board plan stepped runs; kinds = stepped-runs board plan stepped runs; spare = spare k d low }
+pub all-serve : (board : Board Blueprint) (plan : Blueprint) (window : ℕ) (stepped : Blueprint) (hands : List TheHand) → CanRunOn board plan window stepped → All (IsSpare board) hands → All (CanServe board stepped) hands
+all-serve board plan window stepped hands runs spare =
+    λ k d low. record { over = stepped-over board plan window stepped runs; kinds = stepped-runs board plan window stepped runs; spare = spare k d low }
 
 -- a hand that has done nothing may begin a run
 pub fresh-unused : (board : Board Blueprint) (hand : TheHand) → IsFreshHand board hand → IsUnused board hand

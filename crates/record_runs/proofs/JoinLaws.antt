@@ -11,7 +11,7 @@ use Rattle.life_rules.specs.declared.scope.ScopeWord.{ScopeWord}
 use Rattle.plan_shape.specs.Blueprint.{Blueprint}
 use Rattle.table_rules.specs.declared.view.View.{View}
 use Rattle.table_steps.specs.Claims.{Seated, with_step}
-use Rattle.table_steps.specs.Views.{Board, IsHandOf, knows}
+use Rattle.table_steps.specs.Views.{Board, IsHandOf}
 use Rattle.exec_start.specs.declared.entry.Entry.{Entry}
 use Rattle.exec_start.specs.declared.item.Item.{Item}
 use Rattle.table_run.proofs.Joined.{looked-joined, started-joined}

@@ -1,5 +1,5 @@
 -- What a run leaves on the desk on which it worked.
-use Rattle.std.specs.Prelude.{◌≡◌, List, Option, IfOk}
+use Rattle.std.specs.Prelude.{◌≡◌, ℕ, List, Option, IfOk}
 use Rattle.atomic_table.specs.declared.shared.Seat.{Seat}
 use Rattle.exec_io.specs.Views.{SinkView, SourceView}
 use Rattle.exec_start.specs.declared.entry.Entry.{Entry}
@@ -18,9 +18,9 @@ use Rattle.record_runs.specs.declared.counted_desk.CountedDesk.{CountedDesk}
 use Rattle.record_runs.specs.declared.lines_desk.LinesDesk.{LinesDesk}
 
 -- A run may begin on this hand, which is fresh.
-pub record CanBegin (board : Board Blueprint) (plan stepped : Blueprint)
+pub record CanBegin (board : Board Blueprint) (plan : Blueprint) (window : ℕ) (stepped : Blueprint)
     (hand : Seat (Option Item) (View Item Entry)) : Type 0 where
-  pub runs : CanRunOn board plan stepped
+  pub runs : CanRunOn board plan window stepped
   pub fresh : IsFreshHand board hand
 
 -- The run ended on the hand of this table.
@@ -35,7 +35,7 @@ pub record LeavesLines {T S K : Type 0} (source : S → SourceView)
   pub same_sink : new.out.ghost_name ≡ old.out.ghost_name
   pub same_came : new.came.ghost_name ≡ old.came.ghost_name
   pub ends : EndsLines
-      (begins old.on.plan.now old.on.table.now.frame.layout.blocks old.form (sink old.out.now))
+      (begins old.on.plan.now old.on.window old.form (sink old.out.now))
       (supply (source old.records.now) (reads old.records.now))
       (supply (source new.records.now) (reads new.records.now)) (sink new.out.now) new.came.now.answer
   pub told : IfOk new.came.now.answer (λ ending. TalliesWith new.came.now.tally ending.summary)
@@ -47,7 +47,7 @@ pub record LeavesCounted {T K : Type 0} (sink : K → SinkView) (old new : Count
   pub same_sink : new.out.ghost_name ≡ old.out.ghost_name
   pub same_came : new.came.ghost_name ≡ old.came.ghost_name
   pub ends : EndsCounted
-      (begins old.on.plan.now old.on.table.now.frame.layout.blocks Summary (sink old.out.now))
+      (begins old.on.plan.now old.on.window Summary (sink old.out.now))
       (generated_lines old.on.plan.now.settings.input old.count) (sink new.out.now) new.came.now.answer
   pub told : IfOk new.came.now.answer (λ ending. TalliesWith new.came.now.tally ending.summary)
   pub ended : IsEndedOn old.on.table.now hand

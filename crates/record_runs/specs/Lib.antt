@@ -2,4 +2,4 @@ pub mod Endings
 pub mod Opened
 pub mod Desks
 pub mod Keeps
-pub mod Layers
+pub mod Accounts

@@ -1,5 +1,5 @@
 -- A table that was opened for a run, and what a run leaves of it.
-use Rattle.std.specs.Prelude.{◌≡◌, ◌+◌, ◌<◌, ◌≤◌, ℕ, List, All, Option, length}
+use Rattle.std.specs.Prelude.{◌≡◌, ◌+◌, ◌-◌, ◌<◌, ◌≤◌, ℕ, List, All, Option, length, min}
 use Rattle.atomic_table.specs.declared.shared.Seat.{Seat}
 use Rattle.exec_recv.specs.Over.{IsOver}
 use Rattle.exec_start.specs.declared.entry.Entry.{Entry}
@@ -9,7 +9,7 @@ use Rattle.life_rules.specs.declared.scope.ScopeState.TheVariants.{Joined}
 use Rattle.plan_kinds.specs.Runnable.{IsRunnable}
 use Rattle.plan_shape.specs.Blueprint.{Blueprint}
 use Rattle.run_crew.specs.Crews.{IsSpare}
-use Rattle.run_rules.specs.PlanTerms.{MayRun}
+use Rattle.run_rules.specs.PlanTerms.{MayRun, window_of}
 use Rattle.table_rules.specs.Named.{AnyOf}
 use Rattle.table_rules.specs.declared.view.View.{View}
 use Rattle.table_steps.specs.Closings.{LeavesScope, steps_of}
@@ -17,25 +17,36 @@ use Rattle.table_steps.specs.Views.{AreFreshHands, Board, IsHandOf, fresh_with, 
 use Rattle.table_steps.specs.declared.closing.Closing.{Closing}
 use Rattle.record_runs.specs.declared.opened.Opened.{Opened}
 
--- The table is over the plan, with so many blocks. Its scope is of the plan's kind, and takes as many
--- associations.
-pub record IsFor (plan : Blueprint) (blocks : ℕ) (board : Board Blueprint) : Type 0 where
+-- Blocks beside those of the records that are worked on at once, for what an `ahead` spawns: as many
+-- as the greatest window of the plan leaves. A plan without one has none.
+abbrev pub spare_blocks : Blueprint → ℕ
+spare_blocks plan = MOST_BLOCKS - window_of plan MOST_BLOCKS
+
+-- How many blocks the table of a run with this window has: no more than a table may have.
+abbrev pub blocks_for : Blueprint → ℕ → ℕ
+blocks_for plan window = min (window + spare_blocks plan) MOST_BLOCKS
+
+-- The table is over the plan, with the blocks of a run with this window. Its scope is of the plan's
+-- kind, and takes as many associations.
+pub record IsFor (plan : Blueprint) (window : ℕ) (board : Board Blueprint) : Type 0 where
   pub over : IsOver board plan
   pub kind : board.frame.kind ≡ plan.settings.scope
-  pub blocks_are : board.frame.layout.blocks ≡ blocks
-  pub most_is : board.frame.most ≡ blocks
-  pub some : 0 < blocks
-  pub few : blocks ≤ MOST_BLOCKS
+  pub blocks_are : board.frame.layout.blocks ≡ blocks_for plan window
+  pub most_is : board.frame.most ≡ blocks_for plan window
+  pub some : 0 < window
+  pub few : window ≤ MOST_BLOCKS
 
 -- So it was opened, with a hand for each worker and one more. They have done nothing.
-pub record IsOpenedFor (plan : Blueprint) (blocks workers : ℕ) (opened : Opened) : Type 0 where
-  pub for : IsFor plan blocks opened.table
+pub record IsOpenedFor (plan : Blueprint) (window workers : ℕ) (opened : Opened) : Type 0 where
+  pub window_is : opened.window ≡ window
+  pub for : IsFor plan window opened.table
   pub count : opened.table.frame.hands ≡ workers + 1
   pub hands : AreFreshHands opened.table (workers + 1) opened.hands.items
 
--- A plan may be run on a table that is for it, by what steps this plan's nodes.
-pub record CanRunOn (board : Board Blueprint) (plan stepped : Blueprint) : Type 0 where
-  pub for : IsFor plan board.frame.layout.blocks board
+-- A plan may be run with this window on a table that is for it, by what steps this plan's nodes.
+pub record CanRunOn (board : Board Blueprint) (plan : Blueprint) (window : ℕ) (stepped : Blueprint)
+    : Type 0 where
+  pub for : IsFor plan window board
   pub kinds : IsRunnable plan
   pub may_run : MayRun plan.settings
   pub stepper : stepped ≡ plan

@@ -36,7 +36,8 @@ impl<'a, T: Stepper, K: Sink> Front for CountedDesk<'a, T, K> {
     ghost use Rattle.record_runs.specs.Desks.{CanBegin, LeavesCounted};
 
     ghost needs = { λ desk hand.
-        CanBegin desk.on.table.now desk.on.plan.now (T.plan desk.on.stepper.now) hand
+        CanBegin desk.on.table.now desk.on.plan.now desk.on.window
+        (T.plan desk.on.stepper.now) hand
         × (desk.count ≤ MOST_RECORDS) };
 
     ghost leaves = { LeavesCounted K.told };
@@ -52,6 +53,7 @@ impl<'a, T: Stepper, K: Sink> Front for CountedDesk<'a, T, K> {
             plan: self.on.plan,
             stepper: self.on.stepper,
             table: self.on.table,
+            window: self.on.window,
         };
         let count = self.count;
         let worked = work_on_counted::<Brand, T, R, K>(
@@ -89,7 +91,8 @@ pub(crate) fn counted_beside<'a, T: Stepper + Sync, R: Threads + Wait + Sync, K:
     all: &mut Vec<Hand<Item>>,
 ) -> CountedDesk<'a, T, K>
     requires sync { IsSync R.row }
-    requires begin { CanBegin desk.on.table.now desk.on.plan.now (T.plan desk.on.stepper.now) hand }
+    requires begin { CanBegin desk.on.table.now desk.on.plan.now desk.on.window
+        (T.plan desk.on.stepper.now) hand }
     requires few { desk.count ≤ MOST_RECORDS }
     requires spare { All (IsSpare desk.on.table.now) hands.items }
     requires each { vec_len hands ≤ vec_len backends }
@@ -98,7 +101,7 @@ pub(crate) fn counted_beside<'a, T: Stepper + Sync, R: Threads + Wait + Sync, K:
     ensures sink { result.out.ghost_name ≡ desk.entry.out.ghost_name }
     ensures came { result.came.ghost_name ≡ desk.entry.came.ghost_name }
     ensures ends { EndsCounted
-        (begins desk.entry.on.plan.now desk.entry.on.table.now.frame.layout.blocks Form.Summary
+        (begins desk.entry.on.plan.now desk.entry.on.window Form.Summary
         (K.told desk.entry.out.now))
         (generated_lines desk.entry.on.plan.now.settings.input desk.entry.count)
         (K.told result.out.now) result.came.now.answer }

@@ -1,14 +1,13 @@
-//! The records of a plan, run over the running table where all of its nodes have steps there, and
-//! plainly otherwise.
+//! The records of a plan, run over the running table.
 //!
-//!     plan --NodeSteps::of--> Some: open_run --> table, hand --TableRun--> run_records --> answer
-//!          |                     end --> the hand --close_table--> Closing: the scope is joined
-//!          \--------------> None: PlainRuns --> run_records --> answer
+//!     plan --open_run--> table, hands --TableRun--> run_records, run_generated --> answer
+//!                        end --> the hands --close_table--> Closing: the scope is joined
 //!
-//! It stands on record_loop, which runs records over either layer, and on the layers: plain_runs,
-//! and table_run over the steps of exec_steps. Its calls keep the promise of record_loop, and one
-//! besides: each table that was opened is closed, whatever became of the source and the sink, with
-//! each block given back and the scope of the operations joined (P3149, [exec.scope]).
+//! It stands on record_loop, which runs records over a layer of operations, and on that layer:
+//! table_run over the steps of exec_steps, with the workers of run_crew beside it. Its calls keep the
+//! promise of record_loop, and one besides: the table was closed, whatever became of the source and
+//! the sink, with each block given back and the scope of the operations joined (P3149,
+//! [exec.scope]).
 #![tactic(auto)]
 
 mod account;
@@ -21,7 +20,7 @@ mod opened;
 mod over_table;
 mod working;
 
-pub use account::{Account, Layer};
+pub use account::Account;
 pub use counted::run_counted;
 pub use lines::run_lines;
 pub use opened::{Opened, TableEnd, open_run};

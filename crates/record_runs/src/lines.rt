@@ -4,59 +4,32 @@ ghost use Rattle.std.specs.Thread.{IsSync};
 ghost use Rattle.life_rules.specs.declared.limits.TheConstants.{MOST_BLOCKS};
 ghost use Rattle.plan_kinds.specs.Reached.{KindsMatch};
 ghost use Rattle.record_loop.specs.Tallies.{TalliesWith};
+ghost use Rattle.record_runs.specs.Accounts.{ending_in};
 ghost use Rattle.record_runs.specs.Endings.{EndsLines, begins, supply};
-ghost use Rattle.record_runs.specs.Layers.{IsRunBy, ending_in};
-ghost use Rattle.record_runs.specs.declared.account.Layer.{Layer};
+ghost use Rattle.record_runs.specs.Opened.{IsClosedAfter, blocks_for};
 ghost use Rattle.run_crew.specs.Crews.{IsCrew};
 ghost use Rattle.run_rules.specs.PlanTerms.{MayRun};
 
-use crate::account::{Account, Layer, give_account};
+use crate::account::{Account, give_account};
 use crate::opened::open_run;
 use crate::over_table::lines_on_table;
 use exec_io::Sink;
 use exec_recv::Gate;
 use exec_steps::NodeSteps;
-use plain_runs::PlainRuns;
 use plan_shape::Plan;
-use record_loop::{Form, RecordSource, run_records};
+use record_loop::{Form, RecordSource};
 use run_crew::Crew;
 use std::alloc::{AllocError, Global};
 use std::sync::Wait;
 use std::thread::Threads;
 
-// Runs the records of a source plainly.
-fn lines_plainly<R: Wait + Sync, S: RecordSource, K: Sink>(
-    rt: &R,
-    alloc: Global,
-    plan: &Plan,
-    window: usize,
-    form: Form,
-    records: &mut S,
-    out: &mut K,
-) -> Result<Account, AllocError>
-    requires sync { IsSync R.row }
-    requires some { 0 < window }
-    requires few { window ≤ MOST_BLOCKS }
-    requires kinds { KindsMatch plan.now.nodes plan.now.settings.input }
-    requires may_run { MayRun plan.now.settings }
-    ensures ends { EndsLines (begins plan.now window form (K.told out.old))
-        (supply (S.told records.old) (S.reads records.old))
-        (supply (S.told records.new) (S.reads records.new)) (K.told out.new) (ending_in result) }
-    ensures told { IfOk result (λ a. TalliesWith a.tally a.ending.summary) }
-    ensures layer { IfOk result (λ a. a.layer ≡ Layer.Plain) }
-{
-    let settings = *plan.settings();
-    let mut runs = PlainRuns::open(alloc, plan, window)?;
-    let answer = run_records(rt, alloc, settings, window, form, &mut runs, records, out);
-    give_account(answer, runs.tally(), Layer::Plain)
-}
-
 /// Runs the records of a source by a plan, at most a window of them at once, and writes their
-/// outcomes: over the running table where the plan runs there, and plainly otherwise.
+/// outcomes. Each record is an operation on a running table. A plan with an `ahead` wants a window of
+/// at most 192, as `at_once` of run_rules gives it: with more, records may have taken all blocks, and
+/// then wait for ever for one in which to spawn.
 ///
 /// Afterwards: what `run_records` promises, with a tally of the operations that were collected. The
-/// account names the layer; where it is the table, that was closed with its scope joined and each
-/// block given back.
+/// table was closed with its scope joined and each block given back.
 pub fn run_lines<G: Gate + Sync, R: Threads + Wait + Sync, S: RecordSource, K: Sink>(
     rt: &R,
     alloc: Global,
@@ -78,12 +51,10 @@ pub fn run_lines<G: Gate + Sync, R: Threads + Wait + Sync, S: RecordSource, K: S
         (supply (S.told records.old) (S.reads records.old))
         (supply (S.told records.new) (S.reads records.new)) (K.told out.new) (ending_in result) }
     ensures told { IfOk result (λ a. TalliesWith a.tally a.ending.summary) }
-    ensures layer { IfOk result (λ a. IsRunBy plan.now window a.layer) }
+    ensures closed { IfOk result (λ a. IsClosedAfter (blocks_for plan.now window) a.closing) }
 {
-    let Some(steps) = NodeSteps::of(plan, gate) else {
-        return lines_plainly(rt, alloc, plan, window, form, records, out);
-    };
+    let steps = NodeSteps::of(plan, gate);
     let opened = open_run(alloc, plan, window, crew.workers)?;
     let end = lines_on_table(rt, alloc, plan, &steps, opened, crew, form, records, out);
-    give_account(end.answer, end.tally, Layer::Table(end.closing))
+    give_account(end.answer, end.tally, end.closing)
 }

@@ -33,7 +33,8 @@ impl<'a, T: Stepper, S: RecordSource, K: Sink> Front for LinesDesk<'a, T, S, K> 
     ghost use Rattle.record_runs.specs.Desks.{CanBegin, LeavesLines};
 
     ghost needs = { λ desk hand.
-        CanBegin desk.on.table.now desk.on.plan.now (T.plan desk.on.stepper.now) hand };
+        CanBegin desk.on.table.now desk.on.plan.now desk.on.window
+        (T.plan desk.on.stepper.now) hand };
 
     ghost leaves = { LeavesLines S.told S.reads K.told };
 
@@ -48,6 +49,7 @@ impl<'a, T: Stepper, S: RecordSource, K: Sink> Front for LinesDesk<'a, T, S, K> 
             plan: self.on.plan,
             stepper: self.on.stepper,
             table: self.on.table,
+            window: self.on.window,
         };
         let form = self.form;
         let worked = work_on_lines::<Brand, T, R, S, K>(
@@ -100,7 +102,8 @@ pub(crate) fn lines_beside<
     all: &mut Vec<Hand<Item>>,
 ) -> LinesDesk<'a, T, S, K>
     requires sync { IsSync R.row }
-    requires begin { CanBegin desk.on.table.now desk.on.plan.now (T.plan desk.on.stepper.now) hand }
+    requires begin { CanBegin desk.on.table.now desk.on.plan.now desk.on.window
+        (T.plan desk.on.stepper.now) hand }
     requires spare { All (IsSpare desk.on.table.now) hands.items }
     requires each { vec_len hands ≤ vec_len backends }
     requires count { vec_len hands + 1 ≡ desk.on.table.now.frame.hands }
@@ -109,8 +112,7 @@ pub(crate) fn lines_beside<
     ensures sink { result.out.ghost_name ≡ desk.entry.out.ghost_name }
     ensures came { result.came.ghost_name ≡ desk.entry.came.ghost_name }
     ensures ends { EndsLines
-        (begins desk.entry.on.plan.now desk.entry.on.table.now.frame.layout.blocks desk.entry.form
-        (K.told desk.entry.out.now))
+        (begins desk.entry.on.plan.now desk.entry.on.window desk.entry.form (K.told desk.entry.out.now))
         (supply (S.told desk.entry.records.now) (S.reads desk.entry.records.now))
         (supply (S.told result.records.now) (S.reads result.records.now))
         (K.told result.out.now) result.came.now.answer }

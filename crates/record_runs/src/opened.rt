@@ -1,21 +1,25 @@
 //! A table that is opened for a run, and closed after it.
 ghost use Rattle.std.specs.Prelude.{◌≡◌, ◌<◌, ◌≤◌, IfOk};
 ghost use Rattle.life_rules.specs.declared.limits.TheConstants.{MOST_BLOCKS, MOST_HANDS};
-ghost use Rattle.record_runs.specs.Opened.{AreBack, IsOpenedFor, IsClosedAfter};
+ghost use Rattle.record_runs.specs.Opened.{AreBack, IsOpenedFor, IsClosedAfter, blocks_for};
 
 use exec_recv::Item;
+use life_rules::MOST_BLOCKS;
 use op_table::{Hand, OpTable};
 use plan_shape::Plan;
 use record_loop::Ending;
+use run_rules::at_once;
 use run_tally::Tally;
 use std::alloc::{AllocError, Global};
 use table_steps::Closing;
 
-/// A table over a plan, and its hands: one for each worker, and one more.
+/// A table over a plan, its hands, one for each worker and one more, and how many records are
+/// worked on at once.
 #[derive(Drop)]
 pub struct Opened {
     pub table: OpTable<Item>,
     pub hands: Vec<Hand<Item>>,
+    pub window: usize,
 }
 
 /// What a run over a table left: how it ended, how many operations it collected with each kind of
@@ -27,30 +31,49 @@ pub struct TableEnd {
     pub closing: Closing,
 }
 
-/// Opens a table over the plan for a run, with so many blocks, and a hand for each of so many
-/// workers and one more. It fails only for want of memory, and nothing is read or written.
+// How many blocks the table of a run has: one for each record that is worked on at once, and for a
+// plan with an `ahead` more, for the operations that it spawns: as many as the greatest window of
+// such a plan leaves.
+fn blocks_for(plan: &Plan, window: usize) -> usize
+    requires few { window ≤ MOST_BLOCKS }
+    ensures value { result ≡ blocks_for plan.now window }
+    ensures more { window ≤ result }
+    ensures few { result ≤ MOST_BLOCKS }
+{
+    let most = MOST_BLOCKS as usize;
+    let spare = most - at_once(plan, most);
+    (window + spare).min(most)
+}
+
+/// Opens a table over the plan for a run with this window, and a hand for each of so many workers
+/// and one more. It fails only for want of memory, and nothing is read or written.
 ///
-/// Afterwards: no operation was begun on the table. Its scope is of the kind that the plan says,
-/// and takes as many associations as there are blocks.
+/// Afterwards: no operation was begun on the table. It has a block for each record of the window,
+/// and for a plan with an `ahead` 64 more, or as many as a table has room for. Its scope is of the
+/// kind that the plan says, and takes as many associations as there are blocks.
 pub fn open_run(
     alloc: Global,
     plan: &Plan,
-    blocks: usize,
+    window: usize,
     workers: u32,
 ) -> Result<Opened, AllocError>
-    requires some { 0 < blocks }
-    requires few { blocks ≤ MOST_BLOCKS }
+    requires some { 0 < window }
+    requires few { window ≤ MOST_BLOCKS }
     requires workers { workers < MOST_HANDS }
-    ensures { IfOk result (IsOpenedFor plan.now blocks workers) }
+    ensures { IfOk result (IsOpenedFor plan.now window workers) }
 {
-    let most = blocks as u32;
+    let most = blocks_for(plan, window) as u32;
     let kind = plan.settings().scope;
     let count = workers + 1;
     let (table, hands) = OpTable::open(alloc, plan.tree(), plan, most, count, kind, most)?;
     // Asked for what they say of every tree and of every plan.
     let _ = table.tree().size();
     let _ = plan.size();
-    Ok(Opened { table, hands })
+    Ok(Opened {
+        table,
+        hands,
+        window,
+    })
 }
 
 /// Closes the table after a run, with all of its hands.

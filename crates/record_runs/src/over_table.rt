@@ -24,8 +24,8 @@ use std::alloc::Global;
 use std::sync::Wait;
 use std::thread::Threads;
 
-/// Runs the records of a source over a table, at most one for each of its blocks at once, beside a
-/// crew, and closes the table.
+/// Runs the records of a source over a table, at most a window of them at once, beside a crew, and
+/// closes the table.
 ///
 /// Needs: the table was opened over the plan, whose nodes the stepper steps, and for the crew.
 /// Afterwards: what `run_records` promises. The table is closed in any case, with its scope joined
@@ -42,19 +42,23 @@ pub fn lines_on_table<T: Stepper + Sync, R: Threads + Wait + Sync, S: RecordSour
     out: &mut K,
 ) -> TableEnd
     requires sync { IsSync R.row }
-    requires opened { IsOpenedFor plan.now opened.table.frame.layout.blocks crew.workers opened }
+    requires opened { IsOpenedFor plan.now opened.window crew.workers opened }
     requires crew { IsCrew crew.workers (vec_len crew.backends) }
     requires kinds { IsRunnable plan.now }
     requires may_run { MayRun plan.now.settings }
     requires stepper { T.plan stepper.now ≡ plan.now }
     ensures ends { EndsLines
-        (begins plan.now opened.table.frame.layout.blocks form (K.told out.old))
+        (begins plan.now opened.window form (K.told out.old))
         (supply (S.told records.old) (S.reads records.old))
         (supply (S.told records.new) (S.reads records.new)) (K.told out.new) result.answer }
     ensures told { IfOk result.answer (λ ending. TalliesWith result.tally ending.summary) }
     ensures closed { IsClosedAfter opened.table.frame.layout.blocks result.closing }
 {
-    let Opened { table, mut hands } = opened;
+    let Opened {
+        table,
+        mut hands,
+        window,
+    } = opened;
     let hand = hands.remove(0);
     let Crew {
         workers: _,
@@ -70,6 +74,7 @@ pub fn lines_on_table<T: Stepper + Sync, R: Threads + Wait + Sync, S: RecordSour
             plan,
             stepper,
             table: &table,
+            window,
         },
         form,
     };
@@ -79,8 +84,8 @@ pub fn lines_on_table<T: Stepper + Sync, R: Threads + Wait + Sync, S: RecordSour
     close_run(table, all, came.answer, came.tally)
 }
 
-/// Runs so many generated records over a table, at most one for each of its blocks at once,
-/// beside a crew, and closes the table. All else is as in `lines_on_table`.
+/// Runs so many generated records over a table, at most a window of them at once, beside a crew, and
+/// closes the table. All else is as in `lines_on_table`.
 pub fn counted_on_table<T: Stepper + Sync, R: Threads + Wait + Sync, K: Sink>(
     rt: &R,
     alloc: Global,
@@ -92,19 +97,23 @@ pub fn counted_on_table<T: Stepper + Sync, R: Threads + Wait + Sync, K: Sink>(
     out: &mut K,
 ) -> TableEnd
     requires sync { IsSync R.row }
-    requires opened { IsOpenedFor plan.now opened.table.frame.layout.blocks crew.workers opened }
+    requires opened { IsOpenedFor plan.now opened.window crew.workers opened }
     requires crew { IsCrew crew.workers (vec_len crew.backends) }
     requires kinds { IsRunnable plan.now }
     requires may_run { MayRun plan.now.settings }
     requires stepper { T.plan stepper.now ≡ plan.now }
     requires few { count ≤ MOST_RECORDS }
     ensures ends { EndsCounted
-        (begins plan.now opened.table.frame.layout.blocks Form.Summary (K.told out.old))
+        (begins plan.now opened.window Form.Summary (K.told out.old))
         (generated_lines plan.now.settings.input count) (K.told out.new) result.answer }
     ensures told { IfOk result.answer (λ ending. TalliesWith result.tally ending.summary) }
     ensures closed { IsClosedAfter opened.table.frame.layout.blocks result.closing }
 {
-    let Opened { table, mut hands } = opened;
+    let Opened {
+        table,
+        mut hands,
+        window,
+    } = opened;
     let hand = hands.remove(0);
     let Crew {
         workers: _,
@@ -119,6 +128,7 @@ pub fn counted_on_table<T: Stepper + Sync, R: Threads + Wait + Sync, K: Sink>(
             plan,
             stepper,
             table: &table,
+            window,
         },
         count,
     };

@@ -25,12 +25,14 @@ use std::alloc::{AllocError, Global};
 use std::sync::Wait;
 use table_run::{OnTable, TableRun};
 
-/// A plan, what steps its nodes, and the table on which they run.
+/// A plan, what steps its nodes, the table on which they run, and how many records are worked on at
+/// once.
 #[derive(Drop)]
 pub(crate) struct Tabled<'a, T: Stepper> {
     pub(crate) plan: &'a Plan,
     pub(crate) stepper: &'a T,
     pub(crate) table: &'a OpTable<Item>,
+    pub(crate) window: usize,
 }
 
 /// What a run came to: how it ended, and its tally.
@@ -85,18 +87,18 @@ pub(crate) fn work_on_lines<B: OnTable, T: Stepper, R: Wait + Sync, S: RecordSou
 ) -> Worked
     requires sync { IsSync R.row }
     requires on { B.is tabled.now.table.now }
-    requires runs { CanRunOn tabled.now.table.now tabled.now.plan.now
+    requires runs { CanRunOn tabled.now.table.now tabled.now.plan.now tabled.now.window
         (T.plan tabled.now.stepper.now) }
     requires fresh { IsFreshHand tabled.now.table.now hand }
     ensures ends { EndsLines
-        (begins tabled.now.plan.now tabled.now.table.now.frame.layout.blocks form (K.told out.old))
+        (begins tabled.now.plan.now tabled.now.window form (K.told out.old))
         (supply (S.told records.old) (S.reads records.old))
         (supply (S.told records.new) (S.reads records.new)) (K.told out.new) result.came.answer }
     ensures told { IfOk result.came.answer
         (λ ending. TalliesWith result.came.tally ending.summary) }
     ensures ended { IsEnded B.is result.hand }
 {
-    let window = tabled.table.blocks() as usize;
+    let window = tabled.window;
     let settings = *tabled.plan.settings();
     let opened: Result<TableRun<'_, T, B>, Hand<Item>> = TableRun::open(
         alloc,
@@ -133,19 +135,18 @@ pub(crate) fn work_on_counted<B: OnTable, T: Stepper, R: Wait + Sync, K: Sink>(
 ) -> Worked
     requires sync { IsSync R.row }
     requires on { B.is tabled.now.table.now }
-    requires runs { CanRunOn tabled.now.table.now tabled.now.plan.now
+    requires runs { CanRunOn tabled.now.table.now tabled.now.plan.now tabled.now.window
         (T.plan tabled.now.stepper.now) }
     requires fresh { IsFreshHand tabled.now.table.now hand }
     requires few { count ≤ MOST_RECORDS }
     ensures ends { EndsCounted
-        (begins tabled.now.plan.now tabled.now.table.now.frame.layout.blocks Form.Summary
-        (K.told out.old)) (generated_lines tabled.now.plan.now.settings.input count)
+        (begins tabled.now.plan.now tabled.now.window Form.Summary (K.told out.old)) (generated_lines tabled.now.plan.now.settings.input count)
         (K.told out.new) result.came.answer }
     ensures told { IfOk result.came.answer
         (λ ending. TalliesWith result.came.tally ending.summary) }
     ensures ended { IsEnded B.is result.hand }
 {
-    let window = tabled.table.blocks() as usize;
+    let window = tabled.window;
     let settings = *tabled.plan.settings();
     let opened: Result<TableRun<'_, T, B>, Hand<Item>> = TableRun::open(
         alloc,

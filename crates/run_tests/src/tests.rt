@@ -3,6 +3,7 @@ ghost use Rattle.std.specs.Prelude.{IfOk, vec_len};
 ghost use Rattle.plan_kinds.specs.Reached.{KindsMatch};
 ghost use Rattle.run_crew.specs.Crews.{IsCrew};
 
+mod aheads;
 mod bodies;
 mod closings;
 mod crews;
@@ -13,11 +14,13 @@ mod unlawful;
 use life_rules::ScopeState;
 use plan_reader::read_plan;
 use plan_shape::Plan;
-use record_runs::{Account, Layer};
+use record_runs::Account;
 use run_crew::{Crew, Order};
+use run_rules::at_once;
 use sig_check::check;
 use std::alloc::Global;
 use std::test::Fail;
+use table_steps::Closing;
 
 /// One more than the record.
 const ADDING: &str = r#"{"do":"then","child":{"do":"input"},"job":{"job":"add","n":1}}"#;
@@ -32,14 +35,20 @@ fn plan_of(alloc: Global, settings: &str, root: &str) -> Result<Plan, Fail>
     Ok(plan)
 }
 
-/// Whether it was run over a table, which was closed with its scope joined and so many blocks free.
-fn is_by_table(account: &Account, blocks: u32) -> bool {
-    match account.layer {
-        Layer::Plain => false,
-        Layer::Table(closing) => {
-            closing.scope == ScopeState::Joined && closing.free == blocks && closing.retired == 0
-        }
-    }
+/// Whether its table was closed with its scope joined and so many blocks free.
+fn is_left(account: &Account, blocks: usize) -> bool {
+    let Closing {
+        scope,
+        free,
+        retired,
+    } = account.closing;
+    scope == ScopeState::Joined && free as usize == blocks && retired == 0
+}
+
+/// How many blocks the table of a run of the plan has, with so many records at once.
+fn blocks_of(plan: &Plan, records: usize) -> usize {
+    let spare = 256 - at_once(plan, 256).min(256);
+    records.saturating_add(spare).min(256)
 }
 
 /// No workers.

@@ -156,7 +156,7 @@ fn plan_of(alloc: Global, root: &str) -> Result<Option<Plan>, Fail>
     Ok(read(alloc, text.as_bytes()))
 }
 
-// Whether the plan with this root has steps, and its operation completes with this line, past this
+// Whether the operation of the plan with this root completes with this line, past this
 // gate.
 fn completes_past<G: Gate, R: Wait + Sync>(
     rt: &R,
@@ -171,9 +171,7 @@ fn completes_past<G: Gate, R: Wait + Sync>(
     let Some(plan) = plan_of(alloc, root)? else {
         return Ok(false);
     };
-    let Some(stepper) = NodeSteps::of(&plan, gate) else {
-        return Ok(false);
-    };
+    let stepper = NodeSteps::of(&plan, gate);
     let Some(done) = waited(rt, alloc, &plan, &stepper, asked)? else {
         return Ok(false);
     };
@@ -195,7 +193,7 @@ fn completes<R: Wait + Sync>(
     completes_past(rt, alloc, &OpenGate, root, asked, line)
 }
 
-// Whether the plan with this root has steps, and its operation can be collected after so many turns,
+// Whether the operation of the plan with this root can be collected after so many turns,
 // and after none before.
 fn takes_turns<R: Wait + Sync>(
     rt: &R,
@@ -210,9 +208,7 @@ fn takes_turns<R: Wait + Sync>(
         return Ok(false);
     };
     let gate = OpenGate;
-    let Some(stepper) = NodeSteps::of(&plan, &gate) else {
-        return Ok(false);
-    };
+    let stepper = NodeSteps::of(&plan, &gate);
     Ok(turned(rt, alloc, &plan, &stepper, asked)? == turns)
 }
 
@@ -385,5 +381,16 @@ fn all_of_a_when_all_are_awaited(rt: HostRuntime) -> Result<(), Fail> {
         assert!(rt; completes(&rt, alloc, root, false, line)?);
         assert!(rt; completes(&rt, alloc, root, true, "1 stopped\n")?);
     }
+    Ok(())
+}
+
+#[test]
+fn an_ahead_waits_until_it_is_served(rt: HostRuntime) -> Result<(), Fail> {
+    let alloc = rt.alloc();
+    let root = r#"{"do":"ahead","first":{"do":"input"},"second":{"do":"just","values":[1]}}"#;
+    assert!(rt; takes_turns(&rt, alloc, root, false, MOST_TURNS)?);
+    let late =
+        r#"{"do":"then","child":{"do":"ahead","first":{"do":"input"},"second":{"do":"input"}},"job":{"job":"sum"}}"#;
+    assert!(rt; takes_turns(&rt, alloc, late, true, MOST_TURNS)?);
     Ok(())
 }

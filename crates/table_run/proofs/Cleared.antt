@@ -10,10 +10,11 @@ use Rattle.table_steps.specs.Views.{Board, knows}
 use Rattle.exec_recv.specs.Asides.{Aside}
 use Rattle.run_loop.specs.declared.looped.Loop.{Loop as Looped}
 use Rattle.run_loop.specs.Loops.{IsReady}
+use Rattle.spawn_future.specs.Slots.{kept_in}
 use Rattle.table_run.specs.declared.tickets.Operation.{Operation}
 use Rattle.table_run.specs.Calls.{LeavesSame}
 use Rattle.table_run.specs.Ends.{HasJoined, IsEnded}
-use Rattle.table_run.specs.Moves.{KeepsRun, LeavesRun, Clears}
+use Rattle.table_run.specs.Moves.{KeepsRun, KeepsOperations, LeavesRun, Clears}
 use Rattle.table_run.specs.Runs.{Run}
 use Rattle.table_run.specs.Sound.{taken, IsSound}
 use Rattle.table_run.proofs.Listed.{one_if, put-here, put-there}
@@ -31,6 +32,14 @@ clears-on old between new first next =
 
 pub keeps-clears : (old new : Run) → KeepsRun old new → Clears old new
 keeps-clears old new keeps =
+    record {
+      board = keeps.board;
+      count = ap length keeps.operations;
+      free = λ t free. ap (λ (l : List (Option Operation)). get_or l t None) keeps.operations ∙ free;
+    }
+
+pub operations-clears : (old new : Run) → KeepsOperations old new → Clears old new
+operations-clears old new keeps =
     record {
       board = keeps.board;
       count = ap length keeps.operations;
@@ -84,7 +93,8 @@ none-taken (o ∷ operations) free =
     omega (arith, here, rest, sums)
 
 module _ (on : Board Blueprint → Type 0) (run : Run) (stepped : Blueprint) (next : ℕ) (sound : IsSound on run stepped next) (free : (t : ℕ) → get_or run.operations t None ≡ None)
-    (looped : Looped) (ready : IsReady run.board looped) (same : LeavesSame run.looped.hand.me looped.hand.me) where
+    (kept : kept_in run.futures ≡ 0) (looped : Looped) (ready : IsReady run.board looped)
+    (same : LeavesSame run.looped.hand.me looped.hand.me) where
   pub ended : HasJoined (knows looped.hand) → IsEnded on looped.hand
   ended joined =
       let none = none-taken run.operations free in
@@ -105,10 +115,10 @@ module _ (on : Board Blueprint → Type 0) (run : Run) (stepped : Blueprint) (ne
           finished = ready.rests.finished;
           runs = ready.rests.runs;
           scans = ready.rests.scans;
-          made = omega (arith, now_made, made, none);
+          made = omega (arith, now_made, made, none, kept);
           making = omega (arith, settled);
           refused = omega (arith, settled);
         };
-        even = omega (arith, now_claimed, claimed, now_released, none);
+        even = omega (arith, now_claimed, claimed, now_released, none, kept);
         joined = joined;
       }

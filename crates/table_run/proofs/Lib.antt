@@ -4,6 +4,8 @@ mod Entered
 mod Named
 mod Listed
 mod Allowed
+mod Spawning
+mod Telling
 mod Worked
 mod Sounding
 mod Requested

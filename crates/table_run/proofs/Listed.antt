@@ -47,7 +47,8 @@ module _ (operations : List (Option Operation)) (t : ℕ) (within : t < length o
       let one : one_if (get_or operations t None) ≡ 1 = ap one_if has in
       omega (arith, sums, one)
 
-module _ (board : Board Blueprint) (plan : Blueprint) (aside : Aside) (operations : List (Option Operation)) (listed : AreListed board plan aside operations) where
+module _ (board : Board Blueprint) (plan : Blueprint) (aside : Aside) (operations : List (Option Operation)) {kept : ℕ}
+    (listed : AreListed board plan aside operations kept) where
   -- a root of which no start is noted is none of theirs
   pub unnoted-apart : (x : Name) → find_by name_of aside.noted x ≡ None → (u : ℕ) (p : Operation) → Has operations u p →
       x ≡ root_of board p → ⊥
@@ -122,7 +123,7 @@ module _ (board : Board Blueprint) (plan : Blueprint) (aside : Aside) (operation
             ]
       ]
 
-      pub entered-listed : AreListed board plan grown (set operations t (Some o))
+      pub entered-listed : AreListed board plan grown (set operations t (Some o)) kept
       entered-listed =
           let more = one-more operations t within o free in
           let made = listed.made in
@@ -169,7 +170,7 @@ module _ (board : Board Blueprint) (plan : Blueprint) (aside : Aside) (operation
             start = left-there u p there.0 there.1 ∙ before.start;
           }
 
-      pub left-listed : AreListed board plan shrunk (set operations t None)
+      pub left-listed : AreListed board plan shrunk (set operations t None) kept
       left-listed =
           let less = one-less operations t within o has in
           let made = listed.made in

@@ -4,26 +4,41 @@ use Rattle.std.specs.Prelude.{Option, Some, None, is_some, replicate}
 use Rattle.std.proofs.lemmas.List.{length-set, length-replicate}
 use Rattle.std.proofs.lemmas.List.Folds.{sum_by-replicate}
 use Rattle.common_lemmas.proofs.Lists.{get_or-replicate_same}
+use Rattle.atomic_table.specs.declared.shared.Seat.{Seat}
 use Rattle.exec_value.specs.declared.data.Datum.{Datum}
 use Rattle.life_rules.specs.declared.event.SourceRef.TheVariants.{Scope}
 use Rattle.plan_kinds.specs.Runnable.{IsRunnable}
 use Rattle.plan_shape.specs.Blueprint.{Blueprint}
 use Rattle.table_rules.specs.declared.view.Rooted.{Rooted}
+use Rattle.table_rules.specs.declared.view.View.{View}
 use Rattle.table_rules.specs.Named.{find_by}
+use Rattle.table_rules.specs.ShownViews.{has_source_ref}
+use Rattle.table_steps.specs.declared.block.Block.{Block}
+use Rattle.table_steps.specs.Claims.{Seated}
 use Rattle.table_steps.specs.Views.{Board, IsHandOf, knows}
 use Rattle.exec_start.specs.declared.entry.Entry.{Entry}
+use Rattle.exec_start.specs.declared.item.Item.{Item}
 use Rattle.exec_start.specs.Entries.{record_start}
 use Rattle.exec_recv.specs.Asides.{Aside, aside_of}
 use Rattle.exec_recv.specs.Over.{IsOver}
+use Rattle.loop_roots.specs.Emptied.{WasNotReady}
 use Rattle.loop_walk.specs.Resting.{IsAtRest}
 use Rattle.run_loop.specs.declared.looped.Loop.{Loop as Looped}
+use Rattle.run_loop.specs.declared.names.Names.{Names}
 use Rattle.run_loop.specs.Loops.{HasDelays, IsReady}
+use Rattle.spawn_future.specs.declared.future.Future.{Future}
+use Rattle.spawn_future.specs.Keeping.{IsKeeping}
+use Rattle.spawn_future.specs.Opened.{IsOpened as AreOpened}
+use Rattle.spawn_future.specs.Slots.{kept_in}
 use Rattle.table_run.specs.declared.tickets.Operation.{Operation}
 use Rattle.table_run.specs.Calls.{with_entered, with_left, LeavesWith, LeavesSame, Enters, AsksScope}
+use Rattle.table_run.specs.Moves.{KeepsOperations}
 use Rattle.table_run.specs.Opened.{IsUnused}
 use Rattle.table_run.specs.Runs.{Run, run_of, root_of}
-use Rattle.table_run.specs.Sound.{taken, Has, AreListed, HasTickets, IsSound}
+use Rattle.table_run.specs.Sound.{taken, Has, AreListed, AreSpawned, HasTickets, IsSound}
+use Rattle.table_run.specs.Spawned.{ServesSpawned}
 use Rattle.table_run.proofs.Listed.{entered-listed, left-listed}
+use Rattle.table_run.proofs.Spawning.{same-spawned, asked-spawned, entered-spawned, left-spawned, served-noted, served-listed, served-spawned}
 
 module _ (on : Board Blueprint → Type 0) (run : Run) (stepped : Blueprint) (next : ℕ) (sound : IsSound on run stepped next) (looped : Looped) (ready : IsReady run.board looped) where
   abbrev aside : Aside
@@ -32,9 +47,9 @@ module _ (on : Board Blueprint → Type 0) (run : Run) (stepped : Blueprint) (ne
   -- where the hand knows of the same requests, of the same associations in the making, and of these operations
   module _ (now : Aside) (same : LeavesWith now run.looped.hand.me looped.hand.me) (requests : now.requested ≡ aside.requested)
       (settled : now.making + now.refused ≡ aside.making + aside.refused) where
-    pub moved-sound : (operations : List (Option Operation)) (later : ℕ) → AreListed run.board run.plan now operations →
-        HasTickets (length operations) later → IsSound on (record run { looped = looped; operations = operations }) stepped later
-    moved-sound operations later listed tickets =
+    pub moved-sound : (operations : List (Option Operation)) (later : ℕ) → AreListed run.board run.plan now operations (kept_in run.futures) →
+        AreSpawned run.board operations run.futures looped.hand.me → HasTickets (length operations) later → IsSound on (record run { looped = looped; operations = operations }) stepped later
+    moved-sound operations later listed spawned tickets =
         record {
           table = record {
             is_on = sound.table.is_on;
@@ -46,7 +61,8 @@ module _ (on : Board Blueprint → Type 0) (run : Run) (stepped : Blueprint) (ne
           tickets = tickets;
           ready = ready;
           settled = ap (λ (a : Aside). a.making + a.refused) same.is ∙ settled ∙ sound.settled;
-          listed = subst (λ (a : Aside). AreListed run.board run.plan a operations) (sym same.is) listed;
+          listed = subst (λ (a : Aside). AreListed run.board run.plan a operations (kept_in run.futures)) (sym same.is) listed;
+          spawned = spawned;
           asked = record {
             seen = λ asked. same.sees Scope (sound.asked.seen asked);
             made = λ made. sound.asked.made (sym (ap (λ (a : Aside). a.requested) same.is ∙ requests) ∙ made);
@@ -54,7 +70,9 @@ module _ (on : Board Blueprint → Type 0) (run : Run) (stepped : Blueprint) (ne
         }
 
   pub turned-sound : LeavesSame run.looped.hand.me looped.hand.me → IsSound on (record run { looped = looped }) stepped next
-  turned-sound same = moved-sound aside same refl refl run.operations next sound.listed sound.tickets
+  turned-sound same =
+      moved-sound aside same refl refl run.operations next sound.listed
+      (same-spawned run.board run.operations run.futures run.looped.hand.me looped.hand.me sound.spawned same.is) sound.tickets
 
   module _ (t : ℕ) (within : t < length run.operations) where
     pub entered-sound : (o : Operation) → get_or run.operations t None ≡ None → (number : ℕ) (datum : Datum) (asked : Bool) →
@@ -67,6 +85,8 @@ module _ (on : Board Blueprint → Type 0) (run : Run) (stepped : Blueprint) (ne
         moved-sound (with_entered (root_of run.board o) (record_start run.plan (datum ∷ []) number asked) aside) enters.leaves refl refl
         (set run.operations t (Some o)) later
         (entered-listed run.board run.plan aside run.operations sound.listed t within o free enters.within enters.unnoted number datum asked)
+        (entered-spawned run.board run.operations run.futures run.looped.hand.me looped.hand.me sound.spawned t within o
+        (record_start run.plan (datum ∷ []) number asked) enters)
         (record { within = omega (arith, inside, count); few = omega (arith, few, count) })
 
     pub left-sound : (o : Operation) → Has run.operations t o →
@@ -78,6 +98,7 @@ module _ (on : Board Blueprint → Type 0) (run : Run) (stepped : Blueprint) (ne
         let count : length (set run.operations t None) ≡ length run.operations = length-set run.operations t None in
         moved-sound (with_left (root_of run.board o) aside) leaves refl refl (set run.operations t None) next
         (left-listed run.board run.plan aside run.operations sound.listed t within o has)
+        (left-spawned run.board run.operations run.futures run.looped.hand.me looped.hand.me sound.spawned t within o run.plan sound.listed has leaves)
         (record { within = omega (arith, inside, count); few = omega (arith, few, count) })
 
   pub asked-sound : AsksScope run.looped.hand.me looped.hand.me → IsSound on (record run { looped = looped; requested = true }) stepped next
@@ -96,7 +117,7 @@ module _ (on : Board Blueprint → Type 0) (run : Run) (stepped : Blueprint) (ne
         listed = record {
           made = ap (λ (a : Aside). a.made) asks.same ∙ sound.listed.made;
           claimed = ap (λ (a : Aside). a.claimed) asks.same ∙ sound.listed.claimed
-              ∙ sym (ap (λ (a : Aside). a.released + taken run.operations) asks.same);
+              ∙ sym (ap (λ (a : Aside). a.released + taken run.operations + kept_in run.futures) asks.same);
           each = λ t o has.
               let before = sound.listed.each t o has in
               record {
@@ -108,8 +129,96 @@ module _ (on : Board Blueprint → Type 0) (run : Run) (stepped : Blueprint) (ne
               };
           apart = sound.listed.apart;
         };
+        spawned = asked-spawned run.board run.operations run.futures run.looped.hand.me looped.hand.me sound.spawned asks;
         asked = record { seen = λ _. asks.seen; made = λ _. refl };
       }
+
+  -- its futures were served
+  pub served-sound : (futures : List (Option Future)) → IsKeeping run.board futures looped.hand →
+      ServesSpawned run.board run.futures futures run.looped.hand.me looped.hand.me →
+      IsSound on (record run { looped = looped; futures = futures }) stepped next
+  served-sound futures keeping serves =
+      record {
+        table = record {
+          is_on = sound.table.is_on;
+          over = sound.table.over;
+          kinds = sound.table.kinds;
+          stepped_is = sound.table.stepped_is;
+          scope = sound.table.scope;
+        };
+        tickets = sound.tickets;
+        ready = ready;
+        settled = keeping.settled;
+        listed = served-listed run.board run.plan run.operations run.futures futures run.looped.hand.me looped.hand.me sound.listed sound.spawned serves;
+        spawned = served-spawned run.board run.plan run.operations run.futures futures run.looped.hand.me looped.hand.me sound.listed sound.spawned serves
+            keeping.keeps;
+        asked = record {
+          seen = λ asked. serves.sees Scope (sound.asked.seen asked);
+          made = λ made. sound.asked.made (sym (ap (λ (a : Aside). a.requested) serves.aside) ∙ made);
+        };
+      }
+
+-- a hand that keeps futures after they were served makes the loop ready, whatever names it was told of
+pub served-ready : (board : Board Blueprint) (old new : Looped) (futures : List (Option Future)) → IsReady board old → IsKeeping board futures new.hand →
+    new.next ≡ old.next → HasDelays board new.delays new.delay_nodes.items → IsReady board new
+served-ready board old new futures ready keeping next delays =
+    record {
+      hand = keeping.hand_of;
+      first = keeping.first;
+      rests = keeping.rests;
+      next = let before = ready.next in omega (arith, next, before);
+      delays = delays;
+    }
+
+-- where nothing was collected a word was looked at
+pub looked-same : (board : Board Blueprint) (b : Block) (m m' : Seated Item Entry) → WasNotReady board b m m' → LeavesSame m m'
+looked-same board b m m' read =
+    record {
+      is = ap (λ (z : Seated Item Entry). aside_of z.0) read.is;
+      sees = λ source seen. ap (λ (z : Seated Item Entry). has_source_ref z.0.seen source) read.is ∙ seen;
+    }
+
+-- and all operations are as they were
+served-keeps : (on : Board Blueprint → Type 0) (run : Run) (stepped : Blueprint) (next : ℕ) → IsSound on run stepped next → (looped : Looped)
+    (futures : List (Option Future)) → looped.tally ≡ run.looped.tally → ServesSpawned run.board run.futures futures run.looped.hand.me looped.hand.me →
+    KeepsOperations run (record run { looped = looped; futures = futures })
+served-keeps on run stepped next sound looped futures tally serves = record {
+  board = refl;
+  plan = refl;
+  operations = refl;
+  requested = refl;
+  tally = tally;
+  noted = served-noted run.board run.plan run.operations run.futures futures run.looped.hand.me looped.hand.me sound.listed sound.spawned serves;
+}
+
+-- so the run is sound, once the loop was told of names
+module _ (on : Board Blueprint → Type 0) (run : Run) (stepped : Blueprint) (next : ℕ) (sound : IsSound on run stepped next)
+    (hand : Seat (Option Item) (View Item Entry)) (names : Names) (looped : Looped) (is : looped ≡ record run.looped { hand = hand; names = names })
+    (futures : List (Option Future)) (serves : ServesSpawned run.board run.futures futures run.looped.hand.me hand.me) where
+  abbrev told : Looped
+  told = record run.looped { hand = hand; names = names }
+
+  pub told-sound : IsKeeping run.board futures hand → IsSound on (record run { looped = looped; futures = futures }) stepped next
+  told-sound keeping =
+      subst (λ (l : Looped). IsSound on (record run { looped = l; futures = futures }) stepped next) (sym is)
+      (served-sound on run stepped next sound told (served-ready run.board run.looped told futures sound.ready keeping refl sound.ready.delays) futures
+      keeping serves)
+
+  pub told-keeps : KeepsOperations run (record run { looped = looped; futures = futures })
+  told-keeps =
+      subst (λ (l : Looped). KeepsOperations run (record run { looped = l; futures = futures })) (sym is)
+      (served-keeps on run stepped next sound told futures refl serves)
+
+-- what a run's hand keeps
+pub sound-keeping : (on : Board Blueprint → Type 0) (run : Run) (stepped : Blueprint) (next : ℕ) → IsSound on run stepped next →
+    IsKeeping run.board run.futures run.looped.hand
+sound-keeping on run stepped next sound = record {
+  hand_of = sound.ready.hand;
+  first = sound.ready.first;
+  rests = sound.ready.rests;
+  settled = sound.settled;
+  keeps = sound.spawned.kept;
+}
 
 -- a loop that helps the pool, or no more
 pub helped-sound : (on : Board Blueprint → Type 0) (run : Run) (stepped : Blueprint) (next : ℕ) (helps : Bool) → IsSound on run stepped next →
@@ -141,8 +250,8 @@ asked-ready board old new ready next delays hand rests asks =
 pub opened-sound : (on : Board Blueprint → Type 0) (board : Board Blueprint) (plan stepped : Blueprint) (tickets : ℕ) (looped : Looped) →
     on board → IsOver board plan → IsRunnable plan → stepped ≡ plan → board.frame.kind ≡ plan.settings.scope → 0 < tickets → tickets ≤ 2 ^ 16 →
     IsUnused board looped.hand → looped.next ≡ 0 → HasDelays board looped.delays looped.delay_nodes.items → (operations : List (Option Operation)) → operations ≡ replicate tickets None →
-    IsSound on (run_of board plan looped operations false) stepped 0
-opened-sound on board plan stepped tickets looped is_on over kinds steps scope some few unused next delays operations free =
+    (most : ℕ) (futures : List (Option Future)) → AreOpened most futures → IsSound on (run_of board plan looped operations false futures) stepped 0
+opened-sound on board plan stepped tickets looped is_on over kinds steps scope some few unused next delays operations free most futures opened =
     record {
       table = record { is_on = is_on; over = over; kinds = kinds; stepped_is = steps; scope = scope };
       tickets = record { within = omega (arith, count, some); few = omega (arith, count, few) };
@@ -162,10 +271,18 @@ opened-sound on board plan stepped tickets looped is_on over kinds steps scope s
       };
       settled = let making = unused.nothing.making in let refused = unused.nothing.refused in omega (arith, making, refused);
       listed = record {
-        made = unused.nothing.made ∙ sym none;
-        claimed = let even = unused.even in omega (arith, even, none);
+        made = let made = unused.nothing.made in let kept = opened.none in omega (arith, made, none, kept);
+        claimed = let even = unused.even in let kept = opened.none in omega (arith, even, none, kept);
         each = λ t o has. absurd (vacant t o has);
         apart = λ t u o p has. absurd (vacant t o has);
+      };
+      spawned = record {
+        kept = record {
+          made = let kept = opened.none in omega (arith, kept);
+          each = λ t f has. absurd (opened.free t f has);
+          apart = λ t u f g has. absurd (opened.free t f has);
+        };
+        apart = λ t o has. absurd (vacant t o has);
       };
       asked = record {
         seen = λ e. absurd (let no = e in cc);

@@ -22,7 +22,7 @@ use Rattle.run_loop.specs.declared.looped.Loop.{Loop as Looped}
 use Rattle.loop_roots.specs.Completes.{IsFor}
 use Rattle.table_run.specs.declared.tickets.Operation.{Operation}
 use Rattle.table_run.specs.Calls.{with_left, LeavesWith, Enters}
-use Rattle.table_run.specs.Moves.{KeepsRun, LeavesRun}
+use Rattle.table_run.specs.Moves.{KeepsRun, KeepsOperations, LeavesRun}
 use Rattle.table_run.specs.Runs.{Run, WantsMemory, root_of, begun_in, begun_as, work_of}
 use Rattle.table_run.specs.Sound.{Has, IsOfRecord, AreListed}
 use Rattle.table_run.proofs.Allowed.{collected-may}
@@ -30,6 +30,16 @@ use Rattle.table_run.proofs.Listed.{name_of, put-here, put-there, entered-here, 
 
 none-some : {A : Type 0} (x : A) → None ≡ Some x → ⊥
 none-some x e = cc
+
+abbrev begun_from : Option (Rooted Entry) → Option Begun
+begun_from found = option_and_then (λ (e : Rooted Entry). begun_in e.start) found
+
+-- an operation whose start is noted as before was begun as before
+same-begun : (board : Board Blueprint) (noted noted' : List (Rooted Entry)) (found : Option Operation) →
+    ((p : Operation) → found ≡ Some p → find_by name_of noted' (root_of board p) ≡ find_by name_of noted (root_of board p)) →
+    option_and_then (begun_as board noted') found ≡ option_and_then (begun_as board noted) found
+same-begun board noted noted' None same = refl
+same-begun board noted noted' (Some p) same = ap begun_from (same p refl)
 
 pub keeps-work : (old new : Run) → KeepsRun old new → Keeps (work_of old) (work_of new)
 keeps-work old new keeps =
@@ -42,6 +52,22 @@ keeps-work old new keeps =
   where
     same : (t : ℕ) → (work_of new).block t ≡ (work_of old).block t
     same t = λ i. option_and_then (begun_as (keeps.board i) (keeps.noted i)) (get_or (keeps.operations i) t None)
+
+-- and where futures came and went
+pub operations-work : (old new : Run) → KeepsOperations old new → Keeps (work_of old) (work_of new)
+operations-work old new keeps =
+    record {
+      plan = keeps.plan;
+      requested = keeps.requested;
+      tally = keeps.tally;
+      blocks = λ t begun is. same t ∙ is;
+    }
+  where
+    same : (t : ℕ) → (work_of new).block t ≡ (work_of old).block t
+    same t =
+        (λ i. option_and_then (begun_as (keeps.board i) (knows new.looped.hand).noted) (get_or (keeps.operations i) t None))
+        ∙ same-begun old.board (knows old.looped.hand).noted (knows new.looped.hand).noted (get_or old.operations t None)
+        (λ p has. keeps.noted t p has)
 
 pub left-work : (old new : Run) (ticket : ℕ) (answer : Option Completion) → MatchOption answer (KeepsRun old new) (LeavesRun old new ticket) →
     MatchOption answer (Keeps (work_of old) (work_of new)) (Collects WantsMemory (work_of old) (work_of new) ticket)
@@ -59,16 +85,6 @@ within-begun run t begun = elim (cases_lt t (length run.operations)) [
       cc)
 ]
 
-abbrev begun_from : Option (Rooted Entry) → Option Begun
-begun_from found = option_and_then (λ (e : Rooted Entry). begun_in e.start) found
-
--- an operation whose start is noted as before was begun as before
-same-begun : (board : Board Blueprint) (noted noted' : List (Rooted Entry)) (found : Option Operation) →
-    ((p : Operation) → found ≡ Some p → find_by name_of noted' (root_of board p) ≡ find_by name_of noted (root_of board p)) →
-    option_and_then (begun_as board noted') found ≡ option_and_then (begun_as board noted) found
-same-begun board noted noted' None same = refl
-same-begun board noted noted' (Some p) same = ap begun_from (same p refl)
-
 -- what an operation of a record was begun with
 pub begun-record : (run : Run) (t : ℕ) (o : Operation) → Has run.operations t o →
     (is : IsOfRecord run.board run.plan (knows run.looped.hand).noted o) →
@@ -76,7 +92,8 @@ pub begun-record : (run : Run) (t : ℕ) (o : Operation) → Has run.operations 
 begun-record run t o has is =
     ap (option_and_then (begun_as run.board (knows run.looped.hand).noted)) has ∙ ap begun_from is.start
 
-module _ (run : Run) (listed : AreListed run.board run.plan (aside_of (knows run.looped.hand)) run.operations) (t : ℕ) (within : t < length run.operations)
+module _ (run : Run) {kept : ℕ}
+    (listed : AreListed run.board run.plan (aside_of (knows run.looped.hand)) run.operations kept) (t : ℕ) (within : t < length run.operations)
     (looped : Looped) where
   abbrev noted : List (Rooted Entry)
   noted = (knows run.looped.hand).noted

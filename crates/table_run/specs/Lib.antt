@@ -1,4 +1,5 @@
 pub mod Runs
+pub mod Spawned
 pub mod Sound
 pub mod Calls
 pub mod Moves

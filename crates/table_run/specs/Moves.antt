@@ -3,12 +3,13 @@ use Rattle.std.specs.Prelude.{◌≡◌, ◌⊎◌, ℕ, length, None, slice_ind
 use Rattle.exec_value.specs.declared.outcome.Completion.{Completion}
 use Rattle.plan_shape.specs.Blueprint.{Blueprint}
 use Rattle.record_loop.specs.Works.{Collects}
+use Rattle.table_steps.specs.Slots.{noted_at}
 use Rattle.table_steps.specs.Views.{knows}
 use Rattle.exec_recv.specs.Nexts.{Doing}
 use Rattle.loop_roots.specs.Emptied.{WasNotReady}
 use Rattle.run_loop.specs.Turns.{MeetsAll}
 use Rattle.table_run.specs.declared.tickets.Operation.{Operation}
-use Rattle.table_run.specs.Runs.{Run, WantsMemory, work_of}
+use Rattle.table_run.specs.Runs.{Run, WantsMemory, root_of, work_of}
 use Rattle.table_run.specs.Sound.{Has}
 
 -- All operations are as they were.
@@ -19,6 +20,17 @@ pub record KeepsRun (old new : Run) : Type 0 where
   pub requested : new.requested ≡ old.requested
   pub tally : new.looped.tally ≡ old.looped.tally
   pub noted : (knows new.looped.hand).noted ≡ (knows old.looped.hand).noted
+
+-- Or futures came and went, and all operations are as they were.
+pub record KeepsOperations (old new : Run) : Type 0 where
+  pub board : new.board ≡ old.board
+  pub plan : new.plan ≡ old.plan
+  pub operations : new.operations ≡ old.operations
+  pub requested : new.requested ≡ old.requested
+  pub tally : new.looped.tally ≡ old.looped.tally
+  pub noted : (t : ℕ) (o : Operation) → Has old.operations t o →
+      noted_at (knows new.looped.hand) (root_of old.board o)
+      ≡ noted_at (knows old.looped.hand) (root_of old.board o)
 
 -- The ticket has an operation whose root's word was read, and didn't say that it is ready in the loop.
 pub record WasIncomplete (old new : Run) (ticket : ℕ) : Type 0 where

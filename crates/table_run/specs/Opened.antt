@@ -8,6 +8,7 @@ use Rattle.table_steps.specs.Closings.{HasNothing}
 use Rattle.table_steps.specs.Views.{Board, IsHandOf, knows}
 use Rattle.exec_start.specs.declared.entry.Entry.{Entry}
 use Rattle.exec_start.specs.declared.item.Item.{Item}
+use Rattle.spawn_future.specs.Slots.{kept_in}
 use Rattle.table_run.specs.Runs.{Run, work_of}
 
 -- Hand 0 of the table, which has nothing, made no request, and gave back each block that it claimed.
@@ -19,11 +20,12 @@ pub record IsUnused (board : Board Blueprint) (hand : Seat (Option Item) (View I
   pub unasked : (knows hand).requested ≡ false
   pub even : (knows hand).claimed ≡ (knows hand).released
 
--- A run over this table and plan, with so many tickets, all free: no stop was requested, and no
--- operation collected.
+-- A run over this table and plan, with so many tickets, all free: no stop was requested, no operation
+-- collected, and no future is kept.
 pub record IsOpened (board : Board Blueprint) (plan : Blueprint) (tickets : ℕ) (run : Run)
     : Type 0 where
   pub board_is : run.board ≡ board
   pub plan_is : run.plan ≡ plan
   pub free : run.operations ≡ replicate tickets None
   pub idle : IsIdle (work_of run)
+  pub none : kept_in run.futures ≡ 0

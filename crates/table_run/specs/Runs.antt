@@ -11,28 +11,32 @@ use Rattle.table_steps.specs.Views.{Board, knows}
 use Rattle.table_steps.specs.Claims.{root_name}
 use Rattle.exec_start.specs.declared.entry.Entry.{Entry}
 use Rattle.run_loop.specs.declared.looped.Loop.{Loop as Looped}
+use Rattle.spawn_future.specs.declared.future.Future.{Future}
 use Rattle.table_run.specs.declared.tickets.Operation.{Operation}
 
 -- A plan may want memory where it isn't small.
 abbrev pub WantsMemory : Blueprint → Type 0
 WantsMemory plan = ¬ IsSmall plan
 
--- The table and the plan, the loop on hand 0, the operation that each ticket has, and whether a stop
--- was requested.
+-- The table and the plan, the loop on hand 0, the operation that each ticket has, whether a stop was
+-- requested, and the futures of `ahead` nodes, each in its slot.
 pub record Run : Type 0 where
   pub board : Board Blueprint
   pub plan : Blueprint
   pub looped : Looped
   pub operations : List (Option Operation)
   pub requested : Bool
+  pub futures : List (Option Future)
 
-abbrev pub run_of : Board Blueprint → Blueprint → Looped → List (Option Operation) → Bool → Run
-run_of board plan looped operations requested = record {
+abbrev pub run_of : Board Blueprint → Blueprint → Looped → List (Option Operation) → Bool
+    → List (Option Future) → Run
+run_of board plan looped operations requested futures = record {
   board = board;
   plan = plan;
   looped = looped;
   operations = operations;
   requested = requested;
+  futures = futures;
 }
 
 -- The root of the operation's block.

@@ -7,13 +7,19 @@ use Rattle.plan_shape.specs.Blueprint.{Blueprint}
 use Rattle.table_rules.specs.declared.view.Rooted.{Rooted}
 use Rattle.table_rules.specs.Named.{find_by}
 use Rattle.table_rules.specs.ShownViews.{has_source_ref}
+use Rattle.table_steps.specs.Claims.{Seated}
 use Rattle.table_steps.specs.ScopeEntries.{MayEnter}
 use Rattle.table_steps.specs.Views.{Board, knows}
 use Rattle.exec_start.specs.declared.entry.Entry.{Entry}
+use Rattle.exec_start.specs.declared.item.Item.{Item}
 use Rattle.exec_start.specs.Entries.{record_start}
 use Rattle.exec_recv.specs.Asides.{Aside, aside_of}
 use Rattle.exec_recv.specs.Over.{IsOver}
 use Rattle.run_loop.specs.Loops.{IsReady}
+use Rattle.spawn_future.specs.declared.future.Future.{Future}
+use Rattle.spawn_future.specs.Counts.{IsOfNoFuture}
+use Rattle.spawn_future.specs.Keeping.{AreKept}
+use Rattle.spawn_future.specs.Slots.{kept_in}
 use Rattle.table_run.specs.declared.tickets.Operation.{Operation}
 use Rattle.table_run.specs.Runs.{Run, root_of}
 
@@ -36,14 +42,22 @@ pub record IsOfRecord (board : Board Blueprint) (plan : Blueprint) (noted : List
       ≡ Some (record { name = root_of board o; start = record_start plan (datum ∷ []) number asked })
 
 -- The hand has an association for each operation, and claimed a block for each that it didn't give
--- back. It noted the start of each, and no two of them are in one block.
+-- back; and so for each of so many futures. It noted the start of each operation, and no two of them
+-- are in one block.
 pub record AreListed (board : Board Blueprint) (plan : Blueprint) (aside : Aside)
-    (operations : List (Option Operation)) : Type 0 where
-  pub made : aside.made ≡ taken operations
-  pub claimed : aside.claimed ≡ aside.released + taken operations
+    (operations : List (Option Operation)) (kept : ℕ) : Type 0 where
+  pub made : aside.made ≡ taken operations + kept
+  pub claimed : aside.claimed ≡ aside.released + taken operations + kept
   pub each : (t : ℕ) (o : Operation) → Has operations t o → IsOfRecord board plan aside.noted o
   pub apart : (t u : ℕ) (o p : Operation) → Has operations t o → Has operations u p
       → root_of board o ≡ root_of board p → t ≡ u
+
+-- The hand keeps the futures, and none of them is in the block of an operation.
+pub record AreSpawned (board : Board Blueprint) (operations : List (Option Operation))
+    (futures : List (Option Future)) (m : Seated Item Entry) : Type 0 where
+  pub kept : AreKept board futures m
+  pub apart : (t : ℕ) (o : Operation) → Has operations t o
+      → IsOfNoFuture board futures (root_of board o)
 
 -- A stop that was requested of the run was requested of the scope; and the hand made none of
 -- another's.
@@ -71,4 +85,6 @@ pub record IsSound (on : Board Blueprint → Type 0) (run : Run) (stepped : Blue
   pub ready : IsReady run.board run.looped
   pub settled : MayEnter (knows run.looped.hand)
   pub listed : AreListed run.board run.plan (aside_of (knows run.looped.hand)) run.operations
+      (kept_in run.futures)
+  pub spawned : AreSpawned run.board run.operations run.futures run.looped.hand.me
   pub asked : IsAsked run

@@ -11,9 +11,9 @@ use std::alloc::Global;
 use std::sync::Wait;
 
 impl<'a, T: Stepper, B: OnTable> TableRun<'a, T, B> {
-    /// Ends the run: turns until each operation that is left is collected, closes and joins the
-    /// scope (P3149, [exec.counting.scopes]), and gives the hand back. What is promised holds if it
-    /// returns.
+    /// Ends the run: turns until each operation that is left is collected and no future is kept,
+    /// closes and joins the scope (P3149, [exec.counting.scopes]), and gives the hand back. What is
+    /// promised holds if it returns.
     ///
     /// Afterwards: the hand is of the run's table, has nothing, and gave back as many blocks as it
     /// claimed. One of its steps left the scope joined. So the table may be closed, once the other
@@ -26,6 +26,7 @@ impl<'a, T: Stepper, B: OnTable> TableRun<'a, T, B> {
         for ticket in 0..run.operations.len() {
             run.clear(rt, alloc, ticket);
         }
+        run.clear_spawned(rt, alloc);
         let TableRun {
             table,
             plan: _,
@@ -35,9 +36,13 @@ impl<'a, T: Stepper, B: OnTable> TableRun<'a, T, B> {
             next: _,
             requested: _,
             idle: _,
+            spawns: _,
+            futures,
+            posted: _,
             on: _,
         } = run;
         discard(operations);
+        futures.close();
         let mut last = looped;
         join(rt, alloc, table, stepper, &mut last);
         last.into_hand()

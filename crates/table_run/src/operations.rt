@@ -41,6 +41,7 @@ impl<'a, T: Stepper, B: OnTable> Operations for TableRun<'a, T, B> {
 
     fn turn<R: Wait + Sync>(&mut self, rt: &R, alloc: Global) {
         self.go_round(rt, alloc);
+        self.serve_spawned(rt, alloc);
     }
 
     fn collect<R: Wait + Sync>(&mut self, rt: &R, block: u32) -> Option<Completion> {

@@ -4,12 +4,15 @@ ghost use Rattle.plan_kinds.specs.Runnable.{IsRunnable};
 ghost use Rattle.exec_recv.specs.Over.{IsOver};
 ghost use Rattle.table_run.specs.Opened.{IsUnused, IsOpened};
 
+use crate::aheads::has_ahead;
+use crate::posting::Posted;
 use crate::tickets::{Operation, discard, free_tickets};
 use exec_recv::{Item, Stepper};
 use op_slot::{Hand, OpTable};
 use plan_shape::Plan;
 use run_loop::Loop;
 use run_tally::Tally;
+use spawn_future::{Futures, MOST_FUTURES};
 use std::alloc::{AllocError, Global};
 use std::marker::{Brand, Model, PhantomData};
 
@@ -42,6 +45,10 @@ pub struct TableRun<'a, T: Stepper, B: OnTable> {
     pub(crate) requested: bool,
     /// How many polls in a row took no node.
     pub(crate) idle: u32,
+    /// The plan has an `ahead`, whose first child is spawned.
+    pub(crate) spawns: bool,
+    pub(crate) futures: Futures,
+    pub(crate) posted: Posted,
     pub(crate) on: PhantomData<B>,
 }
 
@@ -51,20 +58,22 @@ impl<'a, T: Stepper, B: OnTable> Model for TableRun<'a, T, B> {
 
     ghost Value = { Run };
 
-    ghost view = { λ s. run_of s.table.now s.plan.now s.looped s.operations.items s.requested };
+    ghost view = { λ s.
+        run_of s.table.now s.plan.now s.looped s.operations.items s.requested s.futures };
 
     ghost invariant = { λ s. IsSound B.is
-        (run_of s.table.now s.plan.now s.looped s.operations.items s.requested)
+        (run_of s.table.now s.plan.now s.looped s.operations.items s.requested s.futures)
         (T.plan s.stepper.now) s.next };
 }
 
 impl<'a, T: Stepper, B: OnTable> TableRun<'a, T, B> {
-    /// No operations of the plan, and so many tickets for them. The hand comes back where there is
-    /// no memory for these.
+    /// No operations of the plan, and so many tickets for them; where the plan has an `ahead`, also
+    /// the room for as many futures as are kept at most. The hand comes back where there is no
+    /// memory for these.
     ///
     /// Needs: the table was opened over the plan, whose kinds match, and with its kind of scope; the
     /// stepper steps the nodes of this plan. The hand is hand 0 of the table, and was not used.
-    /// Afterwards: no operation was started or collected, and no stop requested.
+    /// Afterwards: no operation was started or collected, no stop requested, and no future is kept.
     pub fn open(
         alloc: Global,
         plan: &'a Plan,
@@ -88,6 +97,14 @@ impl<'a, T: Stepper, B: OnTable> TableRun<'a, T, B> {
             Ok(operations) => operations,
             Err(AllocError) => return Err(hand),
         };
+        let spawns = has_ahead(plan);
+        let futures = match Futures::open(alloc, if spawns { MOST_FUTURES } else { 1 }) {
+            Ok(futures) => futures,
+            Err(AllocError) => {
+                discard(operations);
+                return Err(hand);
+            }
+        };
         match Loop::open(alloc, plan, table, hand) {
             Ok(looped) => Ok(TableRun {
                 table,
@@ -98,10 +115,14 @@ impl<'a, T: Stepper, B: OnTable> TableRun<'a, T, B> {
                 next: 0,
                 requested: false,
                 idle: 0,
+                spawns,
+                futures,
+                posted: Posted::none(alloc),
                 on: PhantomData,
             }),
             Err(back) => {
                 discard(operations);
+                futures.close();
                 Err(back)
             }
         }

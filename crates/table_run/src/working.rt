@@ -72,6 +72,7 @@ impl<'a, T: Stepper, B: OnTable> TableRun<'a, T, B> {
             }
             let _completion = self.leave(rt, ticket);
             self.go_round(rt, alloc);
+            self.serve_spawned(rt, alloc);
         }
         unreachable!()
     }

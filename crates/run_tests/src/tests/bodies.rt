@@ -1,7 +1,7 @@
 //! Which body of a let runs, as a gate sees it.
 ghost use Rattle.std.specs.Thread.{IsSync};
 
-use super::{is_by_table, nobody, plan_of};
+use super::{is_left, nobody, plan_of};
 use exec_io::{MemSink, MemSource};
 use exec_recv::{Gate, Point};
 use record_loop::Form;
@@ -63,7 +63,7 @@ fn picked_body(rt: HostRuntime) -> Result<(), Fail> {
         &mut out,
     )?;
     assert!(rt; out.bytes() == b"1 value 700\n2 value 10\n3 value 20\n".as_slice());
-    assert!(rt; is_by_table(&account, 3));
+    assert!(rt; is_left(&account, 3));
     assert!(rt; gate.first.load(Ordering::SeqCst) == 1);
     assert!(rt; gate.others.load(Ordering::SeqCst) == 0);
     Ok(())

@@ -1,7 +1,7 @@
 //! A table is closed, whatever becomes of the source and of out.
 ghost use Rattle.std.specs.Thread.{IsSync};
 
-use super::{ADDING, is_by_table, nobody, plan_of};
+use super::{ADDING, is_left, nobody, plan_of};
 use exec_io::{MemSink, MemSource};
 use exec_recv::OpenGate;
 use record_lines::End;
@@ -63,7 +63,7 @@ fn after_an_ended_input(rt: HostRuntime) -> Result<(), Fail> {
     assert!(rt; ran.account.ending.end() == End::Ended);
     assert!(rt; ran.account.tally.values() == 2);
     assert!(rt; ran.account.tally.errors() == 1);
-    assert!(rt; is_by_table(&ran.account, 2));
+    assert!(rt; is_left(&ran.account, 2));
     Ok(())
 }
 
@@ -75,7 +75,7 @@ fn after_a_read_fault(rt: HostRuntime) -> Result<(), Fail> {
     let ran = run(&rt, alloc, Form::Lines, records, out)?;
     assert!(rt; ran.out.bytes() == b"1 value 6\n2 value 0\n".as_slice());
     assert!(rt; ran.account.ending.end() == End::Fault);
-    assert!(rt; is_by_table(&ran.account, 2));
+    assert!(rt; is_left(&ran.account, 2));
     Ok(())
 }
 
@@ -87,7 +87,7 @@ fn after_a_lost_write(rt: HostRuntime) -> Result<(), Fail> {
     let ran = run(&rt, alloc, Form::Lines, records, out)?;
     assert!(rt; ran.out.bytes() == b"1 ".as_slice());
     assert!(rt; ran.account.ending.is_lost());
-    assert!(rt; is_by_table(&ran.account, 2));
+    assert!(rt; is_left(&ran.account, 2));
     Ok(())
 }
 
@@ -103,7 +103,7 @@ fn at_a_limit(rt: HostRuntime) -> Result<(), Fail> {
     let ran = run(&rt, alloc, Form::Summary, records, out)?;
     assert!(rt; ran.account.ending.end() == End::Limit);
     assert!(rt; ran.account.tally.values() == 1_000_000);
-    assert!(rt; is_by_table(&ran.account, 2));
+    assert!(rt; is_left(&ran.account, 2));
     Ok(())
 }
 
@@ -117,6 +117,6 @@ fn after_generated_records(rt: HostRuntime) -> Result<(), Fail> {
     let line = b"records 3 values 3 errors 0 stopped 0 out-of-memory 0 bad 0 sum 47568\n";
     assert!(rt; out.bytes() == line.as_slice());
     assert!(rt; account.tally.values() == 3);
-    assert!(rt; is_by_table(&account, 2));
+    assert!(rt; is_left(&account, 2));
     Ok(())
 }

@@ -6,12 +6,12 @@ ghost use Rattle.record_lines.specs.declared.limits.TheConstants.{MOST_RECORDS};
 ghost use Rattle.run_crew.specs.Crews.{IsCrew};
 
 use super::unlawful::{Unlawful, Way};
-use super::{is_by_table, plan_of};
+use super::{blocks_of, is_left, plan_of};
 use exec_io::MemSink;
 use exec_recv::{Gate, OpenGate, Point};
 use record_runs::run_counted;
 use run_crew::{Backend, Crew, Order};
-use run_rules::may_run;
+use run_rules::{at_once, may_run};
 use std::alloc::{AllocError, Global};
 use std::process::Abort;
 use std::sync::Wait;
@@ -73,9 +73,10 @@ pub(super) fn writes<G: Gate + Sync, R: Threads + Wait + Abort + Sync>(
     let plan = plan_of(alloc, "", root)?;
     assert!(rt; may_run(plan.settings()));
     let mut out = MemSink::new(alloc, 4096, Vec::new(alloc));
-    let size = window as usize;
+    let size = at_once(&plan, window as usize);
+    assert!(rt; 0 < size && size <= 256);
     let account = run_counted(rt, alloc, &plan, size, count, crew, gate, &mut out)?;
-    Ok(out.bytes() == line.as_bytes() && is_by_table(&account, window))
+    Ok(out.bytes() == line.as_bytes() && is_left(&account, blocks_of(&plan, size)))
 }
 
 /// Looks until the number isn't 0. Whether it came to that.

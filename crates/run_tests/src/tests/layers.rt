@@ -1,26 +1,26 @@
-//! The same records through both layers.
+//! The same records over a table and by plain evaluation.
 ghost use Rattle.std.specs.Prelude.{◌<◌, ◌≤◌};
 ghost use Rattle.std.specs.Thread.{IsSync};
 ghost use Rattle.life_rules.specs.declared.limits.TheConstants.{MOST_BLOCKS};
 ghost use Rattle.plan_kinds.specs.Reached.{KindsMatch};
 ghost use Rattle.run_rules.specs.PlanTerms.{MayRun};
 
-use super::{ADDING, is_by_table, nobody, plan_of};
+use super::{ADDING, blocks_of, is_left, nobody, plan_of};
 use exec_io::{MemSink, MemSource};
 use exec_recv::OpenGate;
 use plain_runs::PlainRuns;
 use plan_shape::Plan;
 use record_loop::{Form, run_records};
-use record_runs::{Layer, run_lines};
-use run_rules::may_run;
+use record_runs::run_lines;
+use run_rules::{at_once, may_run};
 use std::alloc::Global;
 use std::process::Abort;
 use std::sync::Wait;
 use std::test::Fail;
 use std::thread::Threads;
 
-/// Further settings and a root, of each kind of node that has a step on the table.
-const CASES: [(&str, &str); 20] = [
+/// Further settings and a root, of each kind of node.
+const CASES: [(&str, &str); 26] = [
     ("", r#"{"do":"input"}"#),
     ("", r#"{"do":"just","values":[7]}"#),
     ("", r#"{"do":"just_error","error":"odd"}"#),
@@ -77,6 +77,30 @@ const CASES: [(&str, &str); 20] = [
         "",
         r#"{"do":"when_all","children":[{"do":"starts_on","on":"pool","child":{"do":"input"}},{"do":"read_env","query":"record"}]}"#,
     ),
+    (
+        "",
+        r#"{"do":"ahead","first":{"do":"starts_on","on":"pool","child":{"do":"then","child":{"do":"input"},"job":{"job":"mul","n":2}}},"second":{"do":"then","child":{"do":"input"},"job":{"job":"add","n":1}}}"#,
+    ),
+    (
+        "",
+        r#"{"do":"ahead","first":{"do":"just_error","error":"a"},"second":{"do":"just","values":[1]}}"#,
+    ),
+    (
+        r#""on_error":"stop","#,
+        r#"{"do":"ahead","first":{"do":"delay","turns":9},"second":{"do":"just_error","error":"e"}}"#,
+    ),
+    (
+        r#""stop_after":1,"#,
+        r#"{"do":"ahead","first":{"do":"read_env","query":"stop"},"second":{"do":"read_env","query":"record"}}"#,
+    ),
+    (
+        "",
+        r#"{"do":"ahead","first":{"do":"just","values":[1]},"second":{"do":"just_stopped"}}"#,
+    ),
+    (
+        "",
+        r#"{"do":"let_value","child":{"do":"ahead","first":{"do":"input"},"second":{"do":"just","values":[2]}},"pick":{"job":"sum"},"bodies":[{"do":"ahead","first":{"do":"just","values":["x"]},"second":{"do":"starts_on","on":"pool","child":{"do":"input"}}}]}"#,
+    ),
 ];
 
 /// A source of the records 0, 1, .. up to so many, and then of one that is bad.
@@ -89,7 +113,7 @@ fn records(alloc: Global, count: u32) -> Result<MemSource, Fail> {
     Ok(MemSource::new(text.as_bytes().to_vec(alloc)?, Vec::new(alloc)))
 }
 
-/// What plain runs write of so many records.
+/// What plain evaluation writes of so many records.
 fn plainly<R: Wait + Sync>(
     rt: &R,
     alloc: Global,
@@ -120,8 +144,8 @@ fn plainly<R: Wait + Sync>(
     Ok(out)
 }
 
-/// Whether the plan runs so many records to the same lines through both layers, and leaves the table
-/// with its scope joined and all blocks free.
+/// Whether the plan runs so many records to the same lines over a table as by plain evaluation, and
+/// leaves the table with its scope joined and all blocks free.
 fn agree<R: Threads + Wait + Abort + Sync>(
     rt: &R,
     alloc: Global,
@@ -135,7 +159,8 @@ fn agree<R: Threads + Wait + Abort + Sync>(
 {
     let plan = plan_of(alloc, case.0, case.1)?;
     assert!(rt; may_run(plan.settings()));
-    let size = window as usize;
+    let size = at_once(&plan, window as usize);
+    assert!(rt; 0 < size && size <= 256);
     let plain = plainly(rt, alloc, &plan, size, count)?;
     let mut out = MemSink::new(alloc, 4096, Vec::new(alloc));
     let mut source = records(alloc, count)?;
@@ -150,11 +175,11 @@ fn agree<R: Threads + Wait + Abort + Sync>(
         &mut source,
         &mut out,
     )?;
-    Ok(plain.bytes() == out.bytes() && is_by_table(&account, window))
+    Ok(plain.bytes() == out.bytes() && is_left(&account, blocks_of(&plan, size)))
 }
 
 #[test]
-fn both_layers_give_the_same_lines(rt: HostRuntime) -> Result<(), Fail> {
+fn both_give_the_same_lines(rt: HostRuntime) -> Result<(), Fail> {
     let alloc = rt.alloc();
     for case in CASES {
         assert!(rt; agree(&rt, alloc, case, 1, 9)?);
@@ -167,29 +192,5 @@ fn both_layers_give_the_same_lines(rt: HostRuntime) -> Result<(), Fail> {
 #[test]
 fn one_block_is_given_again_a_thousand_times(rt: HostRuntime) -> Result<(), Fail> {
     assert!(rt; agree(&rt, rt.alloc(), ("", ADDING), 1, 1000)?);
-    Ok(())
-}
-
-#[test]
-fn a_plan_without_steps_runs_plainly(rt: HostRuntime) -> Result<(), Fail> {
-    let alloc = rt.alloc();
-    let root = r#"{"do":"ahead","first":{"do":"input"},"second":{"do":"just","values":[1]}}"#;
-    let plan = plan_of(alloc, "", root)?;
-    assert!(rt; may_run(plan.settings()));
-    let mut out = MemSink::new(alloc, 4096, Vec::new(alloc));
-    let mut source = records(alloc, 1)?;
-    let account = run_lines(
-        &rt,
-        alloc,
-        &plan,
-        2,
-        Form::Lines,
-        nobody(alloc),
-        &OpenGate,
-        &mut source,
-        &mut out,
-    )?;
-    assert!(rt; out.bytes() == b"1 value 0 1\n2 bad-record\n".as_slice());
-    assert!(rt; matches!(account.layer, Layer::Plain));
     Ok(())
 }

@@ -25,6 +25,14 @@ use std::test::Fail;
 struct Nobody;
 
 impl Mail for Nobody {
+    ghost use Rattle.std.specs.Prelude.{⊤};
+
+    ghost keeps = { λ _ _. ⊤ };
+
+    ghost none = { λ _. tt };
+
+    ghost on = { λ _ _ _ _ _. tt };
+
     fn ready<R: Wait + Sync>(&mut self, _rt: &R, _name: Name, _on: Context) {}
 }
 
@@ -129,9 +137,7 @@ fn loses_a_late_name<R: Wait + Sync>(rt: &R, alloc: Global, root: &str) -> Resul
     let Some(plan) = plan_of(alloc, root)? else {
         return Ok(false);
     };
-    let Some(stepper) = NodeSteps::of(&plan, &OpenGate) else {
-        return Ok(false);
-    };
+    let stepper = NodeSteps::of(&plan, &OpenGate);
     let (table, hand) = opened(alloc, &plan)?;
     let Ok(mut looped) = Loop::open(alloc, &plan, &table, hand) else {
         return Ok(false);

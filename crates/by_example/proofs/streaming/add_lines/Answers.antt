@@ -19,4 +19,4 @@ returns-clause-ends g c = same-ends c.in_ok-plan.plan c.in_ok-plan.ensures _ _ _
 
 pub returns-clause-adds : goal.returns-clause-adds
 returns-clause-adds g c =
-    ends-adding _ _ _ _ _ _ c.in_ok-plan.plan c.in_ok-plan.ensures _ _ c.run_lines.result c.run_lines.ensures.ends c.run_lines.ensures.layer
+    ends-adding _ _ _ _ _ _ c.in_ok-plan.plan c.in_ok-plan.ensures _ _ c.run_lines.result c.run_lines.ensures.ends c.run_lines.ensures.closed

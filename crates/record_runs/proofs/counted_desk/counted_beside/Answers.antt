@@ -5,7 +5,7 @@ use Rattle.record_runs.proofs.counted_desk.counted_beside.Goals as goal
 
 pub run_beside-left-requires-clause-serve : goal.run_beside-left-requires-clause-serve
 run_beside-left-requires-clause-serve g c κs within =
-    all-serve c.args.desk.on.table.now c.args.desk.on.plan.now (g.T.Stepper.plan c.args.desk.on.stepper.now) c.args.hands.items c.requires.begin.runs c.requires.spare
+    all-serve c.args.desk.on.table.now c.args.desk.on.plan.now c.args.desk.on.window (g.T.Stepper.plan c.args.desk.on.stepper.now) c.args.hands.items c.requires.begin.runs c.requires.spare
 
 pub returns-clause-back : goal.returns-clause-back
 returns-clause-back g c =

@@ -5,6 +5,7 @@ use Rattle.exec_value.specs.Kinds.{HasKind}
 use Rattle.loop_roots.specs.Starts.{CanRun}
 use Rattle.table_run.specs.Runs.{Run, run_of}
 use Rattle.table_run.proofs.Changed.{shown-free, shown-start, entered-by, has-entered-sound}
+use Rattle.table_run.proofs.Sounding.{turned-sound}
 use Rattle.table_run.proofs.Starting.{can-run}
 use Rattle.table_run.proofs.operations.TableRunOperations.start.Goals as goal
 
@@ -21,7 +22,7 @@ pub invariant_of-self : goal.invariant_of-self
 invariant_of-self g c =
     let inside = c.self.inside in
     let sound = c.self.invariant in
-    let run = run_of inside.table.now inside.plan.now inside.looped inside.operations.items inside.requested in
+    let run = run_of inside.table.now inside.plan.now inside.looped inside.operations.items inside.requested inside.futures in
     let lent : c.deref.result.now ≡ inside.operations.items = cc in
     let count : length c.put.new.operations.items ≡ length inside.operations.items =
     ap length c.put.ensures ∙ length-set inside.operations.items inside.next (Some c.in-Ok.operation) in
@@ -33,3 +34,9 @@ invariant_of-self g c =
     (shown-start inside.plan.now c.of_record-env.result c.one.result c.args.number c.args.datum inside.requested c.of_record-env.ensures c.one.ensures)
     c.in-Ok.ensures.entered c.put.new.operations.items c.put.ensures)
     ((inside.next + 1) % c.len.result) (omega (arith, count, here))
+
+pub invariant_of-self-in-Err : goal.invariant_of-self-in-Err
+invariant_of-self-in-Err g c =
+    let inside = c.self.inside in
+    turned-sound g.B.OnTable.is (run_of inside.table.now inside.plan.now inside.looped inside.operations.items inside.requested inside.futures)
+    (g.T.Stepper.plan inside.stepper.now) inside.next c.self.invariant c.enter.new.looped c.in-Err.ensures.ready c.in-Err.ensures.same

@@ -1,5 +1,6 @@
 use Rattle.std.proofs.Common.{◌≡◌, ℕ, get_or, sym, ap, ◌∙◌, subst, arith}
 use Rattle.std.specs.Prelude.{None}
+use Rattle.spawn_future.specs.Slots.{kept_in}
 use Rattle.table_run.specs.Ends.{IsEnded}
 use Rattle.table_run.specs.Runs.{Run, run_of}
 use Rattle.table_run.proofs.Cleared.{free-more, free-all, ended}
@@ -22,7 +23,10 @@ discard-requires g c =
     let last = c.loop-ticket-test.false in
     λ t.
     ap (λ (r : Run). get_or r.operations t None) c.run-2.view_is
-    ∙ free-all run.operations c.loop-ticket.ticket (omega (arith, count, last)) before.free t
+    ∙ c.clear_spawned.ensures.clears.free t (free-all run.operations c.loop-ticket.ticket (omega (arith, count, last)) before.free t)
+
+pub close-requires : goal.close-requires
+close-requires g c = ap (λ (r : Run). kept_in r.futures) c.run-2.view_is ∙ c.clear_spawned.ensures.none
 
 pub returns : goal.returns
 returns g c =
@@ -34,8 +38,9 @@ returns g c =
     let free : (t : ℕ) → get_or inside.operations.items t None ≡ None =
     λ t.
     ap (λ (r : Run). get_or r.operations t None) c.run-2.view_is
-    ∙ free-all run.operations c.loop-ticket.ticket (omega (arith, count, last)) before.free t in
+    ∙ c.clear_spawned.ensures.clears.free t (free-all run.operations c.loop-ticket.ticket (omega (arith, count, last)) before.free t) in
     subst (IsEnded g.B.OnTable.is) (sym c.into_hand.ensures)
-    (ended g.B.OnTable.is (run_of inside.table.now inside.plan.now inside.looped inside.operations.items inside.requested)
-    (g.T.Stepper.plan inside.stepper.now) inside.next c.run-2.invariant free c.join.new.looped c.join.ensures.ready c.join.ensures.same
+    (ended g.B.OnTable.is (run_of inside.table.now inside.plan.now inside.looped inside.operations.items inside.requested inside.futures)
+    (g.T.Stepper.plan inside.stepper.now) inside.next c.run-2.invariant free
+    (ap (λ (r : Run). kept_in r.futures) c.run-2.view_is ∙ c.clear_spawned.ensures.none) c.join.new.looped c.join.ensures.ready c.join.ensures.same
     c.join.ensures.joined)

@@ -2,21 +2,29 @@ use Rattle.std.proofs.Common.{◌≡◌, ◌<◌, length, sym, subst}
 use Rattle.table_run.specs.Moves.{LeavesRun}
 use Rattle.table_run.specs.Runs.{Run, run_of}
 use Rattle.table_run.proofs.Changed.{shown-block, block-listed, left-by, has-left-sound, has-left-run}
+use Rattle.table_run.proofs.Sounding.{turned-sound, looked-same}
 use Rattle.table_run.proofs.running.TableRun.leave.Goals as goal
 
 pub collect-requires-clause-listed : goal.collect-requires-clause-listed
 collect-requires-clause-listed g c κs within =
     let inside = c.self.inside in
-    let run = run_of inside.table.now inside.plan.now inside.looped inside.operations.items inside.requested in
+    let run = run_of inside.table.now inside.plan.now inside.looped inside.operations.items inside.requested inside.futures in
     let lent : c.deref.result.now ≡ inside.operations.items = cc in
     block-listed g.B.OnTable.is run (g.T.Stepper.plan inside.stepper.now) inside.next c.self.invariant c.args.ticket c.in_ok-block.block
     (shown-block c.deref.result.now inside.operations.items c.args.ticket c.block_of.result c.in_ok-block.block lent c.block_of.ensures
     c.in_ok-block.was)
 
+pub invariant_of-self : goal.invariant_of-self
+invariant_of-self g c =
+    let inside = c.self.inside in
+    turned-sound g.B.OnTable.is (run_of inside.table.now inside.plan.now inside.looped inside.operations.items inside.requested inside.futures)
+    (g.T.Stepper.plan inside.stepper.now) inside.next c.self.invariant c.collect.new.self c.in_err-collected.ensures.ready
+    (looked-same inside.table.now c.in_ok-block.block inside.looped.hand.me c.collect.new.self.hand.me c.in_err-collected.ensures.none.read)
+
 pub invariant_of-self-2 : goal.invariant_of-self-2
 invariant_of-self-2 g c =
     let inside = c.self.inside in
-    let run = run_of inside.table.now inside.plan.now inside.looped inside.operations.items inside.requested in
+    let run = run_of inside.table.now inside.plan.now inside.looped inside.operations.items inside.requested inside.futures in
     let lent : c.deref.result.now ≡ inside.operations.items = cc in
     let within = subst (λ (r : Run). c.args.ticket < length r.operations) (sym c.self.view_is) c.requires.within in
     has-left-sound g.B.OnTable.is run (g.T.Stepper.plan inside.stepper.now) inside.next c.self.invariant c.args.ticket
@@ -30,7 +38,7 @@ invariant_of-self-2 g c =
 pub returns-clause-leaves : goal.returns-clause-leaves
 returns-clause-leaves g c =
     let inside = c.self.inside in
-    let run = run_of inside.table.now inside.plan.now inside.looped inside.operations.items inside.requested in
+    let run = run_of inside.table.now inside.plan.now inside.looped inside.operations.items inside.requested inside.futures in
     let lent : c.deref.result.now ≡ inside.operations.items = cc in
     let within = subst (λ (r : Run). c.args.ticket < length r.operations) (sym c.self.view_is) c.requires.within in
     let left : Run =
