@@ -3,7 +3,7 @@ use Rattle.std.specs.Prelude.{ℕ, List, codes}
 use Rattle.node_tree.specs.declared.context.Context.{Context}
 use Rattle.node_tree.specs.declared.context.Context.TheVariants as context
 use Rattle.plan_rules.specs.declared.node.Node.{Node}
-use Rattle.plan_rules.specs.declared.node.Node.TheVariants.{Schedule, Delay, StartsOn, ContinuesOn, Bulk, Part}
+use Rattle.plan_rules.specs.declared.node.Node.TheVariants.{Schedule, Delay, StartsOn, ContinuesOn, Bulk, Part, Ahead}
 use Rattle.plan_picture.specs.declared.home.Home.{Home}
 use Rattle.plan_picture.specs.declared.home.Home.TheVariants.{Loop, Pool, Either}
 
@@ -24,17 +24,20 @@ home_word Loop = codes "the loop"
 home_word Pool = codes "the pool"
 home_word Either = codes "the loop or the pool"
 
--- where a node starts its children, where it is started there itself
+-- where a node starts its children, where it is started there itself; an `ahead` waits for the loop,
+-- which starts them there
 abbrev pub entered : Node → Home → Home
 entered (StartsOn on child) start = home_of on
+entered (Ahead first second) start = Loop
 entered node start = start
 
 -- where a node completes, where all below it complete there; a bulk goes on in the pool, where its
--- parts are, unless its row has no number
+-- parts are, unless its row has no number; and the loop joins what an `ahead` gives
 abbrev pub left : Node → Home → Home
 left (Schedule on) home = home_of on
 left (ContinuesOn child on) home = home_of on
 left (Delay turns) home = Loop
 left (Part bulk part) home = Pool
 left (Bulk child job) home = either home Pool
+left (Ahead first second) home = Loop
 left node home = home

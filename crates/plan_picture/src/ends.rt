@@ -15,6 +15,7 @@ pub(crate) fn entered(node: &Node, start: Home) -> Home
 {
     match node {
         Node::StartsOn { on, .. } => home_of(*on),
+        Node::Ahead { .. } => Home::Loop,
         _ => start,
     }
 }
@@ -25,7 +26,7 @@ fn left(node: &Node, home: Home) -> Home
 {
     match node {
         Node::Schedule(on) | Node::ContinuesOn { on, .. } => home_of(*on),
-        Node::Delay(_) => Home::Loop,
+        Node::Delay(_) | Node::Ahead { .. } => Home::Loop,
         Node::Part { .. } => Home::Pool,
         Node::Bulk { .. } => either(home, Home::Pool),
         _ => home,
