@@ -1,10 +1,10 @@
 # `make try` runs the sample before any proof, in under a minute on four free cores.
-# `make run` proves the program and runs the sample: half an hour on a new machine with four free cores, seconds later.
+# `make run` proves both programs and runs the sample: half an hour on a new machine with four free cores, seconds later.
 # `make test` is the gate: everything is proved, and the proved program is tested.
 # `make stress` runs the proved program some thousand times with 1 to 16 workers, for at most half an hour.
 # `make bench` measures the proved program, with mawk and jq beside it where they are installed (bench/measure.py).
 # `make docs` writes docs/PLANS.md, docs/plan.schema.json and the table of crates in docs/ARCHITECTURE.md again.
-# `make install` installs the program that `make run` leaves, its manual page, and its completions in bash, zsh and
+# `make install` installs the programs that `make run` leaves, their manual pages, and their completions in bash, zsh and
 # fish, below PREFIX (below DESTDIR where that is given); it builds nothing. `make uninstall` takes these files away.
 
 PREFIX ?= /usr/local
@@ -14,17 +14,14 @@ PLAN := samples/add_one.json
 NUMBERS := samples/numbers.txt
 
 SHARE := $(DESTDIR)$(PREFIX)/share
-INSTALLED := $(DESTDIR)$(PREFIX)/bin/exec_run
-INSTALLED_PAGE := $(SHARE)/man/man1/exec_run.1
-INSTALLED_BASH := $(SHARE)/bash-completion/completions/exec_run
-INSTALLED_ZSH := $(SHARE)/zsh/site-functions/_exec_run
-INSTALLED_FISH := $(SHARE)/fish/vendor_completions.d/exec_run.fish
+BIN := $(DESTDIR)$(PREFIX)/bin
+NAMES := exec_run exec_show
 
 .PHONY: try run test stress bench docs install uninstall
 try:
 	cd crates/exec_run && rt try --data add_one.json=../../$(PLAN) -- run add_one.json < ../../$(NUMBERS)
 
-run: $(PROGRAM)
+run: $(PROGRAM) $(SHOWS)
 	$(PROGRAM) run $(PLAN) < $(NUMBERS)
 
 $(PROGRAM): $(wildcard crates/*/src/*.rt crates/*/specs/*.antt)
@@ -47,12 +44,17 @@ docs: $(PROGRAM) $(SHOWS)
 	tests/check_docs.py --write
 
 install:
-	@test -x "$(PROGRAM)" || { echo "no program at $(PROGRAM): \`make run\` proves and builds it" >&2; exit 1; }
-	install -D -m 755 "$(PROGRAM)" "$(INSTALLED)"
-	install -D -m 644 docs/exec_run.1 "$(INSTALLED_PAGE)"
-	install -D -m 644 completions/exec_run.bash "$(INSTALLED_BASH)"
-	install -D -m 644 completions/exec_run.zsh "$(INSTALLED_ZSH)"
-	install -D -m 644 completions/exec_run.fish "$(INSTALLED_FISH)"
+	@for it in "$(PROGRAM)" "$(SHOWS)"; do test -x "$$it" || \
+	  { echo "no program at $$it: \`make run\` proves and builds it" >&2; exit 1; }; done
+	install -D -m 755 "$(PROGRAM)" "$(BIN)/exec_run"
+	install -D -m 755 "$(SHOWS)" "$(BIN)/exec_show"
+	for it in $(NAMES); do \
+	  install -D -m 644 docs/$$it.1 "$(SHARE)/man/man1/$$it.1" && \
+	  install -D -m 644 completions/$$it.bash "$(SHARE)/bash-completion/completions/$$it" && \
+	  install -D -m 644 completions/$$it.zsh "$(SHARE)/zsh/site-functions/_$$it" && \
+	  install -D -m 644 completions/$$it.fish "$(SHARE)/fish/vendor_completions.d/$$it.fish" || exit 1; done
 
 uninstall:
-	rm -f "$(INSTALLED)" "$(INSTALLED_PAGE)" "$(INSTALLED_BASH)" "$(INSTALLED_ZSH)" "$(INSTALLED_FISH)"
+	for it in $(NAMES); do rm -f "$(BIN)/$$it" "$(SHARE)/man/man1/$$it.1" \
+	  "$(SHARE)/bash-completion/completions/$$it" "$(SHARE)/zsh/site-functions/_$$it" \
+	  "$(SHARE)/fish/vendor_completions.d/$$it.fish"; done

@@ -1,6 +1,6 @@
 #!/usr/bin/env python3
-"""Tries the completion of the program's words in bash, zsh and fish, each in that shell: the same lines, and what
-comes.
+"""Tries the completion of the words of exec_run and exec_show in bash, zsh and fish, each in that shell: the same
+lines, and what comes.
 
     tests/completions.py [--program PATH] [WORD..]     all of them, or those with a WORD in their sentence
 
@@ -19,37 +19,49 @@ import time
 
 from check_docs import TOP, text_of
 from room import ended, try_those
-from run_cases import main
+from run_cases import beside, main
 from streams import SECONDS, Wrong, expect
 
-# a line behind the program's name, and what comes; fish shows options only behind a `-`, and what `=` joins whole
-ROWS = [
-    ("", "run gen replay check"),
-    ("re", "replay"),
-    ("ne", ""),
-    ("run ", "plan.json plan.old trace.txt"),
-    ("run plan", "plan.json plan.old"),
-    ("check t", "trace.txt"),
-    ("check trace.txt ", ""),
-    ("replay ", "plan.json plan.old trace.txt"),
-    ("run plan.json ", "--workers --window --order --summary", ""),
-    ("run --s", "--summary"),
-    ("run --summary --", "--workers --window --order"),
-    ("run --summary plan.j", "plan.json"),
-    ("run --workers 5 ", "plan.json plan.old trace.txt"),
-    ("run plan.json --window ", ""),
-    ("run plan.json --window 5 --w", "--workers"),
-    ("run plan.json --window=5 ", "--workers --order --summary", ""),
-    ("run plan.json --window=5 --", "--workers --order --summary"),
-    ("run --order ", "fifo lifo"),
-    ("run --order l", "lifo"),
-    ("run --order=", "fifo lifo", "--order=fifo --order=lifo"),
-    ("run --order=l", "lifo", "--order=lifo"),
-    ("gen plan.json ", ""),
-    ("gen plan.json 5 ", "--workers --window --order", ""),
-    ("gen plan.json 5 --", "--workers --window --order"),
-    ("gen --", "--workers --window --order"),
-]
+# of each program: a line behind its name, and what comes; fish shows options only behind a `-`, and what `=` joins whole
+ROWS = {
+    "exec_run": [
+        ("", "run gen replay check"),
+        ("re", "replay"),
+        ("ne", ""),
+        ("run ", "plan.json plan.old trace.txt"),
+        ("run plan", "plan.json plan.old"),
+        ("check t", "trace.txt"),
+        ("check trace.txt ", ""),
+        ("replay ", "plan.json plan.old trace.txt"),
+        ("run plan.json ", "--workers --window --order --summary", ""),
+        ("run --s", "--summary"),
+        ("run --summary --", "--workers --window --order"),
+        ("run --summary plan.j", "plan.json"),
+        ("run --workers 5 ", "plan.json plan.old trace.txt"),
+        ("run plan.json --window ", ""),
+        ("run plan.json --window 5 --w", "--workers"),
+        ("run plan.json --window=5 ", "--workers --order --summary", ""),
+        ("run plan.json --window=5 --", "--workers --order --summary"),
+        ("run --order ", "fifo lifo"),
+        ("run --order l", "lifo"),
+        ("run --order=", "fifo lifo", "--order=fifo --order=lifo"),
+        ("run --order=l", "lifo", "--order=lifo"),
+        ("gen plan.json ", ""),
+        ("gen plan.json 5 ", "--workers --window --order", ""),
+        ("gen plan.json 5 --", "--workers --window --order"),
+        ("gen --", "--workers --window --order"),
+    ],
+    "exec_show": [
+        ("", "plan trace"),
+        ("p", "plan"),
+        ("x", ""),
+        ("plan ", "plan.json plan.old trace.txt"),
+        ("plan plan.j", "plan.json"),
+        ("trace t", "trace.txt"),
+        ("trace trace.txt ", ""),
+        ("check t", ""),
+    ],
+}
 FILES = ("plan.json", "plan.old", "trace.txt")
 
 # completes each line of the file `rows` as one who types it and a tab, and writes what comes into `answers`
@@ -69,7 +81,7 @@ compadd() {
 try-rows() {
     local row
     while IFS= read -r row; do
-        BUFFER="exec_run $row" CURSOR=$(( $#row + 9 )) found=()
+        BUFFER="PROGRAM $row" CURSOR=$(( $#row + SIZE )) found=()
         zle complete-word
         print -r -- ${(u)found}
     done < ROWS > ANSWERS
@@ -81,8 +93,8 @@ bindkey '^T' try-rows
 """
 
 
-def completion(shell):
-    return os.path.join(TOP, "completions", f"exec_run.{shell}")
+def completion(shell, of="exec_run"):
+    return os.path.join(TOP, "completions", f"{of}.{shell}")
 
 
 def folder_of_files(work):
@@ -93,37 +105,51 @@ def folder_of_files(work):
         return work(folder, own)
 
 
-def check_answers(answers, which=1):
-    expect("how many answers", len(ROWS), len(answers))
-    for row, came in zip(ROWS, answers):
-        expect(f"after `{row[0]}`", sorted(row[min(which, len(row) - 1)].split()), sorted(came.split()))
+def check_answers(of, answers, which=1):
+    expect(f"how many answers for {of}", len(ROWS[of]), len(answers))
+    for row, came in zip(ROWS[of], answers):
+        expect(f"after `{of} {row[0]}`", sorted(row[min(which, len(row) - 1)].split()), sorted(came.split()))
+
+
+def each_program(completes):
+    """The same over each program."""
+    for of in ROWS:
+        completes(of)
 
 
 def bash_completes(_):
     """bash cuts a line at blanks and at `=`."""
-    script = f"source {completion('bash')}\n"
-    script += "complete=$(complete -p exec_run | sed 's/.*-F \\([^ ]*\\).*/\\1/')\n"
-    for line, *_ in ROWS:
+    each_program(completes_in_bash)
+
+
+def completes_in_bash(of):
+    script = f"source {completion('bash', of)}\n"
+    script += f"complete=$(complete -p {of} | sed 's/.*-F \\([^ ]*\\).*/\\1/')\n"
+    for line, *_ in ROWS[of]:
         words = re.findall(r"=|[^ =]+", line) + ([""] if not line or line[-1] == " " else [])
         quoted = " ".join(f"'{word}'" for word in words)
-        script += f"COMP_WORDS=(exec_run {quoted}); COMP_CWORD={len(words)}; COMPREPLY=(other)\n"
-        script += '$complete exec_run; echo "${COMPREPLY[*]}"\n'
+        script += f"COMP_WORDS=({of} {quoted}); COMP_CWORD={len(words)}; COMPREPLY=(other)\n"
+        script += f'$complete {of}; echo "${{COMPREPLY[*]}}"\n'
     ran = folder_of_files(lambda folder, _: ended(["bash", "-c", script], cwd=folder))
     expect("notes", "", ran.stderr)
-    check_answers(ran.stdout.split("\n")[:-1])
+    check_answers(of, ran.stdout.split("\n")[:-1])
 
 
 def fish_completes(_):
-    script = f"source {completion('fish')}\n"
-    for line, *_ in ROWS:
-        script += f"echo (complete -C 'exec_run {line}' | string replace -r '\\t.*' '')\n"
+    each_program(completes_in_fish)
+
+
+def completes_in_fish(of):
+    script = f"source {completion('fish', of)}\n"
+    for line, *_ in ROWS[of]:
+        script += f"echo (complete -C '{of} {line}' | string replace -r '\\t.*' '')\n"
 
     def work(folder, own):
         return ended(["fish", "--no-config", "-c", script], cwd=folder, env={**os.environ, "HOME": own})
 
     ran = folder_of_files(work)
     expect("notes", "", ran.stderr)
-    check_answers(ran.stdout.split("\n")[:-1], 2)
+    check_answers(of, ran.stdout.split("\n")[:-1], 2)
 
 
 def typed(folder, script, ready):
@@ -152,14 +178,19 @@ def typed(folder, script, ready):
 
 
 def zsh_completes(_):
+    each_program(completes_in_zsh)
+
+
+def completes_in_zsh(of):
     def work(folder, own):
-        text, paths = ZSH, {name: os.path.join(own, name) for name in ("FUNCTIONS", "ROWS", "ANSWERS", "READY")}
+        text = ZSH.replace("PROGRAM", of).replace("SIZE", str(len(of) + 1))
+        paths = {name: os.path.join(own, name) for name in ("FUNCTIONS", "ROWS", "ANSWERS", "READY")}
         for name, path in paths.items():
             text = text.replace(name, path)
         os.mkdir(paths["FUNCTIONS"])
-        shutil.copy(completion("zsh"), os.path.join(paths["FUNCTIONS"], "_exec_run"))
+        shutil.copy(completion("zsh", of), os.path.join(paths["FUNCTIONS"], f"_{of}"))
         script = os.path.join(own, "script")
-        for path, said in ((script, text), (paths["ROWS"], "".join(f"{line}\n" for line, *_ in ROWS))):
+        for path, said in ((script, text), (paths["ROWS"], "".join(f"{line}\n" for line, *_ in ROWS[of]))):
             with open(path, "w", encoding="utf-8") as file:
                 file.write(said)
         typed(folder, script, paths["READY"])
@@ -168,17 +199,18 @@ def zsh_completes(_):
         with open(paths["ANSWERS"], encoding="utf-8") as file:
             return file.read().split("\n")[:-1]
 
-    check_answers(folder_of_files(work))
+    check_answers(of, folder_of_files(work))
 
 
 def each_completion_knows_the_words_of_the_usage_note(program):
-    usage = ended([program]).stderr
-    for shell in ("bash", "zsh", "fish"):
-        known = text_of(os.path.join("completions", f"exec_run.{shell}"))
-        for word in sorted(set(re.findall(r"--\w+|(?<=exec_run )\w+|\w+(?=\|)|(?<=\|)\w+", usage))):
-            told = rf"(?:--|-l ){word[2:]}\b" if word.startswith("--") else rf"(?<![\w-]){word}\b"
-            if not re.search(told, known):
-                raise Wrong(f"a word in the completion of {shell}", word, "none")
+    for of in ROWS:
+        usage = ended([beside(program, of)]).stderr
+        for shell in ("bash", "zsh", "fish"):
+            known = text_of(os.path.join("completions", f"{of}.{shell}"))
+            for word in sorted(set(re.findall(rf"--\w+|(?<={of} )\w+|\w+(?=\|)|(?<=\|)\w+", usage))):
+                told = rf"(?:--|-l ){word[2:]}\b" if word.startswith("--") else rf"(?<![\w-]){word}\b"
+                if not re.search(told, known):
+                    raise Wrong(f"a word of {of} in the completion of {shell}", word, "none")
 
 
 TESTS = [

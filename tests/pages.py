@@ -1,12 +1,12 @@
 #!/usr/bin/env python3
-"""Tries what is handed out beside the program: its manual page, what `make install` puts where, the script that
+"""Tries what is handed out beside the programs: their manual pages, what `make install` puts where, the script that
 measures, and the commands on README.md and the pages of docs/.
 
     tests/pages.py [--program PATH] [WORD..]     all of them, or those with a WORD in their sentence
 
 A command on a page stands in a block `console`, behind `$ `, and below it what it prints. Each block is run, one after
-another in a folder of its own for each page, with the program on the path and samples/ beside it; `$ cat FILE` of a
-file that isn't there makes it. Commands that take long stand in blocks `sh`, where each `make` must be one of the
+another in a folder of its own for each page, with the programs on the path and samples/ beside it; `$ cat FILE` of a
+file that isn't there makes it. An image on a page is what a command there writes to a file of its name. Commands that take long stand in blocks `sh`, where each `make` must be one of the
 Makefile. docs/SCALE.md has tests/scale.py, docs/PLANS.md is written by docs/make_plans.py, and completions have
 tests/completions.py.
 
@@ -24,18 +24,18 @@ import tempfile
 from check_docs import TOP, documents, text_of
 from completions import completion
 from room import Room, ended, try_those
-from run_cases import main
+from run_cases import beside, main
 from streams import Wrong, expect
 
-PAGE = os.path.join("docs", "exec_run.1")
+PAGE, SHOWS_PAGE = (os.path.join("docs", name) for name in ("exec_run.1", "exec_show.1"))
 MEASURE = os.path.join(TOP, "bench", "measure.py")
 # tools that a new user may not have: a block that calls one is skipped where it isn't installed
 OTHERS = ("jq", "mawk", "parallel")
 
 
-def plain_page():
+def plain_page(page=PAGE):
     """The page's lines without macros and fonts."""
-    page = re.sub(r"\\f[BIRP]|^\.(?:B|I|BI|BR|IR|TP|TQ|EX|EE|nf|fi|SH)\b ?", "", text_of(PAGE), flags=re.M)
+    page = re.sub(r"\\f[BIRP]|^\.(?:B|I|BI|BR|IR|TP|TQ|EX|EE|nf|fi|SH)\b ?", "", text_of(page), flags=re.M)
     return re.sub(" +", " ", unescaped(page).replace('"', ""))
 
 
@@ -47,22 +47,25 @@ def usage_of(program):
     return ended([program]).stderr.splitlines()
 
 
-def the_page_has_no_warnings(_):
-    for command in (["man", "--warnings", "-l", PAGE], ["groff", "-ww", "-man", "-z", PAGE]):
-        ran = ended(command, cwd=TOP)
-        expect(" ".join(command), (0, ""), (ran.returncode, ran.stderr))
+def the_pages_have_no_warnings(_):
+    for page in (PAGE, SHOWS_PAGE):
+        for command in (["man", "--warnings", "-l", page], ["groff", "-ww", "-man", "-z", page]):
+            ran = ended(command, cwd=TOP)
+            expect(" ".join(command), (0, ""), (ran.returncode, ran.stderr))
 
 
-def the_page_is_clean_by_mandoc(_):
-    ran = ended(["mandoc", "-T", "lint", PAGE], cwd=TOP)
-    expect("mandoc -T lint", (0, ""), (ran.returncode, ran.stdout))
+def the_pages_are_clean_by_mandoc(_):
+    for page in (PAGE, SHOWS_PAGE):
+        ran = ended(["mandoc", "-T", "lint", page], cwd=TOP)
+        expect(f"mandoc -T lint {page}", (0, ""), (ran.returncode, ran.stdout))
 
 
-def the_page_says_each_line_of_the_usage_note(program):
-    lines = [line.removeprefix("usage: ") for line in usage_of(program)]
-    expect("how many commands", 4, len(lines))
-    synopsis = plain_page().split("SYNOPSIS")[1].split("DESCRIPTION")[0]
-    expect("the synopsis", lines, synopsis.strip().split("\n"))
+def the_pages_say_each_line_of_the_usage_notes(program):
+    for of, page, count in ((program, PAGE, 4), (beside(program, "exec_show"), SHOWS_PAGE, 2)):
+        lines = [line.removeprefix("usage: ") for line in usage_of(of)]
+        expect(f"how many commands {page} has", count, len(lines))
+        synopsis = plain_page(page).split("SYNOPSIS")[1].split("DESCRIPTION")[0]
+        expect(f"the synopsis of {page}", lines, synopsis.strip().split("\n"))
 
 
 def the_page_tells_of_each_word(program):
@@ -121,11 +124,12 @@ def printed(room, block):
     return "".join(f"$ {command}{out}" for (command, _), out in zip(commands_of(block), parts))
 
 
-def the_examples_of_the_page_are_what_the_program_prints(program):
-    examples = text_of(PAGE).split(".SH EXAMPLES\n.EX\n")[1].split(".EE")[0]
-    block = unescaped(re.sub(r"\\f[BP]", "", examples))
-    with Room(program) as room:
-        expect("the examples", block, printed(room, block))
+def the_examples_of_the_pages_are_what_the_programs_print(program):
+    for page in (PAGE, SHOWS_PAGE):
+        examples = text_of(page).split(".SH EXAMPLES\n.EX\n")[1].split(".EE")[0]
+        block = unescaped(re.sub(r"\\f[BP]", "", examples))
+        with Room(program) as room:
+            expect(f"the examples of {page}", block, printed(room, block))
 
 
 def the_commands_on_the_pages_print_what_the_pages_say(program):
@@ -139,6 +143,8 @@ def the_commands_on_the_pages_print_what_the_pages_say(program):
                     print(f"skipped pages.py: a block of {page}: {', '.join(missing)} isn't installed")
                 else:
                     expect(f"a block of {page}", block, printed(room, block))
+            for image in re.findall(r"!\[[^]]*\]\((\w+\.svg)\)", text_of(page)):
+                expect(f"{image} of {page}", text_of(os.path.join("docs", image)), room.read(image))
     if found < 9:
         raise Wrong("how many blocks the pages have", "9 or more", str(found))
 
@@ -161,7 +167,7 @@ def the_script_that_measures_finds_what_is_due(program):
 
 def made(folder, *words):
     """`make` of its own, whatever an outer one was called with."""
-    outside = ("MAKEFLAGS", "MFLAGS", "MAKELEVEL", "PREFIX", "DESTDIR", "PROGRAM")
+    outside = ("MAKEFLAGS", "MFLAGS", "MAKELEVEL", "PREFIX", "DESTDIR", "PROGRAM", "SHOWS")
     kept = {name: value for name, value in os.environ.items() if name not in outside}
     return ended(["make", "-s", "-C", TOP, *words, f"DESTDIR={folder}"], env=kept)
 
@@ -173,15 +179,15 @@ def files_below(folder):
 
 def make_install_puts_its_files_and_make_uninstall_takes_them_away(program):
     for prefix, words in (("usr/local", []), ("opt/exec", ["PREFIX=/opt/exec"])):
-        puts = {
-            f"{prefix}/bin/exec_run": (program, 0o755),
-            f"{prefix}/share/man/man1/exec_run.1": (os.path.join(TOP, PAGE), 0o644),
-            f"{prefix}/share/bash-completion/completions/exec_run": (completion("bash"), 0o644),
-            f"{prefix}/share/zsh/site-functions/_exec_run": (completion("zsh"), 0o644),
-            f"{prefix}/share/fish/vendor_completions.d/exec_run.fish": (completion("fish"), 0o644),
-        }
+        puts, shows = {}, beside(program, "exec_show")
+        for name, built, page in (("exec_run", program, PAGE), ("exec_show", shows, SHOWS_PAGE)):
+            puts[f"{prefix}/bin/{name}"] = (built, 0o755)
+            puts[f"{prefix}/share/man/man1/{name}.1"] = (os.path.join(TOP, page), 0o644)
+            puts[f"{prefix}/share/bash-completion/completions/{name}"] = (completion("bash", name), 0o644)
+            puts[f"{prefix}/share/zsh/site-functions/_{name}"] = (completion("zsh", name), 0o644)
+            puts[f"{prefix}/share/fish/vendor_completions.d/{name}.fish"] = (completion("fish", name), 0o644)
         with tempfile.TemporaryDirectory() as folder:
-            ran = made(folder, "install", f"PROGRAM={program}", *words)
+            ran = made(folder, "install", f"PROGRAM={program}", f"SHOWS={shows}", *words)
             expect("make install", (0, ""), (ran.returncode, ran.stderr))
             expect("the files", sorted(puts), files_below(folder))
             for name, (source, mode) in puts.items():
@@ -203,13 +209,13 @@ def make_install_builds_nothing(_):
 
 
 TESTS = [
-    (the_page_has_no_warnings, ("man", "groff")),
-    (the_page_is_clean_by_mandoc, ("mandoc",)),
-    (the_page_says_each_line_of_the_usage_note, ()),
+    (the_pages_have_no_warnings, ("man", "groff")),
+    (the_pages_are_clean_by_mandoc, ("mandoc",)),
+    (the_pages_say_each_line_of_the_usage_notes, ()),
     (the_page_tells_of_each_word, ()),
     (the_page_has_each_refusal_and_status, ()),
     (the_page_has_each_large_limit_of_the_other_pages, ()),
-    (the_examples_of_the_page_are_what_the_program_prints, ("bash",)),
+    (the_examples_of_the_pages_are_what_the_programs_print, ("bash",)),
     (the_commands_on_the_pages_print_what_the_pages_say, ("bash", "awk", "grep")),
     (each_make_on_the_pages_is_one_of_the_makefile, ()),
     (the_script_that_measures_finds_what_is_due, ()),
@@ -224,4 +230,4 @@ def run(program, words=()):
 
 
 if __name__ == "__main__":
-    sys.exit(main("Tries the manual page, make install, the script that measures, and the commands on the pages.", run))
+    sys.exit(main("Tries the manual pages, make install, the script that measures, and the commands on the pages.", run))

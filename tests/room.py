@@ -5,7 +5,7 @@ import subprocess
 import tempfile
 
 from check_docs import TOP
-from run_cases import try_each
+from run_cases import beside, try_each
 from streams import ADD_ONE, SECONDS, Wrong, attempt, plan_of
 
 
@@ -18,13 +18,14 @@ def ended(command, **settings):
 
 
 class Room:
-    """A folder with the samples, a plan, and the program on the path, where commands are run."""
+    """A folder with the samples, a plan, and both programs on the path, where commands are run."""
 
     def __init__(self, program, plan=plan_of(ADD_ONE).decode()):
         self.folder = tempfile.TemporaryDirectory()
         self.name = self.folder.name
         os.mkdir(self.path("bin"))
         os.symlink(program, self.path("bin/exec_run"))
+        os.symlink(beside(program, "exec_show"), self.path("bin/exec_show"))
         os.symlink(os.path.join(TOP, "samples"), self.path("samples"))
         self.write("plan.json", plan)
 

@@ -2,14 +2,26 @@
 ghost use Rattle.std.specs.Prelude.{◌≡◌};
 ghost use Rattle.picture_commands.specs.Asks.{asked_of, usage_lines};
 
-/// The name of the plan file that `plan FILE` asks to be shown. None is a fault of usage.
-pub(crate) fn read_words<'a>(words: &[&'a str]) -> Option<&'a str>
+/// A file that is to be shown.
+#[derive(Clone, Copy)]
+pub enum Asked<'a> {
+    /// `plan FILE`
+    Plan(&'a str),
+    /// `trace FILE`
+    Trace(&'a str),
+}
+
+/// What is to be shown. None is a fault of usage.
+pub(crate) fn read_words<'a>(words: &[&'a str]) -> Option<Asked<'a>>
     ensures { result ≡ asked_of words.now }
 {
     match words {
         [first, file] => {
             if *first == "plan" {
-                return Some(*file);
+                return Some(Asked::Plan(*file));
+            }
+            if *first == "trace" {
+                return Some(Asked::Trace(*file));
             }
             None
         }
@@ -21,5 +33,5 @@ pub(crate) fn read_words<'a>(words: &[&'a str]) -> Option<&'a str>
 pub(crate) fn usage_lines() -> &'static [u8]
     ensures { result.now ≡ usage_lines }
 {
-    b"usage: exec_show plan FILE\n"
+    b"usage: exec_show plan FILE\nusage: exec_show trace FILE\n"
 }

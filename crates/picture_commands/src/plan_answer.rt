@@ -1,21 +1,55 @@
-//! What is answered of the bytes of a plan file.
-ghost use Rattle.std.specs.Prelude.{IfOk};
+//! What is answered of a plan file.
+ghost use Rattle.std.specs.Prelude.{◌≢◌, IfOk, IfErr};
+ghost use Rattle.exec_status.specs.Files.{IsFaultOf as IsFileFault, Misses, ReadsShelf};
 ghost use Rattle.plan_kinds.specs.Reached.{KindsMatch};
 ghost use Rattle.sig_check.specs.Checked.{AreSignatures};
-ghost use Rattle.picture_commands.specs.Answers.{IsShown, ShowsPlan, status_of};
+ghost use Rattle.picture_commands.specs.Answers.{HasShown, IsShownAs, ShowsPlan, the_plan};
+ghost use Rattle.plan_reader.specs.PlanFile.{IsFaultOf};
+ghost use Rattle.trace_commands.specs.Refusals.{HasRefusal};
 
 use crate::answer::Answer;
 use crate::reason::reason_of;
+use exec_io::Shelf;
+use exec_status::FileFault;
 use plan_picture::picture_of;
+use plan_places::refusal_of;
 use plan_reader::{PlanFault, read_plan};
 use plan_shape::Plan;
 use sig_check::{SigFault, Sigs, check};
 use std::alloc::{AllocError, Global};
+use trace_commands::{Refusal, read_file};
+
+/// What is answered of the plan of this name.
+pub(crate) fn plan_answer<F: Shelf>(
+    alloc: Global,
+    name: &str,
+    shelf: &mut F,
+) -> Result<Answer, FileFault<Refusal>>
+    ensures reads { ReadsShelf (F.told shelf.old) (F.told shelf.new) result }
+    ensures answer { IfOk result (HasShown the_plan (F.told shelf.old).texts name.now) }
+    ensures fault { IfErr result
+        (Misses (HasRefusal the_plan (F.told shelf.old).texts name.now)) }
+{
+    match read_file(alloc, name, shelf) {
+        Ok(bytes) => plan_drawn(alloc, &bytes),
+        Err(fault) => Err(fault),
+    }
+}
 
 /// What is answered of a plan file with these bytes.
-pub(crate) fn plan_answer(alloc: Global, bytes: &[u8]) -> Result<Answer, AllocError>
-    ensures { IfOk result
-        (λ answer. IsShown bytes.now (status_of answer.drawn) answer.text.items) }
+fn plan_drawn(alloc: Global, bytes: &[u8]) -> Result<Answer, FileFault<Refusal>>
+    ensures answer { IfOk result (IsShownAs the_plan bytes.now) }
+    ensures fault { IfErr result (IsFileFault (the_plan.refuses bytes.now)) }
+{
+    match drawn_or_told(alloc, bytes) {
+        Ok(answer) => Ok(answer),
+        Err(AllocError) => Err(FileFault::NoMemory),
+    }
+}
+
+/// The picture of the plan of these bytes, or why they are none.
+fn drawn_or_told(alloc: Global, bytes: &[u8]) -> Result<Answer, AllocError>
+    ensures { IfOk result (IsShownAs the_plan bytes.now) }
 {
     match read_plan(alloc, bytes) {
         Ok(plan) => Ok(Answer {
@@ -23,11 +57,21 @@ pub(crate) fn plan_answer(alloc: Global, bytes: &[u8]) -> Result<Answer, AllocEr
             text: drawing_of(alloc, &plan)?,
         }),
         Err(PlanFault::NoMemory) => Err(AllocError),
-        Err(fault) => Ok(Answer {
-            drawn: false,
-            text: Vec::from_slice(alloc, reason_of(fault))?,
-        }),
+        Err(fault) => told(alloc, bytes, fault),
     }
+}
+
+/// Why these bytes are no plan.
+fn told(alloc: Global, bytes: &[u8], fault: PlanFault) -> Result<Answer, AllocError>
+    requires cause { fault ≢ PlanFault.NoMemory }
+    requires is { IsFaultOf bytes.now fault }
+    ensures { IfOk result (IsShownAs the_plan bytes.now) }
+{
+    let refusal = refusal_of(alloc, bytes, fault)?;
+    Ok(Answer {
+        drawn: false,
+        text: reason_of(alloc, &refusal)?,
+    })
 }
 
 /// The picture of a plan.

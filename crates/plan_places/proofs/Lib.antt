@@ -1,0 +1,3 @@
+mod Parsed
+mod Searched
+mod Stepped

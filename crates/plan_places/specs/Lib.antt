@@ -1,0 +1,6 @@
+pub mod Own
+pub mod Paths
+pub mod Seeking
+pub mod Ways
+pub mod Told
+pub mod Refusals

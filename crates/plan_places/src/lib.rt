@@ -1,0 +1,24 @@
+//! Why bytes are no plan, and where.
+//!
+//!     bytes, the fault that `read_plan` answers --refusal_of--> a cause, and a place
+//!     JSON --Search::first--> the path of the first node that is sought: `root.children[1].child`
+//!     Plan, the number of a node --way--> its path
+//!
+//! A node has its own faults, apart from those of the nodes below it; the place of a cause is the
+//! first node that has it, where a node comes before those below it. Where none has it, the place
+//! is the keys beside `root`, or the whole file. `refusal_of` tells exactly the place of the
+//! definition in specs/, want of memory aside; of the line and column of a text that isn't JSON no
+//! definition speaks. It stands on `plan_reader` and `sig_check`, which refuse.
+#![tactic(auto)]
+
+mod json;
+mod kinds;
+mod own;
+mod path;
+mod place;
+mod refusal;
+mod seeking;
+mod sought;
+mod way;
+
+pub use refusal::{Cause, Refusal, refusal_of};
