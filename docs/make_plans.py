@@ -391,16 +391,15 @@ A plan is a sender expression in JSON. `exec_run run plan.json` runs it for each
 Every example below is a whole plan, and every output is what the program printed: `make docs` writes this page, and
 docs/plan.schema.json, a JSON Schema of plans for editors, with the same words (docs/make_plans.py).
 
-**A plan without an `ahead` runs on the running table**, each record as an operation of its own, and a window of them
+**A plan runs on the running table**, each record as an operation of its own, and a window of them
 at once. The calling thread serves the loop, and workers serve the pool, each on a thread of its own (`--workers`); with
 no worker the calling thread serves the pool too, and a plan that puts nothing there starts no thread. A stop request
 reaches the records that are started after it, and those in flight that look for one: in a hop, before a `when_all`, in
 a `delay` or in a `read_env`.
 
-A plan with an `ahead` is evaluated plainly: each record whole, when its completion is asked for. No turn of a loop is
-waited for, and children are evaluated one after the other. So a stop request reaches the records that are started after
-it, and no other. Both ways print lines that the plan allows. They may differ in records in flight at a request, and in
-which of several errors of a `when_all` is told.
+The first child of an `ahead` is an operation of its own, too, in the same scope: it runs beside the second, and to its
+end where nobody wants what it completes with any more. Of a plan with an `ahead` at most 192 records are worked on at
+once.
 
 ## A plan
 
@@ -453,15 +452,17 @@ language of Graphviz, for `dot -Tsvg`. A box is a node, with its number and the 
 arrows go to its children, in order, and then to the bodies of a let. The parts of a bulk are not drawn. A box says
 
 - in which contexts the node is started, and in which it completes. Where a hop finds a stop that was requested before its
-  record was started, it completes where it was started, and so may what follows it. A plan with an `ahead` is evaluated
-  plainly and enters no context: there a box has those that the plan names;
+  record was started, it completes where it was started, and so may what follows it. The loop starts the
+  children of an `ahead`, and it completes there;
 - which stop source its callback is registered on: that of the scope, that of a `when_all`, by its number, or none below
   an `unstoppable`;
 - what it can complete with: `set_value` with the kinds of the data, `set_error`, `set_stopped`. What isn't named never
   comes, want of memory aside.
 
-Of a file that is no plan it prints in one line for which of the causes above it is refused. The exit status is 0 with a
-picture, 1 with such a line, and otherwise as above.
+Of a file that is no plan it prints in one line for which of the causes above it is refused, and where: a node by its path
+from the root, as `root.children[1].child`; the plan's own keys, which are those beside `root`; or a line and a column. Of
+several nodes that have the fault the first is told, and a node comes before those below it; of kinds that don't match it
+is the first in the order of numbers. The exit status is 0 with a picture, 1 with such a line, and otherwise as above.
 """
 
 
@@ -566,7 +567,7 @@ def pictures(exe):
     status, picture, notes = call(shower(exe), plan, [], command="plan")
     if status or notes:
         sys.exit(f"a picture: {status} {notes}")
-    bad = plan_of(then(INPUT, "append", text="x"))
+    bad = plan_of(then({"do": "when_all", "children": [INPUT, then(INPUT, "append", text="x")]}, "sum"))
     status, sentence, notes = call(shower(exe), bad, [], command="plan")
     if status != 1 or notes:
         sys.exit(f"a refusal: {status} {notes}")
