@@ -7,6 +7,7 @@ use node_steps::{AtHome, Env, Parcel, TakenOut};
 
 /// The node's environment, and the parcel of its child, where that has completed: as it lay in the
 /// child's home, or as the node kept it.
+#[inline(always)]
 pub(crate) fn at_hand(taken: TakenOut) -> (Env, Option<Parcel>)
     ensures env { result.0 ≡ start_at taken.own }
     ensures parcel { result.1 ≡ parcel_at taken }

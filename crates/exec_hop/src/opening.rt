@@ -27,6 +27,7 @@ pub(crate) struct AtHand {
 }
 
 /// Opens the step of a node that hops or shelters: its start, and what its child completed with.
+#[inline(always)]
 pub(crate) fn open(
     plan: &Plan,
     table: &OpTable<Item>,

@@ -119,6 +119,7 @@ fn tell_failure<G: Gate, R: Wait + Sync>(
 /// The parcel shows the node's start and fits. Each start that the hand owes can begin.
 /// Afterwards: the node is done with this parcel. The hand holds its parent in its place, and may
 /// step it, or nothing. What else it holds and owes is as before.
+#[inline(always)]
 pub fn deliver<G: Gate, R: Wait + Sync>(
     rt: &R,
     plan: &Plan,

@@ -108,6 +108,7 @@ impl Env {
     /// The start of a child of this start's node, with the same plan and record number. The row is
     /// the whole row that a part of a bulk shows, and empty for every other child; the start keeps
     /// it for contracts alone. It takes no memory.
+    #[inline(always)]
     pub fn below(&self, plan: &Plan, node: NodeId, args: Data, whole: &[i64], asked: bool) -> Env
         requires plan { plan.now ≡ plan_of self.now }
         requires goes_on { BeginsBelow (start_below node args whole.now asked self.now) }
@@ -158,6 +159,7 @@ impl Env {
     }
 
     /// The arguments, taken out.
+    #[inline(always)]
     pub fn into_args(self) -> Data
         ensures { result ≡ args_of self }
     {

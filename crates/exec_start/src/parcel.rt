@@ -36,6 +36,7 @@ impl Model for Parcel {
 
 impl Parcel {
     /// A parcel that shows the environment's start. It takes no memory.
+    #[inline(always)]
     pub fn of(env: &Env, completion: Completion, saw: bool) -> Parcel
         requires { MayDeliver env.now saw completion }
         ensures { result ≡ record { start = env.now; completion = completion; saw = saw } }
@@ -56,6 +57,7 @@ impl Parcel {
     }
 
     /// The completion, taken out.
+    #[inline(always)]
     pub fn into_completion(self) -> Completion
         ensures { result ≡ self.completion }
     {

@@ -13,6 +13,7 @@
 
 mod hand;
 mod kinds;
+mod lends;
 mod listing;
 mod lists;
 mod seen;

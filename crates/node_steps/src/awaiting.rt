@@ -59,6 +59,7 @@ pub fn child_env(
 /// start, and the other that of the child, which runs with the same arguments. The hand has read
 /// that the child hasn't begun.
 /// Afterwards: the hand holds the node no more, and can begin the child.
+#[inline(always)]
 pub fn await_child(
     table: &OpTable<Item>,
     hand: &mut Hand<Item>,

@@ -21,6 +21,7 @@ use std::sync::Wait;
 /// The parcel shows the node's start, asks for no more children than were awaited, saw no request
 /// that the hand hasn't heard of, and in a small plan isn't want of memory.
 /// Afterwards: as `deliver` says.
+#[inline(always)]
 pub fn complete<G: Gate, R: Wait + Sync>(
     rt: &R,
     plan: &Plan,

@@ -19,6 +19,7 @@ use op_slot::{Hand, OpTable, put_home};
 /// Needs: the homes of the node and of its children are empty. The environment shows the node's
 /// start, and the parcel is of its child. The node may rest so.
 /// Afterwards: the hand holds the node no more.
+#[inline(always)]
 pub fn leave_at_rest(
     table: &OpTable<Item>,
     hand: &mut Hand<Item>,
@@ -42,6 +43,7 @@ pub fn leave_at_rest(
 /// Leaves the node parked. What is said of `leave_at_rest` is said of this.
 ///
 /// Step: those of `put_home` and of `park`.
+#[inline(always)]
 pub fn leave_parked(
     table: &OpTable<Item>,
     hand: &mut Hand<Item>,

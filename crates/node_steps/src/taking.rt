@@ -29,6 +29,7 @@ fn known_of(parcel: &Option<Parcel>)
 /// Needs: the step begins here.
 /// Afterwards: the node's home is empty, and its children's are as they were. The item is of the
 /// node, and what it keeps of the child is a parcel of the child.
+#[inline(always)]
 pub fn take_own(table: &OpTable<Item>, hand: &mut Hand<Item>, name: Name) -> AtHome
     requires hand { IsHandOf table.now hand.old }
     requires places { HasPlaces table.now.frame name }
@@ -54,6 +55,7 @@ pub fn take_own(table: &OpTable<Item>, hand: &mut Hand<Item>, name: Name) -> AtH
 /// Needs: the hand has taken what lay in the node's own home, and since then only from its
 /// children's.
 /// Afterwards: the child's home is empty too.
+#[inline(always)]
 pub fn take_below(
     table: &OpTable<Item>,
     hand: &mut Hand<Item>,
@@ -88,6 +90,7 @@ pub fn take_below(
 /// Needs: the step begins here. This is the node's only child, where it has one.
 /// Afterwards: the homes are empty. Where no parcel of the child was there, the hand has just begun
 /// the node, or the node may rest with what lay in its home.
+#[inline(always)]
 pub fn take_out(
     table: &OpTable<Item>,
     hand: &mut Hand<Item>,

@@ -1,15 +1,14 @@
 -- What a hand carries after it moved what is in one of its homes.
-use Rattle.std.proofs.Common.{◌≡◌, sym, subst}
-use Rattle.std.specs.Prelude.{Option, Some, None}
+use Rattle.std.proofs.Common.{sym, subst}
+use Rattle.std.specs.Prelude.{Some}
 use Rattle.life_rules.specs.declared.event.Name.{Name}
 use Rattle.table_rules.specs.declared.cargo.Cargo.{Ghosts}
 use Rattle.table_rules.specs.declared.frame.Frame.{Frame}
 use Rattle.table_steps.specs.Claims.{Seated}
 use Rattle.table_steps.specs.Begins.{CanBegin}
-use Rattle.table_steps.specs.Slots.{slot_of, kept}
+use Rattle.table_steps.specs.Slots.{slot_of}
 use Rattle.table_steps.specs.Sheds.{shed}
 use Rattle.table_steps.specs.Releases.{is_own_slot}
-use Rattle.table_steps.specs.Swaps.{IsSwapped}
 use Rattle.op_slot.specs.Puts.{IsPut, BeginsThen}
 use Rattle.op_slot.proofs.Kept.{kept-first}
 
@@ -30,8 +29,3 @@ module _ {P E O : Type 0} (f : Frame O) (x : Name) where
         drawn = fits.drawn;
         goes_on = fits.goes_on;
       })
-
--- the home was empty
-pub put-is : {P E O : Type 0} (f : Frame O) (x : Name) (item : P) (old : Option P) (m m' : Seated P E) → IsSwapped f x (Some item) old m m' →
-    kept (slot_of f.layout x) m.1 ≡ Some None → IsPut f x item m m'
-put-is f x item old m m' did home = record { word = did.word; home = home; me_is = did.me_is }

@@ -16,6 +16,7 @@ use op_table::{Cargo, Hand, OpTable};
 /// The item fits the node.
 /// Afterwards: the item lies in the home. Where the hand owes the node's start, it can begin it
 /// now.
+#[inline(always)]
 pub fn put_home<P: Cargo>(table: &OpTable<P>, hand: &mut Hand<P>, name: Name, item: P)
     requires table { IsHandOf table.now hand.old }
     requires place { IsPlaceIn table.now name }
@@ -24,7 +25,7 @@ pub fn put_home<P: Cargo>(table: &OpTable<P>, hand: &mut Hand<P>, name: Name, it
     ensures put { IsPut table.now.frame name item hand.old.me hand.new.me }
     ensures begins { BeginsThen P.Cargo table.now.frame name item hand.old.me hand.new.me }
 {
-    table.swap_home(hand, name, Some(item));
+    table.fill_home(hand, name, item);
 }
 
 /// Takes what lies in the node's home, which is empty afterwards. None exactly where it was empty.
@@ -34,6 +35,7 @@ pub fn put_home<P: Cargo>(table: &OpTable<P>, hand: &mut Hand<P>, name: Name, it
 /// Needs: the hand has the home: it holds the node or its parent, owes the node's start, or has the
 /// finished root.
 /// Afterwards: the answer is what lay in the home.
+#[inline(always)]
 pub fn take_home<P: Cargo>(table: &OpTable<P>, hand: &mut Hand<P>, name: Name) -> Option<P>
     requires table { IsHandOf table.now hand.old }
     requires place { IsPlaceIn table.now name }
@@ -41,5 +43,5 @@ pub fn take_home<P: Cargo>(table: &OpTable<P>, hand: &mut Hand<P>, name: Name) -
     ensures stays { Stays table.now hand.old hand.new }
     ensures taken { IsTakenOut table.now.frame name result hand.old.me hand.new.me }
 {
-    table.swap_home(hand, name, None)
+    table.empty_home(hand, name)
 }

@@ -1,7 +1,9 @@
 //! How a hand moves what is in one of its homes.
-ghost use Rattle.std.specs.Prelude.{◌≡◌};
-ghost use Rattle.table_steps.specs.Views.{IsHandOf, IsPlaceIn, aim_at, Stays};
-ghost use Rattle.table_steps.specs.Swaps.{HasHome, IsSwapped};
+ghost use Rattle.std.specs.Prelude.{◌≡◌, ℕ, Some, None};
+ghost use Rattle.table_words.specs.Layouts.{OfControl, index};
+ghost use Rattle.table_steps.specs.Views.{IsHandOf, IsPlaceIn, aim_at, IsSameHand, Stays};
+ghost use Rattle.table_steps.specs.Slots.{slot_of, home_at};
+ghost use Rattle.table_steps.specs.Swaps.{HasHome, TurnsTo, IsSwapped};
 
 use crate::plays::{Subject, Turns};
 use crate::table::{Hand, OpTable, SeatOf};
@@ -10,35 +12,63 @@ use std::marker::Brand;
 use table_rules::Cargo;
 
 impl<P: Cargo> OpTable<P> {
-    /// Puts this into the node's home, and gives what lay in it.
+    /// Puts this into the node's home, which is empty.
     ///
     /// Step: one load of the node's control word, by which the hand turns to this home. The move
     /// itself is no step: no other hand sees a home that this hand has.
+    /// Needs: the hand has the home, and nothing lies in it.
+    /// Afterwards: this lies in the home. Nothing else changed.
+    #[inline(always)]
+    pub fn fill_home(&self, hand: &mut Hand<P>, name: Name, item: P)
+        requires table { IsHandOf self.now hand.old }
+        requires place { IsPlaceIn self.now name }
+        requires empty { home_at self.now.frame.layout hand.old.me name ≡ Some None }
+        ensures stays { Stays self.now hand.old hand.new }
+        ensures filled { IsSwapped self.now.frame name (Some item) None hand.old.me hand.new.me }
+    {
+        let slot = self.turn_to::<Brand>(&mut hand.seat, name);
+        let home = hand.seat.slot_mut(&self.table, slot);
+        // so that nothing is dropped
+        if home.is_some() {
+            unreachable!()
+        }
+        *home = Some(item);
+    }
+
+    /// Takes what lies in the node's home, which is empty afterwards.
+    ///
+    /// Step: that of `fill_home`.
     /// Needs: the hand has the home.
-    /// Afterwards: this lies in the home, and what lay in it is the answer. Nothing else changed.
-    pub fn swap_home(&self, hand: &mut Hand<P>, name: Name, item: Option<P>) -> Option<P>
+    /// Afterwards: what lay in the home is the answer. Nothing else changed.
+    #[inline(always)]
+    pub fn empty_home(&self, hand: &mut Hand<P>, name: Name) -> Option<P>
         requires table { IsHandOf self.now hand.old }
         requires place { IsPlaceIn self.now name }
         requires home { HasHome self.now.frame.layout hand.old.me name }
         ensures stays { Stays self.now hand.old hand.new }
-        ensures swapped { IsSwapped self.now.frame name item result hand.old.me hand.new.me }
+        ensures emptied { IsSwapped self.now.frame name None result hand.old.me hand.new.me }
     {
-        self.swap_at::<Brand>(&mut hand.seat, name, item)
+        let slot = self.turn_to::<Brand>(&mut hand.seat, name);
+        hand.seat.slot_mut(&self.table, slot).take()
     }
 
-    // The load gives the home back and takes it again, so that it is the one that an exchange
-    // reaches.
-    fn swap_at<K: Subject>(&self, seat: &mut SeatOf<P>, name: Name, item: Option<P>) -> Option<P>
+    // The load gives the home back and takes it again, so that it is the one that is lent. The
+    // answer is its slot.
+    #[inline(always)]
+    fn turn_to<K: Subject>(&self, seat: &mut SeatOf<P>, name: Name) -> usize
         requires table { IsHandOf self.now seat.old }
         requires place { IsPlaceIn self.now name }
         requires home { HasHome self.now.frame.layout seat.old.me name }
         requires subject { K.aim ≡ aim_at self.now name }
-        ensures stays { Stays self.now seat.old seat.new }
-        ensures swapped { IsSwapped self.now.frame name item result seat.old.me seat.new.me }
+        ensures same { IsSameHand seat.old seat.new }
+        ensures slot { result ≡ slot_of self.now.frame.layout name }
+        ensures turned { (word : ℕ) × TurnsTo (aim_at self.now name)
+            (index self.now.frame.layout (OfControl name.block name.node)) word
+            seat.old.me seat.new.me }
     {
         let index = self.frame.layout.control(name.block, name.node);
         let slot = self.frame.layout.place(name.block, name.node);
         self.table.load::<Turns<K>>(seat, index);
-        self.table.exchange(seat, slot, item)
+        slot
     }
 }
