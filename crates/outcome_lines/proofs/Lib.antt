@@ -2,3 +2,4 @@ pub mod CutLemmas
 pub mod EscapedLemmas
 pub mod LineLemmas
 pub mod OneToOneLemmas
+pub mod PieceLemmas

@@ -1,5 +1,5 @@
 -- The bytes of lines name the outcomes.
-use Rattle.std.proofs.Common.{◌≡◌, ℕ, ◌+◌, ◌≤◌, ◌<◌, Bool, true, eqb, cond, List, [], ◌∷◌, ◌++◌, length, drop, get_or, codes, ℤ, IsTrue, inl, inr, refl, sym, ap, subst, ◌∙◌, append_assoc, length-append, arith}
+use Rattle.std.proofs.Common.{◌≡◌, ℕ, ◌+◌, ◌≤◌, true, eqb, cond, List, [], ◌∷◌, ◌++◌, length, drop, get_or, ℤ, refl, sym, ap, ◌∙◌, append_assoc, length-append, arith}
 use Rattle.std.specs.Prelude.{All}
 use Rattle.std.specs.Fmt.{decimal, signed_decimal}
 use Rattle.std.specs.List.{flat_map, list_all}
@@ -7,10 +7,10 @@ use Rattle.std.proofs.lemmas.Bool.{false≢true, and_parts}
 use Rattle.std.proofs.lemmas.Bool.Decides.{nat_tests}
 use Rattle.std.proofs.lemmas.List.{append_cancel_left}
 use Rattle.std.proofs.lemmas.List.Elements.{All-head, All-tail}
-use Rattle.exec_value.specs.Bytes.{line_feed, blank, quote}
+use Rattle.exec_value.specs.Bytes.{line_feed, blank}
 use Rattle.exec_value.specs.ErrorName.{is_error_name, is_name_byte}
-use Rattle.outcome_lines.specs.Line.{escaped, quoted, row_text, text_of, words_of, outcome_words, line_of, text_from}
-use Rattle.outcome_lines.specs.OneToOne.{IsI64, CanBeHeld, IsNamed, TextNamesOutcomes}
+use Rattle.outcome_lines.specs.Line.{text_of, outcome_words, line_of, text_from}
+use Rattle.outcome_lines.specs.OneToOne.{CanBeHeld, IsNamed, TextNamesOutcomes}
 use Rattle.exec_value.specs.declared.data.Datum.{Datum}
 use Rattle.exec_value.specs.declared.data.Datum.TheVariants.{Int, Text, Row, SomeInt, SomeText, Nothing}
 use Rattle.exec_value.specs.declared.outcome.Completion.{Completion}

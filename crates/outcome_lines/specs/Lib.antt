@@ -1,3 +1,4 @@
 pub mod Line
 pub mod OneToOne
+pub mod Pieces
 pub mod Summary

@@ -5,6 +5,7 @@ ghost use Rattle.exec_value.specs.Bytes.{blank};
 ghost use Rattle.outcome_lines.specs.Line.{text_of, words_of, outcome_words, line_of};
 ghost use Rattle.exec_io.specs.Writing.{Puts};
 
+use crate::piece::{PIECE_BYTES, Piece};
 use crate::put::{put_int, put_number, put_row, put_text};
 use exec_io::{Failed, Sink, put_bytes};
 use exec_value::{Completion, Datum, Outcome};
@@ -14,6 +15,42 @@ use exec_value::{Completion, Datum, Outcome};
 /// `Failed` comes only where the sink's count of faults rose, and then a front of the line was
 /// appended.
 pub fn put_line<K: Sink>(number: u64, outcome: &Outcome, sink: &mut K) -> Result<(), Failed>
+    ensures { Puts (K.told sink.old) (K.told sink.new) result
+        (line_of number outcome.now) }
+{
+    if !may_fit(outcome) {
+        return put_parts(number, outcome, sink);
+    }
+    let mut piece = Piece::empty();
+    match put_parts(number, outcome, &mut piece) {
+        Ok(()) => put_bytes(piece.as_slice(), sink),
+        Err(Failed) => put_parts(number, outcome, sink),
+    }
+}
+
+/// Whether a line is worth gathering: no text and no row of the outcome is long. A line is the same
+/// either way.
+fn may_fit(outcome: &Outcome) -> bool {
+    match outcome {
+        Outcome::Done(Completion::Value(values)) => values
+            .as_slice()
+            .iter()
+            .all(|datum| is_short(datum)),
+        _ => true,
+    }
+}
+
+/// Whether a datum is likely to fit into a piece.
+fn is_short(datum: &Datum) -> bool {
+    match datum {
+        Datum::Text(text) | Datum::SomeText(text) => text.as_bytes().len() < PIECE_BYTES,
+        Datum::Row(row) => row.as_slice().len() < PIECE_BYTES / 8,
+        _ => true,
+    }
+}
+
+/// Writes a line part by part.
+fn put_parts<K: Sink>(number: u64, outcome: &Outcome, sink: &mut K) -> Result<(), Failed>
     ensures { Puts (K.told sink.old) (K.told sink.new) result
         (line_of number outcome.now) }
 {

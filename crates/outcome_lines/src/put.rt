@@ -6,8 +6,12 @@ ghost use Rattle.exec_value.specs.Bytes.{comma};
 ghost use Rattle.outcome_lines.specs.Line.{escaped, escape_of, is_plain, quoted, row_text};
 ghost use Rattle.exec_io.specs.Writing.{Puts};
 
+use crate::piece::Piece;
 use exec_io::{Failed, Sink, put_bytes};
 use itoa::Buffer;
+
+/// How many numbers of a row are written in one piece: as many as fit, however long they are.
+const TOGETHER: usize = 6;
 
 /// Writes a number in decimal.
 pub(crate) fn put_int<K: Sink>(number: i64, sink: &mut K) -> Result<(), Failed>
@@ -40,8 +44,34 @@ pub(crate) fn put_row<K: Sink>(numbers: &[i64], sink: &mut K) -> Result<(), Fail
     }
 }
 
-/// Writes numbers, each behind a comma.
+/// Writes numbers, each behind a comma, several in one piece.
 fn put_later<K: Sink>(numbers: &[i64], sink: &mut K) -> Result<(), Failed>
+    ensures { Puts (K.told sink.old) (K.told sink.new) result
+        (flat_map (λ n. comma ∷ signed_decimal n) numbers.now) }
+{
+    let mut done = 0;
+    while done < numbers.len() {
+        let end = numbers.len().min(done + TOGETHER);
+        put_together(&numbers[done..end], sink)?;
+        done = end;
+    }
+    Ok(())
+}
+
+/// Writes numbers, each behind a comma, in one piece where they fit.
+fn put_together<K: Sink>(numbers: &[i64], sink: &mut K) -> Result<(), Failed>
+    ensures { Puts (K.told sink.old) (K.told sink.new) result
+        (flat_map (λ n. comma ∷ signed_decimal n) numbers.now) }
+{
+    let mut piece = Piece::empty();
+    match put_each(numbers, &mut piece) {
+        Ok(()) => put_bytes(piece.as_slice(), sink),
+        Err(Failed) => put_each(numbers, sink),
+    }
+}
+
+/// Writes numbers one by one, each behind a comma.
+fn put_each<K: Sink>(numbers: &[i64], sink: &mut K) -> Result<(), Failed>
     ensures { Puts (K.told sink.old) (K.told sink.new) result
         (flat_map (λ n. comma ∷ signed_decimal n) numbers.now) }
 {

@@ -1,24 +1,26 @@
-use Rattle.std.proofs.Common.{◌∷◌, get_or, pos, refl, Err, rules, w64, FitsSigned}
+use Rattle.std.proofs.Common.{◌∷◌, arith}
 use Rattle.std.specs.Fmt.{signed_decimal}
-use Rattle.std.proofs.lemmas.Int.{to_z-of_z}
+use Rattle.std.proofs.lemmas.List.{take_all}
 use Rattle.exec_value.specs.Bytes.{comma}
-use Rattle.exec_io.proofs.PutsLemmas.{Puts-then, Puts-stop, Puts-item, Puts-item_stop}
+use Rattle.exec_io.proofs.PutsLemmas.{Puts-front_stop}
+use Rattle.outcome_lines.proofs.PieceLemmas.{Puts-part}
 use Rattle.outcome_lines.proofs.put.put_later.Goals as goal
 
-pub returns-in_err-put_bytes : goal.returns-in_err-put_bytes
-returns-in_err-put_bytes g c =
-    Puts-item_stop (λ n. comma ∷ signed_decimal n) c.args.numbers.now c.loop-number.number-index (get_or c.args.numbers.now c.loop-number.number-index (pos 0)) (pos 0) refl c.loop-number-test.true c.from_residual.ensures.0 c.loop-number.invariant (Puts-stop _ refl c.in_err-put_bytes.ensures)
+pub returns-in_err-put_together : goal.returns-in_err-put_together
+returns-in_err-put_together g c =
+    let done = c.loop-done.done in
+    let end = c.min-end.result in
+    let part = Puts-part (λ n. comma ∷ signed_decimal n) c.args.numbers.now done end (omega (arith, c.min-end.ensures, c.loop-done-test.true)) c.loop-done.invariant.put c.in_err-put_together.ensures in
+    Puts-front_stop (λ n. comma ∷ signed_decimal n) c.args.numbers.now end c.from_residual.ensures.0 part
 
-pub returns-in_err-put_int : goal.returns-in_err-put_int
-returns-in_err-put_int g c =
-    let number = get_or c.args.numbers.now c.loop-number.number-index (pos 0) in
-    let fits : FitsSigned w64 number = search rules in
-    let put = simp to_z-of_z at c.in_err-put_int.ensures in
-    Puts-item_stop (λ n. comma ∷ signed_decimal n) c.args.numbers.now c.loop-number.number-index (get_or c.args.numbers.now c.loop-number.number-index (pos 0)) (pos 0) refl c.loop-number-test.true c.from_residual-in_err-put_int.ensures.0 c.loop-number.invariant (Puts-then {r = Err c.in_err-put_int.field-0.0} c.in_ok-put_bytes.ensures put)
+pub loop-done-preserved : goal.loop-done-preserved
+loop-done-preserved g c =
+    let done = c.loop-done.done in
+    let end = c.min-end.result in
+    record {
+      within = omega (arith, c.min-end.ensures);
+      put = Puts-part (λ n. comma ∷ signed_decimal n) c.args.numbers.now done end (omega (arith, c.min-end.ensures, c.loop-done-test.true)) c.loop-done.invariant.put c.in_ok-put_together.ensures;
+    }
 
-pub loop-number-preserved : goal.loop-number-preserved
-loop-number-preserved g c =
-    let number = get_or c.args.numbers.now c.loop-number.number-index (pos 0) in
-    let fits : FitsSigned w64 number = search rules in
-    let put = simp to_z-of_z at c.in_ok-put_int.ensures in
-    Puts-item (λ n. comma ∷ signed_decimal n) c.args.numbers.now c.loop-number.number-index (get_or c.args.numbers.now c.loop-number.number-index (pos 0)) (pos 0) refl c.loop-number-test.true c.loop-number.invariant (Puts-then c.in_ok-put_bytes.ensures put)
+pub returns : goal.returns
+returns g c = rw (take_all c.loop-done.done c.args.numbers.now (omega (arith, c.loop-done-test.false))) at c.loop-done.invariant.put

@@ -1,4 +1,4 @@
-use Rattle.std.proofs.Common.{get_or, pos, Err, rules, w64, FitsSigned}
+use Rattle.std.proofs.Common.{get_or, pos, rules, w64, FitsSigned}
 use Rattle.std.proofs.lemmas.Int.{to_z-of_z}
 use Rattle.outcome_lines.proofs.LineLemmas.{row_text-cons}
 use Rattle.exec_io.proofs.PutsLemmas.{Puts-then, Puts-stop, rest_of}
