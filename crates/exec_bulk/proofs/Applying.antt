@@ -1,14 +1,19 @@
 -- What a job makes of the elements of a share, one after the other.
 use Rattle.std.proofs.Common.{◌≡◌, ℕ, ◌+◌, ◌<◌, ℤ, List, [], ◌∷◌, ◌++◌, ◌≤◌, length, get_or, drop, Result, Ok, Err, IsOk, refl, sym, ap, subst, ◌∙◌, arith}
+use Rattle.std.specs.Result.{IsErr}
+use Rattle.std.specs.declared.alloc.AllocError.{AllocError}
 use Rattle.std.proofs.lemmas.List.{append_assoc, at_drop_more, drop_all}
 use Rattle.exec_job.specs.declared.fault.JobFault.{JobFault}
 use Rattle.exec_job.specs.declared.job.Job.{Job}
 use Rattle.exec_job.specs.Element.{at_index}
 use Rattle.exec_job.specs.Fault.{name_of}
 use Rattle.exec_value.specs.declared.limits.TheConstants.{INLINE_BYTES}
+use Rattle.exec_value.specs.declared.outcome.Completion.{Completion}
+use Rattle.exec_value.specs.declared.outcome.Completion.TheVariants.{Error}
 use Rattle.node_images.specs.Makes.{CompletesInPlace}
 use Rattle.plan_rules.specs.Bulks.{error_at, in_front, each_of, row_ending}
 use Rattle.exec_bulk.proofs.Making.{row-large}
+use Rattle.exec_bulk.specs.Elements.{MakesEach}
 
 -- results that stand before others
 abbrev pub after : List ℤ → Result (List ℤ) (List ℕ) → Result (List ℤ) (List ℕ)
@@ -58,3 +63,14 @@ none-fails job first xs made place done all stands =
 pub fails-large : (name : List ℕ) (made : Result (List ℤ) (List ℕ)) → made ≡ Err name → (length name ≤ INLINE_BYTES → ⊥) →
     CompletesInPlace (row_ending made) → ⊥
 fails-large name made is large stands = large (subst (λ (r : Result (List ℤ) (List ℕ)). CompletesInPlace (row_ending r)) is stands)
+
+-- a call ends with the error of a number that fails, or finds no memory where that or a row doesn't stand in place
+module _ (job : Job) (first : ℕ) (xs : List ℤ) where
+  pub makes-fault : (name : List ℕ) (done : Completion) → each_of job first xs ≡ Err name → done ≡ Error name →
+      MakesEach job first xs (Ok done)
+  makes-fault name done fails same = record { exact = same ∙ sym (ap row_ending fails); in_place = λ stands. refl }
+
+  pub makes-none : (r : Result Completion AllocError) → IsErr r → (CompletesInPlace (row_ending (each_of job first xs)) → ⊥) →
+      MakesEach job first xs r
+  makes-none (Ok done) err large = cc
+  makes-none (Err e) err large = record { exact = tt; in_place = λ stands. absurd (large stands) }

@@ -1,5 +1,6 @@
 pub mod Kinds
 pub mod Rows
+pub mod Elements
 pub mod Starts
 pub mod Made
 pub mod Opens

@@ -1,13 +1,14 @@
 //! What a part makes of its share.
-ghost use Rattle.std.specs.Prelude.{ℕ, ◌≡◌, ◌≢◌, ◌≤◌, [], ◌∷◌, length, pos, IsTrue, IsOk, IfOk, IsSome, IfSome, IfNone};
+ghost use Rattle.std.specs.Prelude.{ℕ, ◌≡◌, ◌≢◌, ◌≤◌, [], ◌∷◌, length, pos, IsTrue, IsSome, IfSome, IfNone};
 ghost use Rattle.exec_value.specs.declared.limits.TheConstants.{NUMBERS};
 ghost use Rattle.exec_job.specs.Takes.{is_element};
 ghost use Rattle.exec_job.specs.declared.job.Job.{Job};
 ghost use Rattle.node_images.specs.Makes.{CompletesInPlace};
-ghost use Rattle.plan_rules.specs.Bulks.{each_of, part_of, row_ending};
+ghost use Rattle.plan_rules.specs.Bulks.{part_of};
+ghost use Rattle.exec_bulk.specs.Elements.{MakesEach};
 ghost use Rattle.exec_bulk.specs.Rows.{IsWithinRow};
 
-use exec_job::{Job, apply_at};
+use exec_job::{Added, Bounded, Divided, Element, Indexed, Job, Multiplied, Negated, Subtracted};
 use exec_value::{Completion, Data, Datum, NUMBERS, Nums};
 use node_images::error_at;
 use std::alloc::{AllocError, Global};
@@ -25,15 +26,15 @@ pub(crate) fn end_share(alloc: Global, job: &Job, args: &Data) -> Option<Complet
             if share.first > NUMBERS as u64 {
                 return None;
             }
-            make_each(alloc, job, share.first as u32, share.numbers).ok()
+            make_share(alloc, job, share.first as u32, share.numbers).ok()
         }
         None => Some(Completion::Stopped),
     }
 }
 
-/// The row of what the job makes of each number, the first of which has this index in the whole row;
-/// or the error of the first that fails. A short name of that wants no memory.
-fn make_each(
+/// What the job makes of the numbers, the first of which has this index in the whole row. The job is
+/// matched here alone, once for all of them.
+fn make_share(
     alloc: Global,
     job: &Job,
     first: u32,
@@ -42,16 +43,39 @@ fn make_each(
     requires element { IsTrue (is_element job.now) }
     requires few { length numbers.now ≤ NUMBERS }
     requires first { first ≤ NUMBERS }
-    ensures exact { IfOk result (λ c. c ≡ row_ending (each_of job.now first numbers.now)) }
-    ensures in_place { CompletesInPlace (row_ending (each_of job.now first numbers.now))
-        → IsOk result }
+    ensures { MakesEach job.now first numbers.now result }
+{
+    match job {
+        Job::Add(n) => make_each(alloc, &Added(*n), first, numbers),
+        Job::Sub(n) => make_each(alloc, &Subtracted(*n), first, numbers),
+        Job::Mul(n) => make_each(alloc, &Multiplied(*n), first, numbers),
+        Job::Div(n) => make_each(alloc, &Divided(*n), first, numbers),
+        Job::Neg => make_each(alloc, &Negated, first, numbers),
+        Job::Within { lo, hi } => make_each(alloc, &Bounded { lo: *lo, hi: *hi }, first, numbers),
+        Job::Index => make_each(alloc, &Indexed, first, numbers),
+        _ => unreachable!(),
+    }
+}
+
+/// The row of what the element job makes of each number; or the error of the first that fails. A short
+/// name of that wants no memory.
+#[inline(never)]
+fn make_each<E: Element>(
+    alloc: Global,
+    element: &E,
+    first: u32,
+    numbers: &[i64],
+) -> Result<Completion, AllocError>
+    requires few { length numbers.now ≤ NUMBERS }
+    requires first { first ≤ NUMBERS }
+    ensures { MakesEach (E.job element.now) first numbers.now result }
 {
     let Ok(mut made) = Vec::with_capacity(alloc, numbers.len()) else {
-        return fail_first(alloc, job, first, numbers);
+        return fail_first(alloc, element, first, numbers);
     };
     for (place, number) in numbers.iter().enumerate() {
         let index = first + place as u32;
-        match apply_at(job, index, *number) {
+        match element.at(index, *number) {
             Ok(number) => made.push_reserved(number),
             Err(fault) => return Ok(Completion::Error(error_at(alloc, fault, index)?)),
         }
@@ -61,22 +85,19 @@ fn make_each(
 }
 
 /// The error of the first number that fails, where there is no memory for the row.
-fn fail_first(
+fn fail_first<E: Element>(
     alloc: Global,
-    job: &Job,
+    element: &E,
     first: u32,
     numbers: &[i64],
 ) -> Result<Completion, AllocError>
-    requires element { IsTrue (is_element job.now) }
     requires few { length numbers.now ≤ NUMBERS }
     requires first { first ≤ NUMBERS }
-    ensures exact { IfOk result (λ c. c ≡ row_ending (each_of job.now first numbers.now)) }
-    ensures in_place { CompletesInPlace (row_ending (each_of job.now first numbers.now))
-        → IsOk result }
+    ensures { MakesEach (E.job element.now) first numbers.now result }
 {
     for (place, number) in numbers.iter().enumerate() {
         let index = first + place as u32;
-        match apply_at(job, index, *number) {
+        match element.at(index, *number) {
             Ok(_) => {}
             Err(fault) => return Ok(Completion::Error(error_at(alloc, fault, index)?)),
         }

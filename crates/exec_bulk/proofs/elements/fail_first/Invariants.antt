@@ -3,4 +3,4 @@ use Rattle.exec_bulk.proofs.Applying.{IsDoneTo}
 use Rattle.exec_bulk.proofs.elements.fail_first.Given as goal
 
 abbrev pub invariant-loop-place : goal.invariant-loop-place
-invariant-loop-place l = (made : List ℤ) × IsDoneTo l.job l.first l.numbers l.place made
+invariant-loop-place g l = (made : List ℤ) × IsDoneTo (g.E.Element.job l.element) l.first l.numbers l.place made
