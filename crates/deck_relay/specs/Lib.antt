@@ -1,5 +1,6 @@
 pub mod Rule
 pub mod Decks
+pub mod SameDecks
 pub mod Moves
 pub mod Relays
 pub mod Lending

@@ -7,7 +7,7 @@
 //!
 //!     awake --try_search--> searching --leave_search--> awake
 //!     awake --lie_down--> asleep --park--> woken --get_up--> awake, or searching
-//!     asleep --wake_one, wake, wake_all--> woken
+//!     asleep --wake_one, wake, wake_last, wake_all--> woken
 //!
 //! A hand lies down first, looks once more, and parks only then; so what becomes ready in between
 //! finds its bit. A token that comes late costs one round. That a hand that parks is woken isn't

@@ -27,6 +27,7 @@ pub fn open(alloc: Global, hands: u32) -> Result<Vec<Sleeper>, AllocError>
         asleep: CachePadded::new(AtomicCell::new(0)),
         searching: CachePadded::new(AtomicCell::new(0)),
         unparkers,
+        last: hands.max(1) - 1,
     };
     let room = Arc::new(alloc, room)?;
     let mut sleepers = Vec::new(alloc);

@@ -18,6 +18,8 @@ pub(crate) struct Room {
     /// How many hands search.
     pub(crate) searching: CachePadded<AtomicCell<u64>>,
     pub(crate) unparkers: Vec<Unparker>,
+    /// The last place.
+    pub(crate) last: u32,
 }
 
 /// The sleeper of one hand. One thread at a time has it.
@@ -58,23 +60,35 @@ impl Sleeper {
     }
 
     /// Takes the bit of this hand down. False where another took it: then this hand is counted as
-    /// searching.
+    /// searching, but the last, which doesn't search.
     pub fn get_up(&self) -> bool {
         self.room.take_bit(self.place)
     }
 
-    /// Wakes a hand that is asleep, where nobody searches. True where it woke one.
+    /// Wakes a hand that is asleep, but the last, where nobody searches. True where it woke one.
     pub fn wake_one(&self) -> bool {
-        let asleep = self.room.asleep.load();
-        if asleep == 0 || self.room.searching.load() != 0 {
-            return false;
+        for _tries in 0..MOST_HANDS {
+            let asleep = self.room.searchers();
+            if asleep == 0 || self.room.is_searched() {
+                return false;
+            }
+            if self.room.wake(asleep.trailing_zeros()) {
+                return true;
+            }
         }
-        self.room.wake(asleep.trailing_zeros())
+        // Each time another was first.
+        self.wake_all();
+        true
     }
 
-    /// Wakes the hand at this place, if it is asleep.
+    /// Wakes the hand at this place, if it is asleep. It is counted as searching.
     pub fn wake(&self, place: u32) -> bool {
         self.room.wake(place)
+    }
+
+    /// Wakes the hand of the last place, if it is asleep. It isn't counted as searching.
+    pub fn wake_last(&self) -> bool {
+        self.room.wake_last()
     }
 
     /// Gives each hand a token, whether it is asleep or not.
@@ -86,21 +100,48 @@ impl Sleeper {
 }
 
 impl Room {
+    // The bits of the hands that are asleep, but that of the last, which doesn't search.
+    fn searchers(&self) -> u64 {
+        self.asleep.load() & !1u64.wrapping_shl(self.last)
+    }
+
+    // Whether a hand searches. Where it seems so the count is read by an exchange: what this hand
+    // stored before is then seen by a look that follows the end of that search.
+    fn is_searched(&self) -> bool {
+        self.searching.load() != 0 && self.searching.fetch_add(0) != 0
+    }
+
     // Takes the bit of a hand down. True where it was set.
     fn take_bit(&self, place: u32) -> bool {
         let bit = 1u64.wrapping_shl(place);
-        self.asleep.fetch_and(!bit) & bit != 0
+        self.asleep.load() & bit != 0 && self.asleep.fetch_and(!bit) & bit != 0
     }
 
-    // Takes the bit of a hand, counts it as searching and gives it a token.
-    fn wake(&self, place: u32) -> bool {
-        if !self.take_bit(place) {
-            return false;
-        }
-        self.searching.fetch_add(1);
+    // Gives the hand a token.
+    fn unpark(&self, place: u32) {
         if let Some(unparker) = self.unparkers.get(place as usize) {
             unparker.unpark();
         }
+    }
+
+    // Counts a hand as searching, takes its bit and gives it a token. It is counted first: a hand
+    // that finds its bit gone leaves the search. Where the bit was gone, its count is taken back.
+    fn wake(&self, place: u32) -> bool {
+        self.searching.fetch_add(1);
+        if !self.take_bit(place) {
+            self.searching.fetch_sub(1);
+            return false;
+        }
+        self.unpark(place);
         true
+    }
+
+    // Takes the bit of the last hand, and gives it a token.
+    fn wake_last(&self) -> bool {
+        let woken = self.take_bit(self.last);
+        if woken {
+            self.unpark(self.last);
+        }
+        woken
     }
 }
