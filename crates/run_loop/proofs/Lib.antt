@@ -1,3 +1,4 @@
+pub mod Decked
 pub mod Turned
 pub mod Meeting
 pub mod DelayLists

@@ -2,7 +2,8 @@
 use Rattle.std.proofs.Common.{◌≡◌, inl, inr, ℕ, ◌+◌, Bool, List, arith, sym, ap, ◌∙◌, subst}
 use Rattle.std.specs.Prelude.{slice_get, Some}
 use Rattle.std.proofs.lemmas.Bool.{cases_lt}
-use Rattle.std.proofs.lemmas.Option.{same_Some}
+use Rattle.std.proofs.lemmas.Option.{same_Some, slice_get_within}
+use Rattle.common_lemmas.proofs.Lists.{slice_get-append_left}
 use Rattle.life_rules.specs.declared.event.Name.{Name}
 use Rattle.plan_shape.specs.Blueprint.{Blueprint}
 use Rattle.table_steps.specs.Views.{Board}
@@ -12,7 +13,8 @@ use Rattle.exec_start.specs.declared.item.Item.{Item}
 use Rattle.exec_recv.specs.Asides.{KeepsAside}
 use Rattle.exec_recv.specs.Nexts.{Doing}
 use Rattle.loop_serve.proofs.Took.{serves-before, serves-after}
-use Rattle.run_loop.specs.Turns.{IsMet, AreMet, AreAllMet}
+use Rattle.run_loop.specs.Longer.{IsLonger}
+use Rattle.run_loop.specs.Turns.{IsMet, AreMet, AreAllMet, AreAllLeft}
 use Rattle.run_loop.proofs.Turned.{left-before, left-after}
 
 module _ (does : Doing) (board : Board Blueprint) (helps : Bool) (m between m' : Seated Item Entry) where
@@ -46,3 +48,15 @@ module _ (does : Doing) (board : Board Blueprint) (helps : Bool) (m between m' :
   -- all of them, and something else after them
   pub met-later : (names : List Name) → AreAllMet does board m between helps names → KeepsAside between m' → AreAllMet does board m m' helps names
   met-later names all next k name below at = met-after name (all k name below at) next
+
+-- where names became longer, the first of them are as before
+module _ (board : Board Blueprint) (helps : Bool) (m m' : Seated Item Entry) (names longer : List Name) (more : IsLonger names longer) where
+  still : (k : ℕ) (name : Name) → slice_get names k ≡ Some name → slice_get longer k ≡ Some name
+  still k name at =
+      ap (λ l. slice_get l k) more.is ∙ slice_get-append_left names more.others k (slice_get_within names k name at) ∙ at
+
+  pub met-fewer : (does : Doing) → AreAllMet does board m m' helps longer → AreAllMet does board m m' helps names
+  met-fewer does all k name below at = all k name (slice_get_within longer k name (still k name at)) (still k name at)
+
+  pub left-fewer : AreAllLeft board m m' helps longer → AreAllLeft board m m' helps names
+  left-fewer all k name below at = all k name (slice_get_within longer k name (still k name at)) (still k name at)

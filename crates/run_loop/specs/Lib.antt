@@ -1,4 +1,5 @@
 pub mod DelayNodes
+pub mod Longer
 pub mod Loops
 pub mod Starts
 pub mod Collects
@@ -13,3 +14,6 @@ pub use Rattle.loop_walk.specs.Resting
 pub use Rattle.loop_roots.specs.Starts as RootStarts
 pub use Rattle.loop_roots.specs.Completes
 pub use Rattle.loop_serve.specs.Serving
+pub use Rattle.deck_relay.specs.SameDecks
+pub use Rattle.loop_queue.specs.Posts
+pub use Rattle.loop_queue.specs.Moves

@@ -1,8 +1,9 @@
 -- A loop as its callers see it, and what its calls leave of its hand's view.
-use Rattle.std.specs.Prelude.{◌≡◌, ℕ, ◌≤◌, false, List, [], ◌∷◌, ◌++◌, Option, None}
+use Rattle.std.specs.Prelude.{◌≡◌, ℕ, ◌≤◌, false, List, [], ◌∷◌, ◌++◌, Option, Some, None}
 use Rattle.exec_value.specs.declared.outcome.Completion.{Completion}
 use Rattle.life_rules.specs.declared.event.Name.{Name}
 use Rattle.atomic_table.specs.declared.shared.Seat.{Seat}
+use Rattle.deck_relay.specs.declared.deck.Deck.{Deck}
 use Rattle.loop_delays.specs.Delays.{DelayList, places, delay_at}
 use Rattle.plan_shape.specs.Blueprint.{Blueprint}
 use Rattle.run_tally.specs.Tallied.{Tallied, IsSmallTally, new_tally, raised}
@@ -26,8 +27,15 @@ pub record HasNoDelay (list : DelayList) : Type 0 where
   pub turn : list.turn ≡ 0
   pub none : (place : ℕ) → delay_at list place ≡ None
 
--- A new loop on this hand knows no names, doesn't help the pool, and has collected nothing. No delay
--- waits, and no turn is over.
+-- The deck of its hand, where it has one; and the loop with this deck.
+abbrev pub deck_of : Looped → Option Deck
+deck_of loop = loop.names.deck
+
+abbrev pub decked : Deck → Looped → Looped
+decked deck loop = record loop { names = record loop.names { deck = Some deck } }
+
+-- A new loop on this hand knows no names, has no deck, doesn't help the pool, and has collected
+-- nothing. No delay waits, and no turn is over.
 pub record IsOpened (board : Board Blueprint) (hand : Seat (Option Item) (View Item Entry)) (loop : Looped)
     : Type 0 where
   pub hand_is : loop.hand ≡ hand
@@ -37,6 +45,7 @@ pub record IsOpened (board : Board Blueprint) (hand : Seat (Option Item) (View I
   pub tally : loop.tally ≡ new_tally
   pub delays : HasDelays board loop.delays loop.delay_nodes.items
   pub waiting : HasNoDelay loop.delays
+  pub deck : deck_of loop ≡ None
 
 -- The names that it was told of, and with one more at the back.
 abbrev pub told : Looped → List Name

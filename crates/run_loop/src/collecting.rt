@@ -2,8 +2,9 @@
 ghost use Rattle.std.specs.Prelude.{IfSome, IfNone};
 ghost use Rattle.std.specs.Thread.{IsSync};
 ghost use Rattle.table_steps.specs.Views.{IsSameHand};
+ghost use Rattle.deck_relay.specs.SameDecks.{KeepsDeck};
 ghost use Rattle.exec_recv.specs.Over.{IsOver};
-ghost use Rattle.run_loop.specs.Loops.{IsReady, Raises};
+ghost use Rattle.run_loop.specs.Loops.{IsReady, Raises, deck_of};
 ghost use Rattle.loop_roots.specs.Completes.{IsListed};
 ghost use Rattle.run_loop.specs.Collects.{Collects, CollectsNothing};
 
@@ -50,6 +51,7 @@ impl Loop {
         ensures same { IsSameHand self.old.hand self.new.hand }
         ensures none { IfNone result (CollectsNothing table.now block self.old self.new) }
         ensures collected { IfSome result (Collects table.now block self.old self.new) }
+        ensures deck { KeepsDeck (deck_of self.old) (deck_of self.new) }
     {
         let Ended { env, collected } = end_root(rt, table, &mut self.hand, block, gate)?;
         drop(env);

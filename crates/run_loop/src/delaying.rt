@@ -1,6 +1,7 @@
 //! How a loop sees the parked delays of the plan, and takes those that are due.
 ghost use Rattle.std.specs.Prelude.{◌≡◌, ◌<◌, ◌≤◌, length};
 ghost use Rattle.std.specs.Thread.{IsSync};
+ghost use Rattle.deck_relay.specs.SameDecks.{KeepsDeck};
 ghost use Rattle.loop_delays.specs.Delays.{places};
 ghost use Rattle.plan_kinds.specs.Runnable.{IsRunnable};
 ghost use Rattle.table_steps.specs.Views.{IsHandOf, Stays, knows};
@@ -132,6 +133,7 @@ fn try_due<T: Stepper, R: Wait + Sync>(
     ensures served { ServesOn (T.does stepper.now) table.now taken result hand.old.me hand.new.me }
     ensures more { taken ≤ result }
     ensures tried { WasTriedAt table.now hand.old.me hand.new.me result due.place due.generation }
+    ensures deck { KeepsDeck names.old.deck names.new.deck }
 {
     let nodes = table.tree().size();
     let name = Name {
@@ -181,6 +183,7 @@ fn take_due<T: Stepper, R: Wait + Sync>(
     ensures served { ServesOn (T.does stepper.now) table.now taken result hand.old.me hand.new.me }
     ensures more { taken ≤ result }
     ensures due { TakesDue table.now result hand.old.me hand.new.me delays.old delays.new }
+    ensures deck { KeepsDeck names.old.deck names.new.deck }
 {
     let mut taken = taken;
     'out: while let Some(out) = delays.due() {
@@ -217,6 +220,7 @@ pub fn serve_delays<T: Stepper, R: Wait + Sync>(
     ensures more { taken ≤ result }
     ensures places { places delays.new ≡ places delays.old }
     ensures turn { PassesTurn table.now hand.old.me hand.new.me result delays.old delays.new }
+    ensures deck { KeepsDeck names.old.deck names.new.deck }
 {
     delays.next_turn();
     look_round(table, hand, delays, nodes);

@@ -17,6 +17,14 @@
 //!
 //!     parked --poll: first seen--> waits --poll, so many times--> due --take_parked--> its step
 //!
+//! Other hands tell a loop of nodes that they left ready there through a queue (loop_queue):
+//! `drain` adds these names to those that the next poll serves. A name is a hint, and one that is
+//! lost is found by a turn's look at each node. A loop whose hand has a deck (deck_relay) pushes
+//! the names of nodes there that it leaves ready in the pool, and sleeps by the deck's sleeper:
+//!
+//!     awake --lie_down--> lying, looks once more --sleep--> asleep --woken--> awake
+//!                              +--get_up: it found something--> awake
+//!
 //! The loop has no list of its operations. Its hand notes the start of each root that it begins,
 //! and forgets it when it gives the block back: the operations that a loop started and hasn't
 //! collected are those notes.
@@ -25,16 +33,20 @@
 mod collecting;
 mod delay_node;
 mod delaying;
+mod draining;
 mod listing;
 mod looped;
 mod names;
+mod resting;
 mod scanning;
 mod serving;
 mod starting;
 mod turning;
 mod waiting;
 
+pub use deck_relay::Deck;
 pub use exec_recv::{Env, Gate, Item, Stepper};
+pub use loop_queue::{Drained, LoopPost};
 pub use loop_roots::{Block, Collected};
 pub use looped::Loop;
 pub use run_tally::Tally;

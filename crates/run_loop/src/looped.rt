@@ -1,13 +1,15 @@
 //! The loop itself.
 ghost use Rattle.std.specs.Prelude.{◌≡◌, IfOk, IfErr};
+ghost use Rattle.deck_relay.specs.SameDecks.{KeepsDeck};
 ghost use Rattle.plan_kinds.specs.Runnable.{IsRunnable};
 ghost use Rattle.table_steps.specs.Views.{IsHandOf, knows};
 ghost use Rattle.exec_recv.specs.Over.{IsOver};
-ghost use Rattle.run_loop.specs.Loops.{IsOpened, IsTold, told, told_also};
+ghost use Rattle.run_loop.specs.Loops.{IsOpened, IsTold, told, told_also, deck_of, decked};
 
 use crate::delay_node::DelayNode;
 use crate::listing::{delays_of, room_of};
 use crate::names::Names;
+use deck_relay::Deck;
 use exec_recv::Item;
 use life_rules::Name;
 use loop_delays::Delays;
@@ -23,10 +25,10 @@ use std::thread::yield_now;
 pub struct Loop {
     /// The hand on which it works.
     pub hand: Hand<Item>,
-    /// What it was told of since the last poll.
+    /// What it was told of since the last poll, and the hand's deck.
     pub(crate) names: Names,
     /// The room of the names that a poll serves.
-    pub(crate) served: Names,
+    pub(crate) served: Vec<Name>,
     /// The block at which the search for a free one begins.
     pub(crate) next: u32,
     pub(crate) helps: bool,
@@ -41,8 +43,8 @@ impl Loop {
     /// A loop on the hand. The hand comes back on want of memory alone.
     ///
     /// Needs: the hand is hand 0 of the table, which was opened over the plan, whose kinds match.
-    /// Afterwards: the loop knows no names, doesn't help the pool, and has collected nothing. No
-    /// delay waits, and no turn is over.
+    /// Afterwards: the loop knows no names, has no deck, doesn't help the pool, and has collected
+    /// nothing. No delay waits, and no turn is over.
     pub fn open(
         alloc: Global,
         plan: &Plan,
@@ -60,7 +62,7 @@ impl Loop {
         let Ok(names) = Names::with_room(alloc, blocks, nodes) else {
             return Err(hand);
         };
-        let Ok(served) = Names::with_room(alloc, blocks, nodes) else {
+        let Ok(served) = Vec::with_capacity(alloc, blocks as usize) else {
             return Err(hand);
         };
         let Ok(delay_nodes) = delays_of(alloc, plan) else {
@@ -81,11 +83,23 @@ impl Loop {
         })
     }
 
+    /// The loop with this deck for its hand: what it leaves ready in the pool is pushed there, so
+    /// that workers steal it, and where the loop helps the pool, it takes names of it. All else is
+    /// as before.
+    pub fn with_deck(self, deck: Deck) -> Loop
+        ensures { result ≡ decked deck self }
+    {
+        let mut decked = self;
+        decked.names.deck = Some(deck);
+        decked
+    }
+
     /// Tells the loop of a node that may be ready. The name comes back on want of memory alone.
     pub fn push_name(&mut self, name: Name) -> Result<(), Name>
         ensures pushed { IfOk result (λ _. IsTold (told_also name self.old) self.old self.new) }
         ensures same { IfErr result (λ _. IsTold (told self.old) self.old self.new) }
         ensures back { IfErr result (λ back. back ≡ name) }
+        ensures deck { KeepsDeck (deck_of self.old) (deck_of self.new) }
     {
         match self.names.add(name) {
             Ok(()) => Ok(()),
@@ -116,10 +130,18 @@ impl Loop {
         self.tally
     }
 
-    /// The loop's hand.
+    /// The loop's hand. Its deck is dropped, where it has one.
     pub fn into_hand(self) -> Hand<Item>
         ensures { result ≡ self.hand }
     {
         self.hand
+    }
+
+    /// The loop's hand, and its deck, where it has one.
+    pub fn into_parts(self) -> (Hand<Item>, Option<Deck>)
+        ensures hand { result.0 ≡ self.hand }
+        ensures deck { result.1 ≡ deck_of self }
+    {
+        (self.hand, self.names.into_deck())
     }
 }

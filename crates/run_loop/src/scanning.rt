@@ -3,6 +3,7 @@ ghost use Rattle.std.specs.Prelude.{◌≡◌, ◌<◌};
 ghost use Rattle.std.specs.Thread.{IsSync};
 ghost use Rattle.plan_kinds.specs.Runnable.{IsRunnable};
 ghost use Rattle.table_steps.specs.Views.{IsHandOf, Stays, knows};
+ghost use Rattle.deck_relay.specs.SameDecks.{KeepsDeck};
 ghost use Rattle.exec_recv.specs.Asides.{KeepsAside};
 ghost use Rattle.exec_recv.specs.Over.{IsOver};
 ghost use Rattle.loop_walk.specs.Resting.{IsAtRest};
@@ -40,6 +41,7 @@ fn scan_block<T: Stepper, R: Wait + Sync>(
     ensures aside { KeepsAside hand.old.me hand.new.me }
     ensures served { ServesOn (T.does stepper.now) table.now taken result hand.old.me hand.new.me }
     ensures none { CountsBlock table.now hand.old.me hand.new.me helps block taken result }
+    ensures deck { KeepsDeck names.old.deck names.new.deck }
 {
     let size = table.tree().size();
     let mut taken = taken;
@@ -72,6 +74,7 @@ pub fn scan_blocks<T: Stepper, R: Wait + Sync>(
     ensures aside { KeepsAside hand.old.me hand.new.me }
     ensures served { Serves (T.does stepper.now) table.now result hand.old.me hand.new.me }
     ensures none { result ≡ 0 → TakesNothing table.now hand.old.me hand.new.me helps }
+    ensures deck { KeepsDeck names.old.deck names.new.deck }
 {
     let mut taken = 0;
     for block in 0..table.blocks() {

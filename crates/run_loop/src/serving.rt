@@ -3,6 +3,7 @@ ghost use Rattle.std.specs.Prelude.{◌≡◌, ◌⊎◌, ◌+◌, ◌<◌, ◌�
 ghost use Rattle.std.specs.Thread.{IsSync};
 ghost use Rattle.plan_kinds.specs.Runnable.{IsRunnable};
 ghost use Rattle.table_steps.specs.Views.{IsHandOf, Stays, knows};
+ghost use Rattle.deck_relay.specs.SameDecks.{KeepsDeck};
 ghost use Rattle.exec_recv.specs.Asides.{KeepsAside};
 ghost use Rattle.exec_recv.specs.Over.{IsOver};
 ghost use Rattle.loop_walk.specs.Resting.{IsAtRest};
@@ -52,6 +53,7 @@ pub fn take_node<T: Stepper, R: Wait + Sync>(
     ensures aside { KeepsAside hand.old.me hand.new.me }
     ensures served { ServesOn (T.does stepper.now) table.now taken result hand.old.me hand.new.me }
     ensures none { CountsNode table.now hand.old.me hand.new.me helps block node taken result }
+    ensures deck { KeepsDeck names.old.deck names.new.deck }
 {
     if serve_place(
         rt,

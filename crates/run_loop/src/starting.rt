@@ -3,8 +3,9 @@ ghost use Rattle.std.specs.Prelude.{◌≡◌, IfOk, IfErr};
 ghost use Rattle.std.specs.Thread.{IsSync};
 ghost use Rattle.plan_kinds.specs.Runnable.{IsRunnable};
 ghost use Rattle.table_steps.specs.Views.{IsSameHand};
+ghost use Rattle.deck_relay.specs.SameDecks.{KeepsDeck};
 ghost use Rattle.exec_recv.specs.Over.{IsOver};
-ghost use Rattle.run_loop.specs.Loops.{IsReady, KeepsCounts, KeepsDelays};
+ghost use Rattle.run_loop.specs.Loops.{IsReady, KeepsCounts, KeepsDelays, deck_of};
 ghost use Rattle.loop_roots.specs.Starts.{CanRun};
 ghost use Rattle.run_loop.specs.Starts.{Starts, WentOn, FindsNoBlock};
 
@@ -49,6 +50,7 @@ impl Loop {
             (λ b. WentOn (T.does stepper.now) table.now b env self.old self.new) }
         ensures back { IfErr result (λ back. back ≡ env) }
         ensures none { IfErr result (λ _. FindsNoBlock table.now self.old self.new) }
+        ensures deck { KeepsDeck (deck_of self.old) (deck_of self.new) }
     {
         begin_root(
             rt,

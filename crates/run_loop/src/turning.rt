@@ -3,12 +3,13 @@ ghost use Rattle.std.specs.Prelude.{◌≡◌, true, false};
 ghost use Rattle.std.specs.Thread.{IsSync};
 ghost use Rattle.plan_kinds.specs.Runnable.{IsRunnable};
 ghost use Rattle.table_steps.specs.Views.{IsHandOf, IsSameHand, Stays, knows};
+ghost use Rattle.deck_relay.specs.SameDecks.{KeepsDeck};
 ghost use Rattle.exec_recv.specs.Asides.{KeepsAside};
 ghost use Rattle.exec_recv.specs.Over.{IsOver};
 ghost use Rattle.loop_walk.specs.Resting.{IsAtRest};
 ghost use Rattle.loop_serve.specs.Since.{OnlyLooks};
 ghost use Rattle.run_loop.specs.Delayed.{HasTurned};
-ghost use Rattle.run_loop.specs.Loops.{IsReady, KeepsCounts, KeepsDelays};
+ghost use Rattle.run_loop.specs.Loops.{IsReady, KeepsCounts, KeepsDelays, deck_of};
 ghost use Rattle.run_loop.specs.Serves.{Serves};
 ghost use Rattle.run_loop.specs.Turns.{IsInner, WasServed, IsLeft, AreAllMet, AreAllLeft, MeetsAll, MissesAll, FindsNothing};
 
@@ -60,6 +61,7 @@ fn serve_name<T: Stepper, R: Wait + Sync>(
         WasServed (T.does stepper.now) table.now hand.old.me hand.new.me name }
     ensures left { result ≡ false → IsLeft table.now hand.old.me hand.new.me helps name }
     ensures looks { result ≡ false → OnlyLooks hand.old.me hand.new.me }
+    ensures deck { KeepsDeck names.old.deck names.new.deck }
 {
     if !is_inner(table, name) {
         return false;
@@ -96,6 +98,7 @@ fn serve_each<T: Stepper, R: Wait + Sync>(
     ensures served { Serves (T.does stepper.now) table.now result hand.old.me hand.new.me }
     ensures met { AreAllMet (T.does stepper.now) table.now hand.old.me hand.new.me helps told.now }
     ensures none { result ≡ 0 → AreAllLeft table.now hand.old.me hand.new.me helps told.now }
+    ensures deck { KeepsDeck names.old.deck names.new.deck }
 {
     let mut taken = 0;
     for name in told {
@@ -107,7 +110,8 @@ fn serve_each<T: Stepper, R: Wait + Sync>(
 }
 
 impl Loop {
-    // Takes the nodes of the names that it was told of, and goes on with each.
+    // Takes the nodes of the names that it was told of, and goes on with each. Where it helps the
+    // pool, names of its deck come after them.
     fn poll_names<T: Stepper, R: Wait + Sync>(
         &mut self,
         rt: &R,
@@ -128,8 +132,10 @@ impl Loop {
             self.old.hand.me self.new.hand.me }
         ensures met { MeetsAll (T.does stepper.now) table.now self.old self.new }
         ensures none { result ≡ 0 → MissesAll table.now self.old self.new }
+        ensures deck { KeepsDeck (deck_of self.old) (deck_of self.new) }
     {
-        mem::swap(&mut self.names, &mut self.served);
+        self.names.fetch(rt, self.helps);
+        mem::swap(&mut self.names.list, &mut self.served);
         let taken = serve_each(
             rt,
             alloc,
@@ -138,9 +144,9 @@ impl Loop {
             stepper,
             &mut self.names,
             self.helps,
-            &self.served.list,
+            &self.served,
         );
-        self.served.list.clear();
+        self.served.clear();
         taken
     }
 
@@ -155,6 +161,7 @@ impl Loop {
     /// it took, each of which the stepper stepped; 0 only where it moved no word, and the word of
     /// each node that it was told of, but of roots, at its own step of this call, said that it
     /// isn't ready at the name's generation in the loop, nor where the loop helps in the pool.
+    /// A loop with a deck that helps the pool takes the nodes of names of its deck, too.
     ///
     /// Step: those of `take` for each name; for each delay of the plan in each block one load of
     /// its control word, and that of `take_parked` where it is due; and those of the steps of its
@@ -181,6 +188,7 @@ impl Loop {
         ensures met { MeetsAll (T.does stepper.now) table.now self.old self.new }
         ensures turn { HasTurned table.now result self.old self.new }
         ensures none { result ≡ 0 → MissesAll table.now self.old self.new }
+        ensures deck { KeepsDeck (deck_of self.old) (deck_of self.new) }
     {
         let taken = self.poll_names(rt, alloc, table, stepper);
         serve_delays(
@@ -226,6 +234,7 @@ impl Loop {
         ensures met { MeetsAll (T.does stepper.now) table.now self.old self.new }
         ensures turn { HasTurned table.now result self.old self.new }
         ensures none { result ≡ 0 → FindsNothing table.now self.old self.new }
+        ensures deck { KeepsDeck (deck_of self.old) (deck_of self.new) }
     {
         let taken = self.poll(rt, alloc, table, stepper);
         if taken > 0 {

@@ -3,8 +3,9 @@ ghost use Rattle.std.specs.Prelude.{◌≡◌};
 ghost use Rattle.std.specs.Thread.{IsSync};
 ghost use Rattle.plan_kinds.specs.Runnable.{IsRunnable};
 ghost use Rattle.table_steps.specs.Views.{IsSameHand};
+ghost use Rattle.deck_relay.specs.SameDecks.{KeepsDeck};
 ghost use Rattle.exec_recv.specs.Over.{IsOver};
-ghost use Rattle.run_loop.specs.Loops.{IsReady};
+ghost use Rattle.run_loop.specs.Loops.{IsReady, deck_of};
 ghost use Rattle.loop_roots.specs.Starts.{CanRun};
 ghost use Rattle.loop_roots.specs.Completes.{IsListed};
 ghost use Rattle.run_loop.specs.Waits.{IsCollected, Waits};
@@ -43,6 +44,7 @@ impl Loop {
         ensures ready { IsReady table.now self.new }
         ensures same { IsSameHand self.old.hand self.new.hand }
         ensures collected { IsCollected table.now block self.old self.new result }
+        ensures deck { KeepsDeck (deck_of self.old) (deck_of self.new) }
     {
         for _ in rt.forever() {
             if let Some(collected) = self.collect(rt, table, block, stepper) {
@@ -80,6 +82,7 @@ impl Loop {
         ensures ready { IsReady table.now self.new }
         ensures same { IsSameHand self.old.hand self.new.hand }
         ensures waits { Waits table.now env self.old self.new result }
+        ensures deck { KeepsDeck (deck_of self.old) (deck_of self.new) }
     {
         match self.start(rt, alloc, table, stepper, env) {
             Ok(block) => Waited::Completed(self.turn_until(rt, alloc, table, stepper, block)),

@@ -1,6 +1,7 @@
 use Rattle.std.proofs.Common.{arith}
 use Rattle.op_slot.proofs.Staying.{stays-here, stays-on}
 use Rattle.exec_recv.proofs.Asiding.{aside-here, aside-on}
+use Rattle.deck_relay.specs.SameDecks.{keeps-here, keeps-on}
 use Rattle.run_loop.proofs.Due.{takes-none, takes-more}
 use Rattle.run_loop.proofs.delaying.take_due.Goals as goal
 
@@ -13,6 +14,7 @@ out-init g c =
       served = λ first serves. serves;
       more = omega arith;
       takes = takes-none c.args.table.now c.args.taken c.args.hand.now.me c.args.delays.now;
+      deck = keeps-here c.args.names.now.deck;
     }
 
 pub out-preserved : goal.out-preserved
@@ -33,4 +35,5 @@ out-preserved g c =
       takes = takes-more board c.out.taken c.try_due-taken.result old.me between.me new.me c.args.delays.now c.out.delays c.due.new.self
           c.in-Some.out.place c.in-Some.out.generation more before.takes c.in-Some.ensures.some c.in-Some.ensures.taken
           c.try_due-taken.ensures.tried before.aside c.try_due-taken.ensures.aside;
+      deck = keeps-on c.args.names.now.deck c.out.names.deck c.try_due-taken.new.names.deck before.deck c.try_due-taken.ensures.deck;
     }

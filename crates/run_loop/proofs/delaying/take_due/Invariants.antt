@@ -1,5 +1,6 @@
 use Rattle.std.proofs.Common.{◌≤◌}
 use Rattle.table_steps.specs.Views.{Stays}
+use Rattle.deck_relay.specs.SameDecks.{KeepsDeck}
 use Rattle.exec_recv.specs.Asides.{KeepsAside}
 use Rattle.loop_delays.specs.Delays.{count_of}
 use Rattle.loop_walk.specs.Resting.{IsAtRest}
@@ -15,6 +16,7 @@ invariant-out g l = record {
   served : ServesOn (g.T.Stepper.does l.stepper) l.table l.fn.taken l.taken l.fn.hand.me l.hand.me;
   more : l.fn.taken ≤ l.taken;
   takes : TakesOut l.table l.taken l.fn.hand.me l.hand.me l.fn.delays l.delays;
+  deck : KeepsDeck l.fn.names.deck l.names.deck;
 }
 
 abbrev pub decreases-out : goal.decreases-out

@@ -1,6 +1,7 @@
 use Rattle.std.proofs.Common.{inl, inr, length, arith, ap}
 use Rattle.life_rules.specs.declared.event.Resting.TheVariants as rest
 use Rattle.loop_serve.proofs.Took.{first-serves}
+use Rattle.deck_relay.specs.SameDecks.{keeps-here}
 use Rattle.run_loop.proofs.Due.{tried-as}
 use Rattle.run_loop.proofs.Served.{serves-after, serves-more}
 use Rattle.run_loop.proofs.delaying.try_due.Goals as goal
@@ -35,3 +36,6 @@ returns-clause-tried g c within =
     let nodes = c.requires.over.nodes in
     tried-as c.args.table.now c.args.hand.now.me c.serve.new.hand.me c.args.taken c.args.due.place c.args.due.generation c.size-nodes.result
     (omega (arith, size, tree, nodes)) (inl (c.serve.ensures.missed c.if-serve.false))
+
+pub returns-then-name-blocks-clause-deck : goal.returns-then-name-blocks-clause-deck
+returns-then-name-blocks-clause-deck g c = keeps-here c.args.names.now.deck

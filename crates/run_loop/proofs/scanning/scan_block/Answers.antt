@@ -2,6 +2,7 @@ use Rattle.std.proofs.Common.{arith, ap, ◌∙◌}
 use Rattle.op_slot.proofs.Staying.{stays-here, stays-on}
 use Rattle.exec_recv.specs.Asides.{Aside}
 use Rattle.exec_recv.proofs.Asiding.{aside-here, aside-on}
+use Rattle.deck_relay.specs.SameDecks.{keeps-here, keeps-on}
 use Rattle.run_loop.proofs.Turned.{passed-more}
 use Rattle.run_loop.proofs.scanning.scan_block.Goals as goal
 
@@ -13,6 +14,7 @@ loop-node-init g c =
       aside = aside-here c.args.hand.now.me;
       served = λ first serves. serves;
       none = λ zero. (zero, λ node below inner. absurd (omega (arith, below)));
+      deck = keeps-here c.args.names.now.deck;
     }
 
 pub take_node-taken-requires-clause-first : goal.take_node-taken-requires-clause-first
@@ -37,4 +39,5 @@ loop-node-preserved g c =
             passed-more board c.args.helps c.args.block old.me between.me new.me c.loop-node.node before.aside
                 c.take_node-taken.ensures.aside earlier.1 here.1,
           );
+      deck = keeps-on c.args.names.now.deck c.loop-node.names.deck c.take_node-taken.new.names.deck before.deck c.take_node-taken.ensures.deck;
     }

@@ -1,4 +1,5 @@
 use Rattle.table_steps.specs.Views.{Stays}
+use Rattle.deck_relay.specs.SameDecks.{KeepsDeck}
 use Rattle.exec_recv.specs.Asides.{KeepsAside}
 use Rattle.loop_walk.specs.Resting.{IsAtRest}
 use Rattle.run_loop.specs.Serves.{ServesOn}
@@ -12,4 +13,5 @@ invariant-loop-node g l = record {
   aside : KeepsAside l.fn.hand.me l.hand.me;
   served : ServesOn (g.T.Stepper.does l.stepper) l.table l.fn.taken l.taken l.fn.hand.me l.hand.me;
   none : CountsNothing l.fn.taken l.taken (ArePassed l.table l.fn.hand.me l.hand.me l.helps l.block l.node);
+  deck : KeepsDeck l.fn.names.deck l.names.deck;
 }

@@ -3,6 +3,7 @@ use Rattle.op_slot.proofs.Staying.{stays-here, stays-on}
 use Rattle.exec_recv.specs.Asides.{Aside}
 use Rattle.exec_recv.proofs.Asiding.{aside-here, aside-on}
 use Rattle.loop_serve.proofs.Read.{looks-here}
+use Rattle.deck_relay.specs.SameDecks.{keeps-here, keeps-on}
 use Rattle.run_loop.proofs.Turned.{blocks-more}
 use Rattle.run_loop.proofs.scanning.scan_blocks.Goals as goal
 
@@ -14,6 +15,7 @@ loop-block-init g c =
       aside = aside-here c.args.hand.now.me;
       served = looks-here c.args.hand.now.me;
       none = λ zero block below. absurd (omega (arith, below));
+      deck = keeps-here c.args.names.now.deck;
     }
 
 pub scan_block-taken-requires-clause-first : goal.scan_block-taken-requires-clause-first
@@ -35,4 +37,5 @@ loop-block-preserved g c =
           let here = c.scan_block-taken.ensures.none zero in
           blocks-more board c.args.helps c.loop-block.block old.me between.me new.me before.aside c.scan_block-taken.ensures.aside
           (before.none here.0) here.1;
+      deck = keeps-on c.args.names.now.deck c.loop-block.names.deck c.scan_block-taken.new.names.deck before.deck c.scan_block-taken.ensures.deck;
     }

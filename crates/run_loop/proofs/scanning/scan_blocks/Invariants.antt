@@ -1,5 +1,6 @@
 use Rattle.std.proofs.Common.{◌≡◌}
 use Rattle.table_steps.specs.Views.{Stays}
+use Rattle.deck_relay.specs.SameDecks.{KeepsDeck}
 use Rattle.exec_recv.specs.Asides.{KeepsAside}
 use Rattle.loop_walk.specs.Resting.{IsAtRest}
 use Rattle.run_loop.specs.Serves.{Serves}
@@ -13,4 +14,5 @@ invariant-loop-block g l = record {
   aside : KeepsAside l.fn.hand.me l.hand.me;
   served : Serves (g.T.Stepper.does l.stepper) l.table l.taken l.fn.hand.me l.hand.me;
   none : l.taken ≡ 0 → ArePassedBelow l.table l.fn.hand.me l.hand.me l.helps l.block;
+  deck : KeepsDeck l.fn.names.deck l.names.deck;
 }

@@ -9,6 +9,7 @@ use Rattle.loop_serve.specs.Since.{OnlyLooks}
 use Rattle.loop_serve.specs.Serving.{IsUnready, WasUnready}
 use Rattle.loop_serve.proofs.Read.{looks-on, since-before, since-after}
 use Rattle.loop_serve.proofs.Took.{first-serves}
+use Rattle.deck_relay.specs.SameDecks.{keeps-on}
 use Rattle.run_loop.proofs.Served.{none-taken, one-taken, one-later, serves-after, serves-more}
 use Rattle.run_loop.proofs.serving.take_node.Goals as goal
 
@@ -28,6 +29,7 @@ returns-then-is_some g c =
       stays = c.serve_place.ensures.stays;
       rests = c.serve_place.ensures.rests;
       aside = c.serve_place.ensures.aside;
+      deck = c.serve_place.ensures.mail;
       served = λ first serves.
           serves-more does board c.args.taken c.one_more.result first old.me new.me some c.one_more.ensures.one c.serve_place.ensures.aside serves one;
       none = λ zero. absurd (omega (arith, some, zero));
@@ -43,6 +45,7 @@ returns-then-not-helps g c =
       stays = c.serve_place.ensures.stays;
       rests = c.serve_place.ensures.rests;
       aside = c.serve_place.ensures.aside;
+      deck = c.serve_place.ensures.mail;
       served = λ first serves.
           serves-after does board c.args.taken first old.me new.me serves
           (none-taken c.serve_place.result (OnlyLooks old.me new.me) (sym c.is_some.ensures ∙ c.if-is_some.false) c.serve_place.ensures.looks);
@@ -71,6 +74,7 @@ returns-then-is_some-2 g c =
       stays = stays-on board old between new c.serve_place.ensures.stays c.serve_place-2.ensures.stays;
       rests = c.serve_place-2.ensures.rests;
       aside = aside;
+      deck = keeps-on c.args.names.now.deck c.serve_place.new.mail.deck c.serve_place-2.new.mail.deck c.serve_place.ensures.mail c.serve_place-2.ensures.mail;
       served = λ first serves.
           serves-more does board c.args.taken c.one_more-then-is_some-2.result first old.me new.me some c.one_more-then-is_some-2.ensures.one aside
           serves (one-later does board old.me between.me new.me c.serve_place.ensures.aside one);
@@ -89,6 +93,7 @@ returns g c =
       stays = stays-on board old between new c.serve_place.ensures.stays c.serve_place-2.ensures.stays;
       rests = c.serve_place-2.ensures.rests;
       aside = aside;
+      deck = keeps-on c.args.names.now.deck c.serve_place.new.mail.deck c.serve_place-2.new.mail.deck c.serve_place.ensures.mail c.serve_place-2.ensures.mail;
       served = λ first serves.
           serves-after (g.T.Stepper.does c.args.stepper.now) board c.args.taken first old.me new.me serves
           (looks-on old.me between.me new.me

@@ -4,6 +4,7 @@ use Rattle.op_slot.proofs.Staying.{stays-here, stays-on}
 use Rattle.exec_recv.specs.Asides.{Aside}
 use Rattle.exec_recv.proofs.Asiding.{aside-here, aside-on}
 use Rattle.loop_serve.proofs.Read.{looks-here}
+use Rattle.deck_relay.specs.SameDecks.{keeps-here, keeps-on}
 use Rattle.run_loop.specs.Serves.{Serves}
 use Rattle.run_loop.specs.Turns.{AreLeft}
 use Rattle.run_loop.proofs.Served.{serves-after, serves-more}
@@ -21,6 +22,7 @@ loop-name-init g c =
       served = looks-here c.args.hand.now.me;
       met = λ k name below. absurd (omega (arith, below));
       none = λ zero k name below. absurd (omega (arith, below));
+      deck = keeps-here c.args.names.now.deck;
     }
 
 pub serve_name-requires-clause-first : goal.serve_name-requires-clause-first
@@ -69,6 +71,7 @@ loop-name-preserved g c =
                 (slice_get-get_or c.args.told.now c.loop-name.name-index _ c.loop-name-test.true) before.aside c.serve_name.ensures.aside
                 (before.none (sym w.taken-is ∙ zero)) (c.serve_name.ensures.left w.if-serve_name.false)
           ];
+      deck = keeps-on c.args.names.now.deck c.loop-name.names.deck c.serve_name.new.names.deck before.deck c.serve_name.ensures.deck;
     }
 
 pub returns-clause-none : goal.returns-clause-none

@@ -1,5 +1,6 @@
 use Rattle.std.proofs.Common.{◌≡◌}
 use Rattle.table_steps.specs.Views.{Stays}
+use Rattle.deck_relay.specs.SameDecks.{KeepsDeck}
 use Rattle.exec_recv.specs.Asides.{KeepsAside}
 use Rattle.loop_walk.specs.Resting.{IsAtRest}
 use Rattle.run_loop.specs.Serves.{Serves}
@@ -14,4 +15,5 @@ invariant-loop-name g l = record {
   served : Serves (g.T.Stepper.does l.stepper) l.table l.taken l.fn.hand.me l.hand.me;
   met : AreMet (g.T.Stepper.does l.stepper) l.table l.fn.hand.me l.hand.me l.helps l.told l.name-index;
   none : l.taken ≡ 0 → AreLeft l.table l.fn.hand.me l.hand.me l.helps l.told l.name-index;
+  deck : KeepsDeck l.fn.names.deck l.names.deck;
 }

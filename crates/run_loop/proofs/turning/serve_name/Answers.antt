@@ -9,6 +9,7 @@ use Rattle.exec_recv.specs.Over.{IsOver}
 use Rattle.exec_recv.proofs.Asiding.{aside-here, aside-on}
 use Rattle.loop_serve.proofs.Read.{since-before, since-after, looks-here, looks-on}
 use Rattle.loop_serve.proofs.Took.{first-serves, serves-before}
+use Rattle.deck_relay.specs.SameDecks.{keeps-here, keeps-on}
 use Rattle.run_loop.proofs.turning.serve_name.Goals as goal
 
 pub is_inner-requires : goal.is_inner-requires
@@ -76,3 +77,10 @@ pub returns-clause-looks : goal.returns-clause-looks
 returns-clause-looks g c looks =
     looks-on c.args.hand.now.me c.serve.new.hand.me c.serve-2.new.hand.me (c.serve.ensures.looks c.if-serve.false)
     (c.serve-2.ensures.looks looks)
+
+pub returns-then-not-is_inner-clause-deck : goal.returns-then-not-is_inner-clause-deck
+returns-then-not-is_inner-clause-deck g c = keeps-here c.args.names.now.deck
+
+pub returns-clause-deck : goal.returns-clause-deck
+returns-clause-deck g c =
+    keeps-on c.args.names.now.deck c.serve.new.mail.deck c.serve-2.new.mail.deck c.serve.ensures.mail c.serve-2.ensures.mail

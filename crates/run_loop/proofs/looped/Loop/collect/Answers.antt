@@ -1,6 +1,8 @@
 use Rattle.std.proofs.Common.{arith, refl, ap, ◌∙◌}
 use Rattle.exec_recv.specs.Asides.{Aside}
 use Rattle.loop_roots.proofs.Emptied.{unready-leaves}
+use Rattle.deck_relay.specs.SameDecks.{keeps-here}
+use Rattle.run_loop.specs.Loops.{deck_of}
 use Rattle.run_loop.proofs.looped.Loop.collect.Goals as goal
 
 pub returns-clause-ready : goal.returns-clause-ready
@@ -37,3 +39,9 @@ returns-in_err-env-clause-ready g c =
       next = c.requires.ready.next;
       delays = c.requires.ready.delays;
     }
+
+pub returns-clause-deck : goal.returns-clause-deck
+returns-clause-deck g c = keeps-here (deck_of c.args.self.now)
+
+pub returns-in_err-env-clause-deck : goal.returns-in_err-env-clause-deck
+returns-in_err-env-clause-deck g c = keeps-here (deck_of c.args.self.now)

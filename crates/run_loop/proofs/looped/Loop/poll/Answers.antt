@@ -2,8 +2,9 @@ use Rattle.std.proofs.Common.{arith, ap, ◌∙◌, subst}
 use Rattle.exec_recv.specs.Asides.{Aside}
 use Rattle.exec_recv.proofs.Asiding.{aside-on}
 use Rattle.loop_delays.specs.Delays.{DelayList}
+use Rattle.deck_relay.specs.SameDecks.{keeps-on}
 use Rattle.run_loop.specs.Delayed.{PassesTurn}
-use Rattle.run_loop.specs.Loops.{told}
+use Rattle.run_loop.specs.Loops.{told, deck_of}
 use Rattle.run_loop.proofs.Due.{passes-before}
 use Rattle.run_loop.proofs.Meeting.{met-later}
 use Rattle.run_loop.proofs.Turned.{left-later}
@@ -53,3 +54,8 @@ returns-clause-turn g c =
     c.poll_names-taken.ensures.delays.delays
     (passes-before board c.serve_delays.result old.hand.me between.hand.me new between.delays c.serve_delays.new.delays
     c.poll_names-taken.ensures.aside c.serve_delays.ensures.turn c.serve_delays.ensures.aside)
+
+pub returns-clause-deck : goal.returns-clause-deck
+returns-clause-deck g c =
+    keeps-on (deck_of c.args.self.now) (deck_of c.poll_names-taken.new.self) c.serve_delays.new.names.deck c.poll_names-taken.ensures.deck
+    c.serve_delays.ensures.deck

@@ -1,13 +1,28 @@
 use Rattle.std.proofs.Common.{ap, ◌∙◌, subst}
+use Rattle.deck_relay.specs.SameDecks.{keeps-on}
+use Rattle.run_loop.specs.Loops.{told, deck_of}
 use Rattle.run_loop.specs.Turns.{AreAllMet, AreAllLeft}
+use Rattle.run_loop.proofs.Meeting.{met-fewer, left-fewer}
 use Rattle.run_loop.proofs.looped.Loop.poll_names.Goals as goal
 
 pub returns-clause-none : goal.returns-clause-none
 returns-clause-none g c zero =
-    subst (AreAllLeft c.args.table.now c.args.self.now.hand.me c.serve_each-taken.new.hand.me c.args.self.now.helps)
-    (c.deref.ensures.value ∙ ap (λ names. names.list.items) c.swap.ensures.y_after) (c.serve_each-taken.ensures.none zero)
+    let old = c.args.self.now in
+    let new = c.serve_each-taken.new.hand in
+    left-fewer c.args.table.now old.helps old.hand.me new.me (told old) c.fetch.new.self.list.items c.fetch.ensures.more
+    (subst (AreAllLeft c.args.table.now old.hand.me new.me old.helps)
+    (c.deref.ensures.value ∙ ap (λ list. list.items) c.swap.ensures.y_after) (c.serve_each-taken.ensures.none zero))
 
 pub returns-clause-met : goal.returns-clause-met
 returns-clause-met g c =
-    subst (AreAllMet (g.T.Stepper.does c.args.stepper.now) c.args.table.now c.args.self.now.hand.me c.serve_each-taken.new.hand.me c.args.self.now.helps)
-    (c.deref.ensures.value ∙ ap (λ names. names.list.items) c.swap.ensures.y_after) c.serve_each-taken.ensures.met
+    let does = g.T.Stepper.does c.args.stepper.now in
+    let old = c.args.self.now in
+    let new = c.serve_each-taken.new.hand in
+    met-fewer c.args.table.now old.helps old.hand.me new.me (told old) c.fetch.new.self.list.items c.fetch.ensures.more does
+    (subst (AreAllMet does c.args.table.now old.hand.me new.me old.helps)
+    (c.deref.ensures.value ∙ ap (λ list. list.items) c.swap.ensures.y_after) c.serve_each-taken.ensures.met)
+
+pub returns-clause-deck : goal.returns-clause-deck
+returns-clause-deck g c =
+    keeps-on (deck_of c.args.self.now) c.fetch.new.self.deck c.serve_each-taken.new.names.deck c.fetch.ensures.deck
+    c.serve_each-taken.ensures.deck

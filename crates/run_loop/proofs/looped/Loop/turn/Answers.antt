@@ -1,6 +1,7 @@
 use Rattle.std.proofs.Common.{◌≡◌, arith, subst}
 use Rattle.exec_recv.proofs.Asiding.{aside-on}
-use Rattle.run_loop.specs.Loops.{told}
+use Rattle.deck_relay.specs.SameDecks.{keeps-on}
+use Rattle.run_loop.specs.Loops.{told, deck_of}
 use Rattle.run_loop.specs.Serves.{Serves}
 use Rattle.run_loop.specs.Turns.{TakesNothing}
 use Rattle.run_loop.proofs.Served.{serves-later}
@@ -46,3 +47,8 @@ returns-clause-turn g c =
     passes-after c.args.table.now c.poll-taken.result c.scan_blocks.result c.args.self.now.hand.me c.poll-taken.new.self.hand.me
     c.scan_blocks.new.hand.me c.args.self.now.delays c.poll-taken.new.self.delays (omega (arith, none)) c.poll-taken.ensures.turn
     c.scan_blocks.ensures.aside
+
+pub returns-clause-deck : goal.returns-clause-deck
+returns-clause-deck g c =
+    keeps-on (deck_of c.args.self.now) (deck_of c.poll-taken.new.self) c.scan_blocks.new.names.deck c.poll-taken.ensures.deck
+    c.scan_blocks.ensures.deck

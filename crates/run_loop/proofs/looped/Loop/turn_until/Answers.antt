@@ -1,6 +1,8 @@
 use Rattle.std.proofs.Common.{refl, ap, ◌∙◌}
 use Rattle.exec_recv.proofs.Asiding.{aside-here, aside-on}
+use Rattle.deck_relay.specs.SameDecks.{keeps-here, keeps-on}
 use Rattle.run_loop.specs.declared.looped.Loop.{Loop as Looped}
+use Rattle.run_loop.specs.Loops.{deck_of}
 use Rattle.loop_serve.proofs.Read.{looked-aside}
 use Rattle.run_loop.proofs.OneRun.{listed-still, collected-later}
 use Rattle.run_loop.proofs.looped.Loop.turn_until.Goals as goal
@@ -14,6 +16,7 @@ loop-init g c =
       same = (refl, refl);
       aside = aside-here c.args.self.now.hand.me;
       counts = record { helps = refl; tally = refl };
+      deck = keeps-here (deck_of c.args.self.now);
     }
 
 pub collect-requires-clause-listed : goal.collect-requires-clause-listed
@@ -40,9 +43,15 @@ loop-preserved g c =
         helps = turn.counts.helps ∙ ap (λ (z : Looped). z.helps) none.rest ∙ before.counts.helps;
         tally = turn.counts.tally ∙ ap (λ (z : Looped). z.tally) none.rest ∙ before.counts.tally;
       };
+      deck = keeps-on (deck_of c.args.self.now) (deck_of c.loop.self) (deck_of c.turn-taken.new.self) before.deck
+          (keeps-on (deck_of c.loop.self) (deck_of c.collect.new.self) (deck_of c.turn-taken.new.self) c.collect.ensures.deck turn.deck);
     }
 
 pub returns-in-Some-collect-clause-collected : goal.returns-in-Some-collect-clause-collected
 returns-in-Some-collect-clause-collected g c =
     collected-later c.args.table.now c.args.block c.args.self.now c.loop.self c.collect.new.self c.in-Some-collect.collected
     c.loop.invariant.aside c.loop.invariant.counts c.in-Some-collect.ensures.collected
+
+pub returns-in-Some-collect-clause-deck : goal.returns-in-Some-collect-clause-deck
+returns-in-Some-collect-clause-deck g c =
+    keeps-on (deck_of c.args.self.now) (deck_of c.loop.self) (deck_of c.collect.new.self) c.loop.invariant.deck c.collect.ensures.deck

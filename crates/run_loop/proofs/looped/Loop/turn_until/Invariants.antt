@@ -1,6 +1,7 @@
 use Rattle.table_steps.specs.Views.{IsSameHand}
+use Rattle.deck_relay.specs.SameDecks.{KeepsDeck}
 use Rattle.exec_recv.specs.Asides.{KeepsAside}
-use Rattle.run_loop.specs.Loops.{IsReady, KeepsCounts}
+use Rattle.run_loop.specs.Loops.{IsReady, KeepsCounts, deck_of}
 use Rattle.run_loop.proofs.looped.Loop.turn_until.Given as goal
 
 abbrev pub invariant-loop : goal.invariant-loop
@@ -11,4 +12,5 @@ invariant-loop g l = record {
   same : IsSameHand l.fn.self.hand l.self.hand;
   aside : KeepsAside l.fn.self.hand.me l.self.hand.me;
   counts : KeepsCounts l.fn.self l.self;
+  deck : KeepsDeck (deck_of l.fn.self) (deck_of l.self);
 }
