@@ -1,19 +1,17 @@
 -- What serving leaves of a spare hand.
-use Rattle.std.proofs.Common.{◌≡◌, ◌<◌, ℕ, zero, suc, List, [], ◌∷◌, ◌++◌, length, All, ◌-◌, rules, refl, sym, ap, ◌∙◌, subst, inl, inr, arith}
+use Rattle.std.proofs.Common.{◌≡◌, ◌<◌, zero, suc, List, [], ◌∷◌, ◌++◌, length, All, ◌-◌, rules, refl, sym, ap, ◌∙◌, subst, inl, inr, arith}
 use Rattle.std.specs.Prelude.{Option, Some, Contains, slice_index_or}
-use Rattle.std.proofs.lemmas.List.Elements.{All-append, All-take}
+use Rattle.std.proofs.lemmas.List.Elements.{All-append}
 use Rattle.atomic_table.specs.declared.shared.Seat.{Seat}
 use Rattle.listed_steps.specs.declared.seen.Seen.{Seen}
 use Rattle.listed_steps.specs.Lists.{entry}
 use Rattle.plan_shape.specs.Blueprint.{Blueprint}
 use Rattle.table_rules.specs.declared.view.View.{View}
 use Rattle.table_rules.specs.Named.{AnyOf}
-use Rattle.table_steps.specs.Closings.{HasNothing}
-use Rattle.table_steps.specs.Views.{Board, knows}
+use Rattle.table_steps.specs.Views.{Board}
 use Rattle.exec_start.specs.declared.entry.Entry.{Entry}
 use Rattle.exec_start.specs.declared.item.Item.{Item}
 use Rattle.exec_recv.specs.Asides.{KeepsAside}
-use Rattle.loop_walk.specs.Resting.{IsAtRest}
 use Rattle.steal_pool.specs.Works.{IsReady, HasEnded}
 use Rattle.run_crew.specs.Crews.{IsSpare, HasServed, ReadsJoined}
 

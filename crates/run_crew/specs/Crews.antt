@@ -1,5 +1,5 @@
 -- What a crew is, and what becomes of the hands on which its workers serve.
-use Rattle.std.specs.Prelude.{◌≡◌, ◌<◌, ◌≤◌, ℕ, true, Option}
+use Rattle.std.specs.Prelude.{◌≡◌, ◌<◌, ◌≤◌, ℕ, List, [], ◌∷◌, ◌++◌, length, slice_get, Option, Some, None}
 use Rattle.atomic_table.specs.declared.shared.Seat.{Seat}
 use Rattle.life_rules.specs.declared.limits.TheConstants.{MOST_HANDS}
 use Rattle.listed_steps.specs.declared.seen.Seen.{Seen}
@@ -13,6 +13,8 @@ use Rattle.exec_start.specs.declared.entry.Entry.{Entry}
 use Rattle.exec_start.specs.declared.item.Item.{Item}
 use Rattle.exec_recv.specs.Over.{IsOver}
 use Rattle.plan_kinds.specs.Runnable.{IsRunnable}
+use Rattle.steal_pool.specs.declared.desk.Desk.{Desk}
+use Rattle.steal_pool.specs.Desks.{IsSameDesk, KeepsDesk}
 use Rattle.steal_pool.specs.Works.{SaysJoined}
 
 -- So many workers may serve with so many backends: each has one, and a table has hands for all of
@@ -45,3 +47,20 @@ pub record HasServed (board : Board Blueprint) (hand : Seat (Option Item) (View 
     : Type 0 where
   pub spare : IsSpare board hand
   pub joined : AnyOf (ReadsJoined board) (knows hand).steps
+
+-- A worker of this desk gave back a hand that has served, and the desk, where it had one.
+pub record GivesBack (board : Board Blueprint) (old : Option Desk)
+    (hand : Seat (Option Item) (View Item Entry)) (desk : Option Desk) : Type 0 where
+  pub served : HasServed board hand
+  pub same : KeepsDesk old desk
+
+-- As many desks as before, each of which is the one that was at its place.
+pub record AreSameDesks (old new : List Desk) : Type 0 where
+  pub count : length new ≡ length old
+  pub each : (k : ℕ) (before after : Desk) → slice_get old k ≡ Some before →
+      slice_get new k ≡ Some after → IsSameDesk before after
+
+-- These are all desks: the rest, and this one last where there is one.
+abbrev pub IsWith : Option Desk → List Desk → List Desk → Type 0
+IsWith (Some desk) rest all = all ≡ rest ++ desk ∷ []
+IsWith None rest all = all ≡ rest

@@ -1,7 +1,8 @@
 //! Work on hand 0 beside the workers of a crew.
-ghost use Rattle.std.specs.Prelude.{◌≡◌, ◌+◌, ◌≤◌, All, [], IfNone, IfSome, MatchOption, vec_len, vec_capacity};
+ghost use Rattle.std.specs.Prelude.{◌≡◌, ◌+◌, ◌<◌, ◌≤◌, All, [], IfNone, IfSome, MatchOption, vec_len, vec_capacity};
 ghost use Rattle.std.specs.Thread.{IsSync};
-ghost use Rattle.run_crew.specs.Crews.{CanServe, HasServed};
+ghost use Rattle.steal_pool.specs.Desks.{KeepsDesk};
+ghost use Rattle.run_crew.specs.Crews.{AreSameDesks, CanServe, GivesBack, HasServed, IsWith};
 
 use crate::front::Front;
 use crate::serving::{Served, serve};
@@ -13,6 +14,7 @@ use std::snapshot::Snapshot;
 use std::sync::Wait;
 use std::thread;
 use std::thread::{Scope, Threads};
+use steal_pool::Desk;
 
 // Takes the last hand, where there is one.
 fn take_hand<T: Stepper>(
@@ -33,9 +35,31 @@ fn take_hand<T: Stepper>(
     hands.pop()
 }
 
+// Takes the last desk, where there is one.
+fn take_desk(desks: &mut Vec<Desk>) -> Option<Desk>
+    ensures with { IsWith result desks.new.items desks.old.items }
+    ensures length { MatchOption result (vec_len desks.new ≡ vec_len desks.old)
+        (λ _. vec_len desks.new + 1 ≡ vec_len desks.old) }
+    ensures capacity { vec_capacity desks.new ≡ vec_capacity desks.old }
+{
+    desks.pop()
+}
+
+// Puts a desk back as the last, where there is one.
+fn put_desk(desks: &mut Vec<Desk>, desk: Option<Desk>)
+    requires room { IfSome desk (λ _. vec_len desks.old < vec_capacity desks.old) }
+    ensures with { IsWith desk desks.old.items desks.new.items }
+    ensures capacity { vec_capacity desks.new ≡ vec_capacity desks.old }
+{
+    match desk {
+        None => {}
+        Some(desk) => desks.push_reserved(desk),
+    }
+}
+
 // Starts a worker for each spare hand, and then works on hand 0. A worker whose thread can't be
-// started serves after hand 0 has joined the scope: its first idle look reads so, and it ends.
-// `helps` is true until a thread was started.
+// started serves after hand 0 has joined the scope: its last look reads so, and it ends. `helps` is
+// true until a thread was started.
 fn work_beside<'s, E, W: Front, T: Stepper + Sync, R: Threads + Wait + Sync>(
     scope: &'s Scope<'s, E>,
     rt: &'s R,
@@ -45,46 +69,58 @@ fn work_beside<'s, E, W: Front, T: Stepper + Sync, R: Threads + Wait + Sync>(
     order: Order,
     hands: &mut Vec<Hand<Item>>,
     backends: &mut Vec<Box<dyn Backend + Send>>,
+    desks: &mut Vec<Desk>,
     hand: Hand<Item>,
+    own: Option<Desk>,
     front: &mut W,
     helps: bool,
-) -> Hand<Item>
+) -> (Hand<Item>, Option<Desk>)
     requires sync { IsSync R.row }
     requires serve { All (CanServe table.now (T.plan stepper.now)) hands.old.items }
     requires each { vec_len hands.old ≤ vec_len backends.old }
     requires needs { W.needs front.old hand }
-    ensures leaves { W.leaves front.old front.new result }
+    ensures leaves { W.leaves front.old front.new result.0 }
     ensures served { All (HasServed table.now) hands.new.items }
     ensures length { vec_len hands.new ≡ vec_len hands.old }
     ensures room { vec_capacity hands.old ≤ vec_capacity hands.new }
+    ensures same { AreSameDesks desks.old.items desks.new.items }
+    ensures shelf { vec_capacity desks.old ≤ vec_capacity desks.new }
+    ensures own { KeepsDesk own result.1 }
 {
     let Some(next) = take_hand(table, stepper, hands) else {
-        return front.work(rt, alloc, hand, helps);
+        return front.work(rt, alloc, hand, own, helps);
     };
     let Some(backend) = backends.pop() else {
         unreachable!()
     };
+    let desk = take_desk(desks);
     let started = scope.spawn_with(
-        Served(Snapshot::of(table)),
-        move || -> Hand<Item>
+        Served(Snapshot::of(table), Snapshot::of(&desk)),
+        move || -> (Hand<Item>, Option<Desk>)
             requires { IsSync R.row × IsSync T.row
                 × CanServe table.now (T.plan stepper.now) next }
-            ensures { HasServed table.entry.now result }
-        { serve(rt, alloc, table, stepper, next, backend, order) },
+            ensures { GivesBack table.entry.now desk result.0 result.1 }
+        { serve(rt, alloc, table, stepper, next, backend, order, desk) },
     );
     match started {
         Ok(child) => {
             let last = work_beside(
-                scope, rt, alloc, table, stepper, order, hands, backends, hand, front, false,
+                scope, rt, alloc, table, stepper, order, hands, backends, desks, hand, own, front,
+                false,
             );
-            hands.push_reserved(child.join(rt));
+            let (back, same) = child.join(rt);
+            hands.push_reserved(back);
+            put_desk(desks, same);
             last
         }
         Err(refused) => {
             let last = work_beside(
-                scope, rt, alloc, table, stepper, order, hands, backends, hand, front, helps,
+                scope, rt, alloc, table, stepper, order, hands, backends, desks, hand, own, front,
+                helps,
             );
-            hands.push_reserved((refused.value)());
+            let (served, again) = (refused.value)();
+            hands.push_reserved(served);
+            put_desk(desks, again);
             last
         }
     }
@@ -92,13 +128,15 @@ fn work_beside<'s, E, W: Front, T: Stepper + Sync, R: Threads + Wait + Sync>(
 
 /// Works on hand 0 of the table, beside a worker for each of the other hands, each in a thread of
 /// its own, and returns when all of them have ended. A thread that can't be started isn't used. The
-/// hands come back: hand 0's, and the others'. The worker of hand w + 1 uses backend w. All backends
-/// are dropped.
+/// hands come back: hand 0's, and the others', and all desks, hand 0's own last. The worker of hand
+/// w + 1 uses backend w, and desk w where there are as many desks as hands; where there are fewer,
+/// so many of the last workers have one. All backends are dropped. A worker with a desk sleeps where
+/// it finds nothing: the front wakes all by its own when it has joined the scope.
 ///
 /// Needs: the other hands can serve: the table is over the stepper's plan, whose kinds match. Each
 /// has a backend.
 /// Afterwards: the front's work was done on hand 0. Each other hand served until it read that the
-/// scope is joined.
+/// scope is joined. Each desk is the same, in its place, and so is hand 0's.
 pub fn run_beside<W: Front, T: Stepper + Sync, R: Threads + Wait + Sync>(
     rt: &R,
     alloc: Global,
@@ -106,10 +144,12 @@ pub fn run_beside<W: Front, T: Stepper + Sync, R: Threads + Wait + Sync>(
     stepper: &T,
     order: Order,
     mut backends: Vec<Box<dyn Backend + Send>>,
+    mut desks: Vec<Desk>,
     mut hands: Vec<Hand<Item>>,
     hand: Hand<Item>,
+    own: Option<Desk>,
     mut front: W,
-) -> (W, Hand<Item>, Vec<Hand<Item>>)
+) -> (W, Hand<Item>, Vec<Hand<Item>>, Vec<Desk>, Option<Desk>)
     requires sync { IsSync R.row }
     requires serve { All (CanServe table.now (T.plan stepper.now)) hands.items }
     requires each { vec_len hands ≤ vec_len backends }
@@ -118,19 +158,25 @@ pub fn run_beside<W: Front, T: Stepper + Sync, R: Threads + Wait + Sync>(
     ensures served { All (HasServed table.now) result.2.items }
     ensures length { vec_len result.2 ≡ vec_len hands }
     ensures room { vec_capacity hands ≤ vec_capacity result.2 }
+    ensures desks { AreSameDesks desks.items result.3.items }
+    ensures shelf { vec_capacity desks ≤ vec_capacity result.3 }
+    ensures own { KeepsDesk own result.4 }
 {
     backends.truncate(hands.len());
     thread::scope(
         thread::scope_env(),
         rt,
-        move |scope| -> (W, Hand<Item>, Vec<Hand<Item>>)
+        move |scope| -> (W, Hand<Item>, Vec<Hand<Item>>, Vec<Desk>, Option<Desk>)
             requires { IsSync R.row × IsSync T.row
                 × All (CanServe table.now (T.plan stepper.now)) hands.items
                 × (vec_len hands ≤ vec_len backends) × W.needs front hand }
             ensures { W.leaves front result.0 result.1
                 × All (HasServed table.entry.now) result.2.items
                 × (vec_len result.2 ≡ vec_len hands)
-                × (vec_capacity hands ≤ vec_capacity result.2) }
+                × (vec_capacity hands ≤ vec_capacity result.2)
+                × AreSameDesks desks.items result.3.items
+                × (vec_capacity desks ≤ vec_capacity result.3)
+                × KeepsDesk own result.4 }
         {
             let last = work_beside(
                 scope,
@@ -141,11 +187,13 @@ pub fn run_beside<W: Front, T: Stepper + Sync, R: Threads + Wait + Sync>(
                 order,
                 &mut hands,
                 &mut backends,
+                &mut desks,
                 hand,
+                own,
                 &mut front,
                 true,
             );
-            (front, last, hands)
+            (front, last.0, hands, desks, last.1)
         },
     )
 }

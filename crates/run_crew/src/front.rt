@@ -1,10 +1,12 @@
 //! The work of hand 0.
 ghost use Rattle.std.specs.Thread.{IsSync};
+ghost use Rattle.steal_pool.specs.Desks.{KeepsDesk};
 
 use exec_recv::Item;
 use op_slot::Hand;
 use std::alloc::Global;
 use std::sync::Wait;
+use steal_pool::Desk;
 
 /// What is done on hand 0 of a table while workers serve its pool, on the thread that called. It
 /// joins the table's scope: else its workers never end.
@@ -21,16 +23,18 @@ pub trait Front: Drop {
     /// What it leaves of itself, and of the hand.
     ghost leaves: { Self → Self → Seat (Option Item) (View Item Entry) → Type 0 };
 
-    /// Works on the hand, and gives it back. Where `helps` is true no worker serves the pool, so
-    /// the work has to take what is ready there, too.
+    /// Works on the hand, with this desk, and gives them back. Where `helps` is true no worker
+    /// serves the pool, so the work has to take what is ready there, too.
     fn work<R: Wait + Sync>(
         &mut self,
         rt: &R,
         alloc: Global,
         hand: Hand<Item>,
+        desk: Option<Desk>,
         helps: bool,
-    ) -> Hand<Item>
+    ) -> (Hand<Item>, Option<Desk>)
         requires sync { IsSync R.row }
         requires needs { needs self.old hand }
-        ensures { leaves self.old self.new result };
+        ensures leaves { leaves self.old self.new result.0 }
+        ensures desk { KeepsDesk desk result.1 };
 }

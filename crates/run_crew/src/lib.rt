@@ -3,16 +3,17 @@
 //!
 //! It stands on steal_pool, whose workers serve until the scope of their table is joined. It keeps
 //! one promise: the work on hand 0 was done, and all hands come back, of which each but hand 0's
-//! has nothing, and read that the scope is joined, whether its thread could be started or not.
+//! has nothing, and read that the scope is joined, whether its thread could be started or not. All
+//! desks come back, each the same.
 //!
 //!     hands --run_beside--> hand 0: Front::work ---------------- joins the scope --> back
 //!              |            hand 1: a thread: Worker::serve -- reads joined ------> back
 //!              |            hand 2: a thread: Worker::serve -- reads joined ------> back
 //!              +-- no thread for hand 3: it serves after hand 0 --- reads joined --> back
 //!
-//! Threads share the table, the stepper and nothing else. Where none could be started the work on
-//! hand 0 is told that it has to help the pool ([exec.sysctxrepl.general]: the calling thread runs
-//! what no other does).
+//! Threads share the table, the stepper, and names by their desks. Where none could be started the
+//! work on hand 0 is told that it has to help the pool ([exec.sysctxrepl.general]: the calling
+//! thread runs what no other does).
 #![tactic(auto)]
 
 mod beside;
@@ -26,3 +27,4 @@ pub use exec_recv::{Item, Stepper};
 pub use front::Front;
 pub use op_slot::{Hand, OpTable};
 pub use pool_backends::{Backend, Order};
+pub use steal_pool::Desk;

@@ -1,6 +1,6 @@
 //! How one worker serves on a hand.
 ghost use Rattle.std.specs.Thread.{IsSync};
-ghost use Rattle.run_crew.specs.Crews.{CanServe, HasServed};
+ghost use Rattle.run_crew.specs.Crews.{CanServe, GivesBack};
 
 use exec_recv::{Item, Stepper};
 use op_slot::{Hand, OpTable};
@@ -9,20 +9,24 @@ use std::alloc::Global;
 use std::snapshot::Snapshot;
 use std::sync::Wait;
 use std::thread::Promise;
-use steal_pool::Worker;
+use steal_pool::{Desk, Worker};
 
-/// The promise of a worker of this table: its hand has served.
+/// The promise of a worker of this table and this desk: its hand has served, and the desk comes
+/// back.
 #[derive(Drop)]
-pub(crate) struct Served(pub(crate) Snapshot<OpTable<Item>>);
+pub(crate) struct Served(
+    pub(crate) Snapshot<OpTable<Item>>,
+    pub(crate) Snapshot<Option<Desk>>,
+);
 
-impl Promise<Hand<Item>> for Served {
-    ghost use Rattle.run_crew.specs.Crews.{HasServed};
+impl Promise<(Hand<Item>, Option<Desk>)> for Served {
+    ghost use Rattle.run_crew.specs.Crews.{GivesBack};
 
-    ghost kept_by = { λ p r. HasServed p.0.value r };
+    ghost kept_by = { λ p r. GivesBack p.0.value p.1.value r.0 r.1 };
 }
 
-/// Serves the pool on a spare hand, with this backend, until the scope is joined. The backend is
-/// dropped in the worker's thread.
+/// Serves the pool on a spare hand, with this backend, and this desk where there is one, until the
+/// scope is joined. The backend is dropped in the worker's thread.
 pub(crate) fn serve<T: Stepper, R: Wait + Sync>(
     rt: &R,
     alloc: Global,
@@ -31,12 +35,23 @@ pub(crate) fn serve<T: Stepper, R: Wait + Sync>(
     hand: Hand<Item>,
     backend: Box<dyn Backend + Send>,
     order: Order,
-) -> Hand<Item>
+    desk: Option<Desk>,
+) -> (Hand<Item>, Option<Desk>)
     requires sync { IsSync R.row }
     requires serve { CanServe table.now (T.plan stepper.now) hand }
-    ensures { HasServed table.now result }
+    ensures { GivesBack table.now desk result.0 result.1 }
 {
-    let mut worker = Worker::new(hand, backend, order);
-    worker.serve(rt, alloc, table, stepper);
-    worker.into_hand()
+    match desk {
+        None => {
+            let mut worker = Worker::new(hand, backend, order);
+            worker.serve(rt, alloc, table, stepper);
+            (worker.into_hand(), None)
+        }
+        Some(Desk { deck, post }) => {
+            let mut worker = Worker::with_deck(hand, backend, order, deck, post);
+            worker.serve(rt, alloc, table, stepper);
+            let (hand, deck, post) = worker.into_parts();
+            (hand, Some(Desk { deck, post }))
+        }
+    }
 }

@@ -1,6 +1,10 @@
+pub mod Desks
 pub mod Works
+pub mod Rounds
 -- the definitions that the public contracts cite
 pub use Rattle.table_steps.specs.Views
 pub use Rattle.exec_recv.specs.Asides
 pub use Rattle.exec_recv.specs.Over
 pub use Rattle.loop_serve.specs.Serving
+pub use Rattle.deck_relay.specs.Decks
+pub use Rattle.loop_queue.specs.Posts

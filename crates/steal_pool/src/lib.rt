@@ -1,28 +1,38 @@
 //! Workers of the pool: each takes nodes that are ready in the pool, on a hand of its own, and goes
 //! on with what it takes.
 //!
-//! It stands on loop_serve, by which a hand serves a node, on pool_backends, in whose backends it
-//! keeps names, and on count_scope, whose scope tells it when to stop. It keeps one promise: it
-//! says that it took a node only where its hand took it and the stepper stepped it, that it is idle
-//! only where it read each node of the table but the roots as not ready in the pool, and it serves
-//! until it reads that the scope is joined.
+//! It stands on loop_serve, by which a hand serves a node, on pool_backends and deck_relay, which
+//! keep names for it, on loop_queue, by which it tells the loop what is ready there, and on
+//! count_scope, whose scope tells it when to stop. It keeps one promise: it says that it took a
+//! node only where its hand took it and the stepper stepped it, that it is idle only where it read
+//! each node of the table but the roots as not ready in the pool, and it serves until it reads that
+//! the scope is joined.
 //!
-//!     backend --next--> a name --take--> go_on: the worker took it
-//!        ^                 |
-//!        |                 +--another was first: the next name
+//!     backend, deck --next--> a name --take--> go_on: the worker took it
+//!        ^                       |
+//!        |                       +--another was first: the next name
 //!        +--submit-- a look at each place --none is ready--> Idle --is_joined--> the worker ends
 //!
 //! A name is a hint, so a backend need not be lawful: the node's word decides who takes it. Workers
-//! don't meet but at words of the table.
+//! don't meet but at words of the table and by their decks, and nothing of a run rests on those.
+//!
+//! A worker with a desk sleeps where it found nothing; without one it lets other threads run:
+//!
+//!     Awake --no name--> Searching, if nobody else is --no name, many times--> Lying
+//!       ^                                                                        |
+//!       +-----woken------- asleep <--no node is ready-- a look at each place <---+
 #![tactic(auto)]
 
+mod desk;
 mod offers;
+mod resting;
 mod searching;
 mod serving;
 mod taking;
 mod worker;
 mod working;
 
+pub use desk::Desk;
 pub use exec_recv::{Item, Stepper};
 pub use pool_backends::{Backend, Order, RingBackend};
 pub use worker::Worker;

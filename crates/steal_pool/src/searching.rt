@@ -9,6 +9,7 @@ ghost use Rattle.exec_recv.specs.Over.{IsOver};
 ghost use Rattle.loop_walk.specs.Resting.{IsAtRest};
 ghost use Rattle.loop_serve.specs.Since.{OnlyLooks};
 ghost use Rattle.loop_serve.specs.Serving.{ServesNode};
+ghost use Rattle.steal_pool.specs.Desks.{KeepsDesk};
 ghost use Rattle.steal_pool.specs.Works.{FindsNode, FindsBlock, FindsAny};
 
 use crate::offers::Offers;
@@ -20,8 +21,8 @@ use op_slot::{Hand, OpTable};
 use std::alloc::Global;
 use std::sync::Wait;
 
-// Looks at the node of the block. Where it is ready in the pool, its name is submitted to the
-// backend, or the node is taken at once: where names aren't to be submitted, or it was handed back.
+// Looks at the node of the block. Where it is ready in the pool, its name is submitted, or the node
+// is taken at once: where names aren't to be submitted, or it was handed back.
 fn look_at<T: Stepper, R: Wait + Sync>(
     rt: &R,
     alloc: Global,
@@ -50,14 +51,16 @@ fn look_at<T: Stepper, R: Wait + Sync>(
         (FindsNode table.now hand.old.me hand.new.me block node found.old found.new) }
     ensures looks { IfNone result (OnlyLooks hand.old.me hand.new.me) }
     ensures still { submits ≡ false → found.new ≡ found.old }
+    ensures desk { KeepsDesk offers.old.desk offers.new.desk }
 {
     match table.ready_at(hand, block, node, Context::Pool) {
         None => None,
         Some(name) => {
-            if submits && offers.backend.submit(name).is_ok() {
+            if offers.submit_where(rt, submits, name) {
                 *found = true;
                 return None;
             }
+            offers.get_up(rt);
             serve_place(
                 rt,
                 alloc,
@@ -101,6 +104,7 @@ fn search_block<T: Stepper, R: Wait + Sync>(
         (FindsBlock table.now hand.old.me hand.new.me block found.old found.new) }
     ensures looks { IfNone result (OnlyLooks hand.old.me hand.new.me) }
     ensures still { submits ≡ false → found.new ≡ found.old }
+    ensures desk { KeepsDesk offers.old.desk offers.new.desk }
 {
     let size = table.tree().size();
     for node in 0..size - 1 {
@@ -140,6 +144,7 @@ pub fn search<T: Stepper, R: Wait + Sync>(
         (FindsAny table.now hand.old.me hand.new.me found.old found.new) }
     ensures looks { IfNone result (OnlyLooks hand.old.me hand.new.me) }
     ensures still { submits ≡ false → found.new ≡ found.old }
+    ensures desk { KeepsDesk offers.old.desk offers.new.desk }
 {
     for block in 0..table.blocks() {
         match search_block(

@@ -1,4 +1,4 @@
-//! How a worker takes a node by the names that its backend hands out.
+//! How a worker takes a node by the names that its backend and its deck hand out.
 ghost use Rattle.std.specs.Prelude.{◌≡◌, ◌+◌, ◌≤◌, true, false, IfSome, IfNone};
 ghost use Rattle.std.specs.Thread.{IsSync};
 ghost use Rattle.life_rules.specs.declared.event.Resting.TheVariants.{Pool};
@@ -9,6 +9,7 @@ ghost use Rattle.exec_recv.specs.Over.{IsOver};
 ghost use Rattle.loop_walk.specs.Resting.{IsAtRest};
 ghost use Rattle.loop_serve.specs.Since.{OnlyLooks};
 ghost use Rattle.loop_serve.specs.Serving.{ServesNode};
+ghost use Rattle.steal_pool.specs.Desks.{KeepsDesk};
 
 use crate::offers::Offers;
 use exec_recv::{Item, Stepper};
@@ -25,7 +26,7 @@ fn is_place(table: &OpTable<Item>, name: Name) -> bool
     name.block < table.blocks() && name.node < table.tree().size()
 }
 
-// Serves the node of a name that the backend handed out. A name of no place is no hint.
+// Serves the node of a name that was handed out. A name of no place is no hint.
 fn serve_name<T: Stepper, R: Wait + Sync>(
     rt: &R,
     alloc: Global,
@@ -46,6 +47,7 @@ fn serve_name<T: Stepper, R: Wait + Sync>(
     ensures served { result ≡ true →
         ServesNode (T.does stepper.now) table.now Pool name hand.old.me hand.new.me }
     ensures looks { result ≡ false → OnlyLooks hand.old.me hand.new.me }
+    ensures desk { KeepsDesk offers.old.desk offers.new.desk }
 {
     if !is_place(table, name) {
         return false;
@@ -53,22 +55,23 @@ fn serve_name<T: Stepper, R: Wait + Sync>(
     serve(rt, alloc, table, hand, stepper, offers, name, Resting::Pool)
 }
 
-// The next name of the backend, where the call may ask for one more. Each that is asked for is one
-// fewer.
-fn ask(offers: &mut Offers, asks: &mut u32) -> Option<Name>
+// The next name, where the call may ask for one more. Each that is asked for is one fewer.
+fn ask<R: Wait>(rt: &R, offers: &mut Offers, asks: &mut u32) -> Option<Name>
     ensures most { asks.new ≤ asks.old }
     ensures fewer { IfSome result (λ _. asks.new + 1 ≡ asks.old) }
     ensures none { asks.old ≡ 0 → offers.new ≡ offers.old }
+    ensures desk { KeepsDesk offers.old.desk offers.new.desk }
 {
     if *asks == 0 {
         return None;
     }
     *asks -= 1;
-    offers.backend.next()
+    offers.next(rt)
 }
 
-/// Takes the first node that it can by the names of the backend, as long as the call may ask for
-/// one more: a backend that never ends its answers doesn't hold the call.
+/// Takes the first node that it can by the names of the backend and of the deck, as long as the
+/// call may ask for one more: a backend that never ends its answers doesn't hold the call. Before
+/// it goes on with a node it searches no more.
 pub fn take_next<T: Stepper, R: Wait + Sync>(
     rt: &R,
     alloc: Global,
@@ -90,8 +93,10 @@ pub fn take_next<T: Stepper, R: Wait + Sync>(
     ensures served { IfSome result (λ name.
         ServesNode (T.does stepper.now) table.now Pool name hand.old.me hand.new.me) }
     ensures looks { IfNone result (OnlyLooks hand.old.me hand.new.me) }
+    ensures desk { KeepsDesk offers.old.desk offers.new.desk }
 {
-    'asked: while let Some(name) = ask(offers, asks) {
+    'asked: while let Some(name) = ask(rt, offers, asks) {
+        offers.get_up(rt);
         if serve_name(rt, alloc, table, hand, stepper, offers, name) {
             return Some(name);
         }

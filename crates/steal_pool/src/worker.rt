@@ -1,9 +1,13 @@
 //! A worker.
-ghost use Rattle.std.specs.Prelude.{◌≡◌, true};
+ghost use Rattle.std.specs.Prelude.{◌≡◌, true, Some, None, IsSome};
 ghost use Rattle.pool_backends.specs.Stocks.{Arranges};
 
+use crate::desk::Desk;
 use crate::offers::Offers;
+use crate::resting::Rest;
+use deck_relay::Deck;
 use exec_recv::Item;
+use loop_queue::LoopPost;
 use op_slot::Hand;
 use pool_backends::{Backend, Order};
 
@@ -23,19 +27,75 @@ impl Worker {
         ensures hand { result.hand ≡ hand }
         ensures arranged { lawful backend ≡ true →
             Arranges order (stock backend) (stock result.offers.backend) }
+        ensures desk { result.offers.desk ≡ None }
     {
         let mut arranged = backend;
         arranged.arrange(order);
         Worker {
             hand,
-            offers: Offers { backend: arranged },
+            offers: Offers {
+                backend: arranged,
+                desk: None,
+                rest: Rest::Awake,
+                endless: false,
+            },
         }
     }
 
-    /// The worker's hand. Its backend is dropped.
+    /// A worker as `new` makes it, with a desk: it takes names of the deck after those of its
+    /// backend, pushes what it leaves ready in the pool to the deck, and posts what it leaves ready
+    /// in the loop. It wants no memory.
+    pub fn with_deck(
+        hand: Hand<Item>,
+        backend: Box<dyn Backend + Send>,
+        order: Order,
+        deck: Deck,
+        post: LoopPost,
+    ) -> Worker
+        ensures hand { result.hand ≡ hand }
+        ensures arranged { lawful backend ≡ true →
+            Arranges order (stock backend) (stock result.offers.backend) }
+        ensures desk { result.offers.desk ≡ Some (record { deck = deck; post = post }) }
+    {
+        let mut arranged = backend;
+        arranged.arrange(order);
+        Worker {
+            hand,
+            offers: Offers {
+                backend: arranged,
+                desk: Some(Desk { deck, post }),
+                rest: Rest::Awake,
+                endless: false,
+            },
+        }
+    }
+
+    /// The worker's hand. Its backend is dropped, and so is its desk.
     pub fn into_hand(self) -> Hand<Item>
         ensures { result ≡ self.hand }
     {
         self.hand
+    }
+
+    /// The worker's hand, deck and post. Its backend is dropped.
+    ///
+    /// Needs: the worker was made with a deck.
+    pub fn into_parts(self) -> (Hand<Item>, Deck, LoopPost)
+        requires desk { IsSome self.offers.desk }
+        ensures hand { result.0 ≡ self.hand }
+        ensures desk { self.offers.desk ≡ Some (record { deck = result.1; post = result.2 }) }
+    {
+        let Worker { hand, offers } = self;
+        let Offers {
+            backend,
+            desk,
+            rest: _,
+            endless: _,
+        } = offers;
+        drop(backend);
+        let Some(Desk { deck, post }) = desk else {
+            unreachable!()
+        };
+        (hand, deck, post)
     }
 }

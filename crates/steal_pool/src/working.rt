@@ -6,6 +6,7 @@ ghost use Rattle.table_steps.specs.Views.{IsHandOf, IsSameHand, Stays, knows};
 ghost use Rattle.exec_recv.specs.Asides.{KeepsAside};
 ghost use Rattle.exec_recv.specs.Over.{IsOver};
 ghost use Rattle.loop_walk.specs.Resting.{IsAtRest};
+ghost use Rattle.steal_pool.specs.Desks.{KeepsDesk};
 ghost use Rattle.steal_pool.specs.Works.{IsReady, WorksOn};
 
 use crate::offers::Offers;
@@ -27,6 +28,11 @@ pub enum Worked {
     Idle,
 }
 
+/// How many names one call may ask for: as many as the table has places.
+pub fn places_of(table: &OpTable<Item>) -> u32 {
+    table.blocks().saturating_mul(table.tree().size())
+}
+
 // Takes the first node that is ready in the pool, whatever the backend does.
 fn take_any<T: Stepper, R: Wait + Sync>(
     rt: &R,
@@ -45,6 +51,7 @@ fn take_any<T: Stepper, R: Wait + Sync>(
     ensures rests { IsAtRest (knows hand.new) }
     ensures aside { KeepsAside hand.old.me hand.new.me }
     ensures works { WorksOn (T.does stepper.now) table.now result hand.old hand.new }
+    ensures desk { KeepsDesk offers.old.desk offers.new.desk }
 {
     let mut found = false;
     match search(rt, alloc, table, hand, stepper, offers, false, &mut found) {
@@ -54,7 +61,8 @@ fn take_any<T: Stepper, R: Wait + Sync>(
 }
 
 // Submits the names of nodes that are ready in the pool, and takes one of them: by the names of the
-// backend, as many as the call may still ask for, and where it gives none by a further look.
+// backend, as many as the call may still ask for, and where it gives none by a further look. A
+// worker with a desk takes the first such node at once: other hands have names of the others.
 fn seek<T: Stepper, R: Wait + Sync>(
     rt: &R,
     alloc: Global,
@@ -74,9 +82,11 @@ fn seek<T: Stepper, R: Wait + Sync>(
     ensures aside { KeepsAside hand.old.me hand.new.me }
     ensures most { asks.new ≤ asks.old }
     ensures works { WorksOn (T.does stepper.now) table.now result hand.old hand.new }
+    ensures desk { KeepsDesk offers.old.desk offers.new.desk }
 {
+    let submits = offers.desk.is_none();
     let mut found = false;
-    match search(rt, alloc, table, hand, stepper, offers, true, &mut found) {
+    match search(rt, alloc, table, hand, stepper, offers, submits, &mut found) {
         Some(name) => return Worked::Took(name),
         None => {}
     }
@@ -92,18 +102,18 @@ fn seek<T: Stepper, R: Wait + Sync>(
 
 impl Worker {
     /// Takes one node that is ready in the pool, and goes on with it until the hand is at rest: by
-    /// a name of the backend; else by a look at each node of the table, by which the names of those
-    /// that are ready are submitted. Took tells the node, which this hand took in this call, and
-    /// the stepper stepped. Idle only where the word of each node but the roots, at its own step of
-    /// this call, said that it isn't ready in the pool, and it moved no word. It asks the backend
-    /// for at most as many names as the table has places.
+    /// a name of the backend or of the deck; else by a look at each node of the table, by which the
+    /// names of those that are ready are submitted, where the worker has no desk. Took tells the
+    /// node, which this hand took in this call, and the stepper stepped. Idle only where the word
+    /// of each node but the roots, at its own step of this call, said that it isn't ready in the
+    /// pool, and it moved no word. It asks for at most as many names as the table has places.
     ///
     /// Step: those of `take` for each name; one load of each node's word; and those of the steps of
     /// the node.
     /// Needs: the hand is one of the table's, and at rest. The table is over the stepper's plan,
     /// whose kinds match.
     /// Afterwards: so it is still. All else that its view says is as before, but for requests that
-    /// it has seen and the list of its steps.
+    /// it has seen and the list of its steps. The worker's desk is the same.
     pub fn work_once<T: Stepper, R: Wait + Sync>(
         &mut self,
         rt: &R,
@@ -119,9 +129,9 @@ impl Worker {
         ensures same { IsSameHand self.old.hand self.new.hand }
         ensures aside { KeepsAside self.old.hand.me self.new.hand.me }
         ensures works { WorksOn (T.does stepper.now) table.now result self.old.hand self.new.hand }
+        ensures desk { KeepsDesk self.old.offers.desk self.new.offers.desk }
     {
-        // So many names the backend is asked for in this call, by `ask` alone.
-        let mut asks = table.blocks().saturating_mul(table.tree().size());
+        let mut asks = places_of(table);
         match take_next(
             rt,
             alloc,

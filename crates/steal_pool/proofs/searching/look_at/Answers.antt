@@ -5,6 +5,7 @@ use Rattle.table_words.specs.Layouts.{OfControl, index}
 use Rattle.op_slot.proofs.Staying.{stays-on}
 use Rattle.exec_recv.proofs.Asiding.{aside-on}
 use Rattle.loop_serve.proofs.Read.{looked-rests, looked-aside, looked-only, read-unready}
+use Rattle.steal_pool.specs.Desks.{keeps-here, keeps-on}
 use Rattle.steal_pool.proofs.Searched.{finds-before, looks-before, served-before}
 use Rattle.steal_pool.proofs.searching.look_at.Goals as goal
 
@@ -23,10 +24,11 @@ returns-in-None g c =
       none = λ not. (not, read-unready board Pool c.args.block c.args.node c.ready_at.result old new read c.in-None.is);
       looks = looked-only i read.word old.me new.me read.me_is;
       still = λ not. refl {a = c.args.found.now};
+      desk = keeps-here c.args.offers.now.desk;
     }
 
-pub returns-then-is_ok : goal.returns-then-is_ok
-returns-then-is_ok g c =
+pub returns-then-submit_where : goal.returns-then-submit_where
+returns-then-submit_where g c =
     let i = index c.args.table.now.frame.layout (OfControl c.args.block c.args.node) in
     let old = c.args.hand.now in
     let new = c.ready_at.new.hand in
@@ -38,7 +40,8 @@ returns-then-is_ok g c =
       served = tt;
       none = λ not. absurd (both_ways true not refl);
       looks = looked-only i read.word old.me new.me read.me_is;
-      still = λ not. absurd (both_ways c.args.submits not c.if-submits.true);
+      still = λ not. absurd (both_ways c.submit_where.result (c.submit_where.ensures.none not) c.if-submit_where.true);
+      desk = c.submit_where.ensures.desk;
     }
 
 pub serve_place-requires-clause-rests : goal.serve_place-requires-clause-rests
@@ -47,8 +50,8 @@ serve_place-requires-clause-rests g c κs within =
     looked-rests (index c.args.table.now.frame.layout (OfControl c.args.block c.args.node)) read.word c.args.hand.now.me c.ready_at.new.hand.me
     read.me_is c.requires.rests
 
-pub returns-else-submits : goal.returns-else-submits
-returns-else-submits g c =
+pub returns-else-submit_where : goal.returns-else-submit_where
+returns-else-submit_where g c =
     let board = c.args.table.now in
     let does = g.T.Stepper.does c.args.stepper.now in
     let old = c.args.hand.now in
@@ -65,4 +68,7 @@ returns-else-submits g c =
           c.serve_place.ensures.unready;
       looks = looks-before board old.me between.me new.me c.serve_place.result looked c.serve_place.ensures.looks;
       still = λ not. refl {a = c.args.found.now};
+      desk = keeps-on c.args.offers.now.desk c.submit_where.new.self.desk c.serve_place.new.mail.desk c.submit_where.ensures.desk
+          (keeps-on c.submit_where.new.self.desk c.get_up.new.self.desk c.serve_place.new.mail.desk c.get_up.ensures
+          c.serve_place.ensures.mail);
     }

@@ -2,6 +2,7 @@ use Rattle.std.proofs.Common.{◌≤◌}
 use Rattle.table_steps.specs.Views.{Stays}
 use Rattle.loop_walk.specs.Resting.{IsAtRest}
 use Rattle.loop_serve.specs.Since.{OnlyLooks}
+use Rattle.steal_pool.specs.Desks.{KeepsDesk}
 use Rattle.steal_pool.proofs.taking.take_next.Given as goal
 
 abbrev pub invariant-asked : goal.invariant-asked
@@ -10,6 +11,7 @@ invariant-asked g l = record {
   rests : IsAtRest l.hand.me.0;
   looks : OnlyLooks l.fn.hand.me l.hand.me;
   most : l.asks ≤ l.fn.asks;
+  desk : KeepsDesk l.fn.offers.desk l.offers.desk;
 }
 
 abbrev pub decreases-asked : goal.decreases-asked

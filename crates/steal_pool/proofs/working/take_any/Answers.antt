@@ -8,6 +8,7 @@ returns-in-Some g c =
       rests = c.search.ensures.rests;
       aside = c.search.ensures.aside;
       works = c.in-Some.ensures.served;
+      desk = c.search.ensures.desk;
     }
 
 pub returns-in-None : goal.returns-in-None
@@ -17,4 +18,5 @@ returns-in-None g c =
       rests = c.search.ensures.rests;
       aside = c.search.ensures.aside;
       works = record { idle = (c.in-None.ensures.none (c.search.ensures.still refl)).1; looks = c.in-None.ensures.looks };
+      desk = c.search.ensures.desk;
     }

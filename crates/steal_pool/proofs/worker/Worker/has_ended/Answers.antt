@@ -1,33 +1,40 @@
 use Rattle.std.proofs.Common.{false, refl}
 use Rattle.std.proofs.lemmas.Bool.{both_ways}
-use Rattle.exec_recv.proofs.Asiding.{aside-on}
-use Rattle.loop_serve.proofs.Read.{looked-rests}
-use Rattle.steal_pool.proofs.Searched.{same-on, scope-looks, then-ended}
+use Rattle.steal_pool.specs.Desks.{keeps-on}
+use Rattle.steal_pool.proofs.Kept.{keeps-same}
 use Rattle.steal_pool.proofs.worker.Worker.has_ended.Goals as goal
 
 pub returns-in-Took : goal.returns-in-Took
 returns-in-Took g c =
+    let round = c.go_round.ensures in
     record {
-      ready = c.work_once.ensures.ready;
-      same = c.work_once.ensures.same;
-      aside = c.work_once.ensures.aside;
+      ready = round.ready;
+      same = round.same;
+      aside = round.aside;
       ended = λ is. absurd (both_ways false refl is);
+      desk = round.desk;
     }
 
 pub returns-in-Idle : goal.returns-in-Idle
 returns-in-Idle g c =
-    let board = c.args.table.now in
-    let old = c.args.self.now.hand in
-    let between = c.work_once.new.self.hand in
-    let new = c.is_joined.new.hand in
-    let worked = c.work_once.ensures in
-    let read = c.is_joined.ensures.read in
+    let round = c.go_round.ensures in
     record {
-      ready = record {
-        of_table = c.is_joined.ensures.stays.hand;
-        rests = looked-rests 0 read.word between.me new.me read.me_is worked.ready.rests;
-      };
-      same = same-on old between new worked.same c.is_joined.ensures.stays.same;
-      aside = aside-on old.me between.me new.me worked.aside (scope-looks board c.is_joined.result old.me between.me new.me read).aside;
-      ended = λ is. then-ended board c.is_joined.result old.me between.me new.me read c.in-Idle.ensures.works is;
+      ready = round.ready;
+      same = round.same;
+      aside = round.aside;
+      ended = λ is. absurd (both_ways false refl is);
+      desk = keeps-on c.args.self.now.offers.desk c.go_round.new.self.offers.desk c.wait.new.self.desk round.desk
+          (keeps-same c.go_round.new.self.offers.desk c.wait.new.self.desk c.wait.ensures);
+    }
+
+pub returns-in-Ended : goal.returns-in-Ended
+returns-in-Ended g c =
+    let round = c.go_round.ensures in
+    record {
+      ready = round.ready;
+      same = round.same;
+      aside = round.aside;
+      ended = λ _. c.in-Ended.ensures.ended;
+      desk = keeps-on c.args.self.now.offers.desk c.go_round.new.self.offers.desk c.leave-counted.new.self.desk round.desk
+          (keeps-same c.go_round.new.self.offers.desk c.leave-counted.new.self.desk c.leave-counted.ensures);
     }

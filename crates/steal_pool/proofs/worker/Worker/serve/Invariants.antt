@@ -1,5 +1,6 @@
 use Rattle.table_steps.specs.Views.{IsSameHand}
 use Rattle.exec_recv.specs.Asides.{KeepsAside}
+use Rattle.steal_pool.specs.Desks.{KeepsDesk}
 use Rattle.steal_pool.specs.Works.{IsReady}
 use Rattle.steal_pool.proofs.worker.Worker.serve.Given as goal
 
@@ -10,4 +11,5 @@ invariant-loop g l = record {
   ready : IsReady l.table l.self.hand;
   same : IsSameHand l.fn.self.hand l.self.hand;
   aside : KeepsAside l.fn.self.hand.me l.self.hand.me;
+  desk : KeepsDesk l.fn.self.offers.desk l.self.offers.desk;
 }
