@@ -18,7 +18,7 @@ use Rattle.table_run.specs.Ends.{HasJoined, IsEnded}
 use Rattle.table_steps.specs.Closings.{AreAllBack, HasNothing, IsCountedBy, IsScopeLeft, LeavesScope, claimed_by, released_by, steps_of}
 use Rattle.table_steps.specs.Views.{Board, IsHandOf, knows}
 use Rattle.table_steps.specs.declared.closing.Closing.{Closing}
-use Rattle.record_runs.specs.Desks.{IsEndedOn}
+use Rattle.record_runs.specs.Fronts.{IsEndedOn}
 use Rattle.record_runs.specs.Opened.{AreBack, IsClosedAfter}
 
 -- what a hand of a table over a plan is

@@ -3,3 +3,5 @@ mod HandLaws
 mod BackLaws
 mod JoinLaws
 mod AccountLaws
+mod OwnLaws
+mod DeskLaws

@@ -1,53 +1,31 @@
--- What a run leaves on the desk on which it worked.
-use Rattle.std.specs.Prelude.{◌≡◌, ℕ, List, Option, IfOk}
-use Rattle.atomic_table.specs.declared.shared.Seat.{Seat}
-use Rattle.exec_io.specs.Views.{SinkView, SourceView}
-use Rattle.exec_start.specs.declared.entry.Entry.{Entry}
-use Rattle.exec_start.specs.declared.item.Item.{Item}
-use Rattle.plan_shape.specs.Blueprint.{Blueprint}
-use Rattle.record_loop.specs.Generated.{generated_lines}
-use Rattle.record_loop.specs.ReadStarts.{ReadStart}
-use Rattle.record_loop.specs.Tallies.{TalliesWith}
-use Rattle.record_loop.specs.declared.printer.Form.TheVariants.{Summary}
-use Rattle.table_rules.specs.declared.view.View.{View}
-use Rattle.table_run.specs.Ends.{IsEnded}
-use Rattle.table_steps.specs.Views.{Board}
-use Rattle.record_runs.specs.Endings.{EndsCounted, EndsLines, begins, supply}
-use Rattle.record_runs.specs.Opened.{CanRunOn, IsFreshHand}
-use Rattle.record_runs.specs.declared.counted_desk.CountedDesk.{CountedDesk}
-use Rattle.record_runs.specs.declared.lines_desk.LinesDesk.{LinesDesk}
+-- The desks of a run, and what they are closed with.
+use Rattle.std.specs.Prelude.{◌≡◌, ◌≤◌, List, [], length, map, Option, Some, None, vec_capacity}
+use Rattle.std.specs.Arc.{arc_value}
+use Rattle.deck_relay.specs.declared.deck.Deck.{Deck}
+use Rattle.deck_relay.specs.Relays.{CameBack as AreAllDecks}
+use Rattle.loop_queue.specs.declared.post.LoopPost.{LoopPost}
+use Rattle.loop_queue.specs.Posts.{CameBack as AreAllPosts}
+use Rattle.steal_pool.specs.declared.desk.Desk.{Desk}
+use Rattle.record_runs.specs.declared.desks.DeskRoom.{DeskRoom}
 
--- A run may begin on this hand, which is fresh.
-pub record CanBegin (board : Board Blueprint) (plan : Blueprint) (window : ℕ) (stepped : Blueprint)
-    (hand : Seat (Option Item) (View Item Entry)) : Type 0 where
-  pub runs : CanRunOn board plan window stepped
-  pub fresh : IsFreshHand board hand
+-- the decks of desks, and their posts, each in its place
+abbrev pub decks_of : List Desk → List Deck
+decks_of desks = map (λ (desk : Desk). desk.deck) desks
 
--- The run ended on the hand of this table.
-abbrev pub IsEndedOn : Board Blueprint → Seat (Option Item) (View Item Entry) → Type 0
-IsEndedOn board hand = IsEnded (λ other. other ≡ board) hand
+abbrev pub posts_of : List Desk → List LoopPost
+posts_of desks = map (λ (desk : Desk). desk.post) desks
 
--- The records of the source were run, and the desk lies by the same source and sink.
-pub record LeavesLines {T S K : Type 0} (source : S → SourceView)
-    (reads : S → Option (List ReadStart)) (sink : K → SinkView) (old new : LinesDesk T S K)
-    (hand : Seat (Option Item) (View Item Entry)) : Type 0 where
-  pub same_source : new.records.ghost_name ≡ old.records.ghost_name
-  pub same_sink : new.out.ghost_name ≡ old.out.ghost_name
-  pub same_came : new.came.ghost_name ≡ old.came.ghost_name
-  pub ends : EndsLines
-      (begins old.on.plan.now old.on.window old.form (sink old.out.now))
-      (supply (source old.records.now) (reads old.records.now))
-      (supply (source new.records.now) (reads new.records.now)) (sink new.out.now) new.came.now.answer
-  pub told : IfOk new.came.now.answer (λ ending. TalliesWith new.came.now.tally ending.summary)
-  pub ended : IsEndedOn old.on.table.now hand
+-- These are all desks of a run with this room: their decks are all decks of a relay, and their posts
+-- all posts of its queue. The room is empty, and enough for them.
+pub record AreDesksOf (room : DeskRoom) (desks : List Desk) : Type 0 where
+  pub all_decks : AreAllDecks (decks_of desks)
+  pub all_posts : AreAllPosts (arc_value room.queue) (posts_of desks)
+  pub no_deck : room.decks.items ≡ []
+  pub no_post : room.posts.items ≡ []
+  pub decks_fit : length desks ≤ vec_capacity room.decks
+  pub posts_fit : length desks ≤ vec_capacity room.posts
 
--- The generated records were run, and the desk lies by the same sink.
-pub record LeavesCounted {T K : Type 0} (sink : K → SinkView) (old new : CountedDesk T K)
-    (hand : Seat (Option Item) (View Item Entry)) : Type 0 where
-  pub same_sink : new.out.ghost_name ≡ old.out.ghost_name
-  pub same_came : new.came.ghost_name ≡ old.came.ghost_name
-  pub ends : EndsCounted
-      (begins old.on.plan.now old.on.window Summary (sink old.out.now))
-      (generated_lines old.on.plan.now.settings.input old.count) (sink new.out.now) new.came.now.answer
-  pub told : IfOk new.came.now.answer (λ ending. TalliesWith new.came.now.tally ending.summary)
-  pub ended : IsEndedOn old.on.table.now hand
+-- So they are where there is a room. Where there is none, there are no desks.
+abbrev pub CanClose : Option DeskRoom → List Desk → Type 0
+CanClose (Some room) desks = AreDesksOf room desks
+CanClose None desks = desks ≡ []

@@ -1,5 +1,7 @@
 pub mod Endings
-pub mod Opened
 pub mod Desks
+pub mod Opened
+pub mod Fronts
+pub mod Owns
 pub mod Keeps
 pub mod Accounts

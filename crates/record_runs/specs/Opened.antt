@@ -15,6 +15,7 @@ use Rattle.table_rules.specs.declared.view.View.{View}
 use Rattle.table_steps.specs.Closings.{LeavesScope, steps_of}
 use Rattle.table_steps.specs.Views.{AreFreshHands, Board, IsHandOf, fresh_with, knows}
 use Rattle.table_steps.specs.declared.closing.Closing.{Closing}
+use Rattle.record_runs.specs.Desks.{CanClose}
 use Rattle.record_runs.specs.declared.opened.Opened.{Opened}
 
 -- Blocks beside those of the records that are worked on at once, for what an `ahead` spawns: as many
@@ -36,12 +37,14 @@ pub record IsFor (plan : Blueprint) (window : ℕ) (board : Board Blueprint) : T
   pub some : 0 < window
   pub few : window ≤ MOST_BLOCKS
 
--- So it was opened, with a hand for each worker and one more. They have done nothing.
+-- So it was opened, with a hand for each worker and one more. They have done nothing. Its desks can
+-- be closed.
 pub record IsOpenedFor (plan : Blueprint) (window workers : ℕ) (opened : Opened) : Type 0 where
   pub window_is : opened.window ≡ window
   pub for : IsFor plan window opened.table
   pub count : opened.table.frame.hands ≡ workers + 1
   pub hands : AreFreshHands opened.table (workers + 1) opened.hands.items
+  pub desks : CanClose opened.room opened.desks.items
 
 -- A plan may be run with this window on a table that is for it, by what steps this plan's nodes.
 pub record CanRunOn (board : Board Blueprint) (plan : Blueprint) (window : ℕ) (stepped : Blueprint)

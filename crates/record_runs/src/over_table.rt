@@ -11,8 +11,8 @@ ghost use Rattle.record_runs.specs.Opened.{IsOpenedFor, IsClosedAfter};
 ghost use Rattle.run_crew.specs.Crews.{IsCrew};
 ghost use Rattle.run_rules.specs.PlanTerms.{MayRun};
 
-use crate::counted_desk::{CountedDesk, counted_beside};
-use crate::lines_desk::{LinesDesk, lines_beside};
+use crate::counted_front::{CountedFront, counted_beside};
+use crate::lines_front::{LinesFront, lines_beside};
 use crate::opened::{Opened, TableEnd, close_run};
 use crate::working::{Came, Tabled};
 use exec_io::Sink;
@@ -58,6 +58,8 @@ pub fn lines_on_table<T: Stepper + Sync, R: Threads + Wait + Sync, S: RecordSour
         table,
         mut hands,
         window,
+        desks,
+        room,
     } = opened;
     let hand = hands.remove(0);
     let Crew {
@@ -66,7 +68,7 @@ pub fn lines_on_table<T: Stepper + Sync, R: Threads + Wait + Sync, S: RecordSour
         backends,
     } = crew;
     let mut came = Came::none();
-    let desk = LinesDesk {
+    let front = LinesFront {
         records,
         out,
         came: &mut came,
@@ -79,9 +81,12 @@ pub fn lines_on_table<T: Stepper + Sync, R: Threads + Wait + Sync, S: RecordSour
         form,
     };
     let mut all = Vec::new(alloc);
-    let left = lines_beside(rt, alloc, order, backends, hands, hand, desk, &mut all);
+    let mut kept = Vec::new(alloc);
+    let left = lines_beside(
+        rt, alloc, order, backends, desks, hands, hand, front, &mut all, &mut kept,
+    );
     left.clear();
-    close_run(table, all, came.answer, came.tally)
+    close_run(rt, table, all, room, kept, came.answer, came.tally)
 }
 
 /// Runs so many generated records over a table, at most a window of them at once, beside a crew, and
@@ -113,6 +118,8 @@ pub fn counted_on_table<T: Stepper + Sync, R: Threads + Wait + Sync, K: Sink>(
         table,
         mut hands,
         window,
+        desks,
+        room,
     } = opened;
     let hand = hands.remove(0);
     let Crew {
@@ -121,7 +128,7 @@ pub fn counted_on_table<T: Stepper + Sync, R: Threads + Wait + Sync, K: Sink>(
         backends,
     } = crew;
     let mut came = Came::none();
-    let desk = CountedDesk {
+    let front = CountedFront {
         out,
         came: &mut came,
         on: Tabled {
@@ -133,7 +140,10 @@ pub fn counted_on_table<T: Stepper + Sync, R: Threads + Wait + Sync, K: Sink>(
         count,
     };
     let mut all = Vec::new(alloc);
-    let left = counted_beside(rt, alloc, order, backends, hands, hand, desk, &mut all);
+    let mut kept = Vec::new(alloc);
+    let left = counted_beside(
+        rt, alloc, order, backends, desks, hands, hand, front, &mut all, &mut kept,
+    );
     left.clear();
-    close_run(table, all, came.answer, came.tally)
+    close_run(rt, table, all, room, kept, came.answer, came.tally)
 }

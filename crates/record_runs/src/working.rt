@@ -13,17 +13,18 @@ ghost use Rattle.record_runs.specs.Endings.{EndsLines, EndsCounted, begins, supp
 ghost use Rattle.record_runs.specs.Opened.{CanRunOn, IsFreshHand};
 ghost use Rattle.run_crew.specs.Crews.{IsSpare};
 ghost use Rattle.table_run.specs.Ends.{IsEnded};
+ghost use Rattle.table_run.specs.Owns.{KeepsBoth};
 
 use crate::joining::join_idle;
 use exec_io::Sink;
 use exec_recv::{Item, Stepper};
-use op_table::{Hand, OpTable};
+use op_table::OpTable;
 use plan_shape::Plan;
 use record_loop::{Ending, Form, RecordSource, run_generated, run_records};
 use run_tally::Tally;
 use std::alloc::{AllocError, Global};
 use std::sync::Wait;
-use table_run::{OnTable, TableRun};
+use table_run::{OnTable, Own, TableRun};
 
 /// A plan, what steps its nodes, the table on which they run, and how many records are worked on at
 /// once.
@@ -58,19 +59,32 @@ impl Came {
 #[derive(Drop)]
 pub(crate) struct Worked {
     pub(crate) came: Came,
-    pub(crate) hand: Hand<Item>,
+    pub(crate) own: Own,
 }
 
-// There was no memory for the run, and the hand did nothing but join the scope.
-fn unbegun<B: OnTable, R: Wait>(rt: &R, table: &OpTable<Item>, hand: Hand<Item>) -> Worked
+// There was no memory for the run, and the hand did nothing but join the scope. Workers that sleep
+// are woken, so that they see it.
+fn unbegun<B: OnTable, R: Wait>(rt: &R, table: &OpTable<Item>, own: Own) -> Worked
     requires on { B.is table.now }
-    requires spare { IsSpare table.now hand }
+    requires deck { B.deck ≡ own.deck }
+    requires post { B.post ≡ own.post }
+    requires spare { IsSpare table.now own.hand }
     ensures none { IsErr result.came.answer }
-    ensures ended { IsEnded B.is result.hand }
+    ensures ended { IsEnded B.is result.own.hand }
+    ensures both { KeepsBoth B.deck B.post result.own.deck result.own.post }
 {
+    let Own { hand, deck, post } = own;
+    let last = join_idle(rt, table, hand);
+    if let Some(deck) = &deck {
+        deck.wake_all();
+    }
     Worked {
         came: Came::none(),
-        hand: join_idle(rt, table, hand),
+        own: Own {
+            hand: last,
+            deck,
+            post,
+        },
     }
 }
 
@@ -79,7 +93,7 @@ pub(crate) fn work_on_lines<B: OnTable, T: Stepper, R: Wait + Sync, S: RecordSou
     rt: &R,
     alloc: Global,
     tabled: &Tabled<'_, T>,
-    hand: Hand<Item>,
+    own: Own,
     helps: bool,
     form: Form,
     records: &mut S,
@@ -87,25 +101,28 @@ pub(crate) fn work_on_lines<B: OnTable, T: Stepper, R: Wait + Sync, S: RecordSou
 ) -> Worked
     requires sync { IsSync R.row }
     requires on { B.is tabled.now.table.now }
+    requires deck { B.deck ≡ own.deck }
+    requires post { B.post ≡ own.post }
     requires runs { CanRunOn tabled.now.table.now tabled.now.plan.now tabled.now.window
         (T.plan tabled.now.stepper.now) }
-    requires fresh { IsFreshHand tabled.now.table.now hand }
+    requires fresh { IsFreshHand tabled.now.table.now own.hand }
     ensures ends { EndsLines
         (begins tabled.now.plan.now tabled.now.window form (K.told out.old))
         (supply (S.told records.old) (S.reads records.old))
         (supply (S.told records.new) (S.reads records.new)) (K.told out.new) result.came.answer }
     ensures told { IfOk result.came.answer
         (λ ending. TalliesWith result.came.tally ending.summary) }
-    ensures ended { IsEnded B.is result.hand }
+    ensures ended { IsEnded B.is result.own.hand }
+    ensures both { KeepsBoth B.deck B.post result.own.deck result.own.post }
 {
     let window = tabled.window;
     let settings = *tabled.plan.settings();
-    let opened: Result<TableRun<'_, T, B>, Hand<Item>> = TableRun::open(
+    let opened: Result<TableRun<'_, T, B>, Own> = TableRun::open(
         alloc,
         tabled.plan,
         tabled.table,
         tabled.stepper,
-        hand,
+        own,
         window,
     );
     match opened {
@@ -113,10 +130,10 @@ pub(crate) fn work_on_lines<B: OnTable, T: Stepper, R: Wait + Sync, S: RecordSou
             run.help_pool(helps);
             let answer = run_records(rt, alloc, settings, window, form, &mut run, records, out);
             let tally = run.tally();
-            let hand = run.end(rt, alloc);
+            let own = run.end(rt, alloc);
             Worked {
                 came: Came { answer, tally },
-                hand,
+                own,
             }
         }
         Err(back) => unbegun::<B, R>(rt, tabled.table, back),
@@ -128,32 +145,35 @@ pub(crate) fn work_on_counted<B: OnTable, T: Stepper, R: Wait + Sync, K: Sink>(
     rt: &R,
     alloc: Global,
     tabled: &Tabled<'_, T>,
-    hand: Hand<Item>,
+    own: Own,
     helps: bool,
     count: u32,
     out: &mut K,
 ) -> Worked
     requires sync { IsSync R.row }
     requires on { B.is tabled.now.table.now }
+    requires deck { B.deck ≡ own.deck }
+    requires post { B.post ≡ own.post }
     requires runs { CanRunOn tabled.now.table.now tabled.now.plan.now tabled.now.window
         (T.plan tabled.now.stepper.now) }
-    requires fresh { IsFreshHand tabled.now.table.now hand }
+    requires fresh { IsFreshHand tabled.now.table.now own.hand }
     requires few { count ≤ MOST_RECORDS }
     ensures ends { EndsCounted
         (begins tabled.now.plan.now tabled.now.window Form.Summary (K.told out.old)) (generated_lines tabled.now.plan.now.settings.input count)
         (K.told out.new) result.came.answer }
     ensures told { IfOk result.came.answer
         (λ ending. TalliesWith result.came.tally ending.summary) }
-    ensures ended { IsEnded B.is result.hand }
+    ensures ended { IsEnded B.is result.own.hand }
+    ensures both { KeepsBoth B.deck B.post result.own.deck result.own.post }
 {
     let window = tabled.window;
     let settings = *tabled.plan.settings();
-    let opened: Result<TableRun<'_, T, B>, Hand<Item>> = TableRun::open(
+    let opened: Result<TableRun<'_, T, B>, Own> = TableRun::open(
         alloc,
         tabled.plan,
         tabled.table,
         tabled.stepper,
-        hand,
+        own,
         window,
     );
     match opened {
@@ -161,10 +181,10 @@ pub(crate) fn work_on_counted<B: OnTable, T: Stepper, R: Wait + Sync, K: Sink>(
             run.help_pool(helps);
             let answer = run_generated(rt, alloc, settings, window, count, &mut run, out);
             let tally = run.tally();
-            let hand = run.end(rt, alloc);
+            let own = run.end(rt, alloc);
             Worked {
                 came: Came { answer, tally },
-                hand,
+                own,
             }
         }
         Err(back) => unbegun::<B, R>(rt, tabled.table, back),

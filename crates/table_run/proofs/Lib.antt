@@ -6,9 +6,12 @@ mod Listed
 mod Allowed
 mod Spawning
 mod Telling
+pub mod Holding
+mod Learned
 mod Worked
 mod Sounding
 mod Requested
 pub mod Joined
+mod Held
 mod Cleared
 mod Changed

@@ -1,11 +1,10 @@
 -- The futures that a run keeps, when its operations come and go, and when it serves them.
-use Rattle.std.proofs.Common.{◌≡◌, ◌≢◌, ◌⊎◌, ℕ, ◌+◌, ◌<◌, ◌≤◌, List, ◌∷◌, length, set, get_or, inl, inr, sym, ap, ◌∙◌, arith}
+use Rattle.std.proofs.Common.{◌≡◌, ◌⊎◌, ℕ, ◌+◌, ◌<◌, ◌≤◌, List, length, set, get_or, inl, inr, sym, ap, ◌∙◌, arith}
 use Rattle.std.specs.Prelude.{Option, Some, None}
 use Rattle.std.proofs.lemmas.Bool.{cases_eq}
 use Rattle.std.proofs.lemmas.Option.{same_Some}
 use Rattle.life_rules.specs.declared.event.Name.{Name}
 use Rattle.plan_shape.specs.Blueprint.{Blueprint}
-use Rattle.table_rules.specs.declared.view.Rooted.{Rooted}
 use Rattle.table_rules.specs.Named.{find_by}
 use Rattle.table_steps.specs.Slots.{noted_at}
 use Rattle.table_steps.specs.Views.{Board}
@@ -19,7 +18,7 @@ use Rattle.spawn_future.specs.Keeping.{root_of as future_root, AreKept}
 use Rattle.spawn_future.specs.Slots.{Has as HasFuture, kept_in}
 use Rattle.spawn_future.specs.Sweeps.{Sweeps}
 use Rattle.table_run.specs.declared.tickets.Operation.{Operation}
-use Rattle.table_run.specs.Calls.{with_left, LeavesWith, LeavesSame, Enters, AsksScope}
+use Rattle.table_run.specs.Calls.{with_left, LeavesWith, Enters, AsksScope}
 use Rattle.table_run.specs.Runs.{root_of}
 use Rattle.table_run.specs.Sound.{taken, Has, AreListed, AreSpawned}
 use Rattle.table_run.specs.Spawned.{ServesSpawned}

@@ -1,4 +1,6 @@
 pub mod Runs
+pub mod Owns
+pub mod Drained
 pub mod Spawned
 pub mod Sound
 pub mod Calls

@@ -1,7 +1,9 @@
 -- What each run over a table keeps.
 use Rattle.std.specs.Prelude.{◌≡◌, ℕ, ◌+◌, ◌<◌, ◌≤◌, ◌^◌, Bool, true, List, [], ◌∷◌, length, count_by, is_some, Option, Some, None, slice_index_or}
+use Rattle.deck_relay.specs.declared.deck.Deck.{Deck}
 use Rattle.exec_value.specs.declared.data.Datum.{Datum}
 use Rattle.life_rules.specs.declared.event.SourceRef.TheVariants.{Scope}
+use Rattle.loop_queue.specs.declared.post.LoopPost.{LoopPost}
 use Rattle.plan_kinds.specs.Runnable.{IsRunnable}
 use Rattle.plan_shape.specs.Blueprint.{Blueprint}
 use Rattle.table_rules.specs.declared.view.Rooted.{Rooted}
@@ -15,12 +17,13 @@ use Rattle.exec_start.specs.declared.item.Item.{Item}
 use Rattle.exec_start.specs.Entries.{record_start}
 use Rattle.exec_recv.specs.Asides.{Aside, aside_of}
 use Rattle.exec_recv.specs.Over.{IsOver}
-use Rattle.run_loop.specs.Loops.{IsReady}
+use Rattle.run_loop.specs.Loops.{IsReady, deck_of}
 use Rattle.spawn_future.specs.declared.future.Future.{Future}
 use Rattle.spawn_future.specs.Counts.{IsOfNoFuture}
 use Rattle.spawn_future.specs.Keeping.{AreKept}
 use Rattle.spawn_future.specs.Slots.{kept_in}
 use Rattle.table_run.specs.declared.tickets.Operation.{Operation}
+use Rattle.table_run.specs.Owns.{KeepsBoth}
 use Rattle.table_run.specs.Runs.{Run, root_of}
 
 -- So many tickets have an operation.
@@ -88,3 +91,9 @@ pub record IsSound (on : Board Blueprint → Type 0) (run : Run) (stepped : Blue
       (kept_in run.futures)
   pub spawned : AreSpawned run.board run.operations run.futures run.looped.hand.me
   pub asked : IsAsked run
+
+-- And it has the deck and the post with which it was opened.
+pub record IsHeld (on : Board Blueprint → Type 0) (deck : Option Deck) (post : Option LoopPost)
+    (run : Run) (stepped : Blueprint) (next : ℕ) (post' : Option LoopPost) : Type 0 where
+  pub sound : IsSound on run stepped next
+  pub both : KeepsBoth deck post (deck_of run.looped) post'

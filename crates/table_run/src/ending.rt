@@ -1,26 +1,28 @@
 //! How a run ends.
 ghost use Rattle.std.specs.Thread.{IsSync};
 ghost use Rattle.table_run.specs.Ends.{IsEnded};
+ghost use Rattle.table_run.specs.Owns.{KeepsBoth};
 
 use crate::joining::join;
+use crate::own::Own;
 use crate::running::{OnTable, TableRun};
 use crate::tickets::discard;
-use exec_recv::{Item, Stepper};
-use op_slot::Hand;
+use exec_recv::Stepper;
 use std::alloc::Global;
 use std::sync::Wait;
 
 impl<'a, T: Stepper, B: OnTable> TableRun<'a, T, B> {
     /// Ends the run: turns until each operation that is left is collected and no future is kept,
-    /// closes and joins the scope (P3149, [exec.counting.scopes]), and gives the hand back. What is
-    /// promised holds if it returns.
+    /// closes and joins the scope (P3149, [exec.counting.scopes]), wakes the workers, which end then,
+    /// and gives back what hand 0 has. What is promised holds if it returns.
     ///
     /// Afterwards: the hand is of the run's table, has nothing, and gave back as many blocks as it
     /// claimed. One of its steps left the scope joined. So the table may be closed, once the other
-    /// hands have come back.
-    pub fn end<R: Wait + Sync>(self, rt: &R, alloc: Global) -> Hand<Item>
+    /// hands have come back. The deck and the post are those with which the run was opened.
+    pub fn end<R: Wait + Sync>(self, rt: &R, alloc: Global) -> Own
         requires sync { IsSync R.row }
-        ensures { IsEnded B.is result }
+        ensures ended { IsEnded B.is result.hand }
+        ensures both { KeepsBoth B.deck B.post result.deck result.post }
     {
         let mut run = self;
         for ticket in 0..run.operations.len() {
@@ -35,9 +37,10 @@ impl<'a, T: Stepper, B: OnTable> TableRun<'a, T, B> {
             operations,
             next: _,
             requested: _,
-            idle: _,
+            pause: _,
             spawns: _,
             futures,
+            post,
             posted: _,
             on: _,
         } = run;
@@ -45,6 +48,8 @@ impl<'a, T: Stepper, B: OnTable> TableRun<'a, T, B> {
         futures.close();
         let mut last = looped;
         join(rt, alloc, table, stepper, &mut last);
-        last.into_hand()
+        last.wake_all();
+        let (hand, deck) = last.into_parts();
+        Own { hand, deck, post }
     }
 }

@@ -1,11 +1,12 @@
 //! How an operation is started in the scope.
 ghost use Rattle.std.specs.Prelude.{◌≡◌, IfOk, IfErr};
 ghost use Rattle.std.specs.Thread.{IsSync};
+ghost use Rattle.deck_relay.specs.SameDecks.{KeepsDeck};
 ghost use Rattle.plan_kinds.specs.Runnable.{IsRunnable};
 ghost use Rattle.table_steps.specs.Views.{knows};
 ghost use Rattle.table_steps.specs.ScopeEntries.{MayEnter};
 ghost use Rattle.exec_recv.specs.Over.{IsOver};
-ghost use Rattle.run_loop.specs.Loops.{IsReady, KeepsCounts};
+ghost use Rattle.run_loop.specs.Loops.{IsReady, KeepsCounts, deck_of};
 ghost use Rattle.loop_roots.specs.Starts.{CanRun};
 ghost use Rattle.table_run.specs.Calls.{LeavesSame, Enters};
 
@@ -35,6 +36,7 @@ pub(crate) fn enter<T: Stepper, R: Wait + Sync>(
     requires start { CanRun table.now env }
     ensures ready { IsReady table.now looped.new }
     ensures counts { KeepsCounts looped.old looped.new }
+    ensures deck { KeepsDeck (deck_of looped.old) (deck_of looped.new) }
     ensures entered { IfOk result (λ o.
         Enters table.now o env looped.old.hand.me looped.new.hand.me) }
     ensures back { IfErr result (λ back. back ≡ env) }

@@ -1,9 +1,10 @@
 //! How the scope is closed and joined.
 ghost use Rattle.std.specs.Thread.{IsSync};
+ghost use Rattle.deck_relay.specs.SameDecks.{KeepsDeck};
 ghost use Rattle.plan_kinds.specs.Runnable.{IsRunnable};
 ghost use Rattle.table_steps.specs.Views.{knows};
 ghost use Rattle.exec_recv.specs.Over.{IsOver};
-ghost use Rattle.run_loop.specs.Loops.{IsReady};
+ghost use Rattle.run_loop.specs.Loops.{IsReady, deck_of};
 ghost use Rattle.table_run.specs.Calls.{LeavesSame};
 ghost use Rattle.table_run.specs.Ends.{HasJoined};
 
@@ -29,6 +30,7 @@ fn wait_joined<T: Stepper, R: Wait + Sync>(
     ensures ready { IsReady table.now looped.new }
     ensures same { LeavesSame looped.old.hand.me looped.new.hand.me }
     ensures joined { HasJoined (knows looped.new.hand) }
+    ensures deck { KeepsDeck (deck_of looped.old) (deck_of looped.new) }
 {
     for _ in rt.forever() {
         if is_joined(table, &mut looped.hand) {
@@ -56,6 +58,7 @@ pub(crate) fn join<T: Stepper, R: Wait + Sync>(
     ensures ready { IsReady table.now looped.new }
     ensures same { LeavesSame looped.old.hand.me looped.new.hand.me }
     ensures joined { HasJoined (knows looped.new.hand) }
+    ensures deck { KeepsDeck (deck_of looped.old) (deck_of looped.new) }
 {
     close(table, &mut looped.hand);
     match start_join(table, &mut looped.hand) {

@@ -7,15 +7,21 @@
 //! may have seen of the scope's request; or want of memory, where the plan may want it. Its tally
 //! counts what was collected.
 //!
+//! Beside workers hand 0 has a deck (deck_relay) and a post (loop_queue): what it leaves ready in the
+//! pool goes to its deck, and it drains the names of what they left ready in the loop. Where nothing
+//! is ready it sleeps, and they wake it. At the end it wakes them, and has the same deck and post.
+//!
 //!     start   --associate--> association --Loop::start--> block: a ticket names both
 //!             \--refused, or no block is free--> the datum comes back
-//!     turn    --Loop::turn--> the nodes that are ready go on
+//!     turn    --Loop::drain--> names that workers posted --Loop::poll--> their nodes go on
+//!             --Loop::turn--> after many idle rounds each node that is ready goes on
 //!             --Futures::turn--> an `ahead` that is parked is served: its first child is spawned,
 //!               and later joined or abandoned
 //!             --Futures::sweep--> what is abandoned and complete is ended
 //!     collect --Loop::collect--> completion, block given back --disassociate--> the ticket is free
 //!     request --request_scope--> the scope's request --run_scan--> its callbacks ran on this hand
 //!     end     --collect what is left, and futures, close, start_join--> the hand, which has nothing
+//!             --Loop::wake_all--> workers read that the scope is joined, and end
 //!
 //! Each operation has one association of the counting scope (P3149, [exec.scope]), which it leaves
 //! after its block was given back. The seam's block is a ticket: a number under which a block and
@@ -27,8 +33,11 @@ mod ending;
 mod entering;
 mod joining;
 mod operations;
+mod own;
+mod pausing;
 mod posting;
 mod requesting;
+mod rounds;
 mod running;
 mod spawned;
 mod tickets;
@@ -36,6 +45,7 @@ mod working;
 
 pub use exec_recv::{Gate, Item, Stepper};
 pub use op_slot::{Hand, OpTable};
+pub use own::Own;
 pub use record_loop::Operations;
 pub use run_tally::Tally;
 pub use running::{OnTable, TableRun};

@@ -31,6 +31,7 @@ impl<'a, T: Stepper, B: OnTable> Operations for TableRun<'a, T, B> {
         let env = Env::of_record(self.plan, Data::one(alloc, datum), number, self.requested);
         match enter(rt, alloc, self.table, self.stepper, &mut self.looped, env) {
             Ok(operation) => {
+                self.pause.stir(&self.looped);
                 put(&mut self.operations, ticket, operation);
                 self.next = (ticket + 1) % self.operations.len();
                 Ok(ticket as u32)
@@ -50,6 +51,7 @@ impl<'a, T: Stepper, B: OnTable> Operations for TableRun<'a, T, B> {
 
     fn request<R: Wait + Sync>(&mut self, rt: &R) {
         self.requested = true;
+        self.pause.stir(&self.looped);
         let hand = &mut self.looped.hand;
         ask_scope(rt, self.plan, self.table, hand, self.stepper);
     }

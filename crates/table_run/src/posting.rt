@@ -1,6 +1,8 @@
 //! The names of nodes that serving futures left ready.
 ghost use Rattle.std.specs.Prelude.{◌≡◌};
 ghost use Rattle.std.specs.Thread.{IsSync};
+ghost use Rattle.deck_relay.specs.SameDecks.{KeepsDeck};
+ghost use Rattle.run_loop.specs.Loops.{deck_of};
 
 use life_rules::Name;
 use loop_walk::Mail;
@@ -9,10 +11,19 @@ use run_loop::Loop;
 use std::alloc::Global;
 use std::sync::Wait;
 
+/// A node that is ready, and where.
+#[derive(Clone, Copy, Debug, PartialEq, Eq)]
+struct Ready {
+    name: Name,
+    on: Context,
+}
+
 /// Names of which the loop is told afterwards: each is a hint.
 #[derive(Drop)]
 pub struct Posted {
-    list: Vec<Name>,
+    list: Vec<Ready>,
+    /// There was no memory for a name.
+    lost: bool,
 }
 
 impl Posted {
@@ -20,18 +31,25 @@ impl Posted {
     pub(crate) fn none(alloc: Global) -> Posted {
         Posted {
             list: Vec::new(alloc),
+            lost: false,
         }
     }
 
-    /// Tells the loop of them.
-    pub(crate) fn tell(&mut self, looped: &mut Loop)
-        ensures { looped.new ≡ record looped.old { names = looped.new.names } }
+    /// Tells the loop of them, as if it had left the nodes ready itself. Where a name was lost each
+    /// hand is woken, and one that looks at each node finds it.
+    pub(crate) fn tell<R: Wait + Sync>(&mut self, rt: &R, looped: &mut Loop)
+        requires sync { IsSync R.row }
+        ensures rest { looped.new ≡ record looped.old { names = looped.new.names } }
+        ensures deck { KeepsDeck (deck_of looped.old) (deck_of looped.new) }
     {
-        for name in &self.list {
-            // without memory the name is lost, and a scan finds the node
-            let _lost = looped.push_name(*name);
+        for ready in &self.list {
+            looped.tell(rt, ready.name, ready.on);
         }
         self.list.clear();
+        if self.lost {
+            self.lost = false;
+            looped.wake_all();
+        }
     }
 }
 
@@ -46,7 +64,9 @@ impl Mail for Posted {
 
     fn ready<R: Wait + Sync>(&mut self, rt: &R, name: Name, on: Context) {
         let _ = rt;
-        let _ = on;
-        let _lost = self.list.push(name);
+        match self.list.push(Ready { name, on }) {
+            Ok(()) => {}
+            Err(_) => self.lost = true,
+        }
     }
 }

@@ -1,14 +1,19 @@
 //! The operations of a plan on hand 0 of a table.
-ghost use Rattle.std.specs.Prelude.{◌≡◌, ◌<◌, ◌≤◌, ◌^◌, IfOk, IfErr};
+ghost use Rattle.std.specs.Prelude.{◌≡◌, ◌<◌, ◌≤◌, ◌^◌, IfOk, IfErr, None};
 ghost use Rattle.plan_kinds.specs.Runnable.{IsRunnable};
 ghost use Rattle.exec_recv.specs.Over.{IsOver};
+ghost use Rattle.run_loop.specs.Loops.{deck_of};
 ghost use Rattle.table_run.specs.Opened.{IsUnused, IsOpened};
 
 use crate::aheads::has_ahead;
+use crate::own::Own;
+use crate::pausing::Pause;
 use crate::posting::Posted;
 use crate::tickets::{Operation, discard, free_tickets};
+use deck_relay::Deck;
 use exec_recv::{Item, Stepper};
-use op_slot::{Hand, OpTable};
+use loop_queue::LoopPost;
+use op_slot::OpTable;
 use plan_shape::Plan;
 use run_loop::Loop;
 use run_tally::Tally;
@@ -16,20 +21,32 @@ use spawn_future::{Futures, MOST_FUTURES};
 use std::alloc::{AllocError, Global};
 use std::marker::{Brand, Model, PhantomData};
 
-/// On which table the operations of a run are. What is generic in the operations knows no table, so
-/// a caller picks this at its call, to know the table again at the end.
+/// On which table the operations of a run are, and with which deck and post. What is generic in the
+/// operations knows none of these, so a caller picks this at its call, to know them again at the end.
 pub trait OnTable {
+    ghost use Rattle.std.specs.Prelude.{Option};
+    ghost use Rattle.deck_relay.specs.declared.deck.Deck.{Deck};
+    ghost use Rattle.loop_queue.specs.declared.post.LoopPost.{LoopPost};
     ghost use Rattle.plan_shape.specs.Blueprint.{Blueprint};
     ghost use Rattle.table_steps.specs.Views.{Board};
 
     /// What holds of the table.
     ghost is: { Board Blueprint → Type 0 };
+
+    /// The deck and the post of hand 0.
+    ghost deck: { Option Deck };
+
+    ghost post: { Option LoopPost };
 }
 
 impl OnTable for Brand {
-    ghost use Rattle.std.specs.Prelude.{⊤};
+    ghost use Rattle.std.specs.Prelude.{⊤, None};
 
     ghost is = { λ _. ⊤ };
+
+    ghost deck = { None };
+
+    ghost post = { None };
 }
 
 /// The operations of a plan's records, each in a block of a table over the plan, with an association
@@ -39,12 +56,13 @@ pub struct TableRun<'a, T: Stepper, B: OnTable> {
     pub(crate) plan: &'a Plan,
     pub(crate) stepper: &'a T,
     pub(crate) looped: Loop,
+    /// Through which it drains names that workers posted.
+    pub(crate) post: Option<LoopPost>,
     pub(crate) operations: Vec<Option<Operation>>,
     /// The ticket that the next operation takes.
     pub(crate) next: usize,
     pub(crate) requested: bool,
-    /// How many polls in a row took no node.
-    pub(crate) idle: u32,
+    pub(crate) pause: Pause,
     /// The plan has an `ahead`, whose first child is spawned.
     pub(crate) spawns: bool,
     pub(crate) futures: Futures,
@@ -53,22 +71,38 @@ pub struct TableRun<'a, T: Stepper, B: OnTable> {
 }
 
 impl<'a, T: Stepper, B: OnTable> Model for TableRun<'a, T, B> {
+    ghost use Rattle.std.specs.Coded.{codes};
+    ghost use Rattle.run_loop.specs.contracts.looped.Loop as loops;
     ghost use Rattle.table_run.specs.Runs.{Run, run_of};
-    ghost use Rattle.table_run.specs.Sound.{IsSound};
+    ghost use Rattle.table_run.specs.Sound.{IsHeld};
 
     ghost Value = { Run };
+
+    ghost coded = { Prim.hlevel (codes, loops.the_row.coded) };
 
     ghost view = { λ s.
         run_of s.table.now s.plan.now s.looped s.operations.items s.requested s.futures };
 
-    ghost invariant = { λ s. IsSound B.is
+    ghost invariant = { λ s. IsHeld B.is B.deck B.post
         (run_of s.table.now s.plan.now s.looped s.operations.items s.requested s.futures)
-        (T.plan s.stepper.now) s.next };
+        (T.plan s.stepper.now) s.next s.post };
+}
+
+// The loop with this deck, where there is one.
+fn seat(looped: Loop, deck: Option<Deck>) -> Loop
+    requires none { deck_of looped ≡ None }
+    ensures deck { deck_of result ≡ deck }
+    ensures rest { result ≡ record looped { names = result.names } }
+{
+    match deck {
+        None => looped,
+        Some(deck) => looped.with_deck(deck),
+    }
 }
 
 impl<'a, T: Stepper, B: OnTable> TableRun<'a, T, B> {
     /// No operations of the plan, and so many tickets for them; where the plan has an `ahead`, also
-    /// the room for as many futures as are kept at most. The hand comes back where there is no
+    /// the room for as many futures as are kept at most. What hand 0 has comes back where there is no
     /// memory for these.
     ///
     /// Needs: the table was opened over the plan, whose kinds match, and with its kind of scope; the
@@ -79,51 +113,65 @@ impl<'a, T: Stepper, B: OnTable> TableRun<'a, T, B> {
         plan: &'a Plan,
         table: &'a OpTable<Item>,
         stepper: &'a T,
-        hand: Hand<Item>,
+        own: Own,
         tickets: usize,
-    ) -> Result<TableRun<'a, T, B>, Hand<Item>>
+    ) -> Result<TableRun<'a, T, B>, Own>
         requires on { B.is table.now }
+        requires deck { B.deck ≡ own.deck }
+        requires post { B.post ≡ own.post }
         requires some { 0 < tickets }
         requires few { tickets ≤ 2 ^ 16 }
         requires over { IsOver table.now plan.now }
         requires kinds { IsRunnable plan.now }
         requires stepper { T.plan stepper.now ≡ plan.now }
         requires scope { table.now.frame.kind ≡ plan.now.settings.scope }
-        requires hand { IsUnused table.now hand }
+        requires hand { IsUnused table.now own.hand }
         ensures opened { IfOk result (IsOpened table.now plan.now tickets) }
-        ensures back { IfErr result (λ back. back ≡ hand) }
+        ensures back { IfErr result (λ back. back ≡ own) }
     {
         let operations = match free_tickets(alloc, tickets) {
             Ok(operations) => operations,
-            Err(AllocError) => return Err(hand),
+            Err(AllocError) => return Err(own),
         };
         let spawns = has_ahead(plan);
         let futures = match Futures::open(alloc, if spawns { MOST_FUTURES } else { 1 }) {
             Ok(futures) => futures,
             Err(AllocError) => {
                 discard(operations);
-                return Err(hand);
+                return Err(own);
             }
         };
+        let Own { hand, deck, post } = own;
         match Loop::open(alloc, plan, table, hand) {
-            Ok(looped) => Ok(TableRun {
-                table,
-                plan,
-                stepper,
-                looped,
-                operations,
-                next: 0,
-                requested: false,
-                idle: 0,
-                spawns,
-                futures,
-                posted: Posted::none(alloc),
-                on: PhantomData,
-            }),
+            Ok(looped) => {
+                let looped = seat(looped, deck);
+                // Polls are the clock of delays, and nobody tells of an `ahead` that is parked.
+                let waits = looped.has_delays() || spawns;
+                let sleeps = looped.has_deck() && post.is_some() && !waits;
+                Ok(TableRun {
+                    table,
+                    plan,
+                    stepper,
+                    looped,
+                    post,
+                    operations,
+                    next: 0,
+                    requested: false,
+                    pause: Pause::new(sleeps),
+                    spawns,
+                    futures,
+                    posted: Posted::none(alloc),
+                    on: PhantomData,
+                })
+            }
             Err(back) => {
                 discard(operations);
                 futures.close();
-                Err(back)
+                Err(Own {
+                    hand: back,
+                    deck,
+                    post,
+                })
             }
         }
     }
@@ -142,5 +190,8 @@ impl<'a, T: Stepper, B: OnTable> TableRun<'a, T, B> {
             record self.old { looped = record self.old.looped { helps = helps } } }
     {
         self.looped.help_pool(helps);
+        if helps {
+            self.pause.stay_awake(&self.looped);
+        }
     }
 }

@@ -60,7 +60,7 @@ impl<'a, T: Stepper, B: OnTable> TableRun<'a, T, B> {
             &mut self.futures,
             &mut self.posted,
         );
-        self.posted.tell(&mut self.looped);
+        self.posted.tell(rt, &mut self.looped);
     }
 
     // No future is kept.

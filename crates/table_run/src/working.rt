@@ -3,6 +3,7 @@ ghost use Rattle.std.specs.Prelude.{◌≡◌, ◌<◌, IfNone, MatchOption, is_
 ghost use Rattle.std.specs.Thread.{IsSync};
 ghost use Rattle.table_run.specs.Moves.{KeepsRun, LeavesRun, LeavesNone, MeetsTold, Clears};
 
+use crate::rounds::go_once;
 use crate::running::{OnTable, TableRun};
 use crate::tickets::{block_of, is_free, take};
 use count_scope::disassociate;
@@ -11,27 +12,26 @@ use exec_value::Completion;
 use std::alloc::Global;
 use std::sync::Wait;
 
-/// So many polls in a row that took no node are followed by a look at each node of the table: that
-/// costs more than all the work, and is needed where a name was lost.
-const IDLE_POLLS: u32 = 64;
-
 impl<'a, T: Stepper, B: OnTable> TableRun<'a, T, B> {
-    /// Lets the operations go on: takes the nodes of the names that the loop was told of, and after
-    /// many polls that took none looks at each node. Where it took none it gives way to workers.
+    /// Lets the operations go on by a round: takes the nodes of the names that the loop was told of,
+    /// those that workers posted included, and after many rounds that took none looks at each node.
+    /// Where it took none it gives way to workers, and sleeps where they wake it.
     pub(crate) fn go_round<R: Wait + Sync>(&mut self, rt: &R, alloc: Global)
         requires sync { IsSync R.row }
         ensures keeps { KeepsRun self.old self.new }
         ensures met { MeetsTold T.plan T.does self.old self.new }
     {
-        if self.idle >= IDLE_POLLS {
-            self.idle = 0;
-            let taken = self.looped.turn(rt, alloc, self.table, self.stepper);
-            self.looped.give_way(taken);
-            return;
-        }
-        let taken = self.looped.poll(rt, alloc, self.table, self.stepper);
-        self.looped.give_way(taken);
-        self.idle = if taken > 0 { 0 } else { self.idle + 1 };
+        let looks = self.pause.begin(rt, &self.looped);
+        let taken = go_once(
+            rt,
+            alloc,
+            self.table,
+            self.stepper,
+            &mut self.looped,
+            &mut self.post,
+            looks,
+        );
+        self.pause.end(&self.looped, taken);
     }
 
     /// What the operation of a ticket completed with, where it has one that is complete. None only
@@ -45,7 +45,11 @@ impl<'a, T: Stepper, B: OnTable> TableRun<'a, T, B> {
         ensures none { IfNone result (LeavesNone self.old self.new ticket) }
     {
         let block = block_of(&self.operations, ticket)?;
-        let collected = self.looped.collect(rt, self.table, block, self.stepper)?;
+        let Some(collected) = self.looped.collect(rt, self.table, block, self.stepper) else {
+            self.pause.wait_on();
+            return None;
+        };
+        self.pause.stir(&self.looped);
         let left = take(&mut self.operations, ticket);
         disassociate(self.table, &mut self.looped.hand, left.into_association());
         Some(collected.completion)

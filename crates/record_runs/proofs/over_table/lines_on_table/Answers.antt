@@ -1,3 +1,4 @@
+use Rattle.record_runs.proofs.DeskLaws.{still-closable}
 use Rattle.record_runs.proofs.HandLaws.{first-fresh, rest-spare}
 use Rattle.record_runs.proofs.over_table.lines_on_table.Goals as goal
 
@@ -10,3 +11,7 @@ lines_beside-left-requires-clause-begin g c κs within = record {
 pub lines_beside-left-requires-clause-spare : goal.lines_beside-left-requires-clause-spare
 lines_beside-left-requires-clause-spare g c κs within =
     rest-spare c.args.opened.table c.args.crew.workers c.args.opened.hands.items c.remove-hand.new.self.items c.requires.opened.hands c.remove-hand.ensures.items
+
+pub close_run-requires-clause-desks : goal.close_run-requires-clause-desks
+close_run-requires-clause-desks g c =
+    still-closable c.args.opened.room c.args.opened.desks.items c.lines_beside-left.new.kept.items c.lines_beside-left.ensures.desks c.requires.opened.desks

@@ -1,5 +1,6 @@
+use Rattle.deck_relay.specs.SameDecks.{KeepsDeck}
 use Rattle.table_run.specs.Calls.{LeavesSame}
-use Rattle.run_loop.specs.Loops.{IsReady}
+use Rattle.run_loop.specs.Loops.{IsReady, deck_of}
 use Rattle.table_run.proofs.joining.wait_joined.Given as goal
 
 abbrev pub invariant-loop : goal.invariant-loop
@@ -8,4 +9,5 @@ invariant-loop g l = record {
   finite : (goal.iterator-loop g).is_finite l.iterator';
   ready : IsReady l.table l.looped;
   same : LeavesSame l.fn.looped.hand.me l.looped.hand.me;
+  deck : KeepsDeck (deck_of l.fn.looped) (deck_of l.looped);
 }

@@ -1,9 +1,12 @@
 use Rattle.std.proofs.Common.{◌≡◌, ℕ, get_or, sym, ap, ◌∙◌, subst, arith}
 use Rattle.std.specs.Prelude.{None}
 use Rattle.spawn_future.specs.Slots.{kept_in}
+use Rattle.run_loop.specs.Loops.{deck_of}
 use Rattle.table_run.specs.Ends.{IsEnded}
+use Rattle.table_run.specs.Owns.{KeepsBoth}
 use Rattle.table_run.specs.Runs.{Run, run_of}
 use Rattle.table_run.proofs.Cleared.{free-more, free-all, ended}
+use Rattle.table_run.proofs.Holding.{deck-on}
 use Rattle.table_run.proofs.running.TableRun.end.Goals as goal
 
 pub loop-ticket-preserved : goal.loop-ticket-preserved
@@ -28,8 +31,8 @@ discard-requires g c =
 pub close-requires : goal.close-requires
 close-requires g c = ap (λ (r : Run). kept_in r.futures) c.run-2.view_is ∙ c.clear_spawned.ensures.none
 
-pub returns : goal.returns
-returns g c =
+pub returns-clause-ended : goal.returns-clause-ended
+returns-clause-ended g c =
     let inside = c.run-2.inside in
     let run = c.loop-ticket.run in
     let before = c.loop-ticket.invariant in
@@ -39,8 +42,15 @@ returns g c =
     λ t.
     ap (λ (r : Run). get_or r.operations t None) c.run-2.view_is
     ∙ c.clear_spawned.ensures.clears.free t (free-all run.operations c.loop-ticket.ticket (omega (arith, count, last)) before.free t) in
-    subst (IsEnded g.B.OnTable.is) (sym c.into_hand.ensures)
+    subst (IsEnded g.B.OnTable.is) (sym c.into_parts-hand.ensures.hand)
     (ended g.B.OnTable.is (run_of inside.table.now inside.plan.now inside.looped inside.operations.items inside.requested inside.futures)
-    (g.T.Stepper.plan inside.stepper.now) inside.next c.run-2.invariant free
+    (g.T.Stepper.plan inside.stepper.now) inside.next c.run-2.invariant.sound free
     (ap (λ (r : Run). kept_in r.futures) c.run-2.view_is ∙ c.clear_spawned.ensures.none) c.join.new.looped c.join.ensures.ready c.join.ensures.same
     c.join.ensures.joined)
+
+pub returns-clause-both : goal.returns-clause-both
+returns-clause-both g c =
+    let inside = c.run-2.inside in
+    subst (λ deck. KeepsBoth g.B.OnTable.deck g.B.OnTable.post deck inside.post) (sym c.into_parts-hand.ensures.deck)
+    (deck-on g.B.OnTable.deck g.B.OnTable.post (deck_of inside.looped) inside.post c.run-2.invariant.both (deck_of c.join.new.looped)
+    c.join.ensures.deck)

@@ -1,31 +1,31 @@
 use Rattle.std.proofs.Common.{ap, ◌∙◌, subst}
+use Rattle.run_loop.specs.Loops.{deck_of}
 use Rattle.run_loop.specs.Turns.{MeetsAll}
 use Rattle.table_run.specs.Runs.{Run, run_of}
+use Rattle.table_run.proofs.Holding.{both-on}
 use Rattle.table_run.proofs.Sounding.{turned-sound}
 use Rattle.table_run.proofs.running.TableRun.go_round.Goals as goal
 
 pub invariant_of-self : goal.invariant_of-self
 invariant_of-self g c =
     let inside = c.self.inside in
-    turned-sound g.B.OnTable.is
-    (run_of inside.table.now inside.plan.now inside.looped inside.operations.items inside.requested inside.futures)
-    (g.T.Stepper.plan inside.stepper.now) inside.next c.self.invariant c.turn-taken.new.self c.turn-taken.ensures.ready
-    (record { is = c.turn-taken.ensures.aside.same; sees = c.turn-taken.ensures.aside.sees })
-
-pub invariant_of-self-2 : goal.invariant_of-self-2
-invariant_of-self-2 g c =
-    let inside = c.self.inside in
-    turned-sound g.B.OnTable.is
-    (run_of inside.table.now inside.plan.now inside.looped inside.operations.items inside.requested inside.futures)
-    (g.T.Stepper.plan inside.stepper.now) inside.next c.self.invariant c.poll-taken.new.self c.poll-taken.ensures.ready
-    (record { is = c.poll-taken.ensures.aside.same; sees = c.poll-taken.ensures.aside.sees })
+    let held = c.self.invariant in
+    let went = c.go_once-taken in
+    record {
+      sound = turned-sound g.B.OnTable.is
+          (run_of inside.table.now inside.plan.now inside.looped inside.operations.items inside.requested inside.futures)
+          (g.T.Stepper.plan inside.stepper.now) inside.next held.sound went.new.looped went.ensures.ready
+          (record { is = went.ensures.aside.same; sees = went.ensures.aside.sees });
+      both = both-on g.B.OnTable.deck g.B.OnTable.post (deck_of inside.looped) inside.post held.both (deck_of went.new.looped) went.new.post
+          went.ensures.both;
+    }
 
 pub returns-clause-met : goal.returns-clause-met
 returns-clause-met g c =
     let stepper = c.self.inside.stepper.now in
     record {
       stepper = stepper;
-      stepped = c.self.invariant.table.stepped_is ∙ ap (λ (r : Run). r.plan) c.self.view_is;
-      met = subst (λ (r : Run). MeetsAll (g.T.Stepper.does stepper) r.board r.looped c.poll-taken.new.self) c.self.view_is
-          c.poll-taken.ensures.met;
+      stepped = c.self.invariant.sound.table.stepped_is ∙ ap (λ (r : Run). r.plan) c.self.view_is;
+      met = subst (λ (r : Run). MeetsAll (g.T.Stepper.does stepper) r.board r.looped c.go_once-taken.new.looped) c.self.view_is
+          c.go_once-taken.ensures.met;
     }

@@ -1,12 +1,24 @@
-use Rattle.std.proofs.Common.{sym, subst}
+use Rattle.std.proofs.Common.{false, sym, ◌∙◌, subst}
+use Rattle.run_loop.specs.Loops.{deck_of}
 use Rattle.table_run.specs.Opened.{IsUnused}
+use Rattle.table_run.specs.Runs.{run_of}
+use Rattle.table_run.proofs.Held.{named-sound}
+use Rattle.table_run.proofs.Holding.{both-are}
 use Rattle.table_run.proofs.Sounding.{opened-sound}
 use Rattle.table_run.proofs.running.TableRun.open.Goals as goal
 
 pub invariant_of-result : goal.invariant_of-result
 invariant_of-result g c =
     let opened = c.in-Ok-open-2.ensures.opened in
-    opened-sound g.B.OnTable.is c.args.table.now c.args.plan.now (g.T.Stepper.plan c.args.stepper.now) c.args.tickets c.in-Ok-open-2.looped c.requires.on
-    c.requires.over c.requires.kinds c.requires.stepper c.requires.scope c.requires.some c.requires.few
-    (subst (IsUnused c.args.table.now) (sym opened.hand_is) c.requires.hand) opened.next opened.delays c.in-Ok.operations.items c.in-Ok.ensures _
-    c.in-Ok-open.futures c.in-Ok-open.ensures
+    let seated = c.seat-looped in
+    record {
+      sound = named-sound g.B.OnTable.is
+          (run_of c.args.table.now c.args.plan.now c.in-Ok-open-2.looped c.in-Ok.operations.items false c.in-Ok-open.futures)
+          (g.T.Stepper.plan c.args.stepper.now) 0 seated.result seated.ensures.rest
+          (opened-sound g.B.OnTable.is c.args.table.now c.args.plan.now (g.T.Stepper.plan c.args.stepper.now) c.args.tickets
+          (record c.in-Ok-open-2.looped { names = seated.result.names }) c.requires.on c.requires.over c.requires.kinds c.requires.stepper
+          c.requires.scope c.requires.some c.requires.few (subst (IsUnused c.args.table.now) (sym opened.hand_is) c.requires.hand) opened.next
+          opened.delays c.in-Ok.operations.items c.in-Ok.ensures _ c.in-Ok-open.futures c.in-Ok-open.ensures);
+      both = both-are g.B.OnTable.deck g.B.OnTable.post (deck_of seated.result) c.args.own.post (c.requires.deck ∙ sym seated.ensures.deck)
+          c.requires.post;
+    }

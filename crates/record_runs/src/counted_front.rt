@@ -5,40 +5,43 @@ ghost use Rattle.record_lines.specs.declared.limits.TheConstants.{MOST_RECORDS};
 ghost use Rattle.record_loop.specs.Generated.{generated_lines};
 ghost use Rattle.record_loop.specs.declared.printer.Form.{Form};
 ghost use Rattle.record_loop.specs.Tallies.{TalliesWith};
-ghost use Rattle.record_runs.specs.Desks.{CanBegin};
+ghost use Rattle.record_runs.specs.Fronts.{CanBegin};
 ghost use Rattle.record_runs.specs.Endings.{EndsCounted, begins};
 ghost use Rattle.record_runs.specs.Opened.{AreBack};
-ghost use Rattle.run_crew.specs.Crews.{IsSpare};
+ghost use Rattle.run_crew.specs.Crews.{AreSameDesks, IsSpare};
 
+use crate::beside::run_with_desks;
+use crate::owning::{own_of, parts_of};
 use crate::working::{Came, Tabled, work_on_counted};
 use exec_io::Sink;
 use exec_recv::{Item, Stepper};
 use op_table::Hand;
-use run_crew::{Backend, Front, Order, run_beside};
+use run_crew::{Backend, Desk, Front, Order};
 use std::alloc::Global;
 use std::marker::Brand;
 use std::sync::Wait;
 use std::thread::Threads;
 
-/// What lies on the desk of a run over generated records. No hand, loop or list lies on it, and
-/// no struct with facts of its own: what was written behind its references would be known no more.
+/// What the work of a run over generated records has beside its hand. No hand, loop or list
+/// is in it, and no struct with facts of its own: what was written behind its references would be
+/// known no more.
 #[derive(Drop)]
-pub struct CountedDesk<'a, T: Stepper, K: Sink> {
+pub struct CountedFront<'a, T: Stepper, K: Sink> {
     pub(crate) out: &'a mut K,
     pub(crate) came: &'a mut Came,
     pub(crate) on: Tabled<'a, T>,
     pub(crate) count: u32,
 }
 
-impl<'a, T: Stepper, K: Sink> Front for CountedDesk<'a, T, K> {
+impl<'a, T: Stepper, K: Sink> Front for CountedFront<'a, T, K> {
     ghost use Rattle.std.specs.Prelude.{◌≤◌};
     ghost use Rattle.record_lines.specs.declared.limits.TheConstants.{MOST_RECORDS};
-    ghost use Rattle.record_runs.specs.Desks.{CanBegin, LeavesCounted};
+    ghost use Rattle.record_runs.specs.Fronts.{CanBegin, LeavesCounted};
 
-    ghost needs = { λ desk hand.
-        CanBegin desk.on.table.now desk.on.plan.now desk.on.window
-        (T.plan desk.on.stepper.now) hand
-        × (desk.count ≤ MOST_RECORDS) };
+    ghost needs = { λ front hand.
+        CanBegin front.on.table.now front.on.plan.now front.on.window
+        (T.plan front.on.stepper.now) hand
+        × (front.count ≤ MOST_RECORDS) };
 
     ghost leaves = { LeavesCounted K.told };
 
@@ -47,8 +50,9 @@ impl<'a, T: Stepper, K: Sink> Front for CountedDesk<'a, T, K> {
         rt: &R,
         alloc: Global,
         hand: Hand<Item>,
+        desk: Option<Desk>,
         helps: bool,
-    ) -> Hand<Item> {
+    ) -> (Hand<Item>, Option<Desk>) {
         let on = Tabled {
             plan: self.on.plan,
             stepper: self.on.stepper,
@@ -57,15 +61,21 @@ impl<'a, T: Stepper, K: Sink> Front for CountedDesk<'a, T, K> {
         };
         let count = self.count;
         let worked = work_on_counted::<Brand, T, R, K>(
-            rt, alloc, &on, hand, helps, count, self.out,
+            rt,
+            alloc,
+            &on,
+            own_of(hand, desk),
+            helps,
+            count,
+            self.out,
         );
         *self.came = worked.came;
-        worked.hand
+        parts_of(worked.own)
     }
 }
 
-impl<'a, T: Stepper, K: Sink> CountedDesk<'a, T, K> {
-    /// Clears the desk: what lies behind its references stays.
+impl<'a, T: Stepper, K: Sink> CountedFront<'a, T, K> {
+    /// Ends the front: what is behind its references stays.
     pub(crate) fn clear(self)
         ensures sink { self.exit.0.now ≡ self.entry.out.now }
         ensures came { self.exit.1.0.now ≡ self.entry.came.now }
@@ -79,42 +89,47 @@ impl<'a, T: Stepper, K: Sink> CountedDesk<'a, T, K> {
     }
 }
 
-/// Runs generated records on hand 0 beside workers on the other hands. All hands come back.
+/// Runs generated records on hand 0 beside workers on the other hands. All hands come back, and all
+/// desks, hand 0's last.
 pub(crate) fn counted_beside<'a, T: Stepper + Sync, R: Threads + Wait + Sync, K: Sink>(
     rt: &R,
     alloc: Global,
     order: Order,
     backends: Vec<Box<dyn Backend + Send>>,
+    desks: Vec<Desk>,
     hands: Vec<Hand<Item>>,
     hand: Hand<Item>,
-    desk: CountedDesk<'a, T, K>,
+    front: CountedFront<'a, T, K>,
     all: &mut Vec<Hand<Item>>,
-) -> CountedDesk<'a, T, K>
+    kept: &mut Vec<Desk>,
+) -> CountedFront<'a, T, K>
     requires sync { IsSync R.row }
-    requires begin { CanBegin desk.on.table.now desk.on.plan.now desk.on.window
-        (T.plan desk.on.stepper.now) hand }
-    requires few { desk.count ≤ MOST_RECORDS }
-    requires spare { All (IsSpare desk.on.table.now) hands.items }
+    requires begin { CanBegin front.on.table.now front.on.plan.now front.on.window
+        (T.plan front.on.stepper.now) hand }
+    requires few { front.count ≤ MOST_RECORDS }
+    requires spare { All (IsSpare front.on.table.now) hands.items }
     requires each { vec_len hands ≤ vec_len backends }
-    requires count { vec_len hands + 1 ≡ desk.on.table.now.frame.hands }
+    requires count { vec_len hands + 1 ≡ front.on.table.now.frame.hands }
     requires room { vec_len hands < vec_capacity hands }
-    ensures sink { result.out.ghost_name ≡ desk.entry.out.ghost_name }
-    ensures came { result.came.ghost_name ≡ desk.entry.came.ghost_name }
+    ensures sink { result.out.ghost_name ≡ front.entry.out.ghost_name }
+    ensures came { result.came.ghost_name ≡ front.entry.came.ghost_name }
     ensures ends { EndsCounted
-        (begins desk.entry.on.plan.now desk.entry.on.window Form.Summary
-        (K.told desk.entry.out.now))
-        (generated_lines desk.entry.on.plan.now.settings.input desk.entry.count)
+        (begins front.entry.on.plan.now front.entry.on.window Form.Summary
+        (K.told front.entry.out.now))
+        (generated_lines front.entry.on.plan.now.settings.input front.entry.count)
         (K.told result.out.now) result.came.now.answer }
     ensures told { IfOk result.came.now.answer (λ ending.
         TalliesWith result.came.now.tally ending.summary) }
-    ensures back { AreBack desk.entry.on.table.now all.new.items }
+    ensures back { AreBack front.entry.on.table.now all.new.items }
+    ensures desks { AreSameDesks desks.items kept.new.items }
 {
-    let table = desk.on.table;
-    let stepper = desk.on.stepper;
-    let (left, last, mut back) = run_beside(
-        rt, alloc, table, stepper, order, backends, hands, hand, desk,
+    let table = front.on.table;
+    let stepper = front.on.stepper;
+    let (left, last, mut back, same) = run_with_desks(
+        rt, alloc, table, stepper, order, backends, desks, hands, hand, front,
     );
     back.push_reserved(last);
     *all = back;
+    *kept = same;
     left
 }

@@ -2,26 +2,29 @@
 ghost use Rattle.std.specs.Prelude.{◌≡◌, ◌+◌, ◌<◌, ◌≤◌, All, IfOk, vec_capacity, vec_len};
 ghost use Rattle.std.specs.Thread.{IsSync};
 ghost use Rattle.record_loop.specs.Tallies.{TalliesWith};
-ghost use Rattle.record_runs.specs.Desks.{CanBegin};
+ghost use Rattle.record_runs.specs.Fronts.{CanBegin};
 ghost use Rattle.record_runs.specs.Endings.{EndsLines, begins, supply};
 ghost use Rattle.record_runs.specs.Opened.{AreBack};
-ghost use Rattle.run_crew.specs.Crews.{IsSpare};
+ghost use Rattle.run_crew.specs.Crews.{AreSameDesks, IsSpare};
 
+use crate::beside::run_with_desks;
+use crate::owning::{own_of, parts_of};
 use crate::working::{Came, Tabled, work_on_lines};
 use exec_io::Sink;
 use exec_recv::{Item, Stepper};
 use op_table::Hand;
 use record_loop::{Form, RecordSource};
-use run_crew::{Backend, Front, Order, run_beside};
+use run_crew::{Backend, Desk, Front, Order};
 use std::alloc::Global;
 use std::marker::Brand;
 use std::sync::Wait;
 use std::thread::Threads;
 
-/// What lies on the desk of a run over a source's records. No hand, loop or list lies on it, and
-/// no struct with facts of its own: what was written behind its references would be known no more.
+/// What the work of a run over a source's records has beside its hand. No hand, loop or list
+/// is in it, and no struct with facts of its own: what was written behind its references would be
+/// known no more.
 #[derive(Drop)]
-pub struct LinesDesk<'a, T: Stepper, S: RecordSource, K: Sink> {
+pub struct LinesFront<'a, T: Stepper, S: RecordSource, K: Sink> {
     pub(crate) records: &'a mut S,
     pub(crate) out: &'a mut K,
     pub(crate) came: &'a mut Came,
@@ -29,12 +32,12 @@ pub struct LinesDesk<'a, T: Stepper, S: RecordSource, K: Sink> {
     pub(crate) form: Form,
 }
 
-impl<'a, T: Stepper, S: RecordSource, K: Sink> Front for LinesDesk<'a, T, S, K> {
-    ghost use Rattle.record_runs.specs.Desks.{CanBegin, LeavesLines};
+impl<'a, T: Stepper, S: RecordSource, K: Sink> Front for LinesFront<'a, T, S, K> {
+    ghost use Rattle.record_runs.specs.Fronts.{CanBegin, LeavesLines};
 
-    ghost needs = { λ desk hand.
-        CanBegin desk.on.table.now desk.on.plan.now desk.on.window
-        (T.plan desk.on.stepper.now) hand };
+    ghost needs = { λ front hand.
+        CanBegin front.on.table.now front.on.plan.now front.on.window
+        (T.plan front.on.stepper.now) hand };
 
     ghost leaves = { LeavesLines S.told S.reads K.told };
 
@@ -43,8 +46,9 @@ impl<'a, T: Stepper, S: RecordSource, K: Sink> Front for LinesDesk<'a, T, S, K> 
         rt: &R,
         alloc: Global,
         hand: Hand<Item>,
+        desk: Option<Desk>,
         helps: bool,
-    ) -> Hand<Item> {
+    ) -> (Hand<Item>, Option<Desk>) {
         let on = Tabled {
             plan: self.on.plan,
             stepper: self.on.stepper,
@@ -56,19 +60,19 @@ impl<'a, T: Stepper, S: RecordSource, K: Sink> Front for LinesDesk<'a, T, S, K> 
             rt,
             alloc,
             &on,
-            hand,
+            own_of(hand, desk),
             helps,
             form,
             self.records,
             self.out,
         );
         *self.came = worked.came;
-        worked.hand
+        parts_of(worked.own)
     }
 }
 
-impl<'a, T: Stepper, S: RecordSource, K: Sink> LinesDesk<'a, T, S, K> {
-    /// Clears the desk: what lies behind its references stays.
+impl<'a, T: Stepper, S: RecordSource, K: Sink> LinesFront<'a, T, S, K> {
+    /// Ends the front: what is behind its references stays.
     pub(crate) fn clear(self)
         ensures source { self.exit.0.now ≡ self.entry.records.now }
         ensures sink { self.exit.1.0.now ≡ self.entry.out.now }
@@ -84,7 +88,8 @@ impl<'a, T: Stepper, S: RecordSource, K: Sink> LinesDesk<'a, T, S, K> {
     }
 }
 
-/// Runs a source's records on hand 0 beside workers on the other hands. All hands come back.
+/// Runs a source's records on hand 0 beside workers on the other hands. All hands come back, and all
+/// desks, hand 0's last.
 pub(crate) fn lines_beside<
     'a,
     T: Stepper + Sync,
@@ -96,36 +101,40 @@ pub(crate) fn lines_beside<
     alloc: Global,
     order: Order,
     backends: Vec<Box<dyn Backend + Send>>,
+    desks: Vec<Desk>,
     hands: Vec<Hand<Item>>,
     hand: Hand<Item>,
-    desk: LinesDesk<'a, T, S, K>,
+    front: LinesFront<'a, T, S, K>,
     all: &mut Vec<Hand<Item>>,
-) -> LinesDesk<'a, T, S, K>
+    kept: &mut Vec<Desk>,
+) -> LinesFront<'a, T, S, K>
     requires sync { IsSync R.row }
-    requires begin { CanBegin desk.on.table.now desk.on.plan.now desk.on.window
-        (T.plan desk.on.stepper.now) hand }
-    requires spare { All (IsSpare desk.on.table.now) hands.items }
+    requires begin { CanBegin front.on.table.now front.on.plan.now front.on.window
+        (T.plan front.on.stepper.now) hand }
+    requires spare { All (IsSpare front.on.table.now) hands.items }
     requires each { vec_len hands ≤ vec_len backends }
-    requires count { vec_len hands + 1 ≡ desk.on.table.now.frame.hands }
+    requires count { vec_len hands + 1 ≡ front.on.table.now.frame.hands }
     requires room { vec_len hands < vec_capacity hands }
-    ensures source { result.records.ghost_name ≡ desk.entry.records.ghost_name }
-    ensures sink { result.out.ghost_name ≡ desk.entry.out.ghost_name }
-    ensures came { result.came.ghost_name ≡ desk.entry.came.ghost_name }
+    ensures source { result.records.ghost_name ≡ front.entry.records.ghost_name }
+    ensures sink { result.out.ghost_name ≡ front.entry.out.ghost_name }
+    ensures came { result.came.ghost_name ≡ front.entry.came.ghost_name }
     ensures ends { EndsLines
-        (begins desk.entry.on.plan.now desk.entry.on.window desk.entry.form (K.told desk.entry.out.now))
-        (supply (S.told desk.entry.records.now) (S.reads desk.entry.records.now))
+        (begins front.entry.on.plan.now front.entry.on.window front.entry.form (K.told front.entry.out.now))
+        (supply (S.told front.entry.records.now) (S.reads front.entry.records.now))
         (supply (S.told result.records.now) (S.reads result.records.now))
         (K.told result.out.now) result.came.now.answer }
     ensures told { IfOk result.came.now.answer (λ ending.
         TalliesWith result.came.now.tally ending.summary) }
-    ensures back { AreBack desk.entry.on.table.now all.new.items }
+    ensures back { AreBack front.entry.on.table.now all.new.items }
+    ensures desks { AreSameDesks desks.items kept.new.items }
 {
-    let table = desk.on.table;
-    let stepper = desk.on.stepper;
-    let (left, last, mut back) = run_beside(
-        rt, alloc, table, stepper, order, backends, hands, hand, desk,
+    let table = front.on.table;
+    let stepper = front.on.stepper;
+    let (left, last, mut back, same) = run_with_desks(
+        rt, alloc, table, stepper, order, backends, desks, hands, hand, front,
     );
     back.push_reserved(last);
     *all = back;
+    *kept = same;
     left
 }

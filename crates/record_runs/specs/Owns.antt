@@ -1,0 +1,25 @@
+-- Hand 0 with its desk.
+use Rattle.std.specs.Prelude.{Option, Some, None}
+use Rattle.std.specs.Option.{option_map}
+use Rattle.atomic_table.specs.declared.shared.Seat.{Seat}
+use Rattle.deck_relay.specs.declared.deck.Deck.{Deck}
+use Rattle.exec_start.specs.declared.entry.Entry.{Entry}
+use Rattle.exec_start.specs.declared.item.Item.{Item}
+use Rattle.loop_queue.specs.declared.post.LoopPost.{LoopPost}
+use Rattle.steal_pool.specs.declared.desk.Desk.{Desk}
+use Rattle.table_rules.specs.declared.view.View.{View}
+use Rattle.table_run.specs.declared.own.Own.{Own}
+
+-- Both for a run.
+abbrev pub owned : Seat (Option Item) (View Item Entry) → Option Desk → Own
+owned hand desk = record {
+  hand = hand;
+  deck = option_map (λ (d : Desk). d.deck) desk;
+  post = option_map (λ (d : Desk). d.post) desk;
+}
+
+-- The desk with this deck and this post.
+abbrev pub desk_in : Option Deck → Option LoopPost → Option Desk
+desk_in (Some deck) (Some post) = Some (record { deck = deck; post = post })
+desk_in (Some deck) None = None
+desk_in None post = None
