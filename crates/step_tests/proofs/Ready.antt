@@ -6,6 +6,8 @@ use lib.ListN.{get_elem?}
 use Rattle.atomic_table.specs.declared.shared.Seat.{Seat}
 use Rattle.exec_value.specs.Kinds.{HasKind}
 use Rattle.exec_value.specs.declared.data.Datum.{Datum}
+use Rattle.deck_relay.specs.declared.deck.Deck.{Deck}
+use Rattle.life_rules.specs.declared.event.Name.{Name}
 use Rattle.plan_kinds.specs.Reached.{KindsMatch}
 use Rattle.plan_kinds.specs.Runnable.{IsRunnable}
 use Rattle.plan_reader.specs.PlanFile.{IsPlanOf}
@@ -19,7 +21,7 @@ use Rattle.exec_start.specs.Entries.{record_start}
 use Rattle.exec_start.proofs.Beginning.{record-kinds}
 use Rattle.loop_walk.specs.Resting.{IsAtRest}
 use Rattle.run_loop.specs.declared.looped.Loop.{Loop as Looped}
-use Rattle.run_loop.specs.Loops.{IsOpened, IsReady}
+use Rattle.run_loop.specs.Loops.{IsOpened, IsReady, IsTold, decked}
 use Rattle.loop_roots.specs.Starts.{CanRun}
 use Rattle.step_tests.specs.Ready.{IsFirst}
 
@@ -59,6 +61,30 @@ pub helps-ready : (board : Board Blueprint) (old new : Looped) (helps : Bool) �
     new ≡ record old { helps = helps } → IsReady board new
 helps-ready board old new helps ready is =
     subst (IsReady board) (sym is)
+    (record {
+      hand = ready.hand;
+      first = ready.first;
+      rests = ready.rests;
+      next = ready.next;
+      delays = ready.delays;
+    })
+
+-- where it has a deck
+pub decked-ready : (board : Board Blueprint) (old new : Looped) (deck : Deck) → IsReady board old → new ≡ decked deck old → IsReady board new
+decked-ready board old new deck ready is =
+    subst (IsReady board) (sym is)
+    (record {
+      hand = ready.hand;
+      first = ready.first;
+      rests = ready.rests;
+      next = ready.next;
+      delays = ready.delays;
+    })
+
+-- and where it knows other names
+pub told-ready : (board : Board Blueprint) (old new : Looped) (names : List Name) → IsReady board old → IsTold names old new → IsReady board new
+told-ready board old new names ready is =
+    subst (IsReady board) (sym is.rest)
     (record {
       hand = ready.hand;
       first = ready.first;

@@ -9,6 +9,7 @@ ghost use Rattle.loop_roots.specs.Starts.{CanRun};
 ghost use Rattle.step_tests.specs.Ready.{IsFirst};
 
 mod bulks;
+mod decks;
 mod delays;
 mod names;
 

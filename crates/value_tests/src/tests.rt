@@ -1,7 +1,9 @@
 mod backends;
+mod decks;
 mod jobs;
 mod names;
 mod outcomes;
+mod queues;
 mod records;
 mod streams;
 mod summaries;

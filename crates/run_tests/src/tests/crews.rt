@@ -5,6 +5,7 @@ ghost use Rattle.life_rules.specs.declared.limits.TheConstants.{MOST_BLOCKS, MOS
 ghost use Rattle.record_lines.specs.declared.limits.TheConstants.{MOST_RECORDS};
 ghost use Rattle.run_crew.specs.Crews.{IsCrew};
 
+use super::layers::agree_with;
 use super::unlawful::{Unlawful, Way};
 use super::{blocks_of, is_left, plan_of};
 use exec_io::MemSink;
@@ -28,6 +29,10 @@ pub(super) const MOST_LOOKS: u32 = 1_000_000;
 /// One more than the record, on the pool.
 const ON_POOL: &str =
     r#"{"do":"starts_on","on":"pool","child":{"do":"then","child":{"do":"input"},"job":{"job":"add","n":1}}}"#;
+
+/// Five hops, between the pool and the loop.
+const HOPS: &str =
+    r#"{"do":"continues_on","on":"pool","child":{"do":"continues_on","on":"loop","child":{"do":"continues_on","on":"pool","child":{"do":"continues_on","on":"loop","child":{"do":"starts_on","on":"pool","child":{"do":"then","child":{"do":"input"},"job":{"job":"add","n":1}}}}}}}"#;
 
 /// Of two children one makes one hop, and the other begins eight parts.
 const PLAN_G: &str =
@@ -162,5 +167,29 @@ fn a_backend_that_is_not_lawful_changes_no_answer(rt: HostRuntime) -> Result<(),
         let crew = crew_of(alloc, 4, way)?;
         assert!(rt; writes(&rt, alloc, PLAN_G, 8, 1000, crew, &OpenGate, line)?);
     }
+    Ok(())
+}
+
+// Up to 16 workers have desks. More have none, and share the backends alone.
+#[test]
+fn seventeen_workers_give_the_lines_that_sixteen_give(rt: HostRuntime) -> Result<(), Fail> {
+    let alloc = rt.alloc();
+    for workers in [16, 17] {
+        for root in [PLAN_G, HOPS] {
+            let crew = crew_of(alloc, workers, Way::None)?;
+            assert!(rt;
+                agree_with(&rt, alloc, ("", root), 8, 100, crew)?,
+                "{workers} workers"
+            );
+        }
+    }
+    Ok(())
+}
+
+#[test]
+fn one_record_at_a_time_makes_its_hops(rt: HostRuntime) -> Result<(), Fail> {
+    let alloc = rt.alloc();
+    let crew = crew_of(alloc, 4, Way::None)?;
+    assert!(rt; agree_with(&rt, alloc, ("", HOPS), 1, 50, crew)?);
     Ok(())
 }

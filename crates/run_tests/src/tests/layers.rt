@@ -1,8 +1,9 @@
 //! The same records over a table and by plain evaluation.
-ghost use Rattle.std.specs.Prelude.{◌<◌, ◌≤◌};
+ghost use Rattle.std.specs.Prelude.{◌<◌, ◌≤◌, vec_len};
 ghost use Rattle.std.specs.Thread.{IsSync};
 ghost use Rattle.life_rules.specs.declared.limits.TheConstants.{MOST_BLOCKS};
 ghost use Rattle.plan_kinds.specs.Reached.{KindsMatch};
+ghost use Rattle.run_crew.specs.Crews.{IsCrew};
 ghost use Rattle.run_rules.specs.PlanTerms.{MayRun};
 
 use super::{ADDING, blocks_of, is_left, nobody, plan_of};
@@ -12,6 +13,7 @@ use plain_runs::PlainRuns;
 use plan_shape::Plan;
 use record_loop::{Form, run_records};
 use record_runs::run_lines;
+use run_crew::Crew;
 use run_rules::{at_once, may_run};
 use std::alloc::Global;
 use std::process::Abort;
@@ -144,18 +146,20 @@ fn plainly<R: Wait + Sync>(
     Ok(out)
 }
 
-/// Whether the plan runs so many records to the same lines over a table as by plain evaluation, and
-/// leaves the table with its scope joined and all blocks free.
-fn agree<R: Threads + Wait + Abort + Sync>(
+/// Whether the plan runs so many records to the same lines over a table, with this crew, as by plain
+/// evaluation, and leaves the table with its scope joined and all blocks free.
+pub(super) fn agree_with<R: Threads + Wait + Abort + Sync>(
     rt: &R,
     alloc: Global,
     case: (&str, &str),
     window: u32,
     count: u32,
+    crew: Crew,
 ) -> Result<bool, Fail>
     requires sync { IsSync R.row }
     requires some { 0 < window }
     requires few { window ≤ MOST_BLOCKS }
+    requires crew { IsCrew crew.workers (vec_len crew.backends) }
 {
     let plan = plan_of(alloc, case.0, case.1)?;
     assert!(rt; may_run(plan.settings()));
@@ -170,12 +174,27 @@ fn agree<R: Threads + Wait + Abort + Sync>(
         &plan,
         size,
         Form::Lines,
-        nobody(alloc),
+        crew,
         &OpenGate,
         &mut source,
         &mut out,
     )?;
     Ok(plain.bytes() == out.bytes() && is_left(&account, blocks_of(&plan, size)))
+}
+
+/// The same with no workers.
+fn agree<R: Threads + Wait + Abort + Sync>(
+    rt: &R,
+    alloc: Global,
+    case: (&str, &str),
+    window: u32,
+    count: u32,
+) -> Result<bool, Fail>
+    requires sync { IsSync R.row }
+    requires some { 0 < window }
+    requires few { window ≤ MOST_BLOCKS }
+{
+    agree_with(rt, alloc, case, window, count, nobody(alloc))
 }
 
 #[test]

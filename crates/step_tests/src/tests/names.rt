@@ -37,7 +37,7 @@ impl Mail for Nobody {
 }
 
 // Starts the plan's operation, and gives the name of its `starts_on`, which waits in the pool.
-fn begins<T: Stepper, R: Wait + Sync>(
+pub(crate) fn begins<T: Stepper, R: Wait + Sync>(
     rt: &R,
     alloc: Global,
     plan: &Plan,

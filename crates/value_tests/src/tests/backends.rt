@@ -1,16 +1,8 @@
 //! A backend of fixed room: its order, and what it hands back.
 
-use pool_backends::{Backend, Name, Order, RingBackend};
+use crate::tests::names::name;
+use pool_backends::{Backend, Order, RingBackend};
 use std::test::Fail;
-
-/// Some node of this number.
-fn name(node: u32) -> Name {
-    Name {
-        block: 0,
-        generation: 7,
-        node,
-    }
-}
 
 #[test]
 fn a_full_ring_hands_back_the_next_name(rt: HostRuntime) -> Result<(), Fail> {

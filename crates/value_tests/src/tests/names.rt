@@ -8,6 +8,15 @@ use std::alloc::Global;
 use std::test::Fail;
 use table_words::Layout;
 
+/// Some node of this number.
+pub(crate) fn name(node: u32) -> Name {
+    Name {
+        block: 1,
+        generation: 3,
+        node,
+    }
+}
+
 // A set for three blocks of a hundred nodes.
 fn for_three_blocks(alloc: Global) -> Result<NameSet, Fail>
     ensures layout { IfOk result (λ set. set.layout ≡ record { blocks = 3; nodes = 100 }) }

@@ -136,7 +136,7 @@ fn plain_due(
 ) -> Result<Vec<usize>, AllocError> {
     let mut places = Vec::new(alloc);
     for (place, due) in plain.iter_mut().enumerate() {
-        if due.is_some_and(|due| due <= turn) {
+        if matches!(due, Some(at) if *at <= turn) {
             *due = None;
             places.push(place)?;
         }
