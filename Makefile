@@ -3,6 +3,7 @@
 # `make test` is the gate: everything is proved, and the proved program is tested.
 # `make stress` runs the proved program some thousand times with 1 to 16 workers, for at most half an hour.
 # `make bench` measures the proved program, with mawk and jq beside it where they are installed (bench/measure.py).
+# `make growth` measures how its time and memory grow: with the records, the nodes and the workers (bench/growth.py).
 # `make docs` writes docs/PLANS.md, docs/plan.schema.json and the table of crates in docs/ARCHITECTURE.md again.
 # `make install` installs the programs that `make run` leaves, their manual pages, and their completions in bash, zsh and
 # fish, below PREFIX (below DESTDIR where that is given); it builds nothing. `make uninstall` takes these files away.
@@ -17,7 +18,7 @@ SHARE := $(DESTDIR)$(PREFIX)/share
 BIN := $(DESTDIR)$(PREFIX)/bin
 NAMES := exec_run exec_show
 
-.PHONY: try run test stress bench docs install uninstall
+.PHONY: try run test stress bench growth docs install uninstall
 try:
 	cd crates/exec_run && rt try --data add_one.json=../../$(PLAN) -- run add_one.json < ../../$(NUMBERS)
 
@@ -38,6 +39,9 @@ stress: $(PROGRAM)
 
 bench: $(PROGRAM)
 	bench/measure.py $(PROGRAM)
+
+growth: $(PROGRAM)
+	bench/growth.py $(PROGRAM)
 
 docs: $(PROGRAM) $(SHOWS)
 	docs/make_plans.py $(PROGRAM)
