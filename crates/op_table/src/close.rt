@@ -15,39 +15,84 @@ use crate::table::{Hand, OpTable, SeatOf};
 use atomic_table::Closed;
 use life_rules::{BlockState, ScopeState, scope_state};
 use std::alloc::Global;
-use std::marker::Brand;
+use std::marker::{Brand, Model};
+use std::snapshot::Snapshot;
 use table_rules::{Cargo, View};
-use table_steps::Closing;
+use table_steps::Remains;
 use table_words::{Layout, SCOPE, read_block, read_scope};
 
-// The same with one block more.
-fn with_block(closing: Closing, state: BlockState) -> Closing
-    requires { (closing.free < MOST_BLOCKS) × (closing.retired < MOST_BLOCKS) }
-    ensures scope { result.scope ≡ closing.scope }
-    ensures free { result.free ≡ closing.free + one (is_free state) }
-    ensures retired { result.retired ≡ closing.retired + one (is_retired state) }
+/// How a table was closed: which table it was, with what each of its hands came back, and what its
+/// words told. Only `close_table` makes one.
+#[derive(Drop)]
+pub struct Closing<P: Cargo> {
+    table: Snapshot<OpTable<P>>,
+    hands: Snapshot<Vec<Hand<P>>>,
+    remains: Remains,
+}
+
+impl<P: Cargo> Model for Closing<P> {
+    ghost use Rattle.table_steps.specs.Closings.{ClosedTable, IsClosedSo};
+
+    ghost Value = { ClosedTable P P.Entry P.Over };
+
+    ghost view = { λ c.
+        record { board = c.table.value; hands = c.hands.value.items; remains = c.remains } };
+
+    ghost invariant = { λ c. IsClosedSo P.Cargo
+        (record { board = c.table.value; hands = c.hands.value.items; remains = c.remains }) };
+}
+
+impl<P: Cargo> Closing<P> {
+    /// In which state the scope was left.
+    pub fn scope(&self) -> ScopeState
+        ensures { result ≡ self.now.remains.scope }
+    {
+        self.remains.scope
+    }
+
+    /// How many blocks were free.
+    pub fn free(&self) -> u32
+        ensures { result ≡ self.now.remains.free }
+    {
+        self.remains.free
+    }
+
+    /// How many blocks were retired.
+    pub fn retired(&self) -> u32
+        ensures { result ≡ self.now.remains.retired }
+    {
+        self.remains.retired
+    }
+}
+
+// What remains with one block more, which is in this state.
+fn with_block(remains: Remains, state: BlockState) -> Remains
+    requires { (remains.free < MOST_BLOCKS) × (remains.retired < MOST_BLOCKS) }
+    ensures scope { result.scope ≡ remains.scope }
+    ensures free { result.free ≡ remains.free + one (is_free state) }
+    ensures retired { result.retired ≡ remains.retired + one (is_retired state) }
 {
     match state {
-        BlockState::Free => Closing {
-            free: closing.free + 1,
-            ..closing
+        BlockState::Free => Remains {
+            free: remains.free + 1,
+            ..remains
         },
-        BlockState::Open => closing,
-        BlockState::Retired => Closing {
-            retired: closing.retired + 1,
-            ..closing
+        BlockState::Open => remains,
+        BlockState::Retired => Remains {
+            retired: remains.retired + 1,
+            ..remains
         },
     }
 }
 
 // What the words of a table that no hand steps on any more tell.
-fn closing_of<S>(closed: &Closed<S, Global>, layout: Layout) -> Closing
+fn remains_of<S>(closed: &Closed<S, Global>, layout: Layout) -> Remains
     requires words { IsFull closed.now.words × (slots_len closed.now.words ≡ words_in layout) }
     requires layout { (layout.blocks ≤ MOST_BLOCKS) × (layout.nodes ≤ MOST_NODES) }
     ensures { TellsOf layout (slots_items closed.now.words) layout.blocks result }
 {
     let scope = closed.word(SCOPE);
-    let mut closing = Closing {
+    let mut remains = Remains {
         scope: scope_state(read_scope(scope)),
         free: 0,
         retired: 0,
@@ -55,9 +100,9 @@ fn closing_of<S>(closed: &Closed<S, Global>, layout: Layout) -> Closing
     for block in 0..layout.blocks {
         let index = layout.block(block);
         let word = closed.word(index);
-        closing = with_block(closing, read_block(word).state);
+        remains = with_block(remains, read_block(word).state);
     }
-    closing
+    remains
 }
 
 // Drops the items that lie in the homes, and gives the memory back.
@@ -85,19 +130,28 @@ impl<P: Cargo> OpTable<P> {
     /// as the hands' steps left them. So the scope is joined where one of them joined it, and
     /// unused where none of them used it, and else it is in a state in which it may not end
     /// (P3149, [exec.scope]).
-    pub fn close_table(self, hands: Vec<Hand<P>>) -> Closing
+    pub fn close_table(self, hands: Vec<Hand<P>>) -> Closing<P>
         requires hands { AreAllBack self hands.items }
-        ensures closed { IsClosing P.Cargo self.frame hands.items result }
-        ensures scope { IsScopeLeft (steps_of hands.items) result.scope }
-        ensures within { result.free + result.retired ≤ self.frame.layout.blocks }
-        ensures counted { IsCountedBy self hands.items result }
+        ensures board { result.board ≡ self }
+        ensures hands { result.hands ≡ hands.items }
+        ensures closed { IsClosing P.Cargo self.frame hands.items result.remains }
+        ensures scope { IsScopeLeft (steps_of hands.items) result.remains.scope }
+        ensures within { result.remains.free + result.remains.retired
+            ≤ self.frame.layout.blocks }
+        ensures counted { IsCountedBy self hands.items result.remains }
     {
+        let was = Snapshot::of(&self);
+        let back = Snapshot::of(&hands);
         let all = self.gather(hands);
         let OpTable { table, frame } = self;
         let closed = table.close_with(all);
-        let closing = closing_of(&closed, frame.layout);
+        let remains = remains_of(&closed, frame.layout);
         discard(closed);
-        closing
+        Closing {
+            table: was,
+            hands: back,
+            remains,
+        }
     }
 
     // Joins all hands to one.

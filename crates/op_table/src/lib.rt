@@ -69,7 +69,8 @@ mod table;
 mod waiting;
 mod withdraw;
 
+pub use close::Closing;
 pub use node_tree::Context;
 pub use table::{Hand, OpTable, Ruled};
 pub use table_rules::{Cargo, MOST_ASSOCIATIONS};
-pub use table_steps::{Block, Closing, Report};
+pub use table_steps::{Block, Remains, Report};

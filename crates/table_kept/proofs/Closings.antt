@@ -28,7 +28,7 @@ use Rattle.table_rules.specs.Named.{AnyOf, Each}
 use Rattle.table_rules.specs.Grown.{HasRisen}
 use Rattle.table_rules.specs.Traces.{LeavesThere, all_steps, SomeCarries, IsMadeBySome, Traced}
 use Rattle.table_rules.specs.ShownWords.{is_retired, block_of, word_of}
-use Rattle.table_steps.specs.declared.closing.Closing.{Closing}
+use Rattle.table_steps.specs.declared.remains.Remains.{Remains}
 use Rattle.table_steps.specs.Views.{Board, knows}
 use Rattle.table_steps.specs.Closings.{AreAllBack, IsCountedBy, IsGathering, blocks_before, TellsOf, IsClosing, steps_of, LeavesScope, may_end, IsScopeLeft}
 use Rattle.table_kept.proofs.Entries.{each-map}
@@ -58,7 +58,7 @@ module _ (l : Layout) (words : List ℕ) where
       omega (arith, before, last)
 
   -- of no block
-  pub tells-none : (n : ℕ) (c : Closing) → get_elem? words (index l TheScope) ≡ some n →
+  pub tells-none : (n : ℕ) (c : Remains) → get_elem? words (index l TheScope) ≡ some n →
       c.scope ≡ scope_state (scope_read n) → c.free ≡ 0 → c.retired ≡ 0 → TellsOf l words 0 c
   tells-none n c at scope free retired =
       record {
@@ -75,7 +75,7 @@ module _ (l : Layout) (words : List ℕ) where
       ap (λ k. blocks_before k test l words) next
 
   -- one block more
-  pub tells-next : (b n : ℕ) (c d : Closing) → b < l.blocks → get_elem? words (index l (OfBlock b)) ≡ some n →
+  pub tells-next : (b n : ℕ) (c d : Remains) → b < l.blocks → get_elem? words (index l (OfBlock b)) ≡ some n →
       d.scope ≡ c.scope → d.free ≡ c.free + one (is_free (block_read n).state) →
       d.retired ≡ c.retired + one (is_retired (block_read n).state) → TellsOf l words b c → TellsOf l words (b + 1) d
   tells-next b n c d below at scope free retired old =
@@ -107,7 +107,7 @@ both-most l words (suc count) =
     omega (arith, before, last)
 
 -- so what is told isn't more than there are
-pub told-within : (l m : Layout) (words : List ℕ) (c : Closing) → l ≡ m → TellsOf l words l.blocks c →
+pub told-within : (l m : Layout) (words : List ℕ) (c : Remains) → l ≡ m → TellsOf l words l.blocks c →
     c.free + c.retired ≤ m.blocks
 told-within l m words c same tells =
     let most = both-most l words l.blocks in
@@ -149,13 +149,13 @@ is-joined w e = by w.joined w.joining w.closed (not w.used && w.count == 0) e
     by false false false false e = cc
 
 -- the words of the closed table are those of its last state, in which a view stands for all hands
-pub record IsLast {P E O : Type 0} (cargo : Ghosts P E O) (f : Frame O) (id : ℕ) (v : View P E) (c : Closing) : Type 0 where
+pub record IsLast {P E O : Type 0} (cargo : Ghosts P E O) (f : Frame O) (id : ℕ) (v : View P E) (c : Remains) : Type 0 where
   pub last : table.State (Option P) (View P E)
   pub traced : Traced cargo f last
   pub at : get_elem? last.views id ≡ some v
   pub tells : TellsOf f.layout last.words f.layout.blocks c
 
-pub closes : {P E O : Type 0} (cargo : Ghosts P E O) (key f : Frame O) (l : Layout) (words : List ℕ) (homes : List (Option P)) (id : ℕ) (v : View P E) (c : Closing) →
+pub closes : {P E O : Type 0} (cargo : Ghosts P E O) (key f : Frame O) (l : Layout) (words : List ℕ) (homes : List (Option P)) (id : ℕ) (v : View P E) (c : Remains) →
     key ≡ f → l ≡ f.layout → table.Final (table.Seen (Traced cargo key) id v) words homes → TellsOf l words l.blocks c →
     IsLast cargo f id v c
 closes cargo key f l words homes id v c same layout final tells =
@@ -174,7 +174,7 @@ stands-for-all cargo board all hand back gathers =
     let hands = gathers.hands in
     omega (arith, long, hands)
 
-module _ {P E O : Type 0} (cargo : Ghosts P E O) (f : Frame O) (id : ℕ) (v : View P E) (c : Closing) (is : IsLast cargo f id v c) (whole : v.hands ≡ f.hands) where
+module _ {P E O : Type 0} (cargo : Ghosts P E O) (f : Frame O) (id : ℕ) (v : View P E) (c : Remains) (is : IsLast cargo f id v c) (whole : v.hands ≡ f.hands) where
   abbrev s : table.State (Option P) (View P E)
   s = is.last
 
@@ -215,7 +215,7 @@ module _ {P E O : Type 0} (cargo : Ghosts P E O) (f : Frame O) (id : ℕ) (v : V
       }
 
 -- what the scope's word is in the end, the hands' steps tell
-module _ {P E O : Type 0} (cargo : Ghosts P E O) (f : Frame O) (all : List (Seat (Option P) (View P E))) (c : Closing) (is : IsClosing cargo f all c) where
+module _ {P E O : Type 0} (cargo : Ghosts P E O) (f : Frame O) (all : List (Seat (Option P) (View P E))) (c : Remains) (is : IsClosing cargo f all c) where
   abbrev words : List ℕ
   words = is.last.words
 
@@ -259,7 +259,7 @@ module _ {P E O : Type 0} (cargo : Ghosts P E O) (f : Frame O) (all : List (Seat
       }
 
 -- as many blocks are open as were claimed and not given back
-pub counted-told : {P E O : Type 0} (cargo : Ghosts P E O) (f : Frame O) (id : ℕ) (v : View P E) (c : Closing) →
+pub counted-told : {P E O : Type 0} (cargo : Ghosts P E O) (f : Frame O) (id : ℕ) (v : View P E) (c : Remains) →
     IsLast cargo f id v c → v.hands ≡ f.hands → c.free + c.retired + v.claimed ≡ f.layout.blocks + v.released
 counted-told cargo f id v c last whole =
     let s = last.last in
@@ -278,7 +278,7 @@ counted-told cargo f id v c last whole =
     omega (arith, claimed, released, opened, ways, free, retired)
 
 -- the same by what all hands counted
-pub counted-by : {P E O : Type 0} (cargo : Ghosts P E O) (board : Board O) (all : List (Seat (Option P) (View P E))) (hand : Seat (Option P) (View P E)) (c : Closing) →
+pub counted-by : {P E O : Type 0} (cargo : Ghosts P E O) (board : Board O) (all : List (Seat (Option P) (View P E))) (hand : Seat (Option P) (View P E)) (c : Remains) →
     IsLast cargo board.frame hand.id (knows hand) c → AreAllBack board all → IsGathering board all [] hand →
     IsCountedBy board all c
 counted-by cargo board all hand c last back gathers =

@@ -21,7 +21,7 @@ use Rattle.table_rules.specs.Counts.{over_all}
 use Rattle.table_rules.specs.Grown.{HasRisen}
 use Rattle.table_rules.specs.Traces.{LeavesThere, all_steps}
 use Rattle.table_rules.specs.Running.{Running}
-use Rattle.table_steps.specs.declared.closing.Closing.{Closing}
+use Rattle.table_steps.specs.declared.remains.Remains.{Remains}
 use Rattle.table_steps.specs.Views.{Board, IsHandOf, knows}
 
 -- the hand has no node, owes nothing, runs and scans nothing, and has no association with the scope
@@ -78,7 +78,7 @@ pub record IsGathering {P E O : Type 0} (board : Board O) (all left : List (Seat
   pub each : Each (λ other. IsHandOf board other × HasNothing (knows other)) left
 
 -- as many blocks are open still as these hands claimed and didn't give back
-abbrev pub IsCountedBy : {P E O : Type 0} → Board O → List (Seat (Option P) (View P E)) → Closing → Type 0
+abbrev pub IsCountedBy : {P E O : Type 0} → Board O → List (Seat (Option P) (View P E)) → Remains → Type 0
 IsCountedBy board hands c = c.free + c.retired + claimed_by hands ≡ board.frame.layout.blocks + released_by hands
 
 -- of the first blocks so many pass the test
@@ -86,13 +86,13 @@ abbrev pub blocks_before : ℕ → (BlockState → Bool) → Layout → List ℕ
 blocks_before count test l words = total (λ b. one (test (block_of l words b).state)) count
 
 -- what these words tell, by their first blocks
-pub record TellsOf (l : Layout) (words : List ℕ) (count : ℕ) (c : Closing) : Type 0 where
+pub record TellsOf (l : Layout) (words : List ℕ) (count : ℕ) (c : Remains) : Type 0 where
   pub scope_is : c.scope ≡ scope_state (scope_of l words)
   pub free_is : c.free ≡ blocks_before count is_free l words
   pub retired_is : c.retired ≡ blocks_before count is_retired l words
 
 -- the table's last state kept the rule, its words are as these hands left them, and this is what they tell
-pub record IsClosing {P E O : Type 0} (cargo : Ghosts P E O) (f : Frame O) (hands : List (Seat (Option P) (View P E))) (c : Closing) : Type 0 where
+pub record IsClosing {P E O : Type 0} (cargo : Ghosts P E O) (f : Frame O) (hands : List (Seat (Option P) (View P E))) (c : Remains) : Type 0 where
   pub last : table.State (Option P) (View P E)
   pub runs : Running cargo f last
   -- a word is 0 as at first, or a step of one of these hands left it so
@@ -129,3 +129,16 @@ pub record IsScopeLeft (steps : List Seen) (state : ScopeState) : Type 0 where
   -- one that was joined stays so
   pub joined : AnyOf (LeavesScope Joined) steps → state ≡ Joined
   pub settled : IsSettled steps → may_end state ≡ true
+
+-- a table as it was closed: with what it was opened, with what its hands came back, and what its words told
+pub record ClosedTable (P E O : Type 0) : Type 0 where
+  pub board : Board O
+  pub hands : List (Seat (Option P) (View P E))
+  pub remains : Remains
+
+-- this is true of it
+pub record IsClosedSo {P E O : Type 0} (cargo : Ghosts P E O) (c : ClosedTable P E O) : Type 0 where
+  pub closing : IsClosing cargo c.board.frame c.hands c.remains
+  pub scope : IsScopeLeft (steps_of c.hands) c.remains.scope
+  pub within : c.remains.free + c.remains.retired ≤ c.board.frame.layout.blocks
+  pub counted : IsCountedBy c.board c.hands c.remains

@@ -7,11 +7,11 @@
 #![tactic(auto)]
 
 mod block;
-mod closing;
+mod remains;
 mod report;
 mod shape;
 
 pub use block::Block;
-pub use closing::Closing;
+pub use remains::Remains;
 pub use report::Report;
 pub use shape::Shape;

@@ -7,15 +7,15 @@ use Rattle.common_lemmas.specs.Sums.{one}
 use Rattle.life_rules.specs.Scopes.{scope_state}
 use Rattle.table_rules.specs.ShownWords.{is_retired}
 use Rattle.table_kept.proofs.Closings.{before-most, tells-none, tells-next}
-use Rattle.op_table.proofs.close.closing_of.Goals as goal
+use Rattle.op_table.proofs.close.remains_of.Goals as goal
 
 pub loop-block-init : goal.loop-block-init
 loop-block-init g c =
     tells-none c.args.layout (slots_items c.args.closed.now.words) c.word-scope.result _ c.word-scope.ensures
     (c.scope_state.ensures ∙ ap scope_state c.read_scope.ensures) refl refl
 
-pub with_block-closing-requires : goal.with_block-closing-requires
-with_block-closing-requires g c =
+pub with_block-remains-requires : goal.with_block-remains-requires
+with_block-remains-requires g c =
     let words = slots_items c.args.closed.now.words in
     let told = c.loop-block.invariant in
     let below = c.loop-block-test.true in
@@ -31,9 +31,9 @@ with_block-closing-requires g c =
 pub loop-block-preserved : goal.loop-block-preserved
 loop-block-preserved g c =
     let words = slots_items c.args.closed.now.words in
-    let old = c.loop-block.closing in
-    let new = c.with_block-closing.ensures in
-    tells-next c.args.layout words c.loop-block.block c.word-word.result old c.with_block-closing.result
+    let old = c.loop-block.remains in
+    let new = c.with_block-remains.ensures in
+    tells-next c.args.layout words c.loop-block.block c.word-word.result old c.with_block-remains.result
     c.loop-block-test.true
     (subst (λ i. get_elem? words i ≡ some c.word-word.result) c.block-index.ensures.value c.word-word.ensures)
     new.scope
