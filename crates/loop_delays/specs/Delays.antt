@@ -1,6 +1,5 @@
 -- Delays: the parked delays that a loop has seen, and what each call makes of them.
-use Rattle.std.specs.Prelude.{◌≡◌, ℕ, ◌+◌, ◌<◌, ◌≤◌, ◌==◌, Bool, false, List, count_by, Option, Some, None, length, replicate, is_some, nat_lt, slice_set, slice_index_or, if◌then◌else◌}
-use Rattle.timer_wheel.specs.declared.limits.TheConstants.{LAST_TURN}
+use Rattle.std.specs.Prelude.{◌≡◌, ℕ, ◌+◌, ◌^◌, ◌<◌, ◌≤◌, ◌==◌, Bool, false, List, count_by, Option, Some, None, length, replicate, is_some, nat_lt, slice_set, slice_index_or, if◌then◌else◌}
 use Rattle.loop_delays.specs.declared.waiting.Waiting.{Waiting}
 
 -- the present turn, and for each place the delay that was seen parked there
@@ -53,9 +52,13 @@ seen_parked delays place generation turns =
 abbrev pub forgotten : DelayList → ℕ → DelayList
 forgotten delays place = record delays { waiting = slice_set delays.waiting place None }
 
+-- the last turn
+abbrev pub last_turn : ℕ
+last_turn = 2 ^ 62
+
 -- the turn after this one: the last one stays
 abbrev pub turn_after : ℕ → ℕ
-turn_after turn = if nat_lt turn LAST_TURN then turn + 1 else turn
+turn_after turn = if nat_lt turn last_turn then turn + 1 else turn
 
 -- the same delays at the next turn
 abbrev pub at_next_turn : DelayList → DelayList

@@ -1,7 +1,7 @@
 //! The list of parked delays.
 ghost use Rattle.std.specs.Prelude.{◌≡◌, ◌+◌, ◌<◌, ◌≤◌, not, IfOk, IfSome, IfNone, OnSome};
-ghost use Rattle.timer_wheel.specs.declared.limits.TheConstants.{LAST_TURN, MOST_PLACES, MOST_TURNS};
-ghost use Rattle.loop_delays.specs.Delays.{places, count_of, is_known, opened, seen_parked, at_next_turn, forgotten, IsDue, NoneIsDue};
+ghost use Rattle.timer_wheel.specs.declared.limits.TheConstants.{MOST_PLACES, MOST_TURNS};
+ghost use Rattle.loop_delays.specs.Delays.{places, count_of, is_known, opened, seen_parked, last_turn, at_next_turn, forgotten, IsDue, NoneIsDue};
 
 use crate::waiting::{DueDelay, Waiting};
 use std::alloc::{AllocError, Global};
@@ -51,10 +51,10 @@ impl Delays {
         self.wheel.places()
     }
 
-    /// The number of turns so far, which is at most [`LAST_TURN`].
+    /// The number of turns so far, which is at most 2^62.
     pub fn turn(&self) -> u64
         ensures turn { result ≡ self.now.turn }
-        ensures bound { result ≤ LAST_TURN }
+        ensures bound { result ≤ last_turn }
     {
         self.wheel.turn()
     }
@@ -95,8 +95,8 @@ impl Delays {
         }
     }
 
-    /// Goes on to the next turn, which changes no delay. After turn [`LAST_TURN`] comes no other:
-    /// the number stays.
+    /// Goes on to the next turn, which changes no delay. After turn 2^62 comes no other: the number
+    /// stays.
     pub fn next_turn(&mut self)
         ensures { self.new ≡ at_next_turn self.old }
     {

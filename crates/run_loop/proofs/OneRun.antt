@@ -6,7 +6,7 @@ use Rattle.life_rules.specs.declared.event.Name.{Name}
 use Rattle.life_rules.specs.Views.{same}
 use Rattle.life_rules.proofs.Names.{same-refl}
 use Rattle.plan_shape.specs.Blueprint.{Blueprint}
-use Rattle.run_tally.specs.Tallied.{Tallied}
+use Rattle.run_tally.specs.Gathered.{Gathered}
 use Rattle.table_rules.specs.declared.view.Rooted.{Rooted}
 use Rattle.table_rules.specs.Named.{find_by, without}
 use Rattle.table_steps.specs.declared.block.Block.{Block}
@@ -55,7 +55,7 @@ collected-later board b old between new c aside counts did =
           (aside-leaves old.hand.me between.hand.me aside) did.leaves;
       counts = record {
         helps = did.helps ∙ counts.helps;
-        tally = subst (λ (t : Tallied). Raises c.completion t new.tally) counts.tally did.tally;
+        tally = subst (λ (t : List Gathered). Raises board c t new.tally) counts.tally did.tally;
       };
     }
 
@@ -83,7 +83,7 @@ module _ (board : Board Blueprint) (b : Block) (start : List Entry) (old between
       (cond-true (same x x) old.hand.me.0.noted (root_noted ∷ without at_noted old.hand.me.0.noted x) (same-refl x))
 
   -- and when it is collected, all is as it was
-  pub started-run : (new : Looped) (c : Collected) → KeepsCounts old between → IsCollected board b between new c → HasRun start old new c
+  pub started-run : (new : Looped) (c : Collected) → KeepsCounts old between → IsCollected board b between new c → HasRun board start old new c
   started-run new c counts collected =
       record {
         is_for = subst (λ r. IsFor start r c) (ap (λ (a : Aside). a.requested) did.leaves.is)
@@ -93,6 +93,6 @@ module _ (board : Board Blueprint) (b : Block) (start : List Entry) (old between
             collected.leaves);
         counts = record {
           helps = collected.counts.helps ∙ counts.helps;
-          tally = subst (λ (t : Tallied). Raises c.completion t new.tally) counts.tally collected.counts.tally;
+          tally = subst (λ (t : List Gathered). Raises board c t new.tally) counts.tally collected.counts.tally;
         };
       }

@@ -23,7 +23,7 @@ pub record Collects (board : Board Blueprint) (b : Block) (old new : Looped) (c 
   pub helps : new.helps ≡ old.helps
   pub names : new.names ≡ old.names
   pub delays : KeepsDelays old new
-  pub tally : Raises c.completion old.tally new.tally
+  pub tally : Raises board c old.tally new.tally
 
 -- The root wasn't ready in the loop, and nothing changed.
 pub record CollectsNothing (board : Board Blueprint) (b : Block) (old new : Looped) : Type 0 where

@@ -1,12 +1,13 @@
 -- A loop as its callers see it, and what its calls leave of its hand's view.
 use Rattle.std.specs.Prelude.{◌≡◌, ℕ, ◌≤◌, false, List, [], ◌∷◌, ◌++◌, Option, Some, None}
-use Rattle.exec_value.specs.declared.outcome.Completion.{Completion}
 use Rattle.life_rules.specs.declared.event.Name.{Name}
+use Rattle.atomic_table.specs.Seated.{TableId}
 use Rattle.atomic_table.specs.declared.shared.Seat.{Seat}
 use Rattle.deck_relay.specs.declared.deck.Deck.{Deck}
 use Rattle.loop_delays.specs.Delays.{DelayList, places, delay_at}
 use Rattle.plan_shape.specs.Blueprint.{Blueprint}
-use Rattle.run_tally.specs.Tallied.{Tallied, IsSmallTally, new_tally, raised}
+use Rattle.loop_roots.specs.declared.completing.Collected.{Collected}
+use Rattle.run_tally.specs.Gathered.{Gathered, gathered}
 use Rattle.table_rules.specs.declared.view.View.{View}
 use Rattle.table_steps.specs.Views.{Board, IsHandOf, knows}
 use Rattle.exec_start.specs.declared.entry.Entry.{Entry}
@@ -42,7 +43,7 @@ pub record IsOpened (board : Board Blueprint) (hand : Seat (Option Item) (View I
   pub names : loop.names.list.items ≡ []
   pub next : loop.next ≡ 0
   pub helps : loop.helps ≡ false
-  pub tally : loop.tally ≡ new_tally
+  pub tally : loop.tally ≡ []
   pub delays : HasDelays board loop.delays loop.delay_nodes.items
   pub waiting : HasNoDelay loop.delays
   pub deck : deck_of loop ≡ None
@@ -77,7 +78,11 @@ pub record KeepsDelays (old new : Looped) : Type 0 where
   pub delays : new.delays ≡ old.delays
   pub nodes : new.delay_nodes ≡ old.delay_nodes
 
--- The tally counts one completion more where it is small. Where it isn't, it is as before.
-pub record Raises (completion : Completion) (old new : Tallied) : Type 0 where
-  pub small : IsSmallTally old → new ≡ raised completion old
-  pub full : ¬ IsSmallTally old → new ≡ old
+-- What was collected of an operation that was started over this plan, on this table.
+abbrev pub gathered_of : Blueprint → TableId → Collected → Gathered
+gathered_of plan table c = gathered plan table c.number c.completion
+
+-- The operation stands in the tally, as one of this table and of its plan, and all that stood there
+-- before.
+abbrev pub Raises : Board Blueprint → Collected → List Gathered → List Gathered → Type 0
+Raises board c old new = new ≡ gathered_of board.frame.over.value board.table_id c ∷ old

@@ -19,26 +19,26 @@ use Rattle.run_loop.specs.Loops.{KeepsCounts, Raises}
 use Rattle.run_loop.specs.Starts.{FindsNoBlock}
 
 -- The loop collected one operation more, which completed so. It helps as before.
-pub record CountsOne (old new : Looped) (c : Collected) : Type 0 where
+pub record CountsOne (board : Board Blueprint) (old new : Looped) (c : Collected) : Type 0 where
   pub helps : new.helps ≡ old.helps
-  pub tally : Raises c.completion old.tally new.tally
+  pub tally : Raises board c old.tally new.tally
 
 -- The operation in the block was collected, for the start that the hand noted of its root.
 pub record IsCollected (board : Board Blueprint) (b : Block) (old new : Looped) (c : Collected) : Type 0 where
   pub is_for : (e : Rooted Entry) → noted_at old.hand.me.0 (root_name board b.index b.generation) ≡ Some e →
       IsFor e.start old.hand.me.0.requested c
   pub leaves : LeavesAside (with_released (root_name board b.index b.generation) (aside_of old.hand.me.0)) old.hand.me new.hand.me
-  pub counts : CountsOne old new c
+  pub counts : CountsOne board old new c
 
 -- One block was claimed, and given back.
 abbrev pub with_used : Aside → Aside
 with_used aside = record aside { claimed = aside.claimed + 1; released = aside.released + 1 }
 
 -- An operation with this start was run, and completed so.
-pub record HasRun (start : List Entry) (old new : Looped) (c : Collected) : Type 0 where
+pub record HasRun (board : Board Blueprint) (start : List Entry) (old new : Looped) (c : Collected) : Type 0 where
   pub is_for : IsFor start old.hand.me.0.requested c
   pub leaves : LeavesAside (with_used (aside_of old.hand.me.0)) old.hand.me new.hand.me
-  pub counts : CountsOne old new c
+  pub counts : CountsOne board old new c
 
 -- No block was free for it, and its start comes back.
 pub record HasNoBlock (board : Board Blueprint) (start : List Entry) (old new : Looped) (back : List Entry) : Type 0 where
@@ -48,5 +48,5 @@ pub record HasNoBlock (board : Board Blueprint) (start : List Entry) (old new : 
 
 -- The one or the other.
 abbrev pub Waits : Board Blueprint → List Entry → Looped → Looped → Waited → Type 0
-Waits board start old new (Completed c) = HasRun start old new c
+Waits board start old new (Completed c) = HasRun board start old new c
 Waits board start old new (NoBlock back) = HasNoBlock board start old new back

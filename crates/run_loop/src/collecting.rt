@@ -4,26 +4,15 @@ ghost use Rattle.std.specs.Thread.{IsSync};
 ghost use Rattle.table_steps.specs.Views.{IsSameHand};
 ghost use Rattle.deck_relay.specs.SameDecks.{KeepsDeck};
 ghost use Rattle.exec_recv.specs.Over.{IsOver};
-ghost use Rattle.run_loop.specs.Loops.{IsReady, Raises, deck_of};
+ghost use Rattle.run_loop.specs.Loops.{IsReady, deck_of};
 ghost use Rattle.loop_roots.specs.Completes.{IsListed};
 ghost use Rattle.run_loop.specs.Collects.{Collects, CollectsNothing};
 
 use crate::looped::Loop;
 use exec_recv::{Gate, Item};
-use exec_value::Completion;
 use loop_roots::{Collected, Ended, end_root};
 use op_slot::{Block, OpTable};
-use run_tally::Tally;
 use std::sync::Wait;
-
-// Counts the completion, where the tally is small.
-fn count(tally: &mut Tally, completion: &Completion)
-    ensures raises { Raises completion.now tally.old tally.new }
-{
-    if tally.is_small() {
-        tally.raise(completion);
-    }
-}
 
 impl Loop {
     /// Collects the operation in this block, and gives the block back. None only where the word of
@@ -34,8 +23,8 @@ impl Loop {
     /// Needs: the loop is ready. The operation is one that it started and hasn't collected: its
     /// hand has noted the start of the block's root.
     /// Afterwards: the loop is ready, and has the operation no more. What it completed with is want
-    /// of memory, or allowed for that start, and is of its number. The tally is raised by it, where
-    /// each of its numbers is below 2^62.
+    /// of memory, or allowed for that start, and is of its number. It stands in the tally, as an
+    /// operation of this table and of its plan.
     pub fn collect<G: Gate, R: Wait + Sync>(
         &mut self,
         rt: &R,
@@ -54,9 +43,9 @@ impl Loop {
         ensures deck { KeepsDeck (deck_of self.old) (deck_of self.new) }
     {
         let Ended { env, collected } = end_root(rt, table, &mut self.hand, block, gate)?;
+        self.tally.raise(&env, table, &collected);
         drop(env);
         self.next = block.index;
-        count(&mut self.tally, &collected.completion);
         Some(collected)
     }
 }

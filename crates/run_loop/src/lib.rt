@@ -27,7 +27,8 @@
 //!
 //! The loop has no list of its operations. Its hand notes the start of each root that it begins,
 //! and forgets it when it gives the block back: the operations that a loop started and hasn't
-//! collected are those notes.
+//! collected are those notes. Those that it collected stand in its tally, each with its plan, its
+//! table, its number and its completion. Nobody else adds to a tally.
 #![tactic(auto)]
 
 mod collecting;
@@ -41,6 +42,7 @@ mod resting;
 mod scanning;
 mod serving;
 mod starting;
+mod tally;
 mod turning;
 mod waiting;
 
@@ -49,5 +51,5 @@ pub use exec_recv::{Env, Gate, Item, Stepper};
 pub use loop_queue::{Drained, LoopPost};
 pub use loop_roots::{Block, Collected};
 pub use looped::Loop;
-pub use run_tally::Tally;
+pub use tally::Tally;
 pub use waiting::Waited;

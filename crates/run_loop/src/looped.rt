@@ -9,13 +9,13 @@ ghost use Rattle.run_loop.specs.Loops.{IsOpened, IsTold, told, told_also, deck_o
 use crate::delay_node::DelayNode;
 use crate::listing::{delays_of, room_of};
 use crate::names::Names;
+use crate::tally::Tally;
 use deck_relay::Deck;
 use exec_recv::Item;
 use life_rules::Name;
 use loop_delays::Delays;
 use op_slot::{Hand, OpTable};
 use plan_shape::Plan;
-use run_tally::Tally;
 use std::alloc::Global;
 use std::thread::yield_now;
 
@@ -123,11 +123,11 @@ impl Loop {
         }
     }
 
-    /// How many operations were collected with each kind of completion.
+    /// The operations that it collected.
     pub fn tally(&self) -> Tally
         ensures { result ≡ self.now.tally }
     {
-        self.tally
+        self.tally.copy()
     }
 
     /// The loop's hand. Its deck is dropped, where it has one.

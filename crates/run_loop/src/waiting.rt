@@ -64,8 +64,8 @@ impl Loop {
     /// Needs: as `start`.
     /// Afterwards: the loop is ready. Its operations are as before. What the operation completed
     /// with is want of memory, or allowed for the start that the environment shows, and is of its
-    /// number; it saw a stop request only where the scope's stood. The tally is raised by it, where
-    /// each of its numbers is below 2^62.
+    /// number; it saw a stop request only where the scope's stood. It stands in the tally, as an
+    /// operation of this table and of its plan.
     pub fn sync_wait<T: Stepper, R: Wait + Sync>(
         &mut self,
         rt: &R,

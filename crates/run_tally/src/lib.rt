@@ -1,14 +1,13 @@
-//! The tally of a run: how many of its operations were collected with each kind of completion.
+//! What was collected of operations: a list that contracts read, and four numbers that a program
+//! reads.
 //!
-//!     Completion --raise--> Tally --values, errors, stopped, no_memory--> numbers
-//!
-//! It stands on exec_value, whose completions these are. What runs operations raises its tally by
-//! each completion that it collects, and by nothing else; so the lines of a run can be compared with
-//! what was collected. It keeps that the numbers are exact: `raised` says what one completion adds.
-//!
-//! A tally is plain data. It doesn't know which plan its operations were of: what raises it does.
+//! It stands on exec_value, plan_shape and, for the name of a table, atomic_table. `Counts` keeps its
+//! promise by itself: the numbers are those of the list. Who may add to a list is settled above: the
+//! tally of a loop (run_loop) has such counts, and only a loop adds to them, what it collects.
 #![tactic(auto)]
 
-mod tally;
+mod counts;
+mod log;
 
-pub use tally::{TALLY_LIMIT, Tally};
+pub use counts::{Counts, Placed};
+pub use log::{Lists, Log};

@@ -1,8 +1,9 @@
-use Rattle.std.proofs.Common.{arith, refl, ap, ◌∙◌}
+use Rattle.std.proofs.Common.{arith, refl, ap, ◌∙◌, ◌∷◌}
+use Rattle.plan_shape.specs.Blueprint.{Blueprint}
 use Rattle.exec_recv.specs.Asides.{Aside}
 use Rattle.loop_roots.proofs.Emptied.{unready-leaves}
 use Rattle.deck_relay.specs.SameDecks.{keeps-here}
-use Rattle.run_loop.specs.Loops.{deck_of}
+use Rattle.run_loop.specs.Loops.{deck_of, gathered_of}
 use Rattle.run_loop.proofs.looped.Loop.collect.Goals as goal
 
 pub returns-clause-ready : goal.returns-clause-ready
@@ -24,7 +25,11 @@ returns-clause-collected g c =
       helps = refl;
       names = refl;
       delays = record { delays = refl; nodes = refl };
-      tally = c.count.ensures.raises;
+      tally =
+          c.raise.ensures
+          ∙ ap (λ (p : Blueprint).
+          gathered_of p c.args.table.now.table_id c.in_ok-env.field-0.collected ∷ c.args.self.now.tally)
+          c.in_ok-env.ensures.ends.completes.key;
     }
 
 pub returns-in_err-env-clause-ready : goal.returns-in_err-env-clause-ready
