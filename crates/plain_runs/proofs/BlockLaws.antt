@@ -1,6 +1,9 @@
 -- What becomes of the blocks of plain runs.
-use Rattle.std.proofs.Common.{◌≡◌, ℕ, ◌^◌, ◌<◌, ◌≤◌, Bool, true, false, List, [], ◌∷◌, ◌++◌, length, get_or, set, replicate, Option, Some, None, IsSome, sym, ap, ◌∙◌, subst, inl, inr, length-append, arith}
+use Rattle.std.proofs.Common.{◌≡◌, ℕ, ◌^◌, ◌+◌, ◌<◌, ◌≤◌, Bool, true, false, List, [], ◌∷◌, ◌++◌, length, get_or, set, replicate, Option, Some, None, IsSome, cond, sum_by, refl, sym, ap, ◌∙◌, subst, inl, inr, length-append, arith}
 use Rattle.std.proofs.lemmas.Bool.{cases_eq, cases_lt}
+use Rattle.std.specs.Prelude.{is_some, is_none}
+use Rattle.std.proofs.lemmas.List.Sums.{sum_by-set}
+use Rattle.std.proofs.lemmas.List.Folds.{sum_by-replicate}
 use Rattle.std.proofs.lemmas.List.{get_or-set_same, get_or-set_other, get_or_past, length-replicate, replicate-append-replicate}
 use Rattle.common_lemmas.proofs.Lists.{get_or-replicate_same}
 use Rattle.std.proofs.Math.ListN.{length-set}
@@ -16,9 +19,9 @@ use Rattle.plan_shape.specs.Blueprint.{Blueprint}
 use Rattle.run_rules.specs.PlanTerms.{AllowsRecord}
 use Rattle.run_rules.proofs.PlanLaws.{plan-covers, settled-allows}
 use Rattle.plain_runs.specs.declared.started.Started.{Started}
-use Rattle.plain_runs.specs.PlainWork.{Completes, WantsMemory, Plain, begun_of, work_of, IsSound}
+use Rattle.plain_runs.specs.PlainWork.{Completes, WantsMemory, Plain, begun_of, no_table, work_of, IsSound}
 use Rattle.plan_rules.specs.Seen.{seen_state}
-use Rattle.run_tally.specs.Tallied.{IsSmallTally, raised}
+use Rattle.run_tally.specs.Gathered.{gathered}
 use Rattle.record_loop.specs.Works.{Begun, Work, Collects, MayComplete}
 
 -- what is settled is allowed, under what the operation may have seen
@@ -34,13 +37,37 @@ evaluated-may : (work : Work) (started : Started) (completion : Completion) → 
 evaluated-may work started completion (inl settled) = inr (seen-allows work.plan started.number started.datum started.asked work.requested completion settled)
 evaluated-may work started completion (inr wants) = inl (wants.0, inr wants.1)
 
+abbrev one : Option Started → ℕ
+one block = cond (is_some block) 1 0
+
+-- one operation more runs where a free block has one now, and one less where a block is free now
+pub more-run : (old new : Plain) (at : ℕ) (started : Started) → new.blocks ≡ set old.blocks at (Some started) → at < length old.blocks → true ≡ is_none (get_or old.blocks at None) → (work_of new).running ≡ (work_of old).running + 1
+more-run old new at started blocks within free =
+    omega (arith, ap (sum_by one) blocks, sum_by-set one old.blocks at (Some started) None within, ap one (none-of (get_or old.blocks at None) (sym free)))
+  where
+    none-of : (block : Option Started) → is_none block ≡ true → block ≡ None
+    none-of None is = refl
+    none-of (Some other) is = cc
+
+fewer-run : (old new : Plain) (at : ℕ) (started : Started) → new.blocks ≡ set old.blocks at None → at < length old.blocks → get_or old.blocks at None ≡ Some started → (work_of old).running ≡ (work_of new).running + 1
+fewer-run old new at started blocks within is =
+    omega (arith, ap (sum_by one) blocks, sum_by-set one old.blocks at None None within, ap one is)
+
+-- none runs in free blocks
+pub none-run : (plain : Plain) (blocks : ℕ) → plain.blocks ≡ replicate blocks None → (work_of plain).running ≡ 0
+none-run plain blocks free = ap (sum_by one) free ∙ sum_by-replicate one blocks None ∙ omega arith
+
 -- the operation of a block is collected, and the block is free
-pub collects-at : (old new : Plain) (at next : ℕ) (small : Bool) (started : Started) (completion : Completion) → new.plan ≡ old.plan → new.requested ≡ old.requested → (IsSmallTally old.tally → new.tally ≡ raised completion old.tally) → new.blocks ≡ set old.blocks at None → at < length old.blocks
+pub collects-at : (old new : Plain) (at next : ℕ) (small : Bool) (started : Started) (completion : Completion) → new.plan ≡ old.plan → new.requested ≡ old.requested → new.collected ≡ gathered old.plan no_table started.number completion ∷ old.collected → new.blocks ≡ set old.blocks at None → at < length old.blocks
     → get_or old.blocks at None ≡ Some started → Completes old.plan started completion → Collects WantsMemory (work_of old) (work_of new) at completion
-collects-at old new at next small started completion plan requested tally blocks within is completes = record {
+collects-at old new at next small started completion plan requested counted blocks within is completes = record {
   plan = plan;
+  table = refl;
+  running = fewer-run old new at started blocks within is;
   requested = requested;
-  tally = tally;
+  collected = λ begun has.
+      let same : begun_of started ≡ begun = let e : Some (begun_of started) ≡ Some begun = sym (ap (option_map begun_of) is) ∙ has in cc in
+      counted ∙ ap (λ (x : Begun). gathered old.plan no_table x.number completion ∷ old.collected) same;
   free = ap (option_map begun_of) (ap (λ (bs : List (Option Started)). get_or bs at None) blocks ∙ get_or-set_same old.blocks at None None within);
   others = λ b begun apart has.
       ap (λ (bs : List (Option Started)). option_map begun_of (get_or bs b None)) blocks ∙ ap (option_map begun_of) (get_or-set_other old.blocks at b None None apart) ∙ has;
@@ -103,7 +130,7 @@ pub length-sets : {items : List (Option Started)} (blocks : List (Option Started
 length-sets blocks at block is = ap length is ∙ simp length-set
 
 -- a block that has an operation is there
-pub within-begun : (plain : Plain) (at : ℕ) → IsSome ((work_of plain).block at) → at < length plain.blocks
+pub within-begun : (plain : Plain) (at : ℕ) → IsSome ((work_of plain).tickets at) → at < length plain.blocks
 within-begun plain at begun = elim (cases_lt at (length plain.blocks)) [
   | inl less ↦ less
   | inr more ↦ absurd (

@@ -5,7 +5,6 @@ ghost use Rattle.plan_kinds.specs.Reached.{KindsMatch};
 ghost use Rattle.plan_kinds.specs.Small.{IsSmall};
 ghost use Rattle.plain_runs.specs.PlainWork.{work_of, AreFree, WantsMemory};
 ghost use Rattle.record_loop.specs.Works.{IsIdle};
-ghost use Rattle.run_tally.specs.Tallied.{IsSmallTally, raised};
 
 use crate::evaluate::evaluate;
 use crate::small::is_small;
@@ -13,11 +12,25 @@ use crate::started::{Started, at_block, free_block, is_free, put_block};
 use exec_value::{Completion, Datum};
 use plan_shape::Plan;
 use record_loop::Operations;
-use run_tally::Tally;
+use run_tally::{Counts, Placed};
 use sig_check::check;
 use std::alloc::{AllocError, Global};
 use std::marker::Model;
 use std::sync::Wait;
+
+// Of which plan plain operations are: they run on no table.
+#[derive(Drop)]
+struct OfPlan<'a> {
+    plan: &'a Plan,
+}
+
+impl<'a> Placed for OfPlan<'a> {
+    ghost use Rattle.plain_runs.specs.PlainWork.{no_table};
+
+    ghost plan = { λ p. p.plan.now };
+
+    ghost table = { λ _. no_table };
+}
 
 /// The operations of a plan's records, each evaluated when its completion is asked for.
 #[derive(Drop)]
@@ -30,8 +43,8 @@ pub struct PlainRuns<'a> {
     /// The block that the next operation takes.
     next: usize,
     requested: bool,
-    /// What was collected.
-    tally: Tally,
+    /// What was collected. No tally of a loop is made of it.
+    counts: Counts,
 }
 
 impl<'a> Model for PlainRuns<'a> {
@@ -43,7 +56,7 @@ impl<'a> Model for PlainRuns<'a> {
       plan = s.plan.now;
       blocks = s.blocks.items;
       requested = s.requested;
-      tally = s.tally;
+      collected = s.counts;
     } };
 
     ghost invariant = { λ s. IsSound s.plan.now s.blocks.items s.next s.small };
@@ -73,15 +86,6 @@ fn find_small(alloc: Global, plan: &Plan) -> Result<bool, AllocError>
     }
 }
 
-/// Counts an operation more, which completed so, while the tally is small.
-fn count(tally: &mut Tally, done: &Completion)
-    ensures { IsSmallTally tally.old → tally.new ≡ raised done.now tally.old }
-{
-    if tally.is_small() {
-        tally.raise(done);
-    }
-}
-
 impl<'a> PlainRuns<'a> {
     /// No operations of the plan, and so many blocks for them, which is all the memory that it
     /// takes beside what evaluation wants.
@@ -100,15 +104,15 @@ impl<'a> PlainRuns<'a> {
             blocks: free_blocks(alloc, blocks)?,
             next: 0,
             requested: false,
-            tally: Tally::new(),
+            counts: Counts::new(),
         })
     }
 
-    /// How many operations were collected with each kind of completion.
-    pub fn tally(&self) -> Tally
-        ensures { result ≡ self.now.tally }
+    /// What was collected.
+    pub fn counts(&self) -> &Counts
+        ensures { result.now ≡ self.now.collected }
     {
-        self.tally
+        &self.counts
     }
 }
 
@@ -141,12 +145,14 @@ impl<'a> Operations for PlainRuns<'a> {
 
     fn turn<R: Wait + Sync>(&mut self, rt: &R, alloc: Global) {}
 
-    fn collect<R: Wait + Sync>(&mut self, rt: &R, block: u32) -> Option<Completion> {
-        let at = block as usize;
+    fn collect<R: Wait + Sync>(&mut self, rt: &R, ticket: u32) -> Option<Completion> {
+        let at = ticket as usize;
         let started = at_block(&self.blocks, at)?;
         let done = evaluate(self.alloc, self.plan, self.small, started)?;
+        let number = started.number;
         free_block(&mut self.blocks, at);
-        count(&mut self.tally, &done);
+        let of = OfPlan { plan: self.plan };
+        self.counts.add(&of, number, &done);
         Some(done)
     }
 

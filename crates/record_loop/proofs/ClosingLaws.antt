@@ -1,5 +1,5 @@
 -- What stands once all records are written.
-use Rattle.std.proofs.Common.{◌≡◌, ◌≢◌, ℕ, ◌+◌, ◌<◌, Bool, true, false, List, [], ◌∷◌, ◌++◌, length, Option, refl, sym, ap, ◌∙◌, subst, inl, inr, length-append, append-nil, arith}
+use Rattle.std.proofs.Common.{◌≡◌, ◌≢◌, ℕ, ◌+◌, ◌<◌, true, false, List, [], ◌∷◌, ◌++◌, length, Option, refl, sym, ap, ◌∙◌, subst, inl, inr, length-append, append-nil, arith}
 use Rattle.std.proofs.lemmas.List.{nil_from_length}
 use Rattle.std.specs.Io.KnownBytes.{Consumes}
 use Rattle.exec_io.specs.Causes.{Rose}
@@ -24,16 +24,12 @@ use Rattle.record_loop.specs.Ran.{Ran}
 use Rattle.record_loop.specs.Reading.{SessionState, on, HasRoom, TakenAt, IsThrough, Halts, HasHalted, Reads, AllTaken}
 use Rattle.exec_io.specs.Views.{SinkView}
 use Rattle.exec_io.specs.Views.{SourceView}
+use Rattle.record_loop.specs.Slots.{running_in}
 use Rattle.record_loop.specs.Standing.{Opening, terms_at, RunState, at, Standing, StandsAt}
 use Rattle.record_loop.specs.Works.{Work}
-use Rattle.record_loop.proofs.PrintingLaws.{HoldsAllBut-grows}
+use Rattle.record_loop.proofs.PrintingLaws.{not-lost, kept-taking, HoldsAllBut-grows}
 use Rattle.record_loop.proofs.StandingLaws.{read-lines, waiting-length}
 use Rattle.record_loop.proofs.ReadingLaws.{taken-count, taken-within}
-
--- a write that isn't lost in the end wasn't lost before
-pub not-lost : (before after : Bool) → (before ≡ true → after ≡ true) → after ≡ false → before ≡ false
-not-lost true after stays kept = let lost : after ≡ true = stays refl in cc
-not-lost false after stays kept = refl
 
 module _ {Wants : Blueprint → Type 0} {opening : Opening} {lines : List (List ℕ)} {work : Work} {now : SinkView} {flight : InFlight} (standing : Standing Wants opening (length lines) lines work now flight) (none : flight.slots.items ≡ []) where
   -- all records have a line
@@ -49,6 +45,10 @@ module _ {Wants : Blueprint → Type 0} {opening : Opening} {lines : List (List 
       Lawful-from_licensed (terms_at Wants opening) (plan-covers Wants opening.plan opening.window) standing.moment lines standing.outcomes
       (subst (λ (n : ℕ). IsCaused (terms_at Wants opening).rules opening.window n standing.outcomes standing.moment) few standing.caused)
       (subst (λ (xs : List (List ℕ)). Licensed (terms_at Wants opening) standing.moment xs standing.outcomes) (sym all-front) standing.licensed)
+
+-- no operation runs
+pub none-runs : {Wants : Blueprint → Type 0} {opening : Opening} {read : ℕ} {lines : List (List ℕ)} {work : Work} {now : SinkView} {flight : InFlight} → Standing Wants opening read lines work now flight → flight.slots.items ≡ [] → work.running ≡ 0
+none-runs standing none = standing.running ∙ ap running_in none
 
 module _ {Wants : Blueprint → Type 0} {opening : Opening} {source left : Option (List ℕ)} where
   -- the reading stopped at a fault or a limit, and nothing is left to take
@@ -119,18 +119,19 @@ pub Ran-closes : {Wants : Blueprint → Type 0} {opening : Opening} {work : Work
     → (flight.printer.lost ≡ true → ending.lost ≡ true)
     → ((outcomes : _) → Printed opening.form opening.sink now flight.printer outcomes → AppendsAtLeast now.written later.written [])
     → ((outcomes : _) → Printed opening.form opening.sink now flight.printer outcomes → Finished opening.form opening.sink later ending.summary ending.lost outcomes)
-    → ending.end ≡ end → (end ≡ Fault → ending.lost ≡ false → Rose before.faults after.faults) → Ran Wants opening before after later ending
+    → ending.end ≡ end → (end ≡ Fault → flight.printer.lost ≡ false → Rose before.faults after.faults) → Ran Wants opening before after work.collected later ending
 Ran-closes {Wants = Wants} {opening = opening} {later = later} {flight = flight} end before after ending taken none stays grows closes is cause = record {
   bytes = taken.bytes;
   rest = taken.rest;
   reads = subst (λ (e : End). Reads before.left after.left e taken.bytes taken.rest) (sym is) taken.reads;
-  all = λ kept. taken.all (not-lost flight.printer.lost ending.lost stays kept);
+  all = λ kept. taken.all (kept-taking stays taken.standing.printed kept);
   answered = record {
     outcomes = taken.standing.outcomes;
     lawful = subst (λ (e : End). Lawful (terms_at Wants opening) (records_of taken.bytes e) taken.standing.outcomes) (sym is) (all-lawful taken.standing none);
     finished = closes taken.standing.outcomes taken.standing.printed;
+    told = taken.standing.told;
   };
-  cause = λ fault kept. cause (sym is ∙ fault) kept;
+  cause = λ fault kept. cause (sym is ∙ fault) (kept-taking stays taken.standing.printed kept);
   begun = HoldsAllBut-grows taken.standing.held (grows taken.standing.outcomes taken.standing.printed) (omega arith);
 }
 

@@ -14,11 +14,16 @@ use Rattle.record_loop.specs.declared.printer.Form.{Form}
 use Rattle.record_loop.specs.declared.printer.Form.TheVariants.{Lines, Summary}
 use Rattle.record_loop.specs.declared.printer.Printer.{Printer}
 use Rattle.exec_io.specs.Views.{SinkView}
-use Rattle.record_loop.specs.Printing.{Wrote, text_so_far, text_of, AppendsAtLeast, HoldsAllBut, MayBegin, Printed}
+use Rattle.record_loop.specs.Printing.{Wrote, text_so_far, text_of, AppendsAtLeast, HoldsAllBut, KeepsTaking, HasWrittenNone, Printed}
 
 -- a test has one answer
 pub differ : {b : Bool} → b ≡ true → b ≡ false → ⊥
 differ holds fails = cc
+
+-- a write that isn't lost in the end wasn't lost before
+pub not-lost : (before after : Bool) → (before ≡ true → after ≡ true) → after ≡ false → before ≡ false
+not-lost true after stays kept = let lost : after ≡ true = stays refl in cc
+not-lost false after stays kept = refl
 
 -- the text of one more outcome
 text_from-more : (number : ℕ) (outcomes : List Outcome) (outcome : Outcome) → text_from number (outcomes ++ outcome ∷ []) ≡ text_from number outcomes ++ line_of (number + length outcomes) outcome
@@ -114,6 +119,7 @@ Printed-line {form = Lines} {start = start} {s = s} {t = t} {old = old} {new = n
       form_is = same ∙ printed.form_is;
       counted = counts;
       wrote = subst R (sym lost) (subst Q (sym due) (subst P (sym more) wrote));
+      none = λ summary. cc;
     }
 
 -- the summary of the outcomes is written
@@ -147,12 +153,13 @@ Wrote-settled settled wrote = record {
 }
 
 -- the same outcomes are printed, where the text stands as it is told
-pub Printed-same : {form : Form} {start now later : SinkView} {old new : Printer} {outcomes : List Outcome} → new.form ≡ old.form → new.summary ≡ old.summary
+pub Printed-same : {form : Form} {start now later : SinkView} {old new : Printer} {outcomes : List Outcome} → new.form ≡ old.form → new.summary ≡ old.summary → (HasWrittenNone old → HasWrittenNone new)
     → ((text : List ℕ) → Wrote text start now old.due old.lost → Wrote text start later new.due new.lost) → Printed form start now old outcomes → Printed form start later new outcomes
-Printed-same {form = form} {outcomes = outcomes} same summary wrote printed = record {
+Printed-same {form = form} {outcomes = outcomes} same summary none wrote printed = record {
   form_is = same ∙ printed.form_is;
   counted = subst (λ x. Summarizes x outcomes) (sym summary) printed.counted;
   wrote = wrote (text_so_far form outcomes) printed.wrote;
+  none = λ summary. none (printed.none summary);
 }
 
 -- an outcome is counted alone: after a lost write, or where a summary is to come
@@ -163,6 +170,7 @@ Printed-counts {form = form} {start = start} {now = now} {old = old} {new = new}
   form_is = same ∙ printed.form_is;
   counted = counts;
   wrote = kept (subst (λ (l : Bool). Wrote (text_so_far form outcomes) start now new.due l) (sym lost) (subst (λ (d : Bool). Wrote (text_so_far form outcomes) start now d old.lost) (sym due) printed.wrote));
+  none = λ summary. record { due = due ∙ (printed.none summary).due; lost = lost ∙ (printed.none summary).lost };
 }
   where
     of_lines : (f : Form) → f ≡ form → (old.lost ≡ true) ⊎ (f ≡ Summary) → Wrote (text_so_far f outcomes) start now new.due new.lost → Wrote (text_so_far f (outcomes ++ outcome ∷ [])) start now new.due new.lost
@@ -206,20 +214,15 @@ HoldsAllBut-none most form start = record { whole = []; rest = []; split = refl;
     by Lines = AtLeast-nil start.written
     by Summary = AtLeast-nil start.written
 
--- where one more record may be begun, the text of all that are printed stands there whole
-pub HoldsAllBut-all : {form : Form} {start now : SinkView} {printer : Printer} {outcomes : List Outcome} (most : ℕ) → MayBegin printer → Printed form start now printer outcomes → HoldsAllBut most form start now outcomes
-HoldsAllBut-all {form = form} {start = start} {now = now} {printer = printer} {outcomes = outcomes} most may printed = record {
+-- where no write was lost the text of all that are printed stands there whole
+pub HoldsAllBut-all : {form : Form} {start now : SinkView} {printer : Printer} {outcomes : List Outcome} (most : ℕ) → printer.lost ≡ false → Printed form start now printer outcomes → HoldsAllBut most form start now outcomes
+HoldsAllBut-all {form = form} {outcomes = outcomes} most kept printed = record {
   whole = outcomes;
   rest = [];
   split = sym (append-nil outcomes);
   few = zero-le;
-  held = by form may printed.form_is printed.wrote;
+  held = AtLeast-whole (text_so_far form outcomes) (printed.wrote.whole kept);
 }
-  where
-    by : (f : Form) → MayBegin printer → printer.form ≡ f → Wrote (text_so_far f outcomes) start now printer.due printer.lost → AppendsAtLeast start.written now.written (text_so_far f outcomes)
-    by f (inl kept) is wrote = AtLeast-whole (text_so_far f outcomes) (wrote.whole kept)
-    by Summary (inr summary) is wrote = AtLeast-front wrote.part
-    by Lines (inr summary) is wrote = absurd (let e : Lines ≡ Summary = sym is ∙ summary in cc)
 
 -- the same outcomes stand there later
 pub HoldsAllBut-grows : {most next : ℕ} {form : Form} {start now later : SinkView} {outcomes : List Outcome} → HoldsAllBut most form start now outcomes → AppendsAtLeast now.written later.written [] → most ≤ next → HoldsAllBut next form start later outcomes
@@ -252,3 +255,8 @@ HoldsAllBut-whole {form = form} {start = start} {now = now} most outcomes wrote 
 -- where a summary is to come no text is due before
 pub HoldsAllBut-summary : {start now : SinkView} {text : List ℕ} (most : ℕ) (outcomes : List Outcome) → AppendsFront start.written now.written text → HoldsAllBut most Summary start now outcomes
 HoldsAllBut-summary most outcomes front = record { whole = outcomes; rest = []; split = sym (append-nil outcomes); few = zero-le; held = AtLeast-front front }
+
+-- where all records are taken, no write was lost before the rest is written
+pub kept-taking : {form : Form} {start now : SinkView} {printer : Printer} {outcomes : List Outcome} {lost : Bool} → (printer.lost ≡ true → lost ≡ true) → Printed form start now printer outcomes → KeepsTaking form lost → printer.lost ≡ false
+kept-taking {printer = printer} {lost = lost} stays printed (inl kept) = not-lost printer.lost lost stays kept
+kept-taking stays printed (inr summary) = (printed.none summary).lost

@@ -18,11 +18,12 @@ use Rattle.record_loop.specs.declared.printer.Printer.{Printer}
 use Rattle.record_loop.specs.declared.slot.Slot.{Slot}
 use Rattle.record_loop.specs.Printing.{AppendsAtLeast, Printed}
 use Rattle.exec_io.specs.Views.{SinkView}
+use Rattle.record_loop.specs.Slots.{running_in}
 use Rattle.record_loop.specs.Standing.{Opening, terms_at, StandForAll, Standing, Counted}
 use Rattle.record_loop.specs.Works.{Work, IsIdle, Requests}
 use Rattle.record_loop.proofs.PrintingLaws.{AtLeast-nil, HoldsAllBut-none, HoldsAllBut-grows}
 use Rattle.record_loop.proofs.SlotLaws.{StandForAll-length, StandForAll-kept, StandForAll-asks}
-use Rattle.record_loop.proofs.TallyLaws.{TalliesWith-new, TalliesWith-same, TalliesWith-kept}
+use Rattle.record_loop.proofs.TallyLaws.{TalliesWith-new, TalliesWith-same, TalliesWith-kept, told-new, told-kept}
 
 -- a request that was made makes the two records of it agree
 asked-none : {b : Bool} {moment : Option Moment} → b ≡ is_some moment → b ≡ false → moment ≡ None
@@ -70,8 +71,8 @@ error-set settings set = by (is_some settings.stop_after) settings.on_error_stop
 
 -- no record was read
 pub Standing-fresh : (Wants : Blueprint → Type 0) (opening : Opening) (work : Work) (flight : InFlight) → IsFresh opening.window opening.plan.settings opening.form flight
-    → IsIdle work → work.plan ≡ opening.plan → MayRun opening.plan.settings → Standing Wants opening 0 [] work opening.sink flight
-Standing-fresh Wants opening work flight fresh idle plan may_run = record {
+    → IsIdle work → work.plan ≡ opening.plan → work.table ≡ opening.table → MayRun opening.plan.settings → Standing Wants opening 0 [] work opening.sink flight
+Standing-fresh Wants opening work flight fresh idle plan table may_run = record {
   outcomes = [];
   front = [];
   back = [];
@@ -81,10 +82,13 @@ Standing-fresh Wants opening work flight fresh idle plan may_run = record {
   waiting = subst (λ (slots : List Slot). StandForAll (terms_at Wants opening) work None 0 slots []) (sym fresh.slots) tt;
   caused = quiet-nil (rules_of opening.plan.settings) may_run.stop_after;
   printed = fresh.printed opening.sink;
-  tallied = TalliesWith-new idle.tally (fresh.printed opening.sink).counted;
+  tallied = TalliesWith-new idle.collected (fresh.printed opening.sink).counted;
+  told = told-new idle.collected;
+  running = idle.running ∙ ap running_in (sym fresh.slots);
   requested = idle.requested;
   known = fresh.requested;
   plan_is = plan;
+  table_is = table;
   settings_are = fresh.settings_are;
   window_is = fresh.capacity;
   fits = omega (arith, ap length fresh.slots);
@@ -108,9 +112,12 @@ Standing-hands {Wants = Wants} {opening = opening} {work = work} {old = old} {ne
   caused = standing.caused;
   printed = hands standing.outcomes standing.printed;
   tallied = TalliesWith-same standing.printed.counted (hands standing.outcomes standing.printed).counted standing.tallied;
+  told = standing.told;
+  running = standing.running ∙ ap (λ (s : _). running_in s.items) (sym slots);
   requested = standing.requested;
   known = requested ∙ standing.known;
   plan_is = standing.plan_is;
+  table_is = standing.table_is;
   settings_are = settings ∙ standing.settings_are;
   window_is = ap (λ (s : _). s.capacity) slots ∙ standing.window_is;
   fits = omega (arith, ap (λ (s : _). length s.items) slots, standing.fits);
@@ -144,9 +151,12 @@ Standing-counts {Wants = Wants} {opening = opening} {lines = lines} {flight = fl
     caused = caused-read (rules_of opening.plan.settings) opening.window (length lines) standing.outcomes standing.moment (λ after. other (ap (λ (s : Settings). s.stop_after) standing.settings_are ∙ after ∙ ap (λ n. Some (n + 1)) (sym (read-count standing)))) standing.caused;
     printed = standing.printed;
     tallied = standing.tallied;
+    told = standing.told;
+    running = standing.running;
     requested = standing.requested;
     known = standing.known;
     plan_is = standing.plan_is;
+    table_is = standing.table_is;
     settings_are = standing.settings_are;
     window_is = standing.window_is;
     fits = standing.fits;
@@ -164,8 +174,8 @@ module _ {Wants : Blueprint → Type 0} {opening : Opening} {lines : List (List 
   counted-with : (moment : Option Moment) → Licensed (terms_at Wants opening) moment standing.front standing.outcomes
       → StandForAll (terms_at Wants opening) new moment (length standing.outcomes) flight.slots.items standing.back
       → IsCaused (terms_at Wants opening).rules opening.window (length lines + 1) standing.outcomes moment
-      → is_some moment ≡ true → new.requested ≡ true → new.plan ≡ old.plan → new.tally ≡ old.tally → ((m : Moment) → moment ≡ Some m → m.first ≤ length lines + 1) → Counted Wants opening lines new now next
-  counted-with moment licensed waiting caused some requested plan tally early = record {
+      → is_some moment ≡ true → new.requested ≡ true → new.plan ≡ old.plan → new.table ≡ old.table → new.running ≡ old.running → new.collected ≡ old.collected → ((m : Moment) → moment ≡ Some m → m.first ≤ length lines + 1) → Counted Wants opening lines new now next
+  counted-with moment licensed waiting caused some requested plan table running tally early = record {
     early = early;
     standing = record {
       outcomes = standing.outcomes;
@@ -178,9 +188,12 @@ module _ {Wants : Blueprint → Type 0} {opening : Opening} {lines : List (List 
       caused = caused;
       printed = subst (λ (p : Printer). Printed opening.form opening.sink now p standing.outcomes) (sym printer) standing.printed;
       tallied = TalliesWith-kept tally printer standing.tallied;
+      told = told-kept tally standing.told;
+      running = running ∙ standing.running ∙ ap (λ s. running_in s.items) (sym slots);
       requested = requested ∙ sym some;
       known = asked ∙ sym some;
       plan_is = plan ∙ standing.plan_is;
+      table_is = table ∙ standing.table_is;
       settings_are = settings ∙ standing.settings_are;
       window_is = ap (λ s. s.capacity) slots ∙ standing.window_is;
       fits = omega (arith, ap (λ s. length s.items) slots, standing.fits);
@@ -202,9 +215,9 @@ module _ {Wants : Blueprint → Type 0} {opening : Opening} {lines : List (List 
           let timely = timely-more (rules_of opening.plan.settings) opening.window (length lines) standing.outcomes m (subst (IsCaused (rules_of opening.plan.settings) opening.window (length lines) standing.outcomes) is standing.caused) in
           counted-with (Some m)
           (subst (λ (x : Option Moment). Licensed (terms_at Wants opening) x standing.front standing.outcomes) is standing.licensed)
-          (StandForAll-kept (terms_at Wants opening) old new (Some m) (length standing.outcomes) flight.slots.items standing.back (λ b begun at. ap (λ (w : Work). w.block b) same ∙ at)
+          (StandForAll-kept (terms_at Wants opening) old new (Some m) (length standing.outcomes) flight.slots.items standing.back (λ b begun at. ap (λ (w : Work). w.tickets b) same ∙ at)
           (subst (λ (x : Option Moment). StandForAll (terms_at Wants opening) old x (length standing.outcomes) flight.slots.items standing.back) is standing.waiting))
-          timely refl (ap (λ (w : Work). w.requested) same ∙ standing.requested ∙ ap is_some is) (ap (λ (w : Work). w.plan) same) (ap (λ (w : Work). w.tally) same)
+          timely refl (ap (λ (w : Work). w.requested) same ∙ standing.requested ∙ ap is_some is) (ap (λ (w : Work). w.plan) same) (ap (λ (w : Work). w.table) same) (ap (λ (w : Work). w.running) same) (ap (λ (w : Work). w.collected) same)
           (λ n same_moment. early-moment (rules_of opening.plan.settings) opening.window (length lines) standing.outcomes standing.moment standing.caused n (is ∙ same_moment))
       by None is =
           let requests = first (standing.known ∙ ap is_some is) in
@@ -213,11 +226,11 @@ module _ {Wants : Blueprint → Type 0} {opening : Opening} {lines : List (List 
           let quiet : IsQuiet (rules_of opening.plan.settings) (length lines) standing.outcomes = subst (IsCaused (rules_of opening.plan.settings) opening.window (length lines) standing.outcomes) is standing.caused in
           counted-with (Some moment)
           (Licensed-asks moment (omega arith) (subst (λ (x : Option Moment). Licensed (terms_at Wants opening) x standing.front standing.outcomes) is standing.licensed))
-          (StandForAll-kept (terms_at Wants opening) old new (Some moment) (length standing.outcomes) flight.slots.items standing.back requests.blocks
+          (StandForAll-kept (terms_at Wants opening) old new (Some moment) (length standing.outcomes) flight.slots.items standing.back requests.tickets
           (StandForAll-asks (terms_at Wants opening) old moment (length standing.outcomes) flight.slots.items standing.back (omega (arith, few))
           (subst (λ (x : Option Moment). StandForAll (terms_at Wants opening) old x (length standing.outcomes) flight.slots.items standing.back) is standing.waiting)))
           (timely-read (rules_of opening.plan.settings) opening.window (length lines) standing.outcomes rules (omega (arith, few)) (omega (arith, few, room, standing.window_is)) quiet)
-          refl requests.requested requests.plan requests.tally
+          refl requests.requested requests.plan requests.table requests.running requests.collected
           (λ n same_moment. let e : moment ≡ n = cc in omega (arith, ap (λ (x : Moment). x.first) e))
 
 -- the records are of the plan's kind

@@ -39,8 +39,8 @@ pub record AppendsAtLeast (old new : Option (List ℕ)) (text : List ℕ) : Type
   pub more : List ℕ
   pub grown : Appends old new (text ++ more)
 
--- Since the start the text of these outcomes was written whole, but of so many of the last at most.
--- Where a summary is to come, no text is due.
+-- Since the start the text of these outcomes was written whole, but of the last ones, which are `most`
+-- at most. Where a summary is to come, no text is due.
 pub record HoldsAllBut (most : ℕ) (form : Form) (start now : SinkView) (outcomes : List Outcome)
     : Type 0 where
   pub whole : List Outcome
@@ -49,16 +49,23 @@ pub record HoldsAllBut (most : ℕ) (form : Form) (start now : SinkView) (outcom
   pub few : length rest ≤ most
   pub held : AppendsAtLeast start.written now.written (text_so_far form whole)
 
--- One more record may be begun: no write was lost, or nothing is written before all are done.
-abbrev pub MayBegin : Printer → Type 0
-MayBegin printer = (printer.lost ≡ false) ⊎ (printer.form ≡ Summary)
+-- All records are taken: no write was lost, or none is made before all are taken.
+abbrev pub KeepsTaking : Form → Bool → Type 0
+KeepsTaking form lost = (lost ≡ false) ⊎ (form ≡ Summary)
 
--- Since the start the printer has printed these outcomes.
+-- The printer has written nothing: nothing is to be handed on, and nothing is lost.
+pub record HasWrittenNone (printer : Printer) : Type 0 where
+  pub due : printer.due ≡ false
+  pub lost : printer.lost ≡ false
+
+-- Since the start the printer has printed these outcomes. Where a summary is to come it has written
+-- nothing.
 pub record Printed (form : Form) (start now : SinkView) (printer : Printer)
     (outcomes : List Outcome) : Type 0 where
   pub form_is : printer.form ≡ form
   pub counted : Summarizes printer.summary outcomes
   pub wrote : Wrote (text_so_far form outcomes) start now printer.due printer.lost
+  pub none : form ≡ Summary → HasWrittenNone printer
 
 -- These outcomes are printed, with all that belongs to them, and handed on; or a write was lost.
 pub record Finished (form : Form) (start now : SinkView) (summary : SummaryCounts) (lost : Bool)

@@ -1,5 +1,6 @@
 -- How the records, the operations and the lines stand to each other while a run goes on.
-use Rattle.std.specs.Prelude.{◌≡◌, ◌≤◌, ℕ, ◌+◌, ◌-◌, List, [], ◌∷◌, ◌++◌, length, Option, Some, None, is_some}
+use Rattle.std.specs.Prelude.{◌≡◌, ◌≤◌, ℕ, ◌+◌, ◌-◌, false, List, [], ◌∷◌, ◌++◌, length, Option, Some, None, is_some}
+use Rattle.atomic_table.specs.Seated.{TableId}
 use Rattle.exec_value.specs.declared.data.Datum.{Datum}
 use Rattle.exec_value.specs.declared.outcome.Outcome.{Outcome}
 use Rattle.plan_shape.specs.Blueprint.{Blueprint}
@@ -8,17 +9,20 @@ use Rattle.record_loop.specs.declared.in_flight.InFlight.{InFlight}
 use Rattle.record_loop.specs.declared.printer.Form.{Form}
 use Rattle.record_loop.specs.declared.slot.Slot.{Slot}
 use Rattle.record_loop.specs.declared.slot.Slot.TheVariants.{Running, Bad, NoMemory}
-use Rattle.record_loop.specs.Printing.{Printed, HoldsAllBut, MayBegin}
-use Rattle.record_loop.specs.Tallies.{TalliesWith}
+use Rattle.record_loop.specs.Printing.{Printed, HoldsAllBut}
+use Rattle.record_loop.specs.Slots.{running_in}
+use Rattle.record_loop.specs.Tallies.{TalliesWith, IsToldBy}
 use Rattle.exec_io.specs.Views.{SinkView}
 use Rattle.record_loop.specs.Works.{Work}
 use Rattle.run_rules.specs.Lawful.{Terms, datum_of}
 use Rattle.run_rules.specs.Moments.{Moment, is_asked, IsCaused, Licensed}
 use Rattle.run_rules.specs.PlanTerms.{terms_of, MayRun}
 
--- How a run begins: its plan, its window, its form, and what its sink tells.
+-- How a run begins: its plan, the table on which its operations run, its window, its form, and what
+-- its sink tells.
 pub record Opening : Type 0 where
   pub plan : Blueprint
+  pub table : TableId
   pub window : ℕ
   pub form : Form
   pub sink : SinkView
@@ -26,29 +30,29 @@ pub record Opening : Type 0 where
 -- A run of these operations' plan begins so.
 abbrev pub opening_of : Work → ℕ → Form → SinkView → Opening
 opening_of work window form sink =
-    record { plan = work.plan; window = window; form = form; sink = sink }
+    record { plan = work.plan; table = work.table; window = window; form = form; sink = sink }
 
 -- The terms of such a run.
 abbrev pub terms_at : (Blueprint → Type 0) → Opening → Terms
 terms_at WantsMemory opening = terms_of WantsMemory opening.plan opening.window
 
--- A block has the operation of the record of this number, which the line shows.
+-- A ticket has the operation of the record of this number, which the line shows.
 pub record IsBegun (terms : Terms) (work : Work) (moment : Option Moment) (number : ℕ)
-    (line : List ℕ) (block : ℕ) : Type 0 where
+    (line : List ℕ) (ticket : ℕ) : Type 0 where
   pub datum : Datum
   pub shows : datum_of terms.input line ≡ Some datum
-  pub begun : work.block block
+  pub begun : work.tickets ticket
       ≡ Some (record { number = number; datum = datum; asked = is_asked moment number })
 
--- A slot stands for the record of this number: its operation is in a block, or the line is no
--- record, or there was no memory for its datum.
+-- A slot stands for the record of this number: its operation has a ticket, or the line is no record,
+-- or there was no memory for its datum.
 abbrev pub StandsFor : Terms → Work → Option Moment → ℕ → List ℕ → Slot → Type 0
-StandsFor terms work moment number line (Running block) =
-    IsBegun terms work moment number line block
+StandsFor terms work moment number line (Running ticket) =
+    IsBegun terms work moment number line ticket
 StandsFor terms work moment number line Bad = datum_of terms.input line ≡ None
 StandsFor terms work moment number line NoMemory = terms.wants
 
--- Slots stand for these records, which come after so many.
+-- Slots stand for these records, which come after `before` others.
 abbrev pub StandForAll : Terms → Work → Option Moment → ℕ → List Slot → List (List ℕ) → Type 0
 StandForAll terms work moment before [] [] = Unit {0}
 StandForAll terms work moment before [] (line ∷ lines) = ⊥
@@ -58,9 +62,10 @@ StandForAll terms work moment before (slot ∷ slots) (line ∷ lines) =
     × StandForAll terms work moment (before + 1) slots lines
 
 -- Of the records of these lines the first have outcomes, which are licensed and printed, and slots
--- stand for the rest. The request was made at the moment at which it was due, by so many records
+-- stand for the rest. The request was made at the moment at which it was due, by the number of records
 -- that were read. Those whose text doesn't stand whole in out, with those in the slots, are a window
--- at most: none was begun after a lost write. The tally of the operations is that of the lines.
+-- at most: none was begun after a lost write. What was collected is told by the lines, and as many
+-- operations run as slots have one.
 pub record Standing (WantsMemory : Blueprint → Type 0) (opening : Opening) (read : ℕ)
     (lines : List (List ℕ)) (work : Work) (now : SinkView) (flight : InFlight) : Type 0 where
   pub outcomes : List Outcome
@@ -73,10 +78,13 @@ pub record Standing (WantsMemory : Blueprint → Type 0) (opening : Opening) (re
       flight.slots.items back
   pub caused : IsCaused (terms_at WantsMemory opening).rules opening.window read outcomes moment
   pub printed : Printed opening.form opening.sink now flight.printer outcomes
-  pub tallied : TalliesWith work.tally flight.printer.summary
+  pub tallied : TalliesWith work.collected flight.printer.summary
+  pub told : IsToldBy opening.plan opening.table outcomes work.collected
+  pub running : work.running ≡ running_in flight.slots.items
   pub requested : work.requested ≡ is_some moment
   pub known : flight.requested ≡ is_some moment
   pub plan_is : work.plan ≡ opening.plan
+  pub table_is : work.table ≡ opening.table
   pub settings_are : flight.settings ≡ opening.plan.settings
   pub window_is : flight.slots.capacity ≡ opening.window
   pub fits : length flight.slots.items ≤ opening.window
@@ -120,11 +128,6 @@ pub record MayTake (WantsMemory : Blueprint → Type 0) (work : Work) (flight : 
   pub sink : SinkView
   pub going : IsGoing WantsMemory (at work sink flight)
 
--- A run has read no record.
-pub record StandsEmpty (WantsMemory : Blueprint → Type 0) (run : RunState) : Type 0 where
-  pub opening : Opening
-  pub standing : StandsAt WantsMemory opening [] run
-
 -- A run that stands so before a call stands so afterwards, with the same records.
 abbrev pub StaysStanding : (Blueprint → Type 0) → RunState → RunState → Type 0
 StaysStanding WantsMemory old new =
@@ -141,17 +144,12 @@ CountsNext WantsMemory old new =
 abbrev pub BeginsNext : (Blueprint → Type 0) → Option (List ℕ) → RunState → RunState → Type 0
 BeginsNext WantsMemory text old new =
     (opening : Opening) (lines : List (List ℕ)) (line : List ℕ) → text ≡ text_of line
-    → MayBegin old.flight.printer → CountsAt WantsMemory opening lines old
+    → old.flight.printer.lost ≡ false → CountsAt WantsMemory opening lines old
     → StandsAt WantsMemory opening (lines ++ line ∷ []) new
 
 -- The run stands so with the record of a line more, whose text this is, and which may be begun.
 abbrev pub Takes : (Blueprint → Type 0) → Option (List ℕ) → RunState → RunState → Type 0
 Takes WantsMemory text old new =
     (opening : Opening) (lines : List (List ℕ)) (line : List ℕ) → text ≡ text_of line
-    → MayBegin old.flight.printer → StandsAt WantsMemory opening lines old
+    → old.flight.printer.lost ≡ false → StandsAt WantsMemory opening lines old
     → StandsAt WantsMemory opening (lines ++ line ∷ []) new
-
--- A run that has read no record stands afterwards with the records of these lines.
-abbrev pub TakesFirst : (Blueprint → Type 0) → List (List ℕ) → RunState → RunState → Type 0
-TakesFirst WantsMemory lines old new =
-    (opening : Opening) → StandsAt WantsMemory opening [] old → StandsAt WantsMemory opening lines new

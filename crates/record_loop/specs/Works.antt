@@ -1,12 +1,13 @@
 -- What the layer below shows of the operations that it runs.
-use Rattle.std.specs.Prelude.{◌≡◌, ◌≢◌, ◌⊎◌, ℕ, Bool, true, false, Option, None, Some}
+use Rattle.std.specs.Prelude.{◌≡◌, ◌≢◌, ◌⊎◌, ℕ, ◌+◌, Bool, true, false, List, [], ◌∷◌, Option, None, Some}
+use Rattle.atomic_table.specs.Seated.{TableId}
 use Rattle.exec_value.specs.declared.data.Datum.{Datum}
 use Rattle.exec_value.specs.declared.outcome.Completion.{Completion}
 use Rattle.exec_value.specs.declared.outcome.Completion.TheVariants.{NoMemory}
 use Rattle.plan_rules.specs.Seen.{seen_state}
 use Rattle.plan_shape.specs.Blueprint.{Blueprint}
 use Rattle.run_rules.specs.PlanTerms.{AllowsRecord, MayWant}
-use Rattle.run_tally.specs.Tallied.{Tallied, IsSmallTally, new_tally, raised}
+use Rattle.run_tally.specs.Gathered.{Gathered, gathered}
 
 -- What an operation was begun with: the number and the datum of its record, and whether a stop had
 -- been requested.
@@ -15,38 +16,51 @@ pub record Begun : Type 0 where
   pub datum : Datum
   pub asked : Bool
 
--- The plan, the operation that each block has, whether a stop was requested, and how many operations
--- were collected with each kind of completion.
+-- The plan, the table on which operations run, the operation that each ticket has, how many
+-- operations were begun and not collected, whether a stop was requested, and the operations that were
+-- collected, the last first.
 pub record Work : Type 0 where
   pub plan : Blueprint
-  pub block : ℕ → Option Begun
+  pub table : TableId
+  pub tickets : ℕ → Option Begun
+  pub running : ℕ
   pub requested : Bool
-  pub tally : Tallied
+  pub collected : List Gathered
 
--- No stop was requested, and no operation collected.
+-- No stop was requested, no operation collected, and none runs.
 pub record IsIdle (work : Work) : Type 0 where
   pub requested : work.requested ≡ false
-  pub tally : work.tally ≡ new_tally
+  pub collected : work.collected ≡ []
+  pub running : work.running ≡ 0
 
 -- All operations are kept.
 pub record Keeps (old new : Work) : Type 0 where
   pub plan : new.plan ≡ old.plan
+  pub table : new.table ≡ old.table
+  pub running : new.running ≡ old.running
   pub requested : new.requested ≡ old.requested
-  pub tally : new.tally ≡ old.tally
-  pub blocks : (b : ℕ) (begun : Begun) → old.block b ≡ Some begun → new.block b ≡ Some begun
+  pub collected : new.collected ≡ old.collected
+  pub tickets : (t : ℕ) (begun : Begun) → old.tickets t ≡ Some begun → new.tickets t ≡ Some begun
 
--- The operation of this record is begun in a block.
-pub record Begins (old new : Work) (number : ℕ) (datum : Datum) (block : ℕ) : Type 0 where
-  pub keeps : Keeps old new
-  pub begun : new.block block
+-- The operation of this record is begun and has a ticket, and runs as one more. The others are kept.
+pub record Begins (old new : Work) (number : ℕ) (datum : Datum) (ticket : ℕ) : Type 0 where
+  pub plan : new.plan ≡ old.plan
+  pub table : new.table ≡ old.table
+  pub running : new.running ≡ old.running + 1
+  pub requested : new.requested ≡ old.requested
+  pub collected : new.collected ≡ old.collected
+  pub tickets : (t : ℕ) (begun : Begun) → old.tickets t ≡ Some begun → new.tickets t ≡ Some begun
+  pub begun : new.tickets ticket
       ≡ Some (record { number = number; datum = datum; asked = old.requested })
 
 -- A stop is requested.
 pub record Requests (old new : Work) : Type 0 where
   pub plan : new.plan ≡ old.plan
+  pub table : new.table ≡ old.table
+  pub running : new.running ≡ old.running
   pub requested : new.requested ≡ true
-  pub tally : new.tally ≡ old.tally
-  pub blocks : (b : ℕ) (begun : Begun) → old.block b ≡ Some begun → new.block b ≡ Some begun
+  pub collected : new.collected ≡ old.collected
+  pub tickets : (t : ℕ) (begun : Begun) → old.tickets t ≡ Some begun → new.tickets t ≡ Some begun
 
 -- How an operation may complete: with want of memory, where the plan may want it, or as the plan
 -- allows it, under what it may have seen of the request.
@@ -56,15 +70,19 @@ MayComplete WantsMemory work begun completion =
     ⊎ AllowsRecord work.plan begun.number begun.datum (seen_state begun.asked work.requested)
     completion
 
--- The operation of a block is collected, with this completion, and the block is free. The others are
--- kept. The tally counts the completion, where it is small.
-pub record Collects (WantsMemory : Blueprint → Type 0) (old new : Work) (block : ℕ)
+-- The operation of a ticket is collected, with this completion, and runs no more; the ticket has none
+-- now. The others are kept. It stands among what was collected, as one of its record, the plan and the
+-- table.
+pub record Collects (WantsMemory : Blueprint → Type 0) (old new : Work) (ticket : ℕ)
     (completion : Completion) : Type 0 where
   pub plan : new.plan ≡ old.plan
+  pub table : new.table ≡ old.table
+  pub running : old.running ≡ new.running + 1
   pub requested : new.requested ≡ old.requested
-  pub tally : IsSmallTally old.tally → new.tally ≡ raised completion old.tally
-  pub free : new.block block ≡ None
-  pub others : (b : ℕ) (begun : Begun) → b ≢ block → old.block b ≡ Some begun
-      → new.block b ≡ Some begun
-  pub ends : (begun : Begun) → old.block block ≡ Some begun
+  pub collected : (begun : Begun) → old.tickets ticket ≡ Some begun
+      → new.collected ≡ gathered old.plan old.table begun.number completion ∷ old.collected
+  pub free : new.tickets ticket ≡ None
+  pub others : (t : ℕ) (begun : Begun) → t ≢ ticket → old.tickets t ≡ Some begun
+      → new.tickets t ≡ Some begun
+  pub ends : (begun : Begun) → old.tickets ticket ≡ Some begun
       → MayComplete WantsMemory old begun completion

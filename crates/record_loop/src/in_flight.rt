@@ -11,7 +11,7 @@ ghost use Rattle.record_loop.specs.Works.{Requests};
 use crate::ending::Ending;
 use crate::operations::Operations;
 use crate::printer::{Form, Printer};
-use crate::slot::{Slot, begin, outcome_of};
+use crate::slot::{Slot, begin, settle};
 use circular_buffer::HeapCircularBuffer;
 use exec_io::Sink;
 use exec_value::Outcome;
@@ -56,9 +56,9 @@ impl InFlight {
     ghost use Rattle.record_loop.specs.declared.in_flight.InFlight.{InFlight};
     ghost use Rattle.record_loop.specs.Standing.{at, IsGoing, MayTake, StaysStanding, CountsNext, BeginsNext, Takes};
     ghost use Rattle.record_loop.specs.Flights.{IsFresh, read_of, Requested, MayAsk};
-    ghost use Rattle.record_loop.specs.Printing.{over, AppendsAtLeast, KeepsWritten, FinishesAll, OnlyAppends};
+    ghost use Rattle.record_loop.specs.Printing.{over, AppendsAtLeast, HasWrittenNone, KeepsWritten, FinishesAll, OnlyAppends};
 
-    /// No records, and room for so many at once: all the memory that is taken for them.
+    /// No records, and room for `window` of them at once: all the memory that is taken for them.
     pub fn open(
         alloc: Global,
         window: usize,
@@ -77,7 +77,7 @@ impl InFlight {
     }
 
     /// How many records were read.
-    pub fn read(&self) -> usize
+    pub fn count_read(&self) -> usize
         ensures value { result ≡ read_of self.now }
         ensures few { result ≤ MOST_RECORDS }
     {
@@ -101,9 +101,9 @@ impl InFlight {
         self.requested = true;
     }
 
-    /// Counts the next record. Where it is the one after which a stop is requested, the request is
-    /// made here: before the record is begun.
-    fn count<R: Wait + Sync, O: Operations>(&mut self, rt: &R, operations: &mut O)
+    /// Requests a stop where the next record, which counts as read from here on, is the one after
+    /// which a stop is due: before the record is begun.
+    fn request_due<R: Wait + Sync, O: Operations>(&mut self, rt: &R, operations: &mut O)
         requires sync { IsSync R.row }
         requires counting { MayAsk (O.state operations.old) self.old }
         requires room { length self.old.slots.items < self.old.slots.capacity }
@@ -115,7 +115,7 @@ impl InFlight {
             (at (O.state operations.old) sink self.old)
             (at (O.state operations.new) sink self.new) }
     {
-        let number = self.read() as u32 + 1;
+        let number = self.count_read() as u32 + 1;
         if !is_due(self.settings.stop_after, number) {
             return;
         }
@@ -145,7 +145,7 @@ impl InFlight {
         let Some(slot) = self.slots.pop_front() else {
             return;
         };
-        let outcome = outcome_of(rt, alloc, slot, operations);
+        let outcome = settle(rt, alloc, slot, operations);
         self.printer.print(&outcome, out);
         let failed = is_failure(self.settings.on_error_stop, &outcome);
         drop(outcome);
@@ -175,7 +175,7 @@ impl InFlight {
             (at (O.state operations.old) sink self.old)
             (at (O.state operations.new) sink self.new) }
     {
-        let number = self.read() as u32 + 1;
+        let number = self.count_read() as u32 + 1;
         let slot = begin(rt, alloc, self.settings.input, number, text, operations);
         let _ = self.slots.try_push_back(slot);
     }
@@ -222,7 +222,7 @@ impl InFlight {
             (at (O.state operations.old) sink self.old)
             (at (O.state operations.new) sink self.new) }
     {
-        self.count(rt, operations);
+        self.request_due(rt, operations);
         self.begin_next(rt, alloc, text, operations);
     }
 
@@ -264,6 +264,7 @@ impl InFlight {
         ensures summary { self.new.printer.summary ≡ self.old.printer.summary }
         ensures wrote { KeepsWritten
             (over (K.told out.old) self.old.printer) (over (K.told out.new) self.new.printer) }
+        ensures none { HasWrittenNone self.old.printer → HasWrittenNone self.new.printer }
         ensures settled { self.new.printer.lost ≡ false → self.new.printer.due ≡ false }
         ensures grows { AppendsAtLeast (K.told out.old).written (K.told out.new).written [] }
     {
@@ -272,10 +273,10 @@ impl InFlight {
 
     /// Writes what is left to write once no record is in flight, and says how the run ended, whose
     /// reading ended so.
-    pub fn close<K: Sink>(self, end: End, out: &mut K) -> Ending
+    pub fn finish<K: Sink>(self, end: End, out: &mut K) -> Ending
         ensures end { result.end ≡ end }
         ensures stays_lost { self.printer.lost ≡ true → result.lost ≡ true }
-        ensures closed { FinishesAll (over (K.told out.old) self.printer)
+        ensures finished { FinishesAll (over (K.told out.old) self.printer)
             (K.told out.new) result.summary result.lost }
         ensures grows { OnlyAppends (over (K.told out.old) self.printer) (K.told out.new) }
     {
@@ -285,7 +286,7 @@ impl InFlight {
             settings: _,
             requested: _,
         } = self;
-        printer.close(out);
+        printer.finish(out);
         Ending::new(end, printer.is_lost(), printer.summary())
     }
 }

@@ -10,20 +10,20 @@ use exec_value::{Completion, Datum};
 use std::alloc::Global;
 use std::sync::Wait;
 
-/// The operations of a plan's records, each in a block of its own.
+/// The operations of a plan's records, each of which has a ticket of its own while it runs.
 ///
-///     record --start--> in a block --turn, turn ..--> complete --collect--> its completion
+///     record --start--> a ticket --turn, turn ..--> complete --collect--> its completion
 ///
 /// A record is started as one of which a stop was asked where `request` was called before.
 pub trait Operations {
-    /// The plan, the operation that each block has, whether a stop was requested, and the tally of
-    /// what was collected.
+    /// The plan, the table on which operations run, the operation that each ticket has, how many
+    /// run, whether a stop was requested, and what was collected.
     ghost state: { Self → Work };
 
     /// Whether an operation of a plan of int records may want memory.
     ghost WantsMemory: { Blueprint → Type 0 };
 
-    /// Starts the operation of the record of this number and datum, and gives its block. `Err`
+    /// Starts the operation of the record of this number and datum, and gives its ticket. `Err`
     /// hands the datum back: there was no room, and a turn may make some.
     fn start<R: Wait + Sync>(
         &mut self,
@@ -34,8 +34,8 @@ pub trait Operations {
     ) -> Result<u32, Datum>
         requires sync { IsSync R.row }
         requires kind { HasKind datum (state self.old).plan.settings.input }
-        ensures started { IfOk result (λ block.
-            Begins (state self.old) (state self.new) number datum block) }
+        ensures started { IfOk result (λ ticket.
+            Begins (state self.old) (state self.new) number datum ticket) }
         ensures refused { IfErr result (λ back.
             (back ≡ datum) × Keeps (state self.old) (state self.new)) };
 
@@ -44,13 +44,13 @@ pub trait Operations {
         requires sync { IsSync R.row }
         ensures { Keeps (state self.old) (state self.new) };
 
-    /// The completion of the operation in a block, where it is complete. The block is free then, and
-    /// the tally counts the completion.
-    fn collect<R: Wait + Sync>(&mut self, rt: &R, block: u32) -> Option<Completion>
+    /// The completion of the operation of a ticket, where it is complete. The ticket has none then,
+    /// and the completion stands among what was collected.
+    fn collect<R: Wait + Sync>(&mut self, rt: &R, ticket: u32) -> Option<Completion>
         requires sync { IsSync R.row }
-        requires begun { IsSome ((state self.old).block block) }
+        requires begun { IsSome ((state self.old).tickets ticket) }
         ensures { MatchOption result (Keeps (state self.old) (state self.new))
-            (Collects WantsMemory (state self.old) (state self.new) block) };
+            (Collects WantsMemory (state self.old) (state self.new) ticket) };
 
     /// Requests a stop of all operations, those to come included ([stopsource]).
     fn request<R: Wait + Sync>(&mut self, rt: &R)

@@ -43,7 +43,7 @@ pub struct Printer {
 }
 
 impl Printer {
-    ghost use Rattle.record_loop.specs.Printing.{over, AppendsAtLeast, Printed, PrintsNext, KeepsWritten, WritesRest, FinishesAll, OnlyAppends};
+    ghost use Rattle.record_loop.specs.Printing.{over, AppendsAtLeast, HasWrittenNone, Printed, PrintsNext, KeepsWritten, WritesRest, FinishesAll, OnlyAppends};
 
     /// A printer that has printed nothing.
     pub fn new(form: Form) -> Printer
@@ -107,6 +107,7 @@ impl Printer {
         ensures summary { self.new.summary ≡ self.old.summary }
         ensures wrote { KeepsWritten
             (over (K.told out.old) self.old) (over (K.told out.new) self.new) }
+        ensures none { HasWrittenNone self.old → HasWrittenNone self.new }
         ensures settled { self.new.lost ≡ false → self.new.due ≡ false }
         ensures stays_lost { self.old.lost ≡ true → self.new.lost ≡ true }
         ensures grows { AppendsAtLeast (K.told out.old).written (K.told out.new).written [] }
@@ -144,8 +145,8 @@ impl Printer {
     }
 
     /// Writes what is left to write once all outcomes are printed, and hands it on.
-    pub fn close<K: Sink>(&mut self, out: &mut K)
-        ensures closed { FinishesAll (over (K.told out.old) self.old)
+    pub fn finish<K: Sink>(&mut self, out: &mut K)
+        ensures finished { FinishesAll (over (K.told out.old) self.old)
             (K.told out.new) self.new.summary self.new.lost }
         ensures stays_lost { self.old.lost ≡ true → self.new.lost ≡ true }
         ensures grows { OnlyAppends (over (K.told out.old) self.old) (K.told out.new) }

@@ -46,7 +46,7 @@ fn open(
 ///
 /// The records are read to their end, a fault or a limit. Before each read all records that were
 /// read are written, and handed on. After a lost write nothing more is read or begun. Where there
-/// is no memory to begin with, nothing is read and nothing is written.
+/// is no memory to begin with, nothing is read, nothing is written and no operation is begun.
 pub fn run_records<R: Wait + Sync, O: Operations, S: RecordSource, K: Sink>(
     rt: &R,
     alloc: Global,
@@ -65,14 +65,20 @@ pub fn run_records<R: Wait + Sync, O: Operations, S: RecordSource, K: Sink>(
     ensures untouched { OnErr result (IsUntouched
         (S.told records.old) (S.told records.new) (K.told out.old) (K.told out.new)) }
     ensures unread { OnErr result (S.reads records.new ≡ S.reads records.old) }
+    ensures same { OnErr result (O.state operations.new ≡ O.state operations.old) }
     ensures later { (S.told records.old).faults ≤ (S.told records.new).faults }
     ensures still { IfOk result (λ ending. ending.end ≢ End.Fault →
         (S.told records.new).faults ≡ (S.told records.old).faults) }
     ensures ran { IfOk result (Ran O.WantsMemory
         (opening_of (O.state operations.old) window form (K.told out.old))
-        (S.told records.old) (S.told records.new) (K.told out.new)) }
+        (S.told records.old) (S.told records.new)
+        (O.state operations.new).collected (K.told out.new)) }
     ensures told { IfOk result (λ ending.
-        TalliesWith (O.state operations.new).tally ending.summary) }
+        TalliesWith (O.state operations.new).collected ending.summary) }
+
+    // Each operation that was begun was collected.
+    ensures ended { IfOk result (λ _. (O.state operations.new).running ≡ 0) }
+    ensures plan { (O.state operations.new).plan ≡ (O.state operations.old).plan }
 
     // When a read began, all records whose line feed was read were written and handed on, and no
     // write was lost.

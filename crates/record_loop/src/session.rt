@@ -57,7 +57,7 @@ impl Session {
     }
 
     /// Writes all records in flight, and hands on what was written.
-    fn settle<R: Wait + Sync, O: Operations, K: Sink>(
+    fn catch_up<R: Wait + Sync, O: Operations, K: Sink>(
         &mut self,
         rt: &R,
         alloc: Global,
@@ -108,7 +108,7 @@ impl Session {
             (on (O.state operations.old) (K.told out.old) self.old)
             (on (O.state operations.new) (K.told out.new) self.new) }
     {
-        self.settle(rt, alloc, operations, out);
+        self.catch_up(rt, alloc, operations, out);
         let lost = self.flight.is_lost();
         if lost {
             return Some(End::Fault);
@@ -121,40 +121,6 @@ impl Session {
             return Some(End::Ended);
         }
         self.take_piece(rt, alloc, &buffer[..count], operations, out)
-    }
-
-    /// Reads and takes pieces until nothing more is read.
-    fn read_all<R: Wait + Sync, O: Operations, S: RecordSource, K: Sink>(
-        &mut self,
-        rt: &R,
-        alloc: Global,
-        buffer: &mut [u8],
-        operations: &mut O,
-        records: &mut S,
-        out: &mut K,
-    ) -> End
-        requires sync { IsSync R.row }
-        requires some { 0 < length buffer.old }
-        requires going { IsTaking O.WantsMemory
-            (on (O.state operations.old) (K.told out.old) self.old) }
-        ensures later { (S.told records.old).faults ≤ (S.told records.new).faults }
-        ensures cause { result ≡ End.Fault → self.new.flight.printer.lost ≡ false →
-            Rose (S.told records.old).faults (S.told records.new).faults }
-        ensures still { result ≢ End.Fault
-            → (S.told records.new).faults ≡ (S.told records.old).faults }
-        ensures reads { ReadsCaughtUp O.WantsMemory (S.told records.old).left
-            (on (O.state operations.old) (K.told out.old) self.old)
-            (S.reads records.old) (S.reads records.new) }
-        ensures halts { ReadsOn O.WantsMemory (Some result)
-            (S.told records.old).left (S.told records.new).left
-            (on (O.state operations.old) (K.told out.old) self.old)
-            (on (O.state operations.new) (K.told out.new) self.new) }
-    {
-        'pieces: loop {
-            if let Some(end) = self.step(rt, alloc, buffer, operations, records, out) {
-                return end;
-            }
-        }
     }
 
     /// Takes what the end leaves to take: where the input ended, the record of a last line that no
@@ -209,12 +175,19 @@ impl Session {
             (on (O.state operations.old) (K.told out.old) self)
             (S.reads records.old) (S.reads records.new) }
         ensures ran { RunsFrom O.WantsMemory (on (O.state operations.old) (K.told out.old) self)
-            (S.told records.old) (S.told records.new) (K.told out.new) result }
-        ensures told { TalliesWith (O.state operations.new).tally result.summary }
+            (S.told records.old) (S.told records.new)
+            (O.state operations.new).collected (K.told out.new) result }
+        ensures told { TalliesWith (O.state operations.new).collected result.summary }
+        ensures ended { (O.state operations.new).running ≡ 0 }
+        ensures plan { (O.state operations.new).plan ≡ (O.state operations.old).plan }
     {
-        let end = self.read_all(rt, alloc, buffer, operations, records, out);
+        let end = 'pieces: loop {
+            if let Some(end) = self.step(rt, alloc, buffer, operations, records, out) {
+                break end;
+            }
+        };
         let mut flight = self.take_rest(rt, alloc, end, operations);
         flight.write_all(rt, alloc, operations, out);
-        flight.close(end, out)
+        flight.finish(end, out)
     }
 }

@@ -1,8 +1,8 @@
 //! A record from the moment when it was counted until it has ended.
 //!
-//!     text --begin--> Running, its operation in a block --outcome_of, by turns--> Done
-//!          \---------> Bad: the text is no record -------outcome_of-------------> BadRecord
-//!           \--------> NoMemory: none for its datum -----outcome_of-------------> Done, NoMemory
+//!     text --begin--> Running, the ticket of its operation --settle, by turns--> Done
+//!          \---------> Bad: the text is no record ---------settle---------------> BadRecord
+//!           \--------> NoMemory: none for its datum -------settle---------------> Done, NoMemory
 ghost use Rattle.std.specs.Prelude.{◌≡◌, IsSome};
 ghost use Rattle.std.specs.Option.{option_copied};
 ghost use Rattle.std.specs.Thread.{IsSync};
@@ -18,7 +18,7 @@ use std::sync::Wait;
 /// A record that was read and isn't written yet.
 #[derive(Clone, Copy)]
 pub enum Slot {
-    /// Its operation is in this block.
+    /// Its operation has this ticket.
     Running(u32),
     /// Its line is no record of the input's kind.
     Bad,
@@ -41,7 +41,7 @@ fn start<R: Wait + Sync, O: Operations>(
     let mut waiting = datum;
     for _ in rt.forever() {
         match operations.start(rt, alloc, number, waiting) {
-            Ok(block) => return block,
+            Ok(ticket) => return ticket,
             Err(back) => waiting = back,
         }
         operations.turn(rt, alloc);
@@ -73,20 +73,20 @@ pub fn begin<R: Wait + Sync, O: Operations>(
     }
 }
 
-/// Waits for the operation of a block, by turns, and collects its completion.
-fn wait_for<R: Wait + Sync, O: Operations>(
+/// Collects the operation of a ticket, by turns where it isn't complete at once.
+fn collect<R: Wait + Sync, O: Operations>(
     rt: &R,
     alloc: Global,
-    block: u32,
+    ticket: u32,
     operations: &mut O,
 ) -> Completion
     requires sync { IsSync R.row }
-    requires begun { IsSome ((O.state operations.old).block block) }
-    ensures { Collects O.WantsMemory (O.state operations.old) (O.state operations.new) block
+    requires begun { IsSome ((O.state operations.old).tickets ticket) }
+    ensures { Collects O.WantsMemory (O.state operations.old) (O.state operations.new) ticket
         result }
 {
     for _ in rt.forever() {
-        if let Some(completion) = operations.collect(rt, block) {
+        if let Some(completion) = operations.collect(rt, ticket) {
             return completion;
         }
         operations.turn(rt, alloc);
@@ -94,8 +94,8 @@ fn wait_for<R: Wait + Sync, O: Operations>(
     unreachable!()
 }
 
-/// How the record of a slot ends.
-pub fn outcome_of<R: Wait + Sync, O: Operations>(
+/// Ends the record of a slot: waits for its operation, where it has one, and collects it.
+pub fn settle<R: Wait + Sync, O: Operations>(
     rt: &R,
     alloc: Global,
     slot: Slot,
@@ -106,7 +106,7 @@ pub fn outcome_of<R: Wait + Sync, O: Operations>(
     ensures { Settles O.WantsMemory (O.state operations.old) (O.state operations.new) slot result }
 {
     match slot {
-        Slot::Running(block) => Outcome::Done(wait_for(rt, alloc, block, operations)),
+        Slot::Running(ticket) => Outcome::Done(collect(rt, alloc, ticket, operations)),
         Slot::Bad => Outcome::BadRecord,
         Slot::NoMemory => Outcome::Done(Completion::NoMemory),
     }

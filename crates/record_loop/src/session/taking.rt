@@ -98,7 +98,7 @@ impl Session {
     {
         let mut left = piece;
         while !left.is_empty() {
-            if self.flight.read() == MOST_RECORDS {
+            if self.flight.count_read() == MOST_RECORDS {
                 return Some(End::Limit);
             }
             self.make_room(rt, alloc, operations, out);

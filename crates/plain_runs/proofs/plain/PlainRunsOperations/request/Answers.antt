@@ -5,7 +5,9 @@ use Rattle.plain_runs.proofs.plain.PlainRunsOperations.request.Goals as goal
 pub returns : goal.returns
 returns g c = record {
   plan = ap (λ (p : Plain). p.plan) c.self.view_is;
+  table = refl;
+  running = ap (λ (p : Plain). (work_of p).running) c.self.view_is;
   requested = refl;
-  tally = ap (λ (p : Plain). p.tally) c.self.view_is;
-  blocks = λ b begun is. ap (λ (p : Plain). (work_of p).block b) c.self.view_is ∙ is;
+  collected = ap (λ (p : Plain). p.collected) c.self.view_is;
+  tickets = λ t begun is. ap (λ (p : Plain). (work_of p).tickets t) c.self.view_is ∙ is;
 }

@@ -8,7 +8,7 @@ ok_of (Ok v) is holds = holds
 ok_of (Err e) is holds = cc
 
 pub returns-clause-begun : goal.returns-clause-begun
-returns-clause-begun g c = λ sink opening lines line text may counted.
+returns-clause-begun g c = λ sink opening lines line text kept counted.
     let pushed = ok_of c.try_push_back.result (c.try_push_back.ensures.variant.1 c.requires.room) c.try_push_back.ensures.ok in
     Counted-begins (g.O.Operations.state c.begin-slot.new.operations) _ line c.begin-slot.result c.args.self.now.settings.input _ _ counted c.begin-slot.ensures
-    refl (ap (λ (n : ℕ). n + 1) c.read.ensures.value) text may (ap (λ b. b.items) pushed) (ap (λ b. b.capacity) pushed) c.requires.room refl refl refl
+    refl (ap (λ (n : ℕ). n + 1) c.count_read.ensures.value) text kept (ap (λ b. b.items) pushed) (ap (λ b. b.capacity) pushed) c.requires.room refl refl refl

@@ -24,8 +24,8 @@ returns-in_default-clause-stays g c = λ opening lines standing.
 pub returns-then-not-failed-clause-stays : goal.returns-then-not-failed-clause-stays
 returns-then-not-failed-clause-stays g c = λ opening lines standing.
     let popped = c.pop_front.ensures.items in
-    Standing-writes (g.O.Operations.state c.outcome_of-outcome.new.operations) _ _ c.in-Some.slot c.outcome_of-outcome.result standing
-    (sym c.pop_front.ensures.value ∙ c.in-Some.is) c.outcome_of-outcome.ensures
+    Standing-writes (g.O.Operations.state c.settle-outcome.new.operations) _ _ c.in-Some.slot c.settle-outcome.result standing
+    (sym c.pop_front.ensures.value ∙ c.in-Some.is) c.settle-outcome.ensures
     (λ outcomes. c.print.ensures.prints opening.form opening.sink outcomes) c.print.ensures.grows
     (ap (λ (b : Buffer Slot). b.items) popped) (ap (λ (b : Buffer Slot). b.capacity) popped) refl
     (c.is_failure-failed.ensures.no c.if-not-failed.true) refl
@@ -36,9 +36,9 @@ returns-clause-stays g c = λ opening lines standing.
     let requested = c.request.ensures.requested in
     let failed = c.is_failure-failed.ensures.yes c.if-not-failed.false in
     let later = g.K.Sink.told c.print.new.out in
-    Standing-fails (g.O.Operations.state c.outcome_of-outcome.new.operations) later c.request.new.self c.in-Some.slot c.outcome_of-outcome.result standing
-    (sym c.pop_front.ensures.value ∙ c.in-Some.is) c.outcome_of-outcome.ensures
-    (λ outcomes printed. subst (λ (p : Printer). Printed opening.form opening.sink later p (outcomes ++ c.outcome_of-outcome.result ∷ [])) (sym requested.printer) (c.print.ensures.prints opening.form opening.sink outcomes printed))
+    Standing-fails (g.O.Operations.state c.settle-outcome.new.operations) later c.request.new.self c.in-Some.slot c.settle-outcome.result standing
+    (sym c.pop_front.ensures.value ∙ c.in-Some.is) c.settle-outcome.ensures
+    (λ outcomes printed. subst (λ (p : Printer). Printed opening.form opening.sink later p (outcomes ++ c.settle-outcome.result ∷ [])) (sym requested.printer) (c.print.ensures.prints opening.form opening.sink outcomes printed))
     c.print.ensures.grows
     (ap (λ (b : Buffer Slot). b.items) (requested.slots ∙ popped)) (ap (λ (b : Buffer Slot). b.capacity) (requested.slots ∙ popped)) requested.settings_are
     failed.0 failed.1 c.request.ensures.again c.request.ensures.first requested.requested

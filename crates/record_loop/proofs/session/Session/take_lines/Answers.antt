@@ -42,7 +42,7 @@ pub returns-then-breaks_off-clause-takes : goal.returns-then-breaks_off-clause-t
 returns-then-breaks_off-clause-takes g c = λ opening bytes taken.
     BreaksOff-left bytes c.args.piece.now c.loop-left.left.now (c.loop-left.invariant.advances opening bytes taken) c.make_room.ensures.stays (search rules)
 
-pub returns-then-read-eq-MOST_RECORDS-clause-takes : goal.returns-then-read-eq-MOST_RECORDS-clause-takes
-returns-then-read-eq-MOST_RECORDS-clause-takes g c = λ opening bytes taken.
+pub returns-then-count_read-eq-MOST_RECORDS-clause-takes : goal.returns-then-count_read-eq-MOST_RECORDS-clause-takes
+returns-then-count_read-eq-MOST_RECORDS-clause-takes g c = λ opening bytes taken.
     PassesLimit-left bytes c.args.piece.now c.loop-left.left.now (c.loop-left.invariant.advances opening bytes taken)
     (some_left c.loop-left.left.now (search rules)) (search rules) c.loop-left.self.few_bytes

@@ -1,4 +1,4 @@
-use Rattle.std.proofs.Common.{sym, ap, length, ◌∙◌, inl, arith}
+use Rattle.std.proofs.Common.{sym, ap, length, ◌∙◌, arith}
 use Rattle.record_lines.specs.Lines.{whole_lines, rest_of, without_cr}
 use Rattle.record_loop.specs.Reading.{on}
 use Rattle.record_loop.proofs.ReadingLaws.{stands-as}
@@ -40,4 +40,4 @@ returns-clause-all g c = λ sink opening source left halts.
     (λ stands kept standing.
     let ends = c.in-Some.ensures.last halts.bytes stands in
     stands-as _ (sym ends.lines)
-    (c.take.ensures.takes sink opening (whole_lines halts.bytes) (without_cr (rest_of halts.bytes)) (c.text.ensures.value ∙ ends.line.text) (inl kept) standing))
+    (c.take.ensures.takes sink opening (whole_lines halts.bytes) (without_cr (rest_of halts.bytes)) (c.text.ensures.value ∙ ends.line.text) kept standing))

@@ -1,7 +1,7 @@
 use Rattle.std.proofs.Common.{◌≡◌, ◌-◌, ◌≤◌, ◌<◌, length, None}
 use Rattle.record_lines.specs.declared.limits.TheConstants.{MOST_BYTES}
 use Rattle.record_loop.specs.Reading.{on, ReadsOn, ReadsCaughtUp}
-use Rattle.record_loop.proofs.session.Session.read_all.Given as goal
+use Rattle.record_loop.proofs.session.Session.run.Given as goal
 
 abbrev pub invariant-pieces : goal.invariant-pieces
 invariant-pieces g l = record {

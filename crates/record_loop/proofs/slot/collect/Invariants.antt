@@ -1,5 +1,5 @@
 use Rattle.record_loop.specs.Works.{Keeps}
-use Rattle.record_loop.proofs.slot.wait_for.Given as goal
+use Rattle.record_loop.proofs.slot.collect.Given as goal
 
 abbrev pub invariant-loop : goal.invariant-loop
 invariant-loop g l = record {
