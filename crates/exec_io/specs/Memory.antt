@@ -1,6 +1,7 @@
 -- What the objects in memory show of themselves.
 use Rattle.std.specs.Prelude.{◌≡◌, if◌then◌else◌, min, length, None, Some, ℕ, ◌+◌, List, [], ◌++◌, take, map, zip, Bool, true, false, String, Vec, string_bytes, vec_items}
 use Rattle.std.specs.declared.alloc.Global.{Global}
+use Rattle.exec_io.specs.Asked.{Asked, AsksOnce}
 use Rattle.exec_io.specs.Calls.{Calls, no_calls, after_call}
 use Rattle.exec_io.specs.Shelves.{Texts}
 use Rattle.exec_io.specs.Views.{SinkView, SourceView, ShelfView}
@@ -49,22 +50,26 @@ after_finish sink = record sink { outstanding = 0; calls = after_call sink.calls
 abbrev pub after_failure : SinkState → SinkState
 after_failure sink = record sink { calls = after_call sink.calls true }
 
--- A shelf: its texts, and its calls.
+-- A shelf: its texts, the names that it was asked for, and its calls.
 pub record ShelfState : Type 0 where
   pub texts : Texts
+  pub asked : Asked
   pub calls : Calls
 
--- It tells both.
+-- It tells all three.
 abbrev pub shelf_view : ShelfState → ShelfView
-shelf_view shelf = record { texts = Some shelf.texts; faults = shelf.calls.faults }
+shelf_view shelf =
+    record { texts = Some shelf.texts; asked = shelf.asked; faults = shelf.calls.faults }
 
 -- Each name with the text at its place.
 abbrev pub named_texts : List (String Global) → List (Vec ℕ Global) → Texts
 named_texts names texts = zip (map string_bytes names) (map vec_items texts)
 
--- After a read, which failed or didn't.
-abbrev pub after_read : ShelfState → Bool → ShelfState
-after_read shelf failed = record shelf { calls = after_call shelf.calls failed }
+-- After a read of this name, which failed or didn't.
+pub record IsAfterRead (old new : ShelfState) (name : List ℕ) (failed : Bool) : Type 0 where
+  pub texts : new.texts ≡ old.texts
+  pub asked : AsksOnce name old.asked new.asked
+  pub calls : new.calls ≡ after_call old.calls failed
 
 -- What never fails: the object that it stands over, and whether it still tells what that one holds.
 pub record NeverFailsState (T : Type 0) : Type 0 where

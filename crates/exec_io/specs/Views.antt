@@ -1,5 +1,6 @@
 -- What a sink, a source and a shelf tell at one moment.
 use Rattle.std.specs.Prelude.{ℕ, List, Option}
+use Rattle.exec_io.specs.Asked.{Asked}
 use Rattle.exec_io.specs.Shelves.{Texts}
 
 -- What a sink tells: the bytes written, how many of them it hasn't handed on, and how often a call
@@ -14,7 +15,9 @@ pub record SourceView : Type 0 where
   pub left : Option (List ℕ)
   pub faults : ℕ
 
--- What a shelf tells: the texts by name, and how often a call failed.
+-- What a shelf tells: the texts by name, the names that it was asked for, and how often a call
+-- failed.
 pub record ShelfView : Type 0 where
   pub texts : Option Texts
+  pub asked : Asked
   pub faults : ℕ

@@ -32,10 +32,11 @@ bytes-miss refuses has (Err (Refused cause)) to is = to cause is
 bytes-miss refuses has (Err NotRead) to is = tt
 bytes-miss refuses has (Err NoFileMemory) to is = tt
 
-module _ {T U C : Type 0} {old new : ShelfView} where
+module _ {T U C : Type 0} {name : List ℕ} {old new : ShelfView} where
   -- what was made of the bytes that were read
-  pub reads-bytes : (x : T) (refuses : C → Type 0) (result : Result U (FileFault C)) → ReadsShelf {T = T} {C = C} old new (Ok x) → IfErr result (IsFaultOf refuses) → ReadsShelf old new result
+  pub reads-bytes : (x : T) (refuses : C → Type 0) (result : Result U (FileFault C)) → ReadsShelf {T = T} {C = C} name old new (Ok x) → IfErr result (IsFaultOf refuses) → ReadsShelf name old new result
   reads-bytes x refuses result reads faults = record {
+    asks = reads.asks;
     same = reads.same;
     later = reads.later;
     cause = no-read_fault refuses result faults;
@@ -43,8 +44,9 @@ module _ {T U C : Type 0} {old new : ShelfView} where
   }
 
   -- a fault that is handed on
-  pub reads-fault : (fault : FileFault C) → ReadsShelf {T = T} old new (Err fault) → ReadsShelf {T = U} old new (Err fault)
+  pub reads-fault : (fault : FileFault C) → ReadsShelf {T = T} name old new (Err fault) → ReadsShelf {T = U} name old new (Err fault)
   reads-fault fault reads = record {
+    asks = reads.asks;
     same = reads.same;
     later = reads.later;
     cause = λ e. let is : fault ≡ NotRead = cc in reads.cause (ap (λ (f : FileFault C). Err f) is);

@@ -1,5 +1,6 @@
 -- Where a file has no answer, and what is told of that.
 use Rattle.std.specs.Prelude.{◌≡◌, ◌≢◌, ◌⊎◌, ℕ, ◌≤◌, List, Result, Err}
+use Rattle.exec_io.specs.Asked.{AsksOnce}
 use Rattle.exec_io.specs.Causes.{Rose}
 use Rattle.exec_io.specs.Views.{ShelfView, SinkView}
 use Rattle.exec_status.specs.declared.file.FileFault.{FileFault}
@@ -10,10 +11,11 @@ use Rattle.exec_status.specs.Notes.{note_of}
 use Rattle.exec_status.specs.Noted.{Concludes}
 use Rattle.exec_status.specs.Sinks.{Tells, TellsFront}
 
--- What a command did to the shelf: it changed nothing on it, and answers a fault of it only where
--- the count rose.
-pub record ReadsShelf {T C : Type 0} (old new : ShelfView) (result : Result T (FileFault C))
-    : Type 0 where
+-- What a command did to the shelf: it asked for the text of this name and for no other, changed
+-- nothing, and answers a fault of the shelf only where the count rose.
+pub record ReadsShelf {T C : Type 0} (name : List ℕ) (old new : ShelfView)
+    (result : Result T (FileFault C)) : Type 0 where
+  pub asks : AsksOnce name old.asked new.asked
   pub same : new.texts ≡ old.texts
   pub later : old.faults ≤ new.faults
   pub cause : result ≡ Err NotRead → Rose old.faults new.faults

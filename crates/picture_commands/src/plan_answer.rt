@@ -25,7 +25,7 @@ pub(crate) fn plan_answer<F: Shelf>(
     name: &str,
     shelf: &mut F,
 ) -> Result<Answer, FileFault<Refusal>>
-    ensures reads { ReadsShelf (F.told shelf.old) (F.told shelf.new) result }
+    ensures reads { ReadsShelf name.now (F.told shelf.old) (F.told shelf.new) result }
     ensures answer { IfOk result (HasShown the_plan (F.told shelf.old).texts name.now) }
     ensures fault { IfErr result
         (Misses (HasRefusal the_plan (F.told shelf.old).texts name.now)) }

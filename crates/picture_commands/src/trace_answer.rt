@@ -20,7 +20,7 @@ pub(crate) fn trace_answer<F: Shelf>(
     name: &str,
     shelf: &mut F,
 ) -> Result<Answer, FileFault<Refusal>>
-    ensures reads { ReadsShelf (F.told shelf.old) (F.told shelf.new) result }
+    ensures reads { ReadsShelf name.now (F.told shelf.old) (F.told shelf.new) result }
     ensures answer { IfOk result (HasShown the_trace (F.told shelf.old).texts name.now) }
     ensures fault { IfErr result
         (Misses (HasRefusal the_trace (F.told shelf.old).texts name.now)) }

@@ -8,8 +8,8 @@ use std::fs::File;
 use std::io::{self, ErrorKind, Read};
 use std::rt::Files;
 
-/// Files as texts by their paths. It counts the reads that fail, and tells nothing of what a file
-/// holds.
+/// Files as texts by their paths. It counts the reads that fail, and tells neither what a file holds
+/// nor which was asked for.
 #[derive(Drop)]
 pub struct FileShelf<'a, R: Files> {
     rt: &'a R,
@@ -28,7 +28,7 @@ impl<'a, R: Files> FileShelf<'a, R> {
 }
 
 impl<R: Files> Shelf for FileShelf<'_, R> {
-    ghost told = { λ s. record { texts = None; faults = s.faults.count } };
+    ghost told = { λ s. record { texts = None; asked = None; faults = s.faults.count } };
 
     fn read(&mut self, alloc: Global, name: &str, max: usize) -> Result<Vec<u8>, ShelfFault> {
         match open_front(self.rt, alloc, name, max.saturating_add(1)) {

@@ -96,7 +96,7 @@ Prints-due due status result is (front part) concludes still = absurd (still par
 
 -- the end of a command that had an answer
 pub answered : {T : Type 0} {x : T} (question : Question) (name : List ℕ) (old new : Outside) {text : List ℕ} (due status result : Status) →
-    IsDecided question → IsAnswer due → HasAnswer question old.shelf.texts name due text → ReadsShelf {T = T} {C = Refusal} old.shelf new.shelf (Ok x) → new.records ≡ old.records →
+    IsDecided question → IsAnswer due → HasAnswer question old.shelf.texts name due text → ReadsShelf {T = T} {C = Refusal} name old.shelf new.shelf (Ok x) → new.records ≡ old.records →
     Prints due text old.out new.out status → Concludes status old.notes new.notes result → old.out.faults ≤ new.out.faults → old.notes.faults ≤ new.notes.faults → Ends question name old new result
 answered question name old new {text = text} due status result decided is has reads records prints concludes out notes =
     let came = Says question name old new in
@@ -119,6 +119,7 @@ answered question name old new {text = text} due status result decided is has re
       complete = λ wanted stands _ out_still.
           let is_due = given-stands FILE_BYTES old.shelf.texts name has.bytes (λ bytes. IsDue question bytes wanted) has.given stands in
           inl (Prints-due due status result is prints concludes out_still ∙ decided.answered has.bytes due wanted text has.answer is_due);
+      asks = reads.asks;
       shelf_same = reads.same;
       records_same = records;
       shelf_later = reads.later;
@@ -137,7 +138,7 @@ missed-due question name old new NoFileMemory result due decided misses gives_up
 
 -- the end of a command that had none
 pub missed : {T : Type 0} (question : Question) (name : List ℕ) (old new : Outside) (fault : FileFault Refusal) (result : Status) →
-    IsDecided question → Misses (HasRefusal question old.shelf.texts name) fault → GivesUp refusal_text fault old.notes new.notes result → ReadsShelf {T = T} {C = Refusal} old.shelf new.shelf (Err fault) →
+    IsDecided question → Misses (HasRefusal question old.shelf.texts name) fault → GivesUp refusal_text fault old.notes new.notes result → ReadsShelf {T = T} {C = Refusal} name old.shelf new.shelf (Err fault) →
     new.records ≡ old.records → new.out ≡ old.out → old.notes.faults ≤ new.notes.faults → Ends question name old new result
 missed question name old new fault result decided misses gives_up reads records out notes =
     let came = Says question name old new in
@@ -158,6 +159,7 @@ missed question name old new fault result decided misses gives_up reads records 
       notes_handed_on = Noted-handed came refused result noted;
       refused = λ refusal stands still. missed-refused refusal_text old.notes new.notes fault result gives_up (λ e. still (cause e));
       complete = λ due stands still _. missed-due question name old new fault result due decided misses gives_up (λ e. still (cause e)) stands;
+      asks = reads.asks;
       shelf_same = reads.same;
       records_same = records;
       shelf_later = reads.later;

@@ -1,5 +1,6 @@
 -- How a command on a file ends.
 use Rattle.std.specs.Prelude.{◌≡◌, ◌≢◌, ◌⊎◌, ℕ, ◌≤◌, List}
+use Rattle.exec_io.specs.Asked.{AsksOnce}
 use Rattle.exec_io.specs.Causes.{Rose}
 use Rattle.exec_io.specs.Outside.{Outside}
 use Rattle.exec_io.specs.Shelves.{Stands}
@@ -43,7 +44,9 @@ pub record Ends (question : Question) (name : List ℕ) (old new : Outside) (sta
       → Stands FILE_BYTES old.shelf.texts name (λ bytes. IsDue question bytes due)
       → ¬ Rose old.shelf.faults new.shelf.faults → ¬ Rose old.out.faults new.out.faults
       → (status ≡ due) ⊎ RunsShort old.notes new.notes status
-  -- Nothing on the shelf changes, and no records are read.
+  -- The shelf is asked for this file, once, and for no other. Nothing on it changes, and no records
+  -- are read.
+  pub asks : AsksOnce name old.shelf.asked new.shelf.asked
   pub shelf_same : new.shelf.texts ≡ old.shelf.texts
   pub records_same : new.records ≡ old.records
   -- No count of faults falls.

@@ -39,7 +39,7 @@ pub fn check_file<F: Shelf, K: Sink, N: Sink>(
 
 // What the check says of the file of this name.
 fn judge<F: Shelf>(alloc: Global, name: &str, shelf: &mut F) -> Result<Verdict, FileFault<Refusal>>
-    ensures reads { ReadsShelf (F.told shelf.old) (F.told shelf.new) result }
+    ensures reads { ReadsShelf name.now (F.told shelf.old) (F.told shelf.new) result }
     ensures answer { IfOk result (HasVerdict (F.told shelf.old).texts name.now) }
     ensures fault { IfErr result (Misses (HasRefusal the_check (F.told shelf.old).texts name.now)) }
 {

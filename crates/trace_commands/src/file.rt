@@ -25,7 +25,7 @@ pub fn read_file<F: Shelf>(
     name: &str,
     shelf: &mut F,
 ) -> Result<Vec<u8>, FileFault<Refusal>>
-    ensures reads { ReadsShelf (F.told shelf.old) (F.told shelf.new) result }
+    ensures reads { ReadsShelf name.now (F.told shelf.old) (F.told shelf.new) result }
     ensures given { IfOk result (λ bytes.
         Gives FILE_BYTES (F.told shelf.old).texts name.now bytes.items) }
     ensures fault { IfErr result IsOfShelf }

@@ -40,7 +40,7 @@ pub fn replay_file<F: Shelf, K: Sink, N: Sink>(
 
 // The text of the trace that the file of this name leads to.
 fn play<F: Shelf>(alloc: Global, name: &str, shelf: &mut F) -> Result<Vec<u8>, FileFault<Refusal>>
-    ensures reads { ReadsShelf (F.told shelf.old) (F.told shelf.new) result }
+    ensures reads { ReadsShelf name.now (F.told shelf.old) (F.told shelf.new) result }
     ensures answer { IfOk result (λ text. HasTrace (F.told shelf.old).texts name.now text.items) }
     ensures fault { IfErr result
         (Misses (HasRefusal the_replay (F.told shelf.old).texts name.now)) }
