@@ -1,5 +1,5 @@
 -- What serving leaves of a spare hand.
-use Rattle.std.proofs.Common.{◌≡◌, ◌<◌, zero, suc, List, [], ◌∷◌, ◌++◌, length, All, ◌-◌, rules, refl, sym, ap, ◌∙◌, subst, inl, inr, arith}
+use Rattle.std.proofs.Common.{◌≡◌, ◌<◌, zero, suc, ◌+◌, List, [], ◌∷◌, ◌++◌, length, All, ◌-◌, rules, refl, sym, ap, ◌∙◌, subst, inl, inr, arith}
 use Rattle.std.specs.Prelude.{Option, Some, Contains, slice_index_or}
 use Rattle.std.proofs.lemmas.List.Elements.{All-append}
 use Rattle.atomic_table.specs.declared.shared.Seat.{Seat}
@@ -8,7 +8,8 @@ use Rattle.listed_steps.specs.Lists.{entry}
 use Rattle.plan_shape.specs.Blueprint.{Blueprint}
 use Rattle.table_rules.specs.declared.view.View.{View}
 use Rattle.table_rules.specs.Named.{AnyOf}
-use Rattle.table_steps.specs.Views.{Board}
+use Rattle.table_steps.specs.Closings.{claimed_by}
+use Rattle.table_steps.specs.Views.{Board, knows}
 use Rattle.exec_start.specs.declared.entry.Entry.{Entry}
 use Rattle.exec_start.specs.declared.item.Item.{Item}
 use Rattle.exec_recv.specs.Asides.{KeepsAside}
@@ -64,6 +65,23 @@ has-served board old new spare ready kept ended =
       joined = subst (λ (steps : List Seen). AnyOf (ReadsJoined board) steps) (sym read.grown)
           (contained-any (ReadsJoined board) read.fresh ended.before.0.steps (entry _ read.word read.left) read.there (record { index_is = refl; joined = read.said }));
     }
+
+-- and claimed no block
+pub claimed-still : (old new : TheHand) → KeepsAside old.me new.me → (knows new).claimed ≡ (knows old).claimed
+claimed-still old new kept = ap (λ a. a.claimed) kept.same
+
+-- what these claimed, and one more
+claimed-more : (rest : List TheHand) (last : TheHand) → claimed_by (rest ++ last ∷ []) ≡ claimed_by rest + (knows last).claimed
+claimed-more [] last = omega arith
+claimed-more (first ∷ rest) last = let more = claimed-more rest last in omega (arith, more)
+
+-- hands of which the last came back after the others claimed as much as before
+pub claimed-back : (all rest back after : List TheHand) (last again : TheHand) → all ≡ rest ++ last ∷ [] → after ≡ back ++ again ∷ [] →
+    claimed_by back ≡ claimed_by rest → (knows again).claimed ≡ (knows last).claimed → claimed_by after ≡ claimed_by all
+claimed-back all rest back after last again is is' same one =
+    let old = ap claimed_by is ∙ claimed-more rest last in
+    let new = ap claimed_by is' ∙ claimed-more back again in
+    omega (arith, old, new, same, one)
 
 -- all of these, and one more
 pub one-more : (board : Board Blueprint) (rest all : List TheHand) (hand : TheHand) → All (HasServed board) rest → HasServed board hand → all ≡ rest ++ hand ∷ [] → All (HasServed board) all

@@ -48,10 +48,13 @@ pub record HasServed (board : Board Blueprint) (hand : Seat (Option Item) (View 
   pub spare : IsSpare board hand
   pub joined : AnyOf (ReadsJoined board) (knows hand).steps
 
--- A worker of this desk gave back a hand that has served, and the desk, where it had one.
-pub record GivesBack (board : Board Blueprint) (old : Option Desk)
-    (hand : Seat (Option Item) (View Item Entry)) (desk : Option Desk) : Type 0 where
+-- A worker of this hand and this desk gave them back, the desk where it had one: the hand has served,
+-- and has claimed no block.
+pub record GivesBack (board : Board Blueprint) (before : Seat (Option Item) (View Item Entry))
+    (old : Option Desk) (hand : Seat (Option Item) (View Item Entry)) (desk : Option Desk)
+    : Type 0 where
   pub served : HasServed board hand
+  pub claimed : (knows hand).claimed ≡ (knows before).claimed
   pub same : KeepsDesk old desk
 
 -- As many desks as before, each of which is the one that was at its place.
@@ -60,7 +63,7 @@ pub record AreSameDesks (old new : List Desk) : Type 0 where
   pub each : (k : ℕ) (before after : Desk) → slice_get old k ≡ Some before →
       slice_get new k ≡ Some after → IsSameDesk before after
 
--- These are all desks: the rest, and this one last where there is one.
-abbrev pub IsWith : Option Desk → List Desk → List Desk → Type 0
-IsWith (Some desk) rest all = all ≡ rest ++ desk ∷ []
+-- These are all: the rest, and this one last where there is one.
+abbrev pub IsWith : {A : Type 0} → Option A → List A → List A → Type 0
+IsWith (Some last) rest all = all ≡ rest ++ last ∷ []
 IsWith None rest all = all ≡ rest

@@ -2,6 +2,7 @@
 ghost use Rattle.std.specs.Prelude.{◌≡◌, ◌+◌, ◌<◌, ◌≤◌, All, [], IfNone, IfSome, MatchOption, vec_len, vec_capacity};
 ghost use Rattle.std.specs.Thread.{IsSync};
 ghost use Rattle.steal_pool.specs.Desks.{KeepsDesk};
+ghost use Rattle.table_steps.specs.Closings.{claimed_by};
 ghost use Rattle.run_crew.specs.Crews.{AreSameDesks, CanServe, GivesBack, HasServed, IsWith};
 
 use crate::front::Front;
@@ -27,6 +28,7 @@ fn take_hand<T: Stepper>(
     ensures serve { All (CanServe table.now (T.plan stepper.now)) hands.new.items }
     ensures length { MatchOption result (vec_len hands.new ≡ vec_len hands.old)
         (λ _. vec_len hands.new + 1 ≡ vec_len hands.old) }
+    ensures with { IsWith result hands.new.items hands.old.items }
     ensures none { IfNone result (hands.new.items ≡ []) }
     ensures capacity { vec_capacity hands.new ≡ vec_capacity hands.old }
 {
@@ -78,9 +80,10 @@ fn work_beside<'s, E, W: Front, T: Stepper + Sync, R: Threads + Wait + Sync>(
     requires sync { IsSync R.row }
     requires serve { All (CanServe table.now (T.plan stepper.now)) hands.old.items }
     requires each { vec_len hands.old ≤ vec_len backends.old }
-    requires needs { W.needs front.old hand }
+    requires needs { W.needs front.old hand own }
     ensures leaves { W.leaves front.old front.new result.0 }
     ensures served { All (HasServed table.now) hands.new.items }
+    ensures claims { claimed_by hands.new.items ≡ claimed_by hands.old.items }
     ensures length { vec_len hands.new ≡ vec_len hands.old }
     ensures room { vec_capacity hands.old ≤ vec_capacity hands.new }
     ensures same { AreSameDesks desks.old.items desks.new.items }
@@ -94,12 +97,17 @@ fn work_beside<'s, E, W: Front, T: Stepper + Sync, R: Threads + Wait + Sync>(
         unreachable!()
     };
     let desk = take_desk(desks);
+    let promise = Served {
+        table: Snapshot::of(table),
+        hand: Snapshot::of(&next),
+        desk: Snapshot::of(&desk),
+    };
     let started = scope.spawn_with(
-        Served(Snapshot::of(table), Snapshot::of(&desk)),
+        promise,
         move || -> (Hand<Item>, Option<Desk>)
             requires { IsSync R.row × IsSync T.row
                 × CanServe table.now (T.plan stepper.now) next }
-            ensures { GivesBack table.entry.now desk result.0 result.1 }
+            ensures { GivesBack table.entry.now next desk result.0 result.1 }
         { serve(rt, alloc, table, stepper, next, backend, order, desk) },
     );
     match started {
@@ -136,7 +144,7 @@ fn work_beside<'s, E, W: Front, T: Stepper + Sync, R: Threads + Wait + Sync>(
 /// Needs: the other hands can serve: the table is over the stepper's plan, whose kinds match. Each
 /// has a backend.
 /// Afterwards: the front's work was done on hand 0. Each other hand served until it read that the
-/// scope is joined. Each desk is the same, in its place, and so is hand 0's.
+/// scope is joined, and claimed no block. Each desk is the same, in its place, and so is hand 0's.
 pub fn run_beside<W: Front, T: Stepper + Sync, R: Threads + Wait + Sync>(
     rt: &R,
     alloc: Global,
@@ -153,9 +161,10 @@ pub fn run_beside<W: Front, T: Stepper + Sync, R: Threads + Wait + Sync>(
     requires sync { IsSync R.row }
     requires serve { All (CanServe table.now (T.plan stepper.now)) hands.items }
     requires each { vec_len hands ≤ vec_len backends }
-    requires needs { W.needs front hand }
+    requires needs { W.needs front hand own }
     ensures leaves { W.leaves front result.0 result.1 }
     ensures served { All (HasServed table.now) result.2.items }
+    ensures claims { claimed_by result.2.items ≡ claimed_by hands.items }
     ensures length { vec_len result.2 ≡ vec_len hands }
     ensures room { vec_capacity hands ≤ vec_capacity result.2 }
     ensures desks { AreSameDesks desks.items result.3.items }
@@ -169,9 +178,10 @@ pub fn run_beside<W: Front, T: Stepper + Sync, R: Threads + Wait + Sync>(
         move |scope| -> (W, Hand<Item>, Vec<Hand<Item>>, Vec<Desk>, Option<Desk>)
             requires { IsSync R.row × IsSync T.row
                 × All (CanServe table.now (T.plan stepper.now)) hands.items
-                × (vec_len hands ≤ vec_len backends) × W.needs front hand }
+                × (vec_len hands ≤ vec_len backends) × W.needs front hand own }
             ensures { W.leaves front result.0 result.1
                 × All (HasServed table.entry.now) result.2.items
+                × (claimed_by result.2.items ≡ claimed_by hands.items)
                 × (vec_len result.2 ≡ vec_len hands)
                 × (vec_capacity hands ≤ vec_capacity result.2)
                 × AreSameDesks desks.items result.3.items

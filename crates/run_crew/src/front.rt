@@ -16,9 +16,10 @@ pub trait Front: Drop {
     ghost use Rattle.table_rules.specs.declared.view.View.{View};
     ghost use Rattle.exec_start.specs.declared.entry.Entry.{Entry};
     ghost use Rattle.exec_start.specs.declared.item.Item.{Item};
+    ghost use Rattle.steal_pool.specs.declared.desk.Desk.{Desk};
 
-    /// What the work needs of the hand.
-    ghost needs: { Self → Seat (Option Item) (View Item Entry) → Type 0 };
+    /// What the work needs of the hand, and of its desk.
+    ghost needs: { Self → Seat (Option Item) (View Item Entry) → Option Desk → Type 0 };
 
     /// What it leaves of itself, and of the hand.
     ghost leaves: { Self → Self → Seat (Option Item) (View Item Entry) → Type 0 };
@@ -34,7 +35,7 @@ pub trait Front: Drop {
         helps: bool,
     ) -> (Hand<Item>, Option<Desk>)
         requires sync { IsSync R.row }
-        requires needs { needs self.old hand }
+        requires needs { needs self.old hand desk }
         ensures leaves { leaves self.old self.new result.0 }
         ensures desk { KeepsDesk desk result.1 };
 }

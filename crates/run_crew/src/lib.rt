@@ -3,8 +3,8 @@
 //!
 //! It stands on steal_pool, whose workers serve until the scope of their table is joined. It keeps
 //! one promise: the work on hand 0 was done, and all hands come back, of which each but hand 0's
-//! has nothing, and read that the scope is joined, whether its thread could be started or not. All
-//! desks come back, each the same.
+//! has nothing, claimed no block, and read that the scope is joined, whether its thread could be
+//! started or not. All desks come back, each the same.
 //!
 //!     hands --run_beside--> hand 0: Front::work ---------------- joins the scope --> back
 //!              |            hand 1: a thread: Worker::serve -- reads joined ------> back

@@ -11,18 +11,19 @@ use std::sync::Wait;
 use std::thread::Promise;
 use steal_pool::{Desk, Worker};
 
-/// The promise of a worker of this table and this desk: its hand has served, and the desk comes
-/// back.
+/// The promise of a worker of this table, on this hand and at this desk: the hand has served and
+/// has claimed no block, and the desk comes back.
 #[derive(Drop)]
-pub(crate) struct Served(
-    pub(crate) Snapshot<OpTable<Item>>,
-    pub(crate) Snapshot<Option<Desk>>,
-);
+pub(crate) struct Served {
+    pub(crate) table: Snapshot<OpTable<Item>>,
+    pub(crate) hand: Snapshot<Hand<Item>>,
+    pub(crate) desk: Snapshot<Option<Desk>>,
+}
 
 impl Promise<(Hand<Item>, Option<Desk>)> for Served {
     ghost use Rattle.run_crew.specs.Crews.{GivesBack};
 
-    ghost kept_by = { λ p r. GivesBack p.0.value p.1.value r.0 r.1 };
+    ghost kept_by = { λ p r. GivesBack p.table.value p.hand.value p.desk.value r.0 r.1 };
 }
 
 /// Serves the pool on a spare hand, with this backend, and this desk where there is one, until the
@@ -39,7 +40,7 @@ pub(crate) fn serve<T: Stepper, R: Wait + Sync>(
 ) -> (Hand<Item>, Option<Desk>)
     requires sync { IsSync R.row }
     requires serve { CanServe table.now (T.plan stepper.now) hand }
-    ensures { GivesBack table.now desk result.0 result.1 }
+    ensures { GivesBack table.now hand desk result.0 result.1 }
 {
     match desk {
         None => {

@@ -1,5 +1,5 @@
 -- A run that has started one operation more, and one that has collected one.
-use Rattle.std.proofs.Common.{◌≡◌, ℕ, ◌-◌, ◌<◌, Bool, true, List, [], ◌∷◌, length, set, get_or, refl, sym, ap, ◌∙◌, subst}
+use Rattle.std.proofs.Common.{◌≡◌, ℕ, ◌+◌, ◌-◌, ◌<◌, Bool, true, List, [], ◌∷◌, length, set, get_or, refl, sym, ap, ◌∙◌, subst, arith}
 use Rattle.std.specs.Prelude.{Option, Some, None, is_none}
 use Rattle.std.specs.Option.{option_map}
 use Rattle.std.proofs.lemmas.Option.{same_Some}
@@ -59,15 +59,15 @@ entered-by run t number datum within free o looped ready tally env is enters ope
       items = items;
     }
 
-module _ (on : Board Blueprint → Type 0) (run : Run) (stepped : Blueprint) (next : ℕ) (sound : IsSound on run stepped next) (t number : ℕ)
+module _ (on : Board Blueprint → Type 0) (before : ℕ) (run : Run) (stepped : Blueprint) (next : ℕ) (sound : IsSound on before run stepped next) (t number : ℕ)
     (datum : Datum) (did : HasEntered run t number datum) where
   abbrev grown : List (Option Operation) → Run
   grown operations = record run { looped = did.looped; operations = operations }
 
-  pub has-entered-sound : (later : ℕ) → later < length run.operations → IsSound on (grown did.operations) stepped later
+  pub has-entered-sound : (later : ℕ) → later < length run.operations → IsSound on before (grown did.operations) stepped later
   has-entered-sound later inside =
-      subst (λ (l : List (Option Operation)). IsSound on (grown l) stepped later) (sym did.items)
-      (entered-sound on run stepped next sound did.looped did.ready t did.within did.o did.free number datum run.requested did.enters later
+      subst (λ (l : List (Option Operation)). IsSound on before (grown l) stepped later) (sym did.items)
+      (entered-sound on before run stepped next sound did.looped did.ready t did.within did.o did.free number datum run.requested did.tally did.enters later
       inside)
 
   pub has-entered-begins : Begins (work_of run) (work_of (grown did.operations)) number datum t
@@ -104,9 +104,9 @@ block-operation found o b has is =
     same_Some o.block b (sym (ap (option_map (λ (p : Operation). p.block)) has) ∙ sym is)
 
 -- is one of an operation that the hand has listed
-pub block-listed : (on : Board Blueprint → Type 0) (run : Run) (stepped : Blueprint) (next : ℕ) → IsSound on run stepped next → (t : ℕ) (b : Block) →
+pub block-listed : (on : Board Blueprint → Type 0) (before : ℕ) (run : Run) (stepped : Blueprint) (next : ℕ) → IsSound on before run stepped next → (t : ℕ) (b : Block) →
     Some b ≡ option_map (λ (p : Operation). p.block) (get_or run.operations t None) → IsListed run.board b run.looped.hand.me
-block-listed on run stepped next sound t b is = at (get_or run.operations t None) refl is
+block-listed on before run stepped next sound t b is = at (get_or run.operations t None) refl is
   where
     at : (found : Option Operation) → get_or run.operations t None ≡ found → Some b ≡ option_map (λ (p : Operation). p.block) found →
         IsListed run.board b run.looped.hand.me
@@ -156,7 +156,7 @@ left-by run t c within o has b is between ready did hand hand_of leaves operatio
       items = items;
     }
 
-module _ (on : Board Blueprint → Type 0) (run : Run) (stepped : Blueprint) (next : ℕ) (sound : IsSound on run stepped next) (t : ℕ) (c : Collected)
+module _ (on : Board Blueprint → Type 0) (before : ℕ) (run : Run) (stepped : Blueprint) (next : ℕ) (sound : IsSound on before run stepped next) (t : ℕ) (c : Collected)
     (left : HasLeft run t c) where
   abbrev looped : Looped
   looped = record left.between { hand = left.hand }
@@ -176,16 +176,20 @@ module _ (on : Board Blueprint → Type 0) (run : Run) (stepped : Blueprint) (ne
             moved-sees made (knows left.between.hand) (knows left.hand) left.moved source (left.did.leaves.sees source seen);
       }
 
-  pub has-left-sound : IsSound on (shrunk left.operations) stepped next
+  -- the tally has one more
+  tallied : length looped.tally ≡ length run.looped.tally + 1
+  tallied = let more = ap length left.did.tally in omega (arith, more)
+
+  pub has-left-sound : IsSound on before (shrunk left.operations) stepped next
   has-left-sound =
-      subst (λ (l : List (Option Operation)). IsSound on (shrunk l) stepped next) (sym left.items)
-      (left-sound on run stepped next sound looped (moved-ready run.board made left.between looped left.ready refl left.ready.delays left.hand_of left.moved)
-      t left.within left.o left.has leaves)
+      subst (λ (l : List (Option Operation)). IsSound on before (shrunk l) stepped next) (sym left.items)
+      (left-sound on before run stepped next sound looped (moved-ready run.board made left.between looped left.ready refl left.ready.delays left.hand_of left.moved)
+      t left.within left.o left.has tallied leaves)
 
   collects : Collects WantsMemory (work_of run) (work_of (shrunk left.operations)) t c.completion
   collects =
       subst (λ (l : List (Option Operation)). Collects WantsMemory (work_of run) (work_of (shrunk l)) t c.completion) (sym left.items)
-      (collects-work run sound.listed t left.within looped left.o left.has leaves c sound.asked.made left.did.is_for left.did.tally.small)
+      (collects-work run sound.listed t left.within looped left.o left.has leaves c sound.asked.made left.did.is_for sound.table.over.over left.did.tally)
 
   pub has-left-run : LeavesRun run (shrunk left.operations) t c.completion
-  has-left-run = record { board = refl; operations = left.items; collects = collects }
+  has-left-run = record { board = refl; operations = left.items; tally = tallied; collects = collects }

@@ -15,25 +15,33 @@ use Rattle.table_run.specs.declared.tickets.Operation.{Operation}
 use Rattle.table_run.specs.Calls.{LeavesSame}
 use Rattle.table_run.specs.Ends.{HasJoined, IsEnded}
 use Rattle.table_run.specs.Moves.{KeepsRun, KeepsOperations, LeavesRun, Clears}
-use Rattle.table_run.specs.Runs.{Run}
-use Rattle.table_run.specs.Sound.{taken, IsSound}
+use Rattle.table_run.specs.Runs.{Run, begun_by, taken}
+use Rattle.table_run.specs.Sound.{IsSound}
+use Rattle.table_run.specs.Worked.{has_ahead, HasWorked}
 use Rattle.table_run.proofs.Listed.{one_if, put-here, put-there}
 
 pub clears-here : (run : Run) → Clears run run
-clears-here run = record { board = refl; count = refl; free = λ t free. free }
+clears-here run = record { board = refl; plan = refl; begun = refl; count = refl; free = λ t free. free }
 
 pub clears-on : (old between new : Run) → Clears old between → Clears between new → Clears old new
 clears-on old between new first next =
     record {
       board = next.board ∙ first.board;
+      plan = next.plan ∙ first.plan;
+      begun = next.begun ∙ first.begun;
       count = next.count ∙ first.count;
       free = λ t free. next.free t (first.free t free);
     }
+
+kept-begun : (old new : Run) → new.looped.tally ≡ old.looped.tally → new.operations ≡ old.operations → begun_by new ≡ begun_by old
+kept-begun old new tally operations = λ i. length (tally i) + taken (operations i)
 
 pub keeps-clears : (old new : Run) → KeepsRun old new → Clears old new
 keeps-clears old new keeps =
     record {
       board = keeps.board;
+      plan = keeps.plan;
+      begun = kept-begun old new keeps.tally keeps.operations;
       count = ap length keeps.operations;
       free = λ t free. ap (λ (l : List (Option Operation)). get_or l t None) keeps.operations ∙ free;
     }
@@ -42,6 +50,8 @@ pub operations-clears : (old new : Run) → KeepsOperations old new → Clears o
 operations-clears old new keeps =
     record {
       board = keeps.board;
+      plan = keeps.plan;
+      begun = kept-begun old new keeps.tally keeps.operations;
       count = ap length keeps.operations;
       free = λ t free. ap (λ (l : List (Option Operation)). get_or l t None) keeps.operations ∙ free;
     }
@@ -51,6 +61,8 @@ pub leaves-clears : (old new : Run) (ticket : ℕ) (completion : Completion) →
 leaves-clears old new ticket completion within leaves =
     record {
       board = leaves.board;
+      plan = leaves.collects.plan;
+      begun = let tally = leaves.tally in let running = leaves.collects.running in omega (arith, tally, running);
       count = ap length leaves.operations ∙ length-set old.operations ticket None;
       free = λ t free.
           ap (λ (l : List (Option Operation)). get_or l t None) leaves.operations
@@ -92,7 +104,7 @@ none-taken (o ∷ operations) free =
     let sums = sum_by-cons one_if o operations in
     omega (arith, here, rest, sums)
 
-module _ (on : Board Blueprint → Type 0) (run : Run) (stepped : Blueprint) (next : ℕ) (sound : IsSound on run stepped next) (free : (t : ℕ) → get_or run.operations t None ≡ None)
+module _ (on : Board Blueprint → Type 0) (before : ℕ) (run : Run) (stepped : Blueprint) (next : ℕ) (sound : IsSound on before run stepped next) (free : (t : ℕ) → get_or run.operations t None ≡ None)
     (kept : kept_in run.futures ≡ 0) (looped : Looped) (ready : IsReady run.board looped)
     (same : LeavesSame run.looped.hand.me looped.hand.me) where
   pub ended : HasJoined (knows looped.hand) → IsEnded on looped.hand
@@ -121,4 +133,16 @@ module _ (on : Board Blueprint → Type 0) (run : Run) (stepped : Blueprint) (ne
         };
         even = omega (arith, now_claimed, claimed, now_released, none, kept);
         joined = joined;
+      }
+
+  -- its hand claimed blocks for the operations that were begun, in a run from which this one came, too
+  pub worked-for : (first : Run) → Clears first run → HasWorked first.plan (before + begun_by first) (knows looped.hand).claimed
+  worked-for first clears =
+      let claims = sound.worked.claims in
+      let begun = clears.begun in
+      let now_claimed = ap (λ (a : Aside). a.claimed) same.is in
+      record {
+        spawned = sound.worked.spawned;
+        claims = omega (arith, claims, begun, now_claimed);
+        unspawned = λ no. sound.worked.unspawned (ap has_ahead clears.plan ∙ no);
       }

@@ -11,16 +11,16 @@ use Rattle.table_run.specs.Sound.{IsHeld, IsSound}
 use Rattle.table_run.proofs.Sounding.{helped-sound}
 
 -- it helps the pool, or no more
-pub helped-held : (on : Board Blueprint → Type 0) (deck : Option Deck) (post post' : Option LoopPost) (run : Run) (stepped : Blueprint) (next : ℕ) (helps : Bool)
-    (looped : Looped) → looped ≡ record run.looped { helps = helps } → IsHeld on deck post run stepped next post' →
-    IsHeld on deck post (record run { looped = looped }) stepped next post'
-helped-held on deck post post' run stepped next helps looped is held =
-    subst (λ (l : Looped). IsHeld on deck post (record run { looped = l }) stepped next post') (sym is)
-    (record { sound = helped-sound on run stepped next helps held.sound; both = held.both })
+pub helped-held : (on : Board Blueprint → Type 0) (before : ℕ) (deck : Option Deck) (post post' : Option LoopPost) (run : Run) (stepped : Blueprint) (next : ℕ) (spawns helps : Bool)
+    (looped : Looped) → looped ≡ record run.looped { helps = helps } → IsHeld on before deck post run stepped next spawns post' →
+    IsHeld on before deck post (record run { looped = looped }) stepped next spawns post'
+helped-held on before deck post post' run stepped next spawns helps looped is held =
+    subst (λ (l : Looped). IsHeld on before deck post (record run { looped = l }) stepped next spawns post') (sym is)
+    (record { sound = helped-sound on before run stepped next helps held.sound; spawns_is = held.spawns_is; both = held.both })
 
 -- it has other names
-pub named-sound : (on : Board Blueprint → Type 0) (run : Run) (stepped : Blueprint) (next : ℕ) (looped : Looped) →
-    looped ≡ record run.looped { names = looped.names } → IsSound on (record run { looped = record run.looped { names = looped.names } }) stepped next →
-    IsSound on (record run { looped = looped }) stepped next
-named-sound on run stepped next looped is sound =
-    subst (λ (l : Looped). IsSound on (record run { looped = l }) stepped next) (sym is) sound
+pub named-sound : (on : Board Blueprint → Type 0) (before : ℕ) (run : Run) (stepped : Blueprint) (next : ℕ) (looped : Looped) →
+    looped ≡ record run.looped { names = looped.names } → IsSound on before (record run { looped = record run.looped { names = looped.names } }) stepped next →
+    IsSound on before (record run { looped = looped }) stepped next
+named-sound on before run stepped next looped is sound =
+    subst (λ (l : Looped). IsSound on before (record run { looped = l }) stepped next) (sym is) sound

@@ -16,8 +16,8 @@ use Rattle.exec_start.specs.Entries.{record_start}
 use Rattle.exec_recv.specs.Asides.{Aside}
 use Rattle.table_run.specs.declared.tickets.Operation.{Operation}
 use Rattle.table_run.specs.Calls.{with_entered, with_left}
-use Rattle.table_run.specs.Runs.{root_of}
-use Rattle.table_run.specs.Sound.{taken, Has, IsOfRecord, AreListed}
+use Rattle.table_run.specs.Runs.{root_of, taken}
+use Rattle.table_run.specs.Sound.{Has, IsOfRecord, AreListed}
 use Rattle.table_run.proofs.Named.{first-found, others-found, others-stay}
 
 abbrev pub name_of : Rooted Entry → Name

@@ -34,13 +34,14 @@ use Rattle.table_run.specs.declared.tickets.Operation.{Operation}
 use Rattle.table_run.specs.Calls.{with_entered, with_left, LeavesWith, LeavesSame, Enters, AsksScope}
 use Rattle.table_run.specs.Moves.{KeepsOperations}
 use Rattle.table_run.specs.Opened.{IsUnused}
-use Rattle.table_run.specs.Runs.{Run, run_of, root_of}
-use Rattle.table_run.specs.Sound.{taken, Has, AreListed, AreSpawned, HasTickets, IsSound}
+use Rattle.table_run.specs.Runs.{Run, run_of, root_of, taken}
+use Rattle.table_run.specs.Sound.{Has, AreListed, AreSpawned, HasTickets, IsSound}
 use Rattle.table_run.specs.Spawned.{ServesSpawned}
-use Rattle.table_run.proofs.Listed.{entered-listed, left-listed}
+use Rattle.table_run.specs.Worked.{has_ahead, HasWorked}
+use Rattle.table_run.proofs.Listed.{one-more, one-less, entered-listed, left-listed}
 use Rattle.table_run.proofs.Spawning.{same-spawned, asked-spawned, entered-spawned, left-spawned, served-noted, served-listed, served-spawned}
 
-module _ (on : Board Blueprint → Type 0) (run : Run) (stepped : Blueprint) (next : ℕ) (sound : IsSound on run stepped next) (looped : Looped) (ready : IsReady run.board looped) where
+module _ (on : Board Blueprint → Type 0) (before : ℕ) (run : Run) (stepped : Blueprint) (next : ℕ) (sound : IsSound on before run stepped next) (looped : Looped) (ready : IsReady run.board looped) where
   abbrev aside : Aside
   aside = aside_of (knows run.looped.hand)
 
@@ -48,8 +49,9 @@ module _ (on : Board Blueprint → Type 0) (run : Run) (stepped : Blueprint) (ne
   module _ (now : Aside) (same : LeavesWith now run.looped.hand.me looped.hand.me) (requests : now.requested ≡ aside.requested)
       (settled : now.making + now.refused ≡ aside.making + aside.refused) where
     pub moved-sound : (operations : List (Option Operation)) (later : ℕ) → AreListed run.board run.plan now operations (kept_in run.futures) →
-        AreSpawned run.board operations run.futures looped.hand.me → HasTickets (length operations) later → IsSound on (record run { looped = looped; operations = operations }) stepped later
-    moved-sound operations later listed spawned tickets =
+        HasWorked run.plan (before + (length looped.tally + taken operations)) (knows looped.hand).claimed →
+        AreSpawned run.board operations run.futures looped.hand.me → HasTickets (length operations) later → IsSound on before (record run { looped = looped; operations = operations }) stepped later
+    moved-sound operations later listed worked spawned tickets =
         record {
           table = record {
             is_on = sound.table.is_on;
@@ -62,6 +64,7 @@ module _ (on : Board Blueprint → Type 0) (run : Run) (stepped : Blueprint) (ne
           ready = ready;
           settled = ap (λ (a : Aside). a.making + a.refused) same.is ∙ settled ∙ sound.settled;
           listed = subst (λ (a : Aside). AreListed run.board run.plan a operations (kept_in run.futures)) (sym same.is) listed;
+          worked = worked;
           spawned = spawned;
           asked = record {
             seen = λ asked. same.sees Scope (sound.asked.seen asked);
@@ -69,40 +72,66 @@ module _ (on : Board Blueprint → Type 0) (run : Run) (stepped : Blueprint) (ne
           };
         }
 
-  pub turned-sound : LeavesSame run.looped.hand.me looped.hand.me → IsSound on (record run { looped = looped }) stepped next
-  turned-sound same =
+  -- where so many blocks more were claimed for as many operations more, collected ones among them
+  works-on : (more : ℕ) (operations : List (Option Operation)) → (knows looped.hand).claimed ≡ aside.claimed + more →
+      length looped.tally + taken operations ≡ length run.looped.tally + taken run.operations + more →
+      HasWorked run.plan (before + (length looped.tally + taken operations)) (knows looped.hand).claimed
+  works-on more operations claimed counted =
+      let claims = sound.worked.claims in
+      record {
+        spawned = sound.worked.spawned;
+        claims = omega (arith, claims, claimed, counted);
+        unspawned = sound.worked.unspawned;
+      }
+
+  pub turned-sound : looped.tally ≡ run.looped.tally → LeavesSame run.looped.hand.me looped.hand.me →
+      IsSound on before (record run { looped = looped }) stepped next
+  turned-sound tally same =
+      let claimed = ap (λ (a : Aside). a.claimed) same.is in
+      let count = ap length tally in
       moved-sound aside same refl refl run.operations next sound.listed
+      (works-on 0 run.operations (omega (arith, claimed)) (omega (arith, count)))
       (same-spawned run.board run.operations run.futures run.looped.hand.me looped.hand.me sound.spawned same.is) sound.tickets
 
   module _ (t : ℕ) (within : t < length run.operations) where
     pub entered-sound : (o : Operation) → get_or run.operations t None ≡ None → (number : ℕ) (datum : Datum) (asked : Bool) →
-        Enters run.board o (record_start run.plan (datum ∷ []) number asked) run.looped.hand.me looped.hand.me →
+        looped.tally ≡ run.looped.tally → Enters run.board o (record_start run.plan (datum ∷ []) number asked) run.looped.hand.me looped.hand.me →
         (later : ℕ) → later < length run.operations →
-        IsSound on (record run { looped = looped; operations = set run.operations t (Some o) }) stepped later
-    entered-sound o free number datum asked enters later inside =
+        IsSound on before (record run { looped = looped; operations = set run.operations t (Some o) }) stepped later
+    entered-sound o free number datum asked tally enters later inside =
         let few = sound.tickets.few in
+        let claimed = ap (λ (a : Aside). a.claimed) enters.leaves.is in
+        let total = ap length tally in
+        let more = one-more run.operations t within o free in
         let count : length (set run.operations t (Some o)) ≡ length run.operations = length-set run.operations t (Some o) in
         moved-sound (with_entered (root_of run.board o) (record_start run.plan (datum ∷ []) number asked) aside) enters.leaves refl refl
         (set run.operations t (Some o)) later
         (entered-listed run.board run.plan aside run.operations sound.listed t within o free enters.within enters.unnoted number datum asked)
+        (works-on 1 (set run.operations t (Some o)) claimed (omega (arith, total, more)))
         (entered-spawned run.board run.operations run.futures run.looped.hand.me looped.hand.me sound.spawned t within o
         (record_start run.plan (datum ∷ []) number asked) enters)
         (record { within = omega (arith, inside, count); few = omega (arith, few, count) })
 
-    pub left-sound : (o : Operation) → Has run.operations t o →
+    pub left-sound : (o : Operation) → Has run.operations t o → length looped.tally ≡ length run.looped.tally + 1 →
         LeavesWith (with_left (root_of run.board o) aside) run.looped.hand.me looped.hand.me →
-        IsSound on (record run { looped = looped; operations = set run.operations t None }) stepped next
-    left-sound o has leaves =
+        IsSound on before (record run { looped = looped; operations = set run.operations t None }) stepped next
+    left-sound o has tally leaves =
         let few = sound.tickets.few in
+        let claimed = ap (λ (a : Aside). a.claimed) leaves.is in
+        let less = one-less run.operations t within o has in
         let inside = sound.tickets.within in
         let count : length (set run.operations t None) ≡ length run.operations = length-set run.operations t None in
         moved-sound (with_left (root_of run.board o) aside) leaves refl refl (set run.operations t None) next
         (left-listed run.board run.plan aside run.operations sound.listed t within o has)
+        (works-on 0 (set run.operations t None) (omega (arith, claimed)) (omega (arith, tally, less)))
         (left-spawned run.board run.operations run.futures run.looped.hand.me looped.hand.me sound.spawned t within o run.plan sound.listed has leaves)
         (record { within = omega (arith, inside, count); few = omega (arith, few, count) })
 
-  pub asked-sound : AsksScope run.looped.hand.me looped.hand.me → IsSound on (record run { looped = looped; requested = true }) stepped next
-  asked-sound asks =
+  pub asked-sound : looped.tally ≡ run.looped.tally → AsksScope run.looped.hand.me looped.hand.me →
+      IsSound on before (record run { looped = looped; requested = true }) stepped next
+  asked-sound tally asks =
+      let claimed = ap (λ (a : Aside). a.claimed) asks.same in
+      let count = ap length tally in
       record {
         table = record {
           is_on = sound.table.is_on;
@@ -129,15 +158,19 @@ module _ (on : Board Blueprint → Type 0) (run : Run) (stepped : Blueprint) (ne
               };
           apart = sound.listed.apart;
         };
+        worked = works-on 0 run.operations (omega (arith, claimed)) (omega (arith, count));
         spawned = asked-spawned run.board run.operations run.futures run.looped.hand.me looped.hand.me sound.spawned asks;
         asked = record { seen = λ _. asks.seen; made = λ _. refl };
       }
 
-  -- its futures were served
-  pub served-sound : (futures : List (Option Future)) → IsKeeping run.board futures looped.hand →
+  -- its futures were served, of a plan that has an `ahead`
+  pub served-sound : (futures : List (Option Future)) → has_ahead run.plan ≡ true → looped.tally ≡ run.looped.tally → IsKeeping run.board futures looped.hand →
       ServesSpawned run.board run.futures futures run.looped.hand.me looped.hand.me →
-      IsSound on (record run { looped = looped; futures = futures }) stepped next
-  served-sound futures keeping serves =
+      IsSound on before (record run { looped = looped; futures = futures }) stepped next
+  served-sound futures ahead tally keeping serves =
+      let claims = sound.worked.claims in
+      let count = ap length tally in
+      let claimed = serves.claimed in
       record {
         table = record {
           is_on = sound.table.is_on;
@@ -150,6 +183,11 @@ module _ (on : Board Blueprint → Type 0) (run : Run) (stepped : Blueprint) (ne
         ready = ready;
         settled = keeping.settled;
         listed = served-listed run.board run.plan run.operations run.futures futures run.looped.hand.me looped.hand.me sound.listed sound.spawned serves;
+        worked = record {
+          spawned = sound.worked.spawned + serves.begun;
+          claims = omega (arith, claims, count, claimed);
+          unspawned = λ none. absurd (let no = sym ahead ∙ none in cc);
+        };
         spawned = served-spawned run.board run.plan run.operations run.futures futures run.looped.hand.me looped.hand.me sound.listed sound.spawned serves
             keeping.keeps;
         asked = record {
@@ -179,10 +217,10 @@ looked-same board b m m' read =
     }
 
 -- and all operations are as they were
-served-keeps : (on : Board Blueprint → Type 0) (run : Run) (stepped : Blueprint) (next : ℕ) → IsSound on run stepped next → (looped : Looped)
+served-keeps : (on : Board Blueprint → Type 0) (before : ℕ) (run : Run) (stepped : Blueprint) (next : ℕ) → IsSound on before run stepped next → (looped : Looped)
     (futures : List (Option Future)) → looped.tally ≡ run.looped.tally → ServesSpawned run.board run.futures futures run.looped.hand.me looped.hand.me →
     KeepsOperations run (record run { looped = looped; futures = futures })
-served-keeps on run stepped next sound looped futures tally serves = record {
+served-keeps on before run stepped next sound looped futures tally serves = record {
   board = refl;
   plan = refl;
   operations = refl;
@@ -192,27 +230,27 @@ served-keeps on run stepped next sound looped futures tally serves = record {
 }
 
 -- so the run is sound, once the loop was told of names
-module _ (on : Board Blueprint → Type 0) (run : Run) (stepped : Blueprint) (next : ℕ) (sound : IsSound on run stepped next)
+module _ (on : Board Blueprint → Type 0) (before : ℕ) (run : Run) (stepped : Blueprint) (next : ℕ) (sound : IsSound on before run stepped next)
     (hand : Seat (Option Item) (View Item Entry)) (names : Names) (looped : Looped) (is : looped ≡ record run.looped { hand = hand; names = names })
     (futures : List (Option Future)) (serves : ServesSpawned run.board run.futures futures run.looped.hand.me hand.me) where
   abbrev told : Looped
   told = record run.looped { hand = hand; names = names }
 
-  pub told-sound : IsKeeping run.board futures hand → IsSound on (record run { looped = looped; futures = futures }) stepped next
-  told-sound keeping =
-      subst (λ (l : Looped). IsSound on (record run { looped = l; futures = futures }) stepped next) (sym is)
-      (served-sound on run stepped next sound told (served-ready run.board run.looped told futures sound.ready keeping refl sound.ready.delays) futures
-      keeping serves)
+  pub told-sound : has_ahead run.plan ≡ true → IsKeeping run.board futures hand → IsSound on before (record run { looped = looped; futures = futures }) stepped next
+  told-sound ahead keeping =
+      subst (λ (l : Looped). IsSound on before (record run { looped = l; futures = futures }) stepped next) (sym is)
+      (served-sound on before run stepped next sound told (served-ready run.board run.looped told futures sound.ready keeping refl sound.ready.delays) futures
+      ahead refl keeping serves)
 
   pub told-keeps : KeepsOperations run (record run { looped = looped; futures = futures })
   told-keeps =
       subst (λ (l : Looped). KeepsOperations run (record run { looped = l; futures = futures })) (sym is)
-      (served-keeps on run stepped next sound told futures refl serves)
+      (served-keeps on before run stepped next sound told futures refl serves)
 
 -- what a run's hand keeps
-pub sound-keeping : (on : Board Blueprint → Type 0) (run : Run) (stepped : Blueprint) (next : ℕ) → IsSound on run stepped next →
+pub sound-keeping : (on : Board Blueprint → Type 0) (before : ℕ) (run : Run) (stepped : Blueprint) (next : ℕ) → IsSound on before run stepped next →
     IsKeeping run.board run.futures run.looped.hand
-sound-keeping on run stepped next sound = record {
+sound-keeping on before run stepped next sound = record {
   hand_of = sound.ready.hand;
   first = sound.ready.first;
   rests = sound.ready.rests;
@@ -221,10 +259,10 @@ sound-keeping on run stepped next sound = record {
 }
 
 -- a loop that helps the pool, or no more
-pub helped-sound : (on : Board Blueprint → Type 0) (run : Run) (stepped : Blueprint) (next : ℕ) (helps : Bool) → IsSound on run stepped next →
-    IsSound on (record run { looped = record run.looped { helps = helps } }) stepped next
-helped-sound on run stepped next helps sound =
-    turned-sound on run stepped next sound (record run.looped { helps = helps })
+pub helped-sound : (on : Board Blueprint → Type 0) (before : ℕ) (run : Run) (stepped : Blueprint) (next : ℕ) (helps : Bool) → IsSound on before run stepped next →
+    IsSound on before (record run { looped = record run.looped { helps = helps } }) stepped next
+helped-sound on before run stepped next helps sound =
+    turned-sound on before run stepped next sound (record run.looped { helps = helps })
     (record {
       hand = sound.ready.hand;
       first = sound.ready.first;
@@ -232,7 +270,7 @@ helped-sound on run stepped next helps sound =
       next = sound.ready.next;
       delays = sound.ready.delays;
     })
-    (record { is = refl; sees = λ source seen. seen })
+    refl (record { is = refl; sees = λ source seen. seen })
 
 -- a loop that requested a stop is ready
 pub asked-ready : (board : Board Blueprint) (old new : Looped) → IsReady board old → new.next ≡ old.next →
@@ -247,11 +285,11 @@ asked-ready board old new ready next delays hand rests asks =
     }
 
 -- a new run
-pub opened-sound : (on : Board Blueprint → Type 0) (board : Board Blueprint) (plan stepped : Blueprint) (tickets : ℕ) (looped : Looped) →
-    on board → IsOver board plan → IsRunnable plan → stepped ≡ plan → board.frame.kind ≡ plan.settings.scope → 0 < tickets → tickets ≤ 2 ^ 16 →
-    IsUnused board looped.hand → looped.next ≡ 0 → HasDelays board looped.delays looped.delay_nodes.items → (operations : List (Option Operation)) → operations ≡ replicate tickets None →
-    (most : ℕ) (futures : List (Option Future)) → AreOpened most futures → IsSound on (run_of board plan looped operations false futures) stepped 0
-opened-sound on board plan stepped tickets looped is_on over kinds steps scope some few unused next delays operations free most futures opened =
+pub opened-sound : (on : Board Blueprint → Type 0) (before : ℕ) (board : Board Blueprint) (plan stepped : Blueprint) (tickets : ℕ) (looped : Looped) →
+    on board → before ≡ (knows looped.hand).claimed → IsOver board plan → IsRunnable plan → stepped ≡ plan → board.frame.kind ≡ plan.settings.scope → 0 < tickets → tickets ≤ 2 ^ 16 →
+    IsUnused board looped.hand → looped.next ≡ 0 → looped.tally ≡ [] → HasDelays board looped.delays looped.delay_nodes.items → (operations : List (Option Operation)) → operations ≡ replicate tickets None →
+    (most : ℕ) (futures : List (Option Future)) → AreOpened most futures → IsSound on before (run_of board plan looped operations false futures) stepped 0
+opened-sound on before board plan stepped tickets looped is_on claimed over kinds steps scope some few unused next tally delays operations free most futures opened =
     record {
       table = record { is_on = is_on; over = over; kinds = kinds; stepped_is = steps; scope = scope };
       tickets = record { within = omega (arith, count, some); few = omega (arith, count, few) };
@@ -275,6 +313,11 @@ opened-sound on board plan stepped tickets looped is_on over kinds steps scope s
         claimed = let even = unused.even in let kept = opened.none in omega (arith, even, none, kept);
         each = λ t o has. absurd (vacant t o has);
         apart = λ t u o p has. absurd (vacant t o has);
+      };
+      worked = record {
+        spawned = 0;
+        claims = let count = ap length tally in omega (arith, claimed, count, none);
+        unspawned = λ _. refl;
       };
       spawned = record {
         kept = record {

@@ -19,8 +19,8 @@ use Rattle.spawn_future.specs.Slots.{Has as HasFuture, kept_in}
 use Rattle.spawn_future.specs.Sweeps.{Sweeps}
 use Rattle.table_run.specs.declared.tickets.Operation.{Operation}
 use Rattle.table_run.specs.Calls.{with_left, LeavesWith, Enters, AsksScope}
-use Rattle.table_run.specs.Runs.{root_of}
-use Rattle.table_run.specs.Sound.{taken, Has, AreListed, AreSpawned}
+use Rattle.table_run.specs.Runs.{root_of, taken}
+use Rattle.table_run.specs.Sound.{Has, AreListed, AreSpawned}
 use Rattle.table_run.specs.Spawned.{ServesSpawned}
 use Rattle.table_run.proofs.Listed.{name_of, put-here, put-there, one-less}
 use Rattle.table_run.proofs.Named.{others-found, others-stay}

@@ -8,7 +8,8 @@ use Rattle.std.proofs.lemmas.Option.{same_Some}
 use Rattle.exec_value.specs.declared.data.Datum.{Datum}
 use Rattle.exec_value.specs.declared.outcome.Completion.{Completion}
 use Rattle.plan_shape.specs.Blueprint.{Blueprint}
-use Rattle.run_tally.specs.Tallied.{IsSmallTally, raised}
+use Rattle.run_loop.specs.Loops.{Raises, gathered_of}
+use Rattle.run_tally.specs.Gathered.{Gathered, gathered}
 use Rattle.record_loop.specs.Works.{Begun, Keeps, Begins, Collects, MayComplete}
 use Rattle.table_rules.specs.declared.view.Rooted.{Rooted}
 use Rattle.table_rules.specs.Named.{find_by}
@@ -23,10 +24,10 @@ use Rattle.loop_roots.specs.Completes.{IsFor}
 use Rattle.table_run.specs.declared.tickets.Operation.{Operation}
 use Rattle.table_run.specs.Calls.{with_left, LeavesWith, Enters}
 use Rattle.table_run.specs.Moves.{KeepsRun, KeepsOperations, LeavesRun}
-use Rattle.table_run.specs.Runs.{Run, WantsMemory, root_of, begun_in, begun_as, work_of}
+use Rattle.table_run.specs.Runs.{Run, WantsMemory, root_of, begun_in, begun_as, taken, work_of}
 use Rattle.table_run.specs.Sound.{Has, IsOfRecord, AreListed}
 use Rattle.table_run.proofs.Allowed.{collected-may}
-use Rattle.table_run.proofs.Listed.{name_of, put-here, put-there, entered-here, entered-there, left-there}
+use Rattle.table_run.proofs.Listed.{name_of, put-here, put-there, one-more, one-less, entered-here, entered-there, left-there}
 
 none-some : {A : Type 0} (x : A) → None ≡ Some x → ⊥
 none-some x e = cc
@@ -45,12 +46,14 @@ pub keeps-work : (old new : Run) → KeepsRun old new → Keeps (work_of old) (w
 keeps-work old new keeps =
     record {
       plan = keeps.plan;
+      table = ap (λ (b : Board Blueprint). b.table_id) keeps.board;
+      running = ap taken keeps.operations;
       requested = keeps.requested;
-      tally = keeps.tally;
-      blocks = λ t begun is. same t ∙ is;
+      collected = keeps.tally;
+      tickets = λ t begun is. same t ∙ is;
     }
   where
-    same : (t : ℕ) → (work_of new).block t ≡ (work_of old).block t
+    same : (t : ℕ) → (work_of new).tickets t ≡ (work_of old).tickets t
     same t = λ i. option_and_then (begun_as (keeps.board i) (keeps.noted i)) (get_or (keeps.operations i) t None)
 
 -- and where futures came and went
@@ -58,12 +61,14 @@ pub operations-work : (old new : Run) → KeepsOperations old new → Keeps (wor
 operations-work old new keeps =
     record {
       plan = keeps.plan;
+      table = ap (λ (b : Board Blueprint). b.table_id) keeps.board;
+      running = ap taken keeps.operations;
       requested = keeps.requested;
-      tally = keeps.tally;
-      blocks = λ t begun is. same t ∙ is;
+      collected = keeps.tally;
+      tickets = λ t begun is. same t ∙ is;
     }
   where
-    same : (t : ℕ) → (work_of new).block t ≡ (work_of old).block t
+    same : (t : ℕ) → (work_of new).tickets t ≡ (work_of old).tickets t
     same t =
         (λ i. option_and_then (begun_as (keeps.board i) (knows new.looped.hand).noted) (get_or (keeps.operations i) t None))
         ∙ same-begun old.board (knows old.looped.hand).noted (knows new.looped.hand).noted (get_or old.operations t None)
@@ -75,7 +80,7 @@ left-work old new ticket None keeps = keeps-work old new keeps
 left-work old new ticket (Some completion) leaves = leaves.collects
 
 -- a ticket that has an operation is there
-pub within-begun : (run : Run) (t : ℕ) → IsSome ((work_of run).block t) → t < length run.operations
+pub within-begun : (run : Run) (t : ℕ) → IsSome ((work_of run).tickets t) → t < length run.operations
 within-begun run t begun = elim (cases_lt t (length run.operations)) [
   | inl less ↦ less
   | inr more ↦
@@ -88,7 +93,7 @@ within-begun run t begun = elim (cases_lt t (length run.operations)) [
 -- what an operation of a record was begun with
 pub begun-record : (run : Run) (t : ℕ) (o : Operation) → Has run.operations t o →
     (is : IsOfRecord run.board run.plan (knows run.looped.hand).noted o) →
-    (work_of run).block t ≡ Some (record { number = is.number; datum = is.datum; asked = is.asked })
+    (work_of run).tickets t ≡ Some (record { number = is.number; datum = is.datum; asked = is.asked })
 begun-record run t o has is =
     ap (option_and_then (begun_as run.board (knows run.looped.hand).noted)) has ∙ ap begun_from is.start
 
@@ -113,7 +118,7 @@ module _ (run : Run) {kept : ℕ}
     noted-grown : noted_now ≡ record { name = root_of run.board o; start = start } ∷ noted
     noted-grown = ap (λ (a : Aside). a.noted) enters.leaves.is
 
-    begun-here : (work_of grown).block t ≡ Some (record { number = number; datum = datum; asked = run.requested })
+    begun-here : (work_of grown).tickets t ≡ Some (record { number = number; datum = datum; asked = run.requested })
     begun-here =
         ap (option_and_then (begun_as run.board noted_now)) (put-here run.operations t within (Some o))
         ∙ ap begun_from
@@ -121,7 +126,7 @@ module _ (run : Run) {kept : ℕ}
         ∙ entered-here run.board run.plan (aside_of (knows run.looped.hand)) run.operations listed t within o free enters.within enters.unnoted
         number datum run.requested)
 
-    begun-there : (u : ℕ) → u ≢ t → (work_of grown).block u ≡ (work_of run).block u
+    begun-there : (u : ℕ) → u ≢ t → (work_of grown).tickets u ≡ (work_of run).tickets u
     begun-there u apart =
         ap (option_and_then (begun_as run.board noted_now)) (put-there run.operations t within (Some o) u apart)
         ∙ same-begun run.board noted noted_now (get_or run.operations u None)
@@ -130,7 +135,7 @@ module _ (run : Run) {kept : ℕ}
         ∙ entered-there run.board run.plan (aside_of (knows run.looped.hand)) run.operations listed t within o free enters.within
         enters.unnoted number datum run.requested u p has)
 
-    kept-begun : (u : ℕ) (begun : Begun) → (work_of run).block u ≡ Some begun → (work_of grown).block u ≡ Some begun
+    kept-begun : (u : ℕ) (begun : Begun) → (work_of run).tickets u ≡ Some begun → (work_of grown).tickets u ≡ Some begun
     kept-begun u begun is = elim (cases_eq u t) [
       | inl here ↦
           absurd
@@ -142,7 +147,12 @@ module _ (run : Run) {kept : ℕ}
     pub begins-work : looped.tally ≡ run.looped.tally → Begins (work_of run) (work_of grown) number datum t
     begins-work tally =
         record {
-          keeps = record { plan = refl; requested = refl; tally = tally; blocks = kept-begun };
+          plan = refl;
+          table = refl;
+          running = one-more run.operations t within o free;
+          requested = refl;
+          collected = tally;
+          tickets = kept-begun;
           begun = begun-here;
         }
 
@@ -152,7 +162,7 @@ module _ (run : Run) {kept : ℕ}
     abbrev shrunk : Run
     shrunk = record run { looped = looped; operations = set run.operations t None }
 
-    gone-there : (u : ℕ) → u ≢ t → (work_of shrunk).block u ≡ (work_of run).block u
+    gone-there : (u : ℕ) → u ≢ t → (work_of shrunk).tickets u ≡ (work_of run).tickets u
     gone-there u apart =
         ap (option_and_then (begun_as run.board noted_now)) (put-there run.operations t within None u apart)
         ∙ same-begun run.board noted noted_now (get_or run.operations u None)
@@ -160,13 +170,13 @@ module _ (run : Run) {kept : ℕ}
         ap (λ (a : Aside). find_by name_of a.noted (root_of run.board p)) leaves.is
         ∙ left-there run.board run.plan (aside_of (knows run.looped.hand)) run.operations listed t within o has u p apart has_p)
 
-    gone-here : (work_of shrunk).block t ≡ None
+    gone-here : (work_of shrunk).tickets t ≡ None
     gone-here = ap (option_and_then (begun_as run.board noted_now)) (put-here run.operations t within None)
 
     module _ (c : Collected) (made : (knows run.looped.hand).requested ≡ true → run.requested ≡ true)
         (is_for : (e : Rooted Entry) → noted_at (knows run.looped.hand) (root_of run.board o) ≡ Some e →
         IsFor e.start (knows run.looped.hand).requested c) where
-      ends-so : (begun : Begun) → (work_of run).block t ≡ Some begun → MayComplete WantsMemory (work_of run) begun c.completion
+      ends-so : (begun : Begun) → (work_of run).tickets t ≡ Some begun → MayComplete WantsMemory (work_of run) begun c.completion
       ends-so begun is =
           let of : IsOfRecord run.board run.plan noted o = listed.each t o has in
           let same : record { number = of.number; datum = of.datum; asked = of.asked } ≡ begun =
@@ -175,13 +185,26 @@ module _ (run : Run) {kept : ℕ}
           (collected-may (work_of run) (record { number = of.number; datum = of.datum; asked = of.asked })
           (knows run.looped.hand).requested c (is_for _ of.start) made)
 
-      pub collects-work : (IsSmallTally run.looped.tally → looped.tally ≡ raised c.completion run.looped.tally) →
+      -- it stands in the loop's tally as one of this record, plan and table
+      counted-so : run.board.frame.over.value ≡ run.plan → Raises run.board c run.looped.tally looped.tally → (begun : Begun) → (work_of run).tickets t ≡ Some begun →
+          looped.tally ≡ gathered run.plan run.board.table_id begun.number c.completion ∷ run.looped.tally
+      counted-so over tally begun is =
+          let of : IsOfRecord run.board run.plan noted o = listed.each t o has in
+          let same : record { number = of.number; datum = of.datum; asked = of.asked } ≡ begun =
+          same_Some _ begun (sym (begun-record run t o has of) ∙ is) in
+          tally
+          ∙ ap (λ (p : Blueprint). gathered_of p run.board.table_id c ∷ run.looped.tally) over
+          ∙ ap (λ (n : ℕ). gathered run.plan run.board.table_id n c.completion ∷ run.looped.tally) ((is_for _ of.start).number ∙ ap (λ (b : Begun). b.number) same)
+
+      pub collects-work : run.board.frame.over.value ≡ run.plan → Raises run.board c run.looped.tally looped.tally →
           Collects WantsMemory (work_of run) (work_of shrunk) t c.completion
-      collects-work tally =
+      collects-work over tally =
           record {
             plan = refl;
+            table = refl;
+            running = one-less run.operations t within o has;
             requested = refl;
-            tally = tally;
+            collected = counted-so over tally;
             free = gone-here;
             others = λ u begun apart is. gone-there u apart ∙ is;
             ends = ends-so;

@@ -1,4 +1,5 @@
 pub mod Runs
+pub mod Worked
 pub mod Owns
 pub mod Drained
 pub mod Spawned

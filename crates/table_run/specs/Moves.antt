@@ -1,5 +1,5 @@
 -- What a run's own calls leave of its operations.
-use Rattle.std.specs.Prelude.{◌≡◌, ◌⊎◌, ℕ, length, None, slice_index_or, slice_set}
+use Rattle.std.specs.Prelude.{◌≡◌, ◌⊎◌, ℕ, ◌+◌, length, None, slice_index_or, slice_set}
 use Rattle.exec_value.specs.declared.outcome.Completion.{Completion}
 use Rattle.plan_shape.specs.Blueprint.{Blueprint}
 use Rattle.record_loop.specs.Works.{Collects}
@@ -9,7 +9,7 @@ use Rattle.exec_recv.specs.Nexts.{Doing}
 use Rattle.loop_roots.specs.Emptied.{WasNotReady}
 use Rattle.run_loop.specs.Turns.{MeetsAll}
 use Rattle.table_run.specs.declared.tickets.Operation.{Operation}
-use Rattle.table_run.specs.Runs.{Run, WantsMemory, root_of, work_of}
+use Rattle.table_run.specs.Runs.{Run, WantsMemory, begun_by, root_of, work_of}
 use Rattle.table_run.specs.Sound.{Has}
 
 -- All operations are as they were.
@@ -50,15 +50,18 @@ pub record MeetsTold {T : Type 0} (plan : T → Blueprint) (does : T → Doing) 
   pub stepped : plan stepper ≡ old.plan
   pub met : MeetsAll (does stepper) old.board old.looped new.looped
 
--- The operation of the ticket was collected, and the ticket is free.
+-- The operation of the ticket was collected, and the ticket is free. The tally has one more.
 pub record LeavesRun (old new : Run) (ticket : ℕ) (completion : Completion) : Type 0 where
   pub board : new.board ≡ old.board
   pub operations : new.operations ≡ slice_set old.operations ticket None
+  pub tally : length new.looped.tally ≡ length old.looped.tally + 1
   pub collects : Collects WantsMemory (work_of old) (work_of new) ticket completion
 
--- Tickets that were free are free still.
+-- Tickets that were free are free still, and no operation was begun.
 pub record Clears (old new : Run) : Type 0 where
   pub board : new.board ≡ old.board
+  pub plan : new.plan ≡ old.plan
+  pub begun : begun_by new ≡ begun_by old
   pub count : length new.operations ≡ length old.operations
   pub free : (t : ℕ) → slice_index_or old.operations t None ≡ None
       → slice_index_or new.operations t None ≡ None

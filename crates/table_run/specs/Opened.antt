@@ -1,5 +1,5 @@
 -- How a run begins.
-use Rattle.std.specs.Prelude.{◌≡◌, ℕ, false, Option, None, replicate}
+use Rattle.std.specs.Prelude.{◌≡◌, ℕ, true, false, Option, None, length, replicate}
 use Rattle.atomic_table.specs.declared.shared.Seat.{Seat}
 use Rattle.plan_shape.specs.Blueprint.{Blueprint}
 use Rattle.record_loop.specs.Works.{IsIdle}
@@ -10,6 +10,7 @@ use Rattle.exec_start.specs.declared.entry.Entry.{Entry}
 use Rattle.exec_start.specs.declared.item.Item.{Item}
 use Rattle.spawn_future.specs.Slots.{kept_in}
 use Rattle.table_run.specs.Runs.{Run, work_of}
+use Rattle.table_run.specs.Worked.{has_ahead}
 
 -- Hand 0 of the table, which has nothing, made no request, and gave back each block that it claimed.
 pub record IsUnused (board : Board Blueprint) (hand : Seat (Option Item) (View Item Entry))
@@ -21,7 +22,7 @@ pub record IsUnused (board : Board Blueprint) (hand : Seat (Option Item) (View I
   pub even : (knows hand).claimed ≡ (knows hand).released
 
 -- A run over this table and plan, with so many tickets, all free: no stop was requested, no operation
--- collected, and no future is kept.
+-- collected, and no future is kept. Where the plan has an `ahead` there is room for 64 of them.
 pub record IsOpened (board : Board Blueprint) (plan : Blueprint) (tickets : ℕ) (run : Run)
     : Type 0 where
   pub board_is : run.board ≡ board
@@ -29,3 +30,4 @@ pub record IsOpened (board : Board Blueprint) (plan : Blueprint) (tickets : ℕ)
   pub free : run.operations ≡ replicate tickets None
   pub idle : IsIdle (work_of run)
   pub none : kept_in run.futures ≡ 0
+  pub room : has_ahead plan ≡ true → length run.futures ≡ 64

@@ -1,5 +1,5 @@
 -- What a run over a table shows of the operations that it has.
-use Rattle.std.specs.Prelude.{Bool, List, [], ◌∷◌, Option, Some, None, option_and_then, slice_index_or}
+use Rattle.std.specs.Prelude.{ℕ, ◌+◌, Bool, List, [], ◌∷◌, length, count_by, is_some, Option, Some, None, option_and_then, slice_index_or}
 use Rattle.exec_value.specs.declared.data.Datum.{Datum}
 use Rattle.life_rules.specs.declared.event.Name.{Name}
 use Rattle.plan_kinds.specs.Small.{IsSmall}
@@ -59,12 +59,22 @@ begun_as board noted o =
     option_and_then (λ (e : Rooted Entry). begun_in e.start)
     (find_by (λ (e : Rooted Entry). e.name) noted (root_of board o))
 
--- The operations of the tickets.
+-- So many tickets have an operation.
+abbrev pub taken : List (Option Operation) → ℕ
+taken operations = count_by is_some operations
+
+-- So many operations were begun: they are collected, or have a ticket.
+abbrev pub begun_by : Run → ℕ
+begun_by run = length run.looped.tally + taken run.operations
+
+-- The operations of the tickets, on the run's table.
 abbrev pub work_of : Run → Work
 work_of run = record {
   plan = run.plan;
-  block = λ t. option_and_then (begun_as run.board (knows run.looped.hand).noted)
+  table = run.board.table_id;
+  tickets = λ t. option_and_then (begun_as run.board (knows run.looped.hand).noted)
       (slice_index_or run.operations t None);
+  running = taken run.operations;
   requested = run.requested;
-  tally = run.looped.tally;
+  collected = run.looped.tally;
 }

@@ -1,5 +1,5 @@
 -- What each run over a table keeps.
-use Rattle.std.specs.Prelude.{◌≡◌, ℕ, ◌+◌, ◌<◌, ◌≤◌, ◌^◌, Bool, true, List, [], ◌∷◌, length, count_by, is_some, Option, Some, None, slice_index_or}
+use Rattle.std.specs.Prelude.{◌≡◌, ℕ, ◌+◌, ◌<◌, ◌≤◌, ◌^◌, Bool, true, List, [], ◌∷◌, length, Option, Some, None, slice_index_or}
 use Rattle.deck_relay.specs.declared.deck.Deck.{Deck}
 use Rattle.exec_value.specs.declared.data.Datum.{Datum}
 use Rattle.life_rules.specs.declared.event.SourceRef.TheVariants.{Scope}
@@ -24,11 +24,8 @@ use Rattle.spawn_future.specs.Keeping.{AreKept}
 use Rattle.spawn_future.specs.Slots.{kept_in}
 use Rattle.table_run.specs.declared.tickets.Operation.{Operation}
 use Rattle.table_run.specs.Owns.{KeepsBoth}
-use Rattle.table_run.specs.Runs.{Run, root_of}
-
--- So many tickets have an operation.
-abbrev pub taken : List (Option Operation) → ℕ
-taken operations = count_by is_some operations
+use Rattle.table_run.specs.Runs.{Run, begun_by, root_of, taken}
+use Rattle.table_run.specs.Worked.{has_ahead, HasWorked}
 
 -- The ticket has this operation.
 abbrev pub Has : List (Option Operation) → ℕ → Operation → Type 0
@@ -81,19 +78,24 @@ pub record HasTickets (count next : ℕ) : Type 0 where
   pub within : next < count
   pub few : count ≤ 2 ^ 16
 
-pub record IsSound (on : Board Blueprint → Type 0) (run : Run) (stepped : Blueprint) (next : ℕ)
-    : Type 0 where
+-- The hand had claimed so many blocks before the run.
+pub record IsSound (on : Board Blueprint → Type 0) (before : ℕ) (run : Run) (stepped : Blueprint)
+    (next : ℕ) : Type 0 where
   pub table : HasTable on run stepped
   pub tickets : HasTickets (length run.operations) next
   pub ready : IsReady run.board run.looped
   pub settled : MayEnter (knows run.looped.hand)
   pub listed : AreListed run.board run.plan (aside_of (knows run.looped.hand)) run.operations
       (kept_in run.futures)
+  pub worked : HasWorked run.plan (before + begun_by run) (knows run.looped.hand).claimed
   pub spawned : AreSpawned run.board run.operations run.futures run.looped.hand.me
   pub asked : IsAsked run
 
--- And it has the deck and the post with which it was opened.
-pub record IsHeld (on : Board Blueprint → Type 0) (deck : Option Deck) (post : Option LoopPost)
-    (run : Run) (stepped : Blueprint) (next : ℕ) (post' : Option LoopPost) : Type 0 where
-  pub sound : IsSound on run stepped next
+-- And it has the deck and the post with which it was opened, and knows whether its plan has an
+-- `ahead`.
+pub record IsHeld (on : Board Blueprint → Type 0) (before : ℕ) (deck : Option Deck)
+    (post : Option LoopPost) (run : Run) (stepped : Blueprint) (next : ℕ) (spawns : Bool)
+    (post' : Option LoopPost) : Type 0 where
+  pub sound : IsSound on before run stepped next
+  pub spawns_is : spawns ≡ has_ahead run.plan
   pub both : KeepsBoth deck post (deck_of run.looped) post'

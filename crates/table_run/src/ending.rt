@@ -1,7 +1,11 @@
 //! How a run ends.
+ghost use Rattle.std.specs.Prelude.{◌+◌};
 ghost use Rattle.std.specs.Thread.{IsSync};
 ghost use Rattle.table_run.specs.Ends.{IsEnded};
+ghost use Rattle.table_steps.specs.Views.{knows};
 ghost use Rattle.table_run.specs.Owns.{KeepsBoth};
+ghost use Rattle.table_run.specs.Runs.{begun_by};
+ghost use Rattle.table_run.specs.Worked.{HasWorked};
 
 use crate::joining::join;
 use crate::own::Own;
@@ -17,11 +21,15 @@ impl<'a, T: Stepper, B: OnTable> TableRun<'a, T, B> {
     /// and gives back what hand 0 has. What is promised holds if it returns.
     ///
     /// Afterwards: the hand is of the run's table, has nothing, and gave back as many blocks as it
-    /// claimed. One of its steps left the scope joined. So the table may be closed, once the other
-    /// hands have come back. The deck and the post are those with which the run was opened.
+    /// claimed: beyond those from before the run one for each operation that the run began, and one
+    /// for each first child of an `ahead` that was spawned. One of its steps left the scope joined.
+    /// So the table may be closed, once the other hands have come back. The deck and the post are
+    /// those with which the run was opened.
     pub fn end<R: Wait + Sync>(self, rt: &R, alloc: Global) -> Own
         requires sync { IsSync R.row }
         ensures ended { IsEnded B.is result.hand }
+        ensures worked { HasWorked self.entry.plan (B.claimed + begun_by self.entry)
+            (knows result.hand).claimed }
         ensures both { KeepsBoth B.deck B.post result.deck result.post }
     {
         let mut run = self;

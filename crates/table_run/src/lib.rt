@@ -5,7 +5,8 @@
 //! associations, and on exec_recv for the callbacks that a request runs. It keeps the seam's promise:
 //! each completion that it collects is one that the plan allows its record, under what the operation
 //! may have seen of the scope's request; or want of memory, where the plan may want it. Its tally
-//! counts what was collected.
+//! has each operation that it collected, and its hand claimed one block for each of these, one for
+//! each that runs, and one for each first child of an `ahead` that was spawned.
 //!
 //! Beside workers hand 0 has a deck (deck_relay) and a post (loop_queue): what it leaves ready in the
 //! pool goes to its deck, and it drains the names of what they left ready in the loop. Where nothing
@@ -24,8 +25,8 @@
 //!             --Loop::wake_all--> workers read that the scope is joined, and end
 //!
 //! Each operation has one association of the counting scope (P3149, [exec.scope]), which it leaves
-//! after its block was given back. The seam's block is a ticket: a number under which a block and
-//! its association are kept.
+//! after its block was given back. A ticket of the seam is a number under which a block and its
+//! association are kept.
 #![tactic(auto)]
 
 mod aheads;
@@ -47,5 +48,5 @@ pub use exec_recv::{Gate, Item, Stepper};
 pub use op_slot::{Hand, OpTable};
 pub use own::Own;
 pub use record_loop::Operations;
-pub use run_tally::Tally;
+pub use run_loop::Tally;
 pub use running::{OnTable, TableRun};

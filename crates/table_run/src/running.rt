@@ -1,6 +1,7 @@
 //! The operations of a plan on hand 0 of a table.
 ghost use Rattle.std.specs.Prelude.{◌≡◌, ◌<◌, ◌≤◌, ◌^◌, IfOk, IfErr, None};
 ghost use Rattle.plan_kinds.specs.Runnable.{IsRunnable};
+ghost use Rattle.table_steps.specs.Views.{knows};
 ghost use Rattle.exec_recv.specs.Over.{IsOver};
 ghost use Rattle.run_loop.specs.Loops.{deck_of};
 ghost use Rattle.table_run.specs.Opened.{IsUnused, IsOpened};
@@ -15,16 +16,16 @@ use exec_recv::{Item, Stepper};
 use loop_queue::LoopPost;
 use op_slot::OpTable;
 use plan_shape::Plan;
-use run_loop::Loop;
-use run_tally::Tally;
+use run_loop::{Loop, Tally};
 use spawn_future::{Futures, MOST_FUTURES};
 use std::alloc::{AllocError, Global};
 use std::marker::{Brand, Model, PhantomData};
 
-/// On which table the operations of a run are, and with which deck and post. What is generic in the
-/// operations knows none of these, so a caller picks this at its call, to know them again at the end.
+/// On which table the operations of a run are, what its hand 0 had claimed before, and with which
+/// deck and post. What is generic in the operations knows none of these, so a caller picks this at
+/// its call, to know them again at the end.
 pub trait OnTable {
-    ghost use Rattle.std.specs.Prelude.{Option};
+    ghost use Rattle.std.specs.Prelude.{ℕ, Option};
     ghost use Rattle.deck_relay.specs.declared.deck.Deck.{Deck};
     ghost use Rattle.loop_queue.specs.declared.post.LoopPost.{LoopPost};
     ghost use Rattle.plan_shape.specs.Blueprint.{Blueprint};
@@ -32,6 +33,9 @@ pub trait OnTable {
 
     /// What holds of the table.
     ghost is: { Board Blueprint → Type 0 };
+
+    /// How many blocks hand 0 had claimed.
+    ghost claimed: { ℕ };
 
     /// The deck and the post of hand 0.
     ghost deck: { Option Deck };
@@ -43,6 +47,8 @@ impl OnTable for Brand {
     ghost use Rattle.std.specs.Prelude.{⊤, None};
 
     ghost is = { λ _. ⊤ };
+
+    ghost claimed = { 0 };
 
     ghost deck = { None };
 
@@ -83,9 +89,9 @@ impl<'a, T: Stepper, B: OnTable> Model for TableRun<'a, T, B> {
     ghost view = { λ s.
         run_of s.table.now s.plan.now s.looped s.operations.items s.requested s.futures };
 
-    ghost invariant = { λ s. IsHeld B.is B.deck B.post
+    ghost invariant = { λ s. IsHeld B.is B.claimed B.deck B.post
         (run_of s.table.now s.plan.now s.looped s.operations.items s.requested s.futures)
-        (T.plan s.stepper.now) s.next s.post };
+        (T.plan s.stepper.now) s.next s.spawns s.post };
 }
 
 // The loop with this deck, where there is one.
@@ -117,6 +123,7 @@ impl<'a, T: Stepper, B: OnTable> TableRun<'a, T, B> {
         tickets: usize,
     ) -> Result<TableRun<'a, T, B>, Own>
         requires on { B.is table.now }
+        requires claimed { B.claimed ≡ (knows own.hand).claimed }
         requires deck { B.deck ≡ own.deck }
         requires post { B.post ≡ own.post }
         requires some { 0 < tickets }
@@ -176,7 +183,7 @@ impl<'a, T: Stepper, B: OnTable> TableRun<'a, T, B> {
         }
     }
 
-    /// How many operations were collected with each kind of completion.
+    /// The operations that its loop collected.
     pub fn tally(&self) -> Tally
         ensures { result ≡ self.now.looped.tally }
     {

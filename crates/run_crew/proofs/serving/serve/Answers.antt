@@ -1,7 +1,8 @@
-use Rattle.std.proofs.Common.{refl, sym, subst}
+use Rattle.std.proofs.Common.{refl, sym, ap, ◌∙◌, subst}
 use Rattle.std.specs.Prelude.{Some, None}
 use Rattle.run_crew.specs.Crews.{HasServed, IsSpare}
-use Rattle.run_crew.proofs.Hands.{TheHand, has-served}
+use Rattle.table_steps.specs.Views.{knows}
+use Rattle.run_crew.proofs.Hands.{TheHand, has-served, claimed-still}
 use Rattle.run_crew.proofs.Kept.{kept-both, kept-some}
 use Rattle.run_crew.proofs.serving.serve.Goals as goal
 
@@ -13,6 +14,10 @@ returns-in-None g c =
     record {
       served = subst (λ (h : TheHand). HasServed board h) (sym c.into_hand.ensures)
           (has-served board worker.hand c.serve.new.self.hand spare c.serve.ensures.ready c.serve.ensures.aside c.serve.ensures.ended);
+      claimed =
+          ap (λ (h : TheHand). (knows h).claimed) c.into_hand.ensures
+          ∙ claimed-still worker.hand c.serve.new.self.hand c.serve.ensures.aside
+          ∙ ap (λ (h : TheHand). (knows h).claimed) c.new-worker.ensures.hand;
       same = kept-both c.args.desk None None None None c.in-None.is refl refl tt;
     }
 
@@ -30,6 +35,10 @@ returns-in-Some g c =
     record {
       served = subst (λ (h : TheHand). HasServed board h) (sym c.into_parts-hand.ensures.hand)
           (has-served board worker.hand c.serve-in-Some.new.self.hand spare c.serve-in-Some.ensures.ready c.serve-in-Some.ensures.aside c.serve-in-Some.ensures.ended);
+      claimed =
+          ap (λ (h : TheHand). (knows h).claimed) c.into_parts-hand.ensures.hand
+          ∙ claimed-still worker.hand c.serve-in-Some.new.self.hand c.serve-in-Some.ensures.aside
+          ∙ ap (λ (h : TheHand). (knows h).claimed) c.with_deck-worker.ensures.hand;
       same = kept-both c.args.desk worker.offers.desk c.serve-in-Some.new.self.offers.desk _ (Some c.in-Some.field-0) c.in-Some.is
           c.with_deck-worker.ensures.desk c.into_parts-hand.ensures.desk c.serve-in-Some.ensures.desk;
     }

@@ -12,10 +12,11 @@ invariant_of-self g c =
     let held = c.self.invariant in
     let went = c.go_once-taken in
     record {
-      sound = turned-sound g.B.OnTable.is
+      sound = turned-sound g.B.OnTable.is g.B.OnTable.claimed
           (run_of inside.table.now inside.plan.now inside.looped inside.operations.items inside.requested inside.futures)
-          (g.T.Stepper.plan inside.stepper.now) inside.next held.sound went.new.looped went.ensures.ready
+          (g.T.Stepper.plan inside.stepper.now) inside.next held.sound went.new.looped went.ensures.ready went.ensures.counts.tally
           (record { is = went.ensures.aside.same; sees = went.ensures.aside.sees });
+      spawns_is = held.spawns_is;
       both = both-on g.B.OnTable.deck g.B.OnTable.post (deck_of inside.looped) inside.post held.both (deck_of went.new.looped) went.new.post
           went.ensures.both;
     }

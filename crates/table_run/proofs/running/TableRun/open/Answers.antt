@@ -1,4 +1,10 @@
-use Rattle.std.proofs.Common.{false, sym, ◌∙◌, subst}
+use Rattle.std.proofs.Common.{false, sym, ap, ◌∙◌, subst}
+use Rattle.std.specs.Prelude.{Option}
+use Rattle.atomic_table.specs.declared.shared.Seat.{Seat}
+use Rattle.exec_start.specs.declared.entry.Entry.{Entry}
+use Rattle.exec_start.specs.declared.item.Item.{Item}
+use Rattle.table_rules.specs.declared.view.View.{View}
+use Rattle.table_steps.specs.Views.{knows}
 use Rattle.run_loop.specs.Loops.{deck_of}
 use Rattle.table_run.specs.Opened.{IsUnused}
 use Rattle.table_run.specs.Runs.{run_of}
@@ -12,13 +18,15 @@ invariant_of-result g c =
     let opened = c.in-Ok-open-2.ensures.opened in
     let seated = c.seat-looped in
     record {
-      sound = named-sound g.B.OnTable.is
+      sound = named-sound g.B.OnTable.is g.B.OnTable.claimed
           (run_of c.args.table.now c.args.plan.now c.in-Ok-open-2.looped c.in-Ok.operations.items false c.in-Ok-open.futures)
           (g.T.Stepper.plan c.args.stepper.now) 0 seated.result seated.ensures.rest
-          (opened-sound g.B.OnTable.is c.args.table.now c.args.plan.now (g.T.Stepper.plan c.args.stepper.now) c.args.tickets
-          (record c.in-Ok-open-2.looped { names = seated.result.names }) c.requires.on c.requires.over c.requires.kinds c.requires.stepper
-          c.requires.scope c.requires.some c.requires.few (subst (IsUnused c.args.table.now) (sym opened.hand_is) c.requires.hand) opened.next
+          (opened-sound g.B.OnTable.is g.B.OnTable.claimed c.args.table.now c.args.plan.now (g.T.Stepper.plan c.args.stepper.now) c.args.tickets
+          (record c.in-Ok-open-2.looped { names = seated.result.names }) c.requires.on
+          (c.requires.claimed ∙ ap (λ (h : Seat (Option Item) (View Item Entry)). (knows h).claimed) (sym opened.hand_is)) c.requires.over c.requires.kinds c.requires.stepper
+          c.requires.scope c.requires.some c.requires.few (subst (IsUnused c.args.table.now) (sym opened.hand_is) c.requires.hand) opened.next opened.tally
           opened.delays c.in-Ok.operations.items c.in-Ok.ensures _ c.in-Ok-open.futures c.in-Ok-open.ensures);
+      spawns_is = c.has_ahead-spawns.ensures;
       both = both-are g.B.OnTable.deck g.B.OnTable.post (deck_of seated.result) c.args.own.post (c.requires.deck ∙ sym seated.ensures.deck)
           c.requires.post;
     }

@@ -1,4 +1,4 @@
-use Rattle.std.proofs.Common.{subst}
+use Rattle.std.proofs.Common.{◌≡◌, true, sym, ◌∙◌, subst}
 use Rattle.table_run.specs.Moves.{KeepsOperations}
 use Rattle.table_run.specs.Runs.{Run, run_of}
 use Rattle.run_loop.specs.Loops.{deck_of}
@@ -9,17 +9,19 @@ use Rattle.table_run.proofs.running.TableRun.serve_spawned.Goals as goal
 pub serve-requires-clause-keeping : goal.serve-requires-clause-keeping
 serve-requires-clause-keeping g c κs within =
     let inside = c.self.inside in
-    sound-keeping g.B.OnTable.is (run_of inside.table.now inside.plan.now inside.looped inside.operations.items inside.requested inside.futures)
+    sound-keeping g.B.OnTable.is g.B.OnTable.claimed (run_of inside.table.now inside.plan.now inside.looped inside.operations.items inside.requested inside.futures)
     (g.T.Stepper.plan inside.stepper.now) inside.next c.self.invariant.sound
 
 pub invariant_of-self : goal.invariant_of-self
 invariant_of-self g c =
     let inside = c.self.inside in
+    let spawns : inside.spawns ≡ true = c.if-not-self.false in
     record {
-      sound = told-sound g.B.OnTable.is
+      sound = told-sound g.B.OnTable.is g.B.OnTable.claimed
           (run_of inside.table.now inside.plan.now inside.looped inside.operations.items inside.requested inside.futures)
           (g.T.Stepper.plan inside.stepper.now) inside.next c.self.invariant.sound c.serve.new.hand c.tell.new.looped.names c.tell.new.looped
-          c.tell.ensures.rest c.serve.new.futures c.serve.ensures.serves c.serve.ensures.keeping;
+          c.tell.ensures.rest c.serve.new.futures c.serve.ensures.serves (sym c.self.invariant.spawns_is ∙ spawns) c.serve.ensures.keeping;
+      spawns_is = c.self.invariant.spawns_is;
       both = deck-on g.B.OnTable.deck g.B.OnTable.post (deck_of inside.looped) inside.post c.self.invariant.both (deck_of c.tell.new.looped)
           c.tell.ensures.deck;
     }
@@ -30,6 +32,6 @@ returns g c =
     let run = run_of inside.table.now inside.plan.now inside.looped inside.operations.items inside.requested inside.futures in
     record {
       keeps = subst (λ (r : Run). KeepsOperations r (record run { looped = c.tell.new.looped; futures = c.serve.new.futures })) c.self.view_is
-          (told-keeps g.B.OnTable.is run (g.T.Stepper.plan inside.stepper.now) inside.next c.self.invariant.sound c.serve.new.hand c.tell.new.looped.names
+          (told-keeps g.B.OnTable.is g.B.OnTable.claimed run (g.T.Stepper.plan inside.stepper.now) inside.next c.self.invariant.sound c.serve.new.hand c.tell.new.looped.names
           c.tell.new.looped c.tell.ensures.rest c.serve.new.futures c.serve.ensures.serves);
     }
