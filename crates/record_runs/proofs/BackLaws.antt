@@ -1,5 +1,5 @@
 -- What becomes of the hands of a run, and what its table leaves.
-use Rattle.std.proofs.Common.{◌≡◌, ◌+◌, zero, suc, List, [], ◌∷◌, ◌++◌, length, All, refl, sym, ap, ◌∙◌, subst, arith}
+use Rattle.std.proofs.Common.{◌≡◌, ℕ, ◌+◌, zero, suc, List, [], ◌∷◌, ◌++◌, length, All, refl, sym, ap, ◌∙◌, subst, arith}
 use Rattle.std.specs.Prelude.{Option}
 use Rattle.std.proofs.lemmas.List.{length-append}
 use Rattle.std.proofs.lemmas.List.Elements.{All-append}
@@ -15,11 +15,13 @@ use Rattle.table_rules.specs.Named.{AnyOf, Each}
 use Rattle.table_rules.specs.Traces.{all_steps}
 use Rattle.table_rules.specs.declared.view.View.{View}
 use Rattle.table_run.specs.Ends.{HasJoined, IsEnded}
-use Rattle.table_steps.specs.Closings.{AreAllBack, HasNothing, IsCountedBy, IsScopeLeft, LeavesScope, claimed_by, released_by, steps_of}
+use Rattle.table_steps.specs.Closings.{AreAllBack, ClosedTable, HasNothing, IsCountedBy, IsScopeLeft, LeavesScope, claimed_by, released_by, steps_of}
 use Rattle.table_steps.specs.Views.{Board, IsHandOf, knows}
-use Rattle.table_steps.specs.declared.closing.Closing.{Closing}
+use Rattle.run_tally.specs.Gathered.{Gathered}
+use Rattle.table_run.specs.Worked.{HasWorked}
+use Rattle.record_runs.specs.Accounts.{IsClosedFor}
 use Rattle.record_runs.specs.Fronts.{IsEndedOn}
-use Rattle.record_runs.specs.Opened.{AreBack, IsClosedAfter}
+use Rattle.record_runs.specs.Opened.{AreBack, IsFor}
 
 -- what a hand of a table over a plan is
 abbrev TheHand : Type 0
@@ -34,6 +36,18 @@ joined-ended on board hand holds spare joined = record {
   nothing = spare.nothing;
   even = spare.even;
   joined = joined;
+}
+
+-- a mark of one table alone tells on which the run ended
+pub ended-on : (on : Board Blueprint → Type 0) (board : Board Blueprint) (hand : TheHand) → ((other : Board Blueprint) → on other → other ≡ board) →
+    IsEnded on hand → IsEndedOn board hand
+ended-on on board hand alone ended = record {
+  board = ended.board;
+  is_on = alone ended.board ended.is_on;
+  hand_of = ended.hand_of;
+  nothing = ended.nothing;
+  even = ended.even;
+  joined = ended.joined;
 }
 
 -- the hand on which a run ended is spare
@@ -87,8 +101,24 @@ evenly board (first ∷ rest) spare =
     let there = evenly board rest (λ k d low. spare (suc k) d (omega arith)) in
     ap (λ n. n + claimed_by rest) here ∙ ap (λ n. (knows first).released + n) there
 
-pub closed-after : (board : Board Blueprint) (hands : List TheHand) (closing : Closing) → AreBack board hands → IsScopeLeft (steps_of hands) closing.scope → IsCountedBy board hands closing
-    → IsClosedAfter board.frame.layout.blocks closing
-closed-after board hands closing back scope counted =
+-- the last of all hands claimed as many blocks as all, where the others claimed none
+claimed-last : (rest : List TheHand) (hand : TheHand) → claimed_by (rest ++ hand ∷ []) ≡ claimed_by rest + (knows hand).claimed
+claimed-last [] hand = omega arith
+claimed-last (first ∷ rest) hand = let more = claimed-last rest hand in omega (arith, more)
+
+pub all-claimed : (rest all : List TheHand) (hand : TheHand) → claimed_by rest ≡ 0 → all ≡ rest ++ hand ∷ [] → claimed_by all ≡ (knows hand).claimed
+all-claimed rest all hand none is = ap claimed_by is ∙ (let more = claimed-last rest hand in omega (arith, more, none))
+
+-- so a table is closed for a run of its plan
+pub closed-for : (plan : Blueprint) (window : ℕ) (board : Board Blueprint) (hands : List TheHand) (collected : List Gathered)
+    (closing : ClosedTable Item Entry Blueprint) → closing.board ≡ board → closing.hands ≡ hands → IsFor plan window board → AreBack board hands →
+    IsScopeLeft (steps_of hands) closing.remains.scope → IsCountedBy board hands closing.remains →
+    HasWorked plan (length collected) (claimed_by hands) → IsClosedFor plan window collected closing
+closed-for plan window board hands collected closing is-board is-hands for back scope counted worked =
     let even = evenly board hands back.each in
-    record { joined = scope.joined back.joined; back = omega arith }
+    record {
+      for = subst (λ (b : Board Blueprint). IsFor plan window b) (sym is-board) for;
+      joined = scope.joined back.joined;
+      back = let given = for.blocks_are in omega (arith, even, counted, given);
+      worked = subst (λ (l : List TheHand). HasWorked plan (length collected) (claimed_by l)) (sym is-hands) worked;
+    }

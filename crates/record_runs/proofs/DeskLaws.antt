@@ -2,19 +2,22 @@
 use Rattle.std.proofs.Common.{◌≡◌, ◌≤◌, ℕ, ◌+◌, zero, suc, List, [], ◌∷◌, ◌++◌, length, map, reverse, sum_by, arith, refl, sym, ap, ◌∙◌, subst, append_assoc, append-nil}
 use Rattle.std.specs.Prelude.{Option, Some, None, MatchOption, option_to_list, slice_get, vec_capacity}
 use Rattle.std.specs.Arc.{arc_value}
-use Rattle.std.proofs.lemmas.List.{length-map, reverse-append, reverse-reverse}
+use Rattle.std.proofs.lemmas.List.{length-map, length_push, reverse-append, reverse-reverse}
 use Rattle.std.proofs.lemmas.List.Sums.{sum_by-cons}
 use Rattle.deck_relay.specs.declared.deck.Deck.{Deck}
 use Rattle.deck_relay.specs.Decks.{IsSameDeck, queue_view}
 use Rattle.deck_relay.specs.Relays.{AreOpened as AreNewDecks, CameBack as AreAllDecks, IsRow, IsWhole, Marks}
-use Rattle.deck_relay.proofs.Seats.{map-from, map-got, no-more}
+use Rattle.deck_relay.proofs.Seats.{in-last, map-from, map-got, no-more}
 use Rattle.loop_queue.specs.declared.post.LoopPost.{LoopPost}
 use Rattle.loop_queue.specs.declared.queue.LoopQueue.{LoopQueue}
 use Rattle.loop_queue.specs.Posts.{AreOpened as AreNewPosts, CameBack as AreAllPosts, IsSamePost, share_of}
 use Rattle.run_crew.specs.Crews.{AreSameDesks, IsWith}
 use Rattle.steal_pool.specs.declared.desk.Desk.{Desk}
 use Rattle.record_runs.specs.declared.desks.DeskRoom.{DeskRoom}
-use Rattle.record_runs.specs.Desks.{AreDesksOf, CanClose, decks_of, posts_of}
+use Rattle.record_runs.specs.DeskEnds.{decks_of, posts_of}
+use Rattle.record_runs.specs.Desks.{AreClosedFor, AreDesksOf, CanClose, Closes, HasDesks}
+use Rattle.record_runs.specs.Owns.{last_of}
+use Rattle.record_runs.specs.declared.desks.DeskEnd.{DeskEnd}
 
 none-left : {X : Type 0} (l : List X) → length l ≡ 0 → l ≡ []
 none-left [] none = refl
@@ -125,6 +128,14 @@ still-closable (Some room) old new same can =
     }
 still-closable None old new same none = none-left new (same.count ∙ ap length none)
 
+-- so many workers' desks, which came back, were closed
+pub closed-all : (workers : ℕ) (room : Option DeskRoom) (old new : List Desk) (end : Option DeskEnd) → HasDesks workers room old →
+    AreSameDesks old new → Closes room new end → AreClosedFor workers end
+closed-all workers (Some room) old new (Some end) has same closed = ap length closed ∙ same.count ∙ has
+closed-all workers (Some room) old new None has same closed = absurd closed
+closed-all workers None old new (Some end) has same closed = absurd closed
+closed-all workers None old new None has same closed = has
+
 -- a queue opens with all its posts
 opened-posts : (count : ℕ) (of : LoopQueue) (posts : List LoopPost) → AreNewPosts count of posts → AreAllPosts of posts
 opened-posts count of posts opened =
@@ -157,3 +168,12 @@ popped-with None rest all is = is ∙ append-nil rest
 pub popped-length : (desk : Option Desk) (had has : ℕ) → MatchOption desk ((had ≡ 0) × (has ≡ 0)) (λ _. has + 1 ≡ had) → MatchOption desk (has ≡ had) (λ _. has + 1 ≡ had)
 popped-length (Some desk) had has fewer = fewer
 popped-length None had has none = none.1 ∙ sym none.0
+
+-- it is hand 0's, where there is one
+pub popped-last : (desk : Option Desk) (rest all : List Desk) (had has : ℕ) → all ≡ rest ++ option_to_list desk → had ≡ length all →
+    MatchOption desk ((had ≡ 0) × (has ≡ 0)) (λ _. has + 1 ≡ had) → last_of all ≡ desk
+popped-last (Some desk) rest all had has is long fewer =
+    ap last_of is
+    ∙ ap (λ n. slice_get (rest ++ desk ∷ []) n) (let more = length_push rest desk in omega (arith, more))
+    ∙ in-last rest desk
+popped-last None rest all had has is long none = ap last_of (none-left all (sym long ∙ none.0))

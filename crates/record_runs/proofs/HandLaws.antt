@@ -12,7 +12,7 @@ use Rattle.plan_shape.specs.Blueprint.{Blueprint}
 use Rattle.run_crew.specs.Crews.{CanServe, IsSpare}
 use Rattle.table_rules.specs.declared.view.View.{View}
 use Rattle.table_run.specs.Opened.{IsUnused}
-use Rattle.table_steps.specs.Closings.{HasNothing}
+use Rattle.table_steps.specs.Closings.{HasNothing, claimed_by}
 use Rattle.table_steps.specs.Views.{AreFreshHands, Board, IsHandOf, fresh_with, knows}
 use Rattle.record_runs.specs.Opened.{CanRunOn, IsFreshHand}
 
@@ -62,6 +62,22 @@ rest-spare board workers (first ∷ others) rest fresh is =
     subst (λ (hands : List TheHand). All (IsSpare board) hands) (sym is)
     (all-of (IsSpare board) others
     (λ h hand at. let each = fresh.each (suc h) hand at in untouched-spare board (suc h) hand each.0 each.2))
+
+-- and they claimed no block
+claimed-none : (board : Board Blueprint) (all : List TheHand) → All (λ (hand : TheHand). (knows hand).claimed ≡ 0) all → claimed_by all ≡ 0
+claimed-none board [] none = refl
+claimed-none board (first ∷ rest) none =
+    let here = none zero first (omega arith) in
+    let there = claimed-none board rest (λ k d low. none (suc k) d (omega arith)) in
+    omega (arith, here, there)
+
+pub rest-unclaimed : (board : Board Blueprint) (workers : ℕ) (all rest : List TheHand) → AreFreshHands board (workers + 1) all → rest ≡ remove all 0 → claimed_by rest ≡ 0
+rest-unclaimed board workers [] rest fresh is = absurd (let wrong : 0 ≡ workers + 1 = fresh.length_is in omega arith)
+rest-unclaimed board workers (first ∷ others) rest fresh is =
+    ap claimed_by is
+    ∙ claimed-none board others
+    (all-of (λ (hand : TheHand). (knows hand).claimed ≡ 0) others
+    (λ h hand at. ap (λ (v : View Item Entry). v.claimed) (fresh.each (suc h) hand at).2))
 
 -- and spare hands can serve
 pub all-serve : (board : Board Blueprint) (plan : Blueprint) (window : ℕ) (stepped : Blueprint) (hands : List TheHand) → CanRunOn board plan window stepped → All (IsSpare board) hands → All (CanServe board stepped) hands

@@ -1,7 +1,6 @@
-mod EndingLaws
 mod HandLaws
 mod BackLaws
 mod JoinLaws
-mod AccountLaws
 mod OwnLaws
 mod DeskLaws
+mod FrontLaws

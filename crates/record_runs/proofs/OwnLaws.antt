@@ -1,6 +1,7 @@
 -- Hand 0's desk comes back from a run.
-use Rattle.std.proofs.Common.{◌≡◌, sym, subst}
+use Rattle.std.proofs.Common.{◌≡◌, ℕ, sym, subst}
 use Rattle.std.specs.Prelude.{Option, Some, None}
+use Rattle.std.specs.Option.{option_map}
 use Rattle.atomic_table.specs.declared.shared.Seat.{Seat}
 use Rattle.deck_relay.specs.declared.deck.Deck.{Deck}
 use Rattle.exec_start.specs.declared.entry.Entry.{Entry}
@@ -14,7 +15,7 @@ use Rattle.table_run.specs.Owns.{KeepsBoth}
 use Rattle.table_run.specs.declared.own.Own.{Own}
 use Rattle.table_steps.specs.Views.{Board}
 use Rattle.record_runs.specs.Opened.{IsFreshHand}
-use Rattle.record_runs.specs.Owns.{desk_in, owned}
+use Rattle.record_runs.specs.Owns.{IsMarkedBy, desk_in, owned}
 
 abbrev TheHand : Type 0
 TheHand = Seat (Option Item) (View Item Entry)
@@ -24,17 +25,20 @@ pub owned-fresh : (board : Board Blueprint) (hand : TheHand) (desk : Option Desk
 owned-fresh board hand desk own is fresh = subst (λ (o : Own). IsFreshHand board o.hand) (sym is) fresh
 
 -- a deck and a post that are the same make the same desk
-owned-kept : (hand : TheHand) (desk : Option Desk) (deck : Option Deck) (post : Option LoopPost) →
-    KeepsBoth (owned hand desk).deck (owned hand desk).post deck post → KeepsDesk desk (desk_in deck post)
-owned-kept hand (Some desk) (Some deck) (Some post) both = record { deck = both.same_deck; post = both.same_post }
-owned-kept hand (Some desk) (Some deck) None both = absurd both.same_post
-owned-kept hand (Some desk) None post both = absurd both.same_deck
-owned-kept hand None (Some deck) post both = absurd both.same_deck
-owned-kept hand None None (Some post) both = absurd both.same_post
-owned-kept hand None None None both = tt
+parts-kept : (desk : Option Desk) (deck : Option Deck) (post : Option LoopPost) →
+    KeepsBoth (option_map (λ (d : Desk). d.deck) desk) (option_map (λ (d : Desk). d.post) desk) deck post → KeepsDesk desk (desk_in deck post)
+parts-kept (Some desk) (Some deck) (Some post) both = record { deck = both.same_deck; post = both.same_post }
+parts-kept (Some desk) (Some deck) None both = absurd both.same_post
+parts-kept (Some desk) None post both = absurd both.same_deck
+parts-kept None (Some deck) post both = absurd both.same_deck
+parts-kept None None (Some post) both = absurd both.same_post
+parts-kept None None None both = tt
 
-pub desk-kept : (hand : TheHand) (desk back : Option Desk) (own : Own) (deck : Option Deck) (post : Option LoopPost) → own ≡ owned hand desk →
-    KeepsBoth own.deck own.post deck post → back ≡ desk_in deck post → KeepsDesk desk back
-desk-kept hand desk back own deck post is both came =
+-- so a run that a mark tells of gives its desk back
+pub marked-kept : (is : Board Blueprint → Type 0) (claimed : ℕ) (deck : Option Deck) (post : Option LoopPost) (board : Board Blueprint) (desk back : Option Desk)
+    (deck' : Option Deck) (post' : Option LoopPost) → IsMarkedBy is claimed deck post board desk → KeepsBoth deck post deck' post' → back ≡ desk_in deck' post' →
+    KeepsDesk desk back
+marked-kept is claimed deck post board desk back deck' post' marked both came =
     subst (KeepsDesk desk) (sym came)
-    (owned-kept hand desk deck post (subst (λ (o : Own). KeepsBoth o.deck o.post deck post) is both))
+    (parts-kept desk deck' post'
+    (subst (λ (t : Option Deck × Option LoopPost). KeepsBoth t.0 t.1 deck' post') (λ j. (marked.deck_is j, marked.post_is j)) both))

@@ -1,18 +1,29 @@
 -- An account of a run.
-use Rattle.std.specs.Prelude.{Result, Ok, Err}
-use Rattle.std.specs.declared.alloc.AllocError.{AllocError}
-use Rattle.record_loop.specs.declared.ending.Ending.{Ending}
-use Rattle.run_tally.specs.Tallied.{Tallied}
-use Rattle.table_steps.specs.declared.closing.Closing.{Closing}
+use Rattle.std.specs.Prelude.{◌≡◌, ℕ, ◌+◌, List, length}
+use Rattle.exec_start.specs.declared.entry.Entry.{Entry}
+use Rattle.exec_start.specs.declared.item.Item.{Item}
+use Rattle.life_rules.specs.declared.scope.ScopeState.TheVariants.{Joined}
+use Rattle.plan_shape.specs.Blueprint.{Blueprint}
+use Rattle.record_loop.specs.declared.printer.Form.{Form}
+use Rattle.run_tally.specs.Gathered.{Gathered}
+use Rattle.table_run.specs.Worked.{HasWorked}
+use Rattle.table_steps.specs.Closings.{ClosedTable, claimed_by}
+use Rattle.record_runs.specs.Endings.{EndsLines, Streams, begins}
+use Rattle.record_runs.specs.Opened.{IsFor, blocks_for}
 use Rattle.record_runs.specs.declared.account.Account.{Account}
 
--- The account of a run that answered this; none where it answered none.
-abbrev pub account_with : Result Ending AllocError → Tallied → Closing → Result Account AllocError
-account_with (Ok ending) tally closing =
-    Ok (record { ending = ending; tally = tally; closing = closing })
-account_with (Err e) tally closing = Err e
+-- A run of this plan ended so, on the table of the account.
+abbrev pub EndsRun : Blueprint → ℕ → Form → Streams → Streams → Account → Type 0
+EndsRun plan window form before after account =
+    EndsLines (begins plan account.closing.board.table_id window form before.sink)
+    before after account.tally account.ending
 
--- How the run of an account ended.
-abbrev pub ending_in : Result Account AllocError → Result Ending AllocError
-ending_in (Ok account) = Ok account.ending
-ending_in (Err e) = Err e
+-- The table of a run of this plan was closed with its scope joined and each block given back: free,
+-- or retired. Its hands claimed a block for each operation that was collected, and for each that an
+-- `ahead` spawned, and no other.
+pub record IsClosedFor (plan : Blueprint) (window : ℕ) (collected : List Gathered)
+    (closing : ClosedTable Item Entry Blueprint) : Type 0 where
+  pub for : IsFor plan window closing.board
+  pub joined : closing.remains.scope ≡ Joined
+  pub back : closing.remains.free + closing.remains.retired ≡ blocks_for plan window
+  pub worked : HasWorked plan (length collected) (claimed_by closing.hands)

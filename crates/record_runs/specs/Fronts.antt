@@ -1,21 +1,20 @@
 -- What a run leaves of the front by which it worked.
-use Rattle.std.specs.Prelude.{◌≡◌, ℕ, List, Option, IfOk}
+use Rattle.std.specs.Prelude.{◌≡◌, ℕ, List, length, Option, IfOk, OnErr}
 use Rattle.atomic_table.specs.declared.shared.Seat.{Seat}
 use Rattle.exec_io.specs.Views.{SinkView, SourceView}
 use Rattle.exec_start.specs.declared.entry.Entry.{Entry}
 use Rattle.exec_start.specs.declared.item.Item.{Item}
 use Rattle.plan_shape.specs.Blueprint.{Blueprint}
-use Rattle.record_loop.specs.Generated.{generated_lines}
 use Rattle.record_loop.specs.ReadStarts.{ReadStart}
-use Rattle.record_loop.specs.Tallies.{TalliesWith}
-use Rattle.record_loop.specs.declared.printer.Form.TheVariants.{Summary}
+use Rattle.record_loop.specs.Standing.{Opening}
 use Rattle.table_rules.specs.declared.view.View.{View}
 use Rattle.table_run.specs.Ends.{IsEnded}
-use Rattle.table_steps.specs.Views.{Board}
-use Rattle.record_runs.specs.Endings.{EndsCounted, EndsLines, begins, supply}
+use Rattle.table_run.specs.Worked.{HasWorked}
+use Rattle.table_steps.specs.Views.{Board, knows}
+use Rattle.record_runs.specs.Endings.{EndsLines, IsUnbegun, Streams, begins, streams}
 use Rattle.record_runs.specs.Opened.{CanRunOn, IsFreshHand}
-use Rattle.record_runs.specs.declared.counted_front.CountedFront.{CountedFront}
-use Rattle.record_runs.specs.declared.lines_front.LinesFront.{LinesFront}
+use Rattle.record_runs.specs.declared.front.LinesFront.{LinesFront}
+use Rattle.record_runs.specs.declared.working.Came.{Came}
 
 -- A run may begin on this hand, which is fresh.
 pub record CanBegin (board : Board Blueprint) (plan : Blueprint) (window : ℕ) (stepped : Blueprint)
@@ -27,27 +26,34 @@ pub record CanBegin (board : Board Blueprint) (plan : Blueprint) (window : ℕ) 
 abbrev pub IsEndedOn : Board Blueprint → Seat (Option Item) (View Item Entry) → Type 0
 IsEndedOn board hand = IsEnded (λ other. other ≡ board) hand
 
+-- What a run on hand 0 came to, with so many blocks claimed. Where there was memory for it lines
+-- are answered, and a block was claimed for each operation that was collected, and for those that
+-- `ahead` nodes spawned. Else nothing was read and nothing written.
+pub record CameOut (opening : Opening) (before after : Streams) (came : Came) (claimed : ℕ)
+    : Type 0 where
+  pub ends : IfOk came.answer (EndsLines opening before after came.tally)
+  pub unbegun : OnErr came.answer (IsUnbegun before after)
+  pub worked : IfOk came.answer (λ _. HasWorked opening.plan (length came.tally) claimed)
+
+-- What the source and the sink of a front tell.
+abbrev pub streams_of : {B T S K : Type 0} → (S → SourceView) → (S → Option (List ReadStart))
+    → (K → SinkView) → LinesFront B T S K → Streams
+streams_of source reads sink front =
+    streams (source front.records.now) (reads front.records.now) (sink front.out.now)
+
+-- How a front begins.
+abbrev pub opening_by : {B T S K : Type 0} → (K → SinkView) → LinesFront B T S K → Opening
+opening_by sink front =
+    begins front.on.plan.now front.on.table.now.table_id front.on.window front.on.form
+    (sink front.out.now)
+
 -- The records of the source were run, and the front has the same source and sink.
-pub record LeavesLines {T S K : Type 0} (source : S → SourceView)
-    (reads : S → Option (List ReadStart)) (sink : K → SinkView) (old new : LinesFront T S K)
+pub record LeavesLines {B T S K : Type 0} (source : S → SourceView)
+    (reads : S → Option (List ReadStart)) (sink : K → SinkView) (old new : LinesFront B T S K)
     (hand : Seat (Option Item) (View Item Entry)) : Type 0 where
   pub same_source : new.records.ghost_name ≡ old.records.ghost_name
   pub same_sink : new.out.ghost_name ≡ old.out.ghost_name
   pub same_came : new.came.ghost_name ≡ old.came.ghost_name
-  pub ends : EndsLines
-      (begins old.on.plan.now old.on.window old.form (sink old.out.now))
-      (supply (source old.records.now) (reads old.records.now))
-      (supply (source new.records.now) (reads new.records.now)) (sink new.out.now) new.came.now.answer
-  pub told : IfOk new.came.now.answer (λ ending. TalliesWith new.came.now.tally ending.summary)
-  pub ended : IsEndedOn old.on.table.now hand
-
--- The generated records were run, and the front has the same sink.
-pub record LeavesCounted {T K : Type 0} (sink : K → SinkView) (old new : CountedFront T K)
-    (hand : Seat (Option Item) (View Item Entry)) : Type 0 where
-  pub same_sink : new.out.ghost_name ≡ old.out.ghost_name
-  pub same_came : new.came.ghost_name ≡ old.came.ghost_name
-  pub ends : EndsCounted
-      (begins old.on.plan.now old.on.window Summary (sink old.out.now))
-      (generated_lines old.on.plan.now.settings.input old.count) (sink new.out.now) new.came.now.answer
-  pub told : IfOk new.came.now.answer (λ ending. TalliesWith new.came.now.tally ending.summary)
+  pub out : CameOut (opening_by sink old) (streams_of source reads sink old)
+      (streams_of source reads sink new) new.came.now (knows hand).claimed
   pub ended : IsEndedOn old.on.table.now hand

@@ -1,4 +1,5 @@
 pub mod Endings
+pub mod DeskEnds
 pub mod Desks
 pub mod Opened
 pub mod Fronts

@@ -1,4 +1,4 @@
--- A table that was opened for a run, and what a run leaves of it.
+-- A table that was opened for a run, and the hands that a run gives back.
 use Rattle.std.specs.Prelude.{◌≡◌, ◌+◌, ◌-◌, ◌<◌, ◌≤◌, ℕ, List, All, Option, length, min}
 use Rattle.atomic_table.specs.declared.shared.Seat.{Seat}
 use Rattle.exec_recv.specs.Over.{IsOver}
@@ -14,12 +14,11 @@ use Rattle.table_rules.specs.Named.{AnyOf}
 use Rattle.table_rules.specs.declared.view.View.{View}
 use Rattle.table_steps.specs.Closings.{LeavesScope, steps_of}
 use Rattle.table_steps.specs.Views.{AreFreshHands, Board, IsHandOf, fresh_with, knows}
-use Rattle.table_steps.specs.declared.closing.Closing.{Closing}
-use Rattle.record_runs.specs.Desks.{CanClose}
+use Rattle.record_runs.specs.Desks.{CanClose, HasDesks}
 use Rattle.record_runs.specs.declared.opened.Opened.{Opened}
 
--- Blocks beside those of the records that are worked on at once, for what an `ahead` spawns: as many
--- as the greatest window of the plan leaves. A plan without one has none.
+-- Blocks beside those of the records that are worked on at once, for what an `ahead` spawns: as
+-- many as the greatest window of the plan leaves. A plan without one has none.
 abbrev pub spare_blocks : Blueprint → ℕ
 spare_blocks plan = MOST_BLOCKS - window_of plan MOST_BLOCKS
 
@@ -37,14 +36,14 @@ pub record IsFor (plan : Blueprint) (window : ℕ) (board : Board Blueprint) : T
   pub some : 0 < window
   pub few : window ≤ MOST_BLOCKS
 
--- So it was opened, with a hand for each worker and one more. They have done nothing. Its desks can
--- be closed.
+-- So it was opened, with a hand for each worker and one more. They have done nothing. Its desks,
+-- for as many, can be closed.
 pub record IsOpenedFor (plan : Blueprint) (window workers : ℕ) (opened : Opened) : Type 0 where
-  pub window_is : opened.window ≡ window
   pub for : IsFor plan window opened.table
   pub count : opened.table.frame.hands ≡ workers + 1
   pub hands : AreFreshHands opened.table (workers + 1) opened.hands.items
   pub desks : CanClose opened.room opened.desks.items
+  pub seats : HasDesks workers opened.room opened.desks.items
 
 -- A plan may be run with this window on a table that is for it, by what steps this plan's nodes.
 pub record CanRunOn (board : Board Blueprint) (plan : Blueprint) (window : ℕ) (stepped : Blueprint)
@@ -67,8 +66,3 @@ pub record AreBack (board : Board Blueprint)
   pub count : length hands ≡ board.frame.hands
   pub each : All (IsSpare board) hands
   pub joined : AnyOf (LeavesScope Joined) (steps_of hands)
-
--- The table was closed with its scope joined, and each block given back: free, or retired.
-pub record IsClosedAfter (blocks : ℕ) (closing : Closing) : Type 0 where
-  pub joined : closing.scope ≡ Joined
-  pub back : closing.free + closing.retired ≡ blocks

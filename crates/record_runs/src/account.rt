@@ -1,33 +1,17 @@
 //! An account of a run.
-ghost use Rattle.std.specs.Prelude.{◌≡◌};
-ghost use Rattle.record_runs.specs.Accounts.{account_with};
 
+use crate::desks::DeskEnd;
+use exec_recv::Item;
+use op_table::Closing;
 use record_loop::Ending;
-use run_tally::Tally;
-use std::alloc::AllocError;
-use table_steps::Closing;
+use table_run::Tally;
 
-/// How a run ended, how many operations were collected with each kind of completion, and how its
-/// table was closed.
-#[derive(Clone, Copy)]
+/// How a run ended, which operations were collected, how its table was closed, and how its desks
+/// were, where it had any.
+#[derive(Drop)]
 pub struct Account {
     pub ending: Ending,
     pub tally: Tally,
-    pub closing: Closing,
-}
-
-/// The account of a run that answered this.
-pub(crate) fn give_account(
-    answer: Result<Ending, AllocError>,
-    tally: Tally,
-    closing: Closing,
-) -> Result<Account, AllocError>
-    ensures { result ≡ account_with answer tally closing }
-{
-    let ending = answer?;
-    Ok(Account {
-        ending,
-        tally,
-        closing,
-    })
+    pub closing: Closing<Item>,
+    pub desks: Option<DeskEnd>,
 }

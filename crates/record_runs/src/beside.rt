@@ -1,54 +1,81 @@
-//! Work on hand 0 beside the workers of a crew, where hands have desks.
-ghost use Rattle.std.specs.Prelude.{◌≡◌, ◌<◌, ◌≤◌, All, IfSome, vec_capacity, vec_len};
+//! A run on hand 0 beside the workers of a crew.
+ghost use Rattle.std.specs.Prelude.{◌≡◌, ◌+◌, vec_len};
 ghost use Rattle.std.specs.Thread.{IsSync};
-ghost use Rattle.run_crew.specs.Crews.{AreSameDesks, CanServe, HasServed, IsWith};
+ghost use Rattle.table_steps.specs.Closings.{claimed_by};
+ghost use Rattle.table_steps.specs.Views.{AreFreshHands};
+ghost use Rattle.record_runs.specs.Fronts.{CameOut, opening_by, streams_of};
+ghost use Rattle.record_runs.specs.Opened.{AreBack, CanRunOn};
+ghost use Rattle.record_runs.specs.Owns.{IsMarkedBy, last_of};
+ghost use Rattle.run_crew.specs.Crews.{AreSameDesks, IsCrew};
 
+use crate::desks::put_own;
+use crate::front::LinesFront;
+use exec_io::Sink;
 use exec_recv::{Item, Stepper};
-use op_table::{Hand, OpTable};
-use run_crew::{Backend, Desk, Front, Order, run_beside};
+use op_table::Hand;
+use record_loop::RecordSource;
+use run_crew::{Crew, Desk, run_beside};
 use std::alloc::Global;
+use std::mem;
 use std::sync::Wait;
 use std::thread::Threads;
+use table_run::OnTable;
 
-// Puts hand 0's desk back as the last, where there is one.
-fn put_own(desks: &mut Vec<Desk>, own: Option<Desk>)
-    requires room { IfSome own (λ _. vec_len desks.old < vec_capacity desks.old) }
-    ensures with { IsWith own desks.old.items desks.new.items }
-{
-    match own {
-        None => {}
-        Some(desk) => desks.push_reserved(desk),
-    }
-}
-
-/// Works on hand 0 with the last desk, beside workers with the others, as `run_beside` does. All
-/// desks come back, each in its place.
-pub(crate) fn run_with_desks<W: Front, T: Stepper + Sync, R: Threads + Wait + Sync>(
+/// Runs a source's records on hand 0 of a table, the first of the hands, beside the workers of a
+/// crew on the others. Hand 0 has the last desk, and the others have one each, where there are any.
+/// All hands come back, hand 0's last, and all desks, each in its place. `B` tells which table it
+/// is, and which desk hand 0 has.
+pub(crate) fn run_on_table<
+    'a,
+    'b,
+    B: OnTable,
+    T: Stepper + Sync,
+    R: Threads + Wait + Sync,
+    S: RecordSource,
+    K: Sink,
+>(
     rt: &R,
     alloc: Global,
-    table: &OpTable<Item>,
-    stepper: &T,
-    order: Order,
-    backends: Vec<Box<dyn Backend + Send>>,
-    mut desks: Vec<Desk>,
-    hands: Vec<Hand<Item>>,
-    hand: Hand<Item>,
-    front: W,
-) -> (W, Hand<Item>, Vec<Hand<Item>>, Vec<Desk>)
+    crew: Crew,
+    hands: &mut Vec<Hand<Item>>,
+    desks: &mut Vec<Desk>,
+    front: LinesFront<'a, 'b, B, T, S, K>,
+) -> LinesFront<'a, 'b, B, T, S, K>
     requires sync { IsSync R.row }
-    requires serve { All (CanServe table.now (T.plan stepper.now)) hands.items }
-    requires each { vec_len hands ≤ vec_len backends }
-    requires needs { W.needs front hand }
-    ensures leaves { W.leaves front result.0 result.1 }
-    ensures served { All (HasServed table.now) result.2.items }
-    ensures length { vec_len result.2 ≡ vec_len hands }
-    ensures room { vec_capacity hands ≤ vec_capacity result.2 }
-    ensures desks { AreSameDesks desks.items result.3.items }
+    requires crew { IsCrew crew.workers (vec_len crew.backends) }
+    requires runs { CanRunOn front.on.table.now front.on.plan.now front.on.window
+        (T.plan front.on.stepper.now) }
+    requires count { front.on.table.now.frame.hands ≡ crew.workers + 1 }
+    requires hands { AreFreshHands front.on.table.now (crew.workers + 1) hands.old.items }
+    requires marked { IsMarkedBy B.is B.claimed B.deck B.post front.on.table.now
+        (last_of desks.old.items) }
+    ensures source { result.records.ghost_name ≡ front.entry.records.ghost_name }
+    ensures sink { result.out.ghost_name ≡ front.entry.out.ghost_name }
+    ensures came { result.came.ghost_name ≡ front.entry.came.ghost_name }
+    ensures out { CameOut (opening_by K.told front.entry)
+        (streams_of S.told S.reads K.told front.entry)
+        (streams_of S.told S.reads K.told result)
+        result.came.now (claimed_by hands.new.items) }
+    ensures back { AreBack front.entry.on.table.now hands.new.items }
+    ensures desks { AreSameDesks desks.old.items desks.new.items }
 {
-    let own = desks.pop();
-    let (left, last, back, mut all, own) = run_beside(
-        rt, alloc, table, stepper, order, backends, desks, hands, hand, own, front,
+    let mut others = mem::replace(hands, Vec::new(alloc));
+    let mut theirs = mem::replace(desks, Vec::new(alloc));
+    let hand = others.remove(0);
+    let own = theirs.pop();
+    let Crew {
+        workers: _,
+        order,
+        backends,
+    } = crew;
+    let table = front.on.table;
+    let stepper = front.on.stepper;
+    let (left, last, mut all, mut kept, own) = run_beside(
+        rt, alloc, table, stepper, order, backends, theirs, others, hand, own, front,
     );
-    put_own(&mut all, own);
-    (left, last, back, all)
+    all.push_reserved(last);
+    put_own(&mut kept, own);
+    *hands = all;
+    *desks = kept;
+    left
 }

@@ -1,41 +1,25 @@
-//! A table that is opened for a run, and closed after it.
+//! A table that is opened for a run.
 ghost use Rattle.std.specs.Prelude.{◌≡◌, ◌<◌, ◌≤◌, IfOk};
 ghost use Rattle.life_rules.specs.declared.limits.TheConstants.{MOST_BLOCKS, MOST_HANDS};
-ghost use Rattle.record_runs.specs.Desks.{CanClose};
-ghost use Rattle.record_runs.specs.Opened.{AreBack, IsOpenedFor, IsClosedAfter, blocks_for};
+ghost use Rattle.record_runs.specs.Opened.{IsOpenedFor, blocks_for};
 
-use crate::desks::{DeskRoom, close_desks, open_desks};
+use crate::desks::{DeskRoom, open_desks};
 use exec_recv::Item;
 use life_rules::MOST_BLOCKS;
 use op_table::{Hand, OpTable};
 use plan_shape::Plan;
-use record_loop::Ending;
 use run_crew::Desk;
 use run_rules::at_once;
-use run_tally::Tally;
 use std::alloc::{AllocError, Global};
-use std::sync::Wait;
-use table_steps::Closing;
 
-/// A table over a plan, its hands, one for each worker and one more, how many records are worked on
-/// at once, and the desks of the workers, and last that of hand 0, with the room to close them. There
-/// are none without workers, and none for more workers than a relay has decks for. It has no drop: a
-/// run closes the desks.
+/// A table over a plan, its hands, one for each worker and one more, and the desks of the workers,
+/// and last that of hand 0, with the room to close them. There are none without workers, and none
+/// for more workers than a relay has decks for. It has no drop: a run closes the desks.
 pub struct Opened {
-    pub table: OpTable<Item>,
-    pub hands: Vec<Hand<Item>>,
-    pub window: usize,
-    pub desks: Vec<Desk>,
-    pub room: Option<DeskRoom>,
-}
-
-/// What a run over a table left: how it ended, how many operations it collected with each kind of
-/// completion, and how the table was closed.
-#[derive(Drop)]
-pub struct TableEnd {
-    pub answer: Result<Ending, AllocError>,
-    pub tally: Tally,
-    pub closing: Closing,
+    pub(crate) table: OpTable<Item>,
+    pub(crate) hands: Vec<Hand<Item>>,
+    pub(crate) desks: Vec<Desk>,
+    pub(crate) room: Option<DeskRoom>,
 }
 
 // How many blocks the table of a run has: one for each record that is worked on at once, and for a
@@ -58,7 +42,7 @@ fn blocks_for(plan: &Plan, window: usize) -> usize
 /// Afterwards: no operation was begun on the table. It has a block for each record of the window,
 /// and for a plan with an `ahead` 64 more, or as many as a table has room for. Its scope is of the
 /// kind that the plan says, and takes as many associations as there are blocks.
-pub fn open_run(
+pub(crate) fn open_run(
     alloc: Global,
     plan: &Plan,
     window: usize,
@@ -80,32 +64,7 @@ pub fn open_run(
     Ok(Opened {
         table,
         hands,
-        window,
         desks,
         room,
     })
-}
-
-/// Closes the table after a run, with all of its hands, and the desks, which all came back.
-pub(crate) fn close_run<R: Wait>(
-    rt: &R,
-    table: OpTable<Item>,
-    hands: Vec<Hand<Item>>,
-    room: Option<DeskRoom>,
-    desks: Vec<Desk>,
-    answer: Result<Ending, AllocError>,
-    tally: Tally,
-) -> TableEnd
-    requires back { AreBack table hands.items }
-    requires desks { CanClose room desks.items }
-    ensures answer { result.answer ≡ answer }
-    ensures tally { result.tally ≡ tally }
-    ensures closed { IsClosedAfter table.frame.layout.blocks result.closing }
-{
-    close_desks(rt, room, desks);
-    TableEnd {
-        answer,
-        tally,
-        closing: table.close_table(hands),
-    }
 }

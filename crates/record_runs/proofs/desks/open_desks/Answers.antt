@@ -31,8 +31,8 @@ loop-deck-preserved c =
       posts_fit = omega (arith, is.posts_fit, c.pop-in-Some.ensures.capacity);
     }
 
-pub returns : goal.returns
-returns c =
+pub returns-clause-close : goal.returns-clause-close
+returns-clause-close c =
     let is = c.loop-deck.invariant in
     let decks = c.in_ok-decks.decks.items in
     let posts = c.in_ok-queue.posts.items in

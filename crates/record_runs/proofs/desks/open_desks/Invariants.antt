@@ -1,5 +1,5 @@
 use Rattle.std.proofs.Common.{◌≡◌, ◌+◌, ◌≤◌, ◌++◌, length, reverse, vec_capacity, vec_len}
-use Rattle.record_runs.specs.Desks.{decks_of, posts_of}
+use Rattle.record_runs.specs.DeskEnds.{decks_of, posts_of}
 use Rattle.record_runs.proofs.desks.open_desks.Given as goal
 
 abbrev pub invariant-loop-deck : goal.invariant-loop-deck

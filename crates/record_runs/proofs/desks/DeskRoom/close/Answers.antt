@@ -7,7 +7,7 @@ use Rattle.loop_queue.specs.declared.post.LoopPost.{LoopPost}
 use Rattle.loop_queue.specs.Law.{ComeAndGoInOrder}
 use Rattle.loop_queue.specs.Posts.{CameBack as AreAllPosts}
 use Rattle.steal_pool.specs.declared.desk.Desk.{Desk}
-use Rattle.record_runs.specs.Desks.{decks_of, posts_of}
+use Rattle.record_runs.specs.DeskEnds.{ClosedSo, decks_of, posts_of}
 use Rattle.record_runs.proofs.DeskLaws.{all-here, moves, turned-twice}
 use Rattle.record_runs.proofs.desks.DeskRoom.close.Goals as goal
 
@@ -71,14 +71,17 @@ close-entries-requires g c =
     let here = all-here (λ (d : Desk). d.post) (posts_of c.args.desks.items) c.loop-desk.posts.items c.loop-desk.desks.items c.loop-desk.invariant.posts none in
     record { all = subst (λ (l : List LoopPost). AreAllPosts (arc_value c.args.self.queue) l) (sym here) c.requires.all.all_posts }
 
-pub returns : goal.returns
-returns g c =
+pub invariant_of-result : goal.invariant_of-result
+invariant_of-result g c =
     let is = c.loop-desk.invariant in
     let gone = c.loop-desk.desks.items in
     let none : length gone ≡ 0 = omega (arith, c.in_default.ensures.cases, c.loop-desk.desks.ok.0) in
     let decks = all-here (λ (d : Desk). d.deck) (decks_of c.args.desks.items) c.loop-desk.decks.items gone is.decks none in
     let posts = all-here (λ (d : Desk). d.post) (posts_of c.args.desks.items) c.loop-desk.posts.items gone is.posts none in
-    record {
+    subst
+    (λ (l : List Desk). ClosedSo (record { names = c.close-names.result; entries = c.close-entries.result; desks = l }))
+    (sym (ap (λ v. v.items) c.of-back.ensures))
+    (record {
       decks = subst (λ (l : List Deck). TakenAndLeft c.close-names.result l) decks c.close-names.ensures.law;
       posts = subst (λ (l : List LoopPost). ComeAndGoInOrder c.close-entries.result l) posts c.close-entries.ensures.law;
-    }
+    })
