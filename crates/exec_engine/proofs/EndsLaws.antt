@@ -2,10 +2,9 @@
 use Rattle.std.proofs.Common.{◌≡◌, ◌≢◌, ◌⊎◌, ◌≤◌, Ok, Err, refl, ap, inl, inr, arith}
 use Rattle.exec_io.specs.Causes.{Rose}
 use Rattle.exec_io.specs.Views.{SourceView, SinkView}
-use Rattle.exec_io.specs.Untouched.{IsUntouched}
 use Rattle.plan_reader.specs.declared.fault.PlanFault.{PlanFault}
 use Rattle.plan_shape.specs.Blueprint.{Blueprint}
-use Rattle.run_tally.specs.Tallied.{Tallied, new_tally}
+use Rattle.record_runs.specs.Endings.{IsUnbegun}
 use Rattle.exec_status.specs.declared.file.FileFault.{FileFault}
 use Rattle.exec_status.specs.declared.file.FileFault.TheVariants.{ReadFault as NotRead}
 use Rattle.exec_status.specs.declared.status.Status.{Status}
@@ -14,21 +13,23 @@ use Rattle.exec_status.specs.Files.{ReadsShelf, Misses, GivesUp}
 use Rattle.exec_status.specs.Noted.{Concludes}
 use Rattle.exec_status.proofs.Concluding.{concluded, read_fault-concluded, write_fault-concluded, Noted-concluded, Noted-handed}
 use Rattle.exec_status.proofs.Missing.{missed-status, missed-noted, missed-read, missed-write, missed-still, missed-refused}
+use Rattle.exec_engine.specs.declared.tally.Tally.{Tally}
 use Rattle.exec_engine.specs.declared.task.Task.{Task}
 use Rattle.exec_engine.specs.Closes.{Runs}
 use Rattle.exec_engine.specs.Ends.{RunEnds}
 use Rattle.exec_engine.specs.Opening.{HasPlan, HasRefusal}
-use Rattle.exec_io.specs.Outside.{Outside}
 use Rattle.exec_engine.specs.Refusals.{IsRefusedWith, refusal_of}
 use Rattle.exec_engine.specs.Says.{Says}
+use Rattle.exec_engine.specs.Surroundings.{Surroundings, streams_of}
+use Rattle.exec_engine.specs.Tallies.{IsNew}
 use Rattle.exec_engine.proofs.RefusedLaws.{opened-stands}
 use Rattle.exec_engine.proofs.SaysLaws.{says-run, says-fault, run-is, run-write, run-read, run-out_still, run-records_still, run-handed, run-out_later, run-records_later, run-leaves, same-leaves}
 use Rattle.exec_engine.proofs.LimitLaws.{says-beyond, says-within, says-finished}
 use Rattle.exec_engine.proofs.ValuesLaws.{says-values, says-small, says-small_lines}
 
 -- the end of a run whose plan was opened
-pub run-ends : (task : Task) (old new : Outside) (tally : Tallied) {plan : Blueprint} (status result : Status) → HasPlan old.shelf.texts task.plan.now plan → Runs plan task old.records new.records old.out new.out tally status
-    → Concludes status old.notes new.notes result → ReadsShelf {T = Blueprint} {C = PlanFault} old.shelf new.shelf (Ok plan) → old.notes.faults ≤ new.notes.faults → RunEnds task old new tally result
+pub run-ends : (task : Task) (old new : Surroundings) (tally : Tally) {plan : Blueprint} (status result : Status) → HasPlan old.shelf.texts task.plan.now plan → Runs plan task (streams_of old) (streams_of new) tally status
+    → Concludes status old.notes new.notes result → ReadsShelf {T = Blueprint} {C = PlanFault} task.plan.now old.shelf new.shelf (Ok plan) → old.notes.faults ≤ new.notes.faults → RunEnds task old new tally result
 run-ends task old new tally status result has runs concludes reads notes_later =
     let came = Says task old new tally in
     let refused = IsRefusedWith old.shelf.texts task.plan.now in
@@ -62,6 +63,7 @@ run-ends task old new tally status result has runs concludes reads notes_later =
       complete_values = λ plan stands finished settle. says-values task old new tally plan result stands finished settle says;
       small_lines = λ end rest outcomes lines small some. says-small_lines task old new end rest outcomes lines small some;
       small = λ plan stands small is. says-small task old new tally plan result stands small says is;
+      asks = reads.asks;
       shelf_same = reads.same;
       shelf_later = reads.later;
       records_later = run-records_later status runs;
@@ -70,8 +72,8 @@ run-ends task old new tally status result has runs concludes reads notes_later =
     }
 
 -- the end of a run that had no plan
-pub missed-ends : (task : Task) (old new : Outside) (tally : Tallied) (fault : FileFault PlanFault) (result : Status) → IsUntouched old.records new.records old.out new.out → tally ≡ new_tally
-    → Misses (HasRefusal old.shelf.texts task.plan.now) fault → GivesUp refusal_of fault old.notes new.notes result → ReadsShelf {T = Blueprint} {C = PlanFault} old.shelf new.shelf (Err fault)
+pub missed-ends : (task : Task) (old new : Surroundings) (tally : Tally) (fault : FileFault PlanFault) (result : Status) → IsUnbegun (streams_of old) (streams_of new) → IsNew tally
+    → Misses (HasRefusal old.shelf.texts task.plan.now) fault → GivesUp refusal_of fault old.notes new.notes result → ReadsShelf {T = Blueprint} {C = PlanFault} task.plan.now old.shelf new.shelf (Err fault)
     → old.notes.faults ≤ new.notes.faults → RunEnds task old new tally result
 missed-ends task old new tally fault result kept uncounted misses gives_up reads notes_later =
     let came = Says task old new tally in
@@ -82,8 +84,8 @@ missed-ends task old new tally fault result kept uncounted misses gives_up reads
     let cause : fault ≡ NotRead → Rose old.shelf.faults new.shelf.faults = λ e. reads.cause (ap (λ (f : FileFault PlanFault). Err f) e) in
     let read : result ≡ ReadFault → Rose old.shelf.faults new.shelf.faults = λ e. cause (missed-read refusal_of old.notes new.notes fault result gives_up e) in
     let write : result ≡ WriteFault → Rose old.notes.faults new.notes.faults = missed-write refusal_of old.notes new.notes fault result gives_up in
-    let records : new.records.faults ≡ old.records.faults = ap (λ (s : SourceView). s.faults) kept.source_same in
-    let out : new.out.faults ≡ old.out.faults = ap (λ (s : SinkView). s.faults) kept.sink_same in
+    let records : new.records.faults ≡ old.records.faults = ap (λ (s : SourceView). s.faults) kept.untouched.source_same in
+    let out : new.out.faults ≡ old.out.faults = ap (λ (s : SinkView). s.faults) kept.untouched.sink_same in
     record {
       says = says;
       noted = noted;
@@ -94,10 +96,10 @@ missed-ends task old new tally fault result kept uncounted misses gives_up reads
           reads.still (λ e. other (cc));
       records_still = λ _ _. records;
       out_still = λ _. out;
-      leaves = same-leaves task.origin old.records new.records kept.source_same;
+      leaves = same-leaves task.origin (streams_of old) (streams_of new) kept;
       beyond = says-beyond task old new tally result says;
       within = says-within task old new tally result says;
-      out_handed_on = λ _. inr kept.sink_same;
+      out_handed_on = λ _. inr kept.untouched.sink_same;
       notes_handed_on = Noted-handed came refused result noted;
       refused = λ other stands shelf_kept. missed-refused refusal_of old.notes new.notes fault result gives_up (λ e. shelf_kept (cause e));
       complete = λ plan stands within shelf_kept records_kept out_kept notes_kept.
@@ -105,6 +107,7 @@ missed-ends task old new tally fault result kept uncounted misses gives_up reads
       complete_values = λ plan stands finished settle. says-values task old new tally plan result stands finished settle says;
       small_lines = λ end rest outcomes lines small some. says-small_lines task old new end rest outcomes lines small some;
       small = λ plan stands small is. says-small task old new tally plan result stands small says is;
+      asks = reads.asks;
       shelf_same = reads.same;
       shelf_later = reads.later;
       records_later = omega (arith, records);

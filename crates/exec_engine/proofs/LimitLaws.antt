@@ -10,15 +10,15 @@ use Rattle.plan_reader.specs.PlanFile.{IsPlanOf}
 use Rattle.record_lines.specs.declared.ending.End.TheVariants.{Ended, Limit as LimitEnd}
 use Rattle.record_lines.specs.Records.{IsBeyond}
 use Rattle.record_lines.proofs.RecordLaws.{IsBeyond-append}
-use Rattle.run_tally.specs.Tallied.{Tallied}
 use Rattle.exec_status.specs.declared.status.Status.{Status}
 use Rattle.exec_status.specs.declared.status.Status.TheVariants.{AllValues, NotAllValues, Usage, PlanRefused, NoMemory, ReadFault, WriteFault, Limit}
 use Rattle.exec_engine.specs.declared.task.Origin.{Origin}
 use Rattle.exec_engine.specs.declared.task.Origin.TheVariants.{Source, Generated}
+use Rattle.exec_engine.specs.declared.tally.Tally.{Tally}
 use Rattle.exec_engine.specs.declared.task.Task.{Task}
 use Rattle.exec_engine.specs.Complete.{IsFinished}
 use Rattle.exec_engine.specs.Opening.{Finds}
-use Rattle.exec_io.specs.Outside.{Outside}
+use Rattle.exec_engine.specs.Surroundings.{Surroundings}
 use Rattle.exec_engine.specs.Says.{Lines, Says}
 use Rattle.exec_engine.specs.Taken.{Takes, PassesLimit, KeepsLimit, IsWithin}
 use Rattle.exec_engine.proofs.RefusedLaws.{refused-stands}
@@ -55,7 +55,7 @@ not-beyond (Source form) before beyond within = both before.left beyond within
     both (Some all) beyond within = within beyond
 not-beyond (Generated count) before beyond within = beyond
 
-module _ (task : Task) (old new : Outside) (tally : Tallied) where
+module _ (task : Task) (old new : Surroundings) (tally : Tally) where
   lines-within : {outcomes : List Outcome} → Lines task old new Ended [] outcomes → KeepsLimit task.origin old.records
   lines-within lines = takes-within task.origin lines.plan.settings.input old.records new.records lines.records lines.takes
 

@@ -13,47 +13,45 @@ use Rattle.record_lines.specs.declared.ending.End.{End}
 use Rattle.record_lines.specs.declared.ending.End.TheVariants.{Ended, Fault, Limit as LimitEnd}
 use Rattle.record_loop.specs.declared.ending.Ending.{Ending}
 use Rattle.record_loop.proofs.PrintingLaws.{HoldsAllBut-whole}
-use Rattle.run_tally.specs.Tallied.{Tallied}
+use Rattle.record_runs.specs.Endings.{IsUnbegun, Streams}
 use Rattle.exec_status.specs.declared.status.Status.{Status}
 use Rattle.exec_status.specs.declared.status.Status.TheVariants.{AllValues, NotAllValues, Usage, PlanRefused, NoMemory, ReadFault, WriteFault, Limit}
 use Rattle.exec_status.proofs.Concluding.{IsOfRun}
 use Rattle.exec_engine.specs.declared.task.Origin.{Origin}
 use Rattle.exec_engine.specs.declared.task.Origin.TheVariants.{Source, Generated}
+use Rattle.exec_engine.specs.declared.tally.Tally.{Tally}
 use Rattle.exec_engine.specs.declared.task.Task.{Task}
 use Rattle.exec_engine.specs.Closes.{Closes, Runs}
 use Rattle.exec_engine.specs.Opening.{HasPlan}
-use Rattle.exec_io.specs.Outside.{Outside}
-use Rattle.exec_engine.specs.Says.{AreValues, HasNoMemory, HasFailure, IsTallyOf, Lines, Prints, PrintsFront, Says}
+use Rattle.exec_engine.specs.Says.{AreValues, HasNoMemory, HasFailure, Lines, Prints, PrintsFront, Says}
 use Rattle.exec_engine.specs.Statuses.{status_by}
-use Rattle.exec_engine.specs.Taken.{LeavesSource}
+use Rattle.exec_engine.specs.Surroundings.{Surroundings, streams_of}
+use Rattle.exec_engine.specs.Taken.{LeavesSource, Takes}
 
-module _ (task : Task) (old new : Outside) (tally : Tallied) where
-  module _ {plan : Blueprint} (has : HasPlan old.shelf.texts task.plan.now plan) (ending : Ending) (closes : Closes plan task old.records new.records old.out new.out ending tally) where
+module _ (task : Task) (old new : Surroundings) (tally : Tally) where
+  module _ {plan : Blueprint} (has : HasPlan old.shelf.texts task.plan.now plan) (ending : Ending) (closes : Closes plan task (streams_of old) (streams_of new) ending tally) where
     -- the lines of a run, by its end
     abbrev closed-lines : Lines task old new ending.end closes.rest closes.outcomes
     closed-lines = record { plan = plan; has = has; records = closes.records; takes = closes.takes; lawful = closes.lawful }
-
-    -- the tally of a run is that of its outcomes
-    closed-tally : IsTallyOf closes.outcomes tally
-    closed-tally =
-        let counted = closes.finished.counted in
-        record {
-          values = closes.told.values ∙ counted.values;
-          errors = closes.told.errors ∙ counted.errors;
-          stopped = closes.told.stopped ∙ counted.stopped;
-          no_memory = omega (arith, closes.told.no_memory, counted.no_memory);
-        }
 
     -- all that was written, where no write was lost
     closed-prints : (end : End) (P : List Outcome → Type 0) → ending.end ≡ end → ending.lost ≡ false → P closes.outcomes → Prints task old new tally end P
     closed-prints end P is kept holds =
         record {
           outcomes = closes.outcomes;
-          lines = subst (λ (e : End). Lines task old new e [] closes.outcomes) is (subst (λ (r : List ℕ). Lines task old new ending.end r closes.outcomes) (closes.all kept) closed-lines);
+          lines = record {
+            plan = plan;
+            has = has;
+            records = closes.records;
+            takes = subst (λ (e : End). Takes task.origin plan.settings.input old.records new.records e [] closes.records) is
+                (subst (λ (r : List ℕ). Takes task.origin plan.settings.input old.records new.records ending.end r closes.records) (closes.all kept) closes.takes);
+            lawful = closes.lawful;
+          };
           holds = holds;
           whole = closes.finished.wrote.whole kept;
           still = closes.finished.wrote.still kept;
-          told = closed-tally;
+          told = closes.told;
+          reads = closes.reads;
         }
 
     -- a front of it, else
@@ -68,7 +66,8 @@ module _ (task : Task) (old new : Outside) (tally : Tallied) where
       begun = closes.begun;
       whole = λ still. absurd (still (closes.finished.wrote.cause lost));
       cause = λ still is. absurd (still (closes.finished.wrote.cause lost));
-      told = closed-tally;
+      told = closes.told;
+      reads = closes.reads;
     }
 
     -- the lines of records that came to their end, by their numbers
@@ -96,8 +95,8 @@ module _ (task : Task) (old new : Outside) (tally : Tallied) where
     says-by false LimitEnd kept is = closed-prints LimitEnd (λ _. Unit {0}) is kept tt
     says-by false Ended kept is = says-lines (nat_lt 0 ending.summary.no_memory) (ending.summary.values == ending.summary.lines) is kept refl refl
 
-  pub says-run : {plan : Blueprint} (status : Status) → HasPlan old.shelf.texts task.plan.now plan → Runs plan task old.records new.records old.out new.out tally status → Says task old new tally status
-  says-run status has (inl short) = subst (Says task old new tally) (sym short.is) (inl (short.untouched, short.uncounted))
+  pub says-run : {plan : Blueprint} (status : Status) → HasPlan old.shelf.texts task.plan.now plan → Runs plan task (streams_of old) (streams_of new) tally status → Says task old new tally status
+  says-run status has (inl short) = subst (Says task old new tally) (sym short.is) (inl (short.unbegun, short.uncounted))
   says-run status has (inr done) =
       subst (Says task old new tally) (sym done.2) (says-by has done.0 done.1 done.0.lost done.0.end refl refl)
 
@@ -117,6 +116,7 @@ module _ (task : Task) (old new : Outside) (tally : Tallied) where
         whole = λ _. prints.whole;
         cause = λ _. cause;
         told = prints.told;
+        reads = prints.reads;
       }
 
       fault : (status : Status) → Says task old new tally status → Says task old new tally WriteFault
@@ -132,9 +132,9 @@ module _ (task : Task) (old new : Outside) (tally : Tallied) where
       fault Limit says = inr (front LimitEnd (λ _. Unit {0}) says (λ is. cc))
 
 -- a source that is as it was is left
-pub same-leaves : (origin : Origin) (before after : SourceView) → after ≡ before → LeavesSource origin before after
+pub same-leaves : (origin : Origin) (before after : Streams) → IsUnbegun before after → LeavesSource origin before after
 same-leaves (Source form) before after same = tt
-same-leaves (Generated count) before after same = same
+same-leaves (Generated count) before after same = record { source_same = same.untouched.source_same; reads_same = same.unread }
 
 -- a status by how a run closed has a property that all of these have
 by-ending : (P : Status → Type 0) (lost : Bool) (end : End) (summary : Summary) → (lost ≡ true → P WriteFault) → (lost ≡ false → end ≡ Fault → P ReadFault) → P Limit → P NoMemory → P AllValues → P NotAllValues → P (status_by lost end summary)
@@ -160,51 +160,51 @@ not-fault X false Fault summary still read write = absurd (read refl)
 not-fault X false LimitEnd summary still read write = still (λ e. cc)
 not-fault X false Ended summary still read write = still (λ e. cc)
 
-module _ {plan : Blueprint} {task : Task} {before after : SourceView} {old new : SinkView} {tally : Tallied} where
-  by-run : (P : Status → Type 0) (status : Status) (runs : Runs plan task before after old new tally status) → (Rose old.faults new.faults → P WriteFault) → (Rose before.faults after.faults → P ReadFault) → P Limit → P NoMemory → P AllValues → P NotAllValues → P status
+module _ {plan : Blueprint} {task : Task} {before after : Streams} {tally : Tally} where
+  by-run : (P : Status → Type 0) (status : Status) (runs : Runs plan task before after tally status) → (Rose before.sink.faults after.sink.faults → P WriteFault) → (Rose before.source.faults after.source.faults → P ReadFault) → P Limit → P NoMemory → P AllValues → P NotAllValues → P status
   by-run P status (inl short) write read limit memory all some = subst P (sym short.is) memory
   by-run P status (inr done) write read limit memory all some =
       subst P (sym done.2) (by-ending P done.0.lost done.0.end done.0.summary (λ lost. write (done.1.finished.wrote.cause lost)) (λ kept is. read (done.1.cause is kept)) limit memory all some)
 
   -- a run is no fault of usage, and no refusal
-  pub run-is : (status : Status) → Runs plan task before after old new tally status → IsOfRun status
+  pub run-is : (status : Status) → Runs plan task before after tally status → IsOfRun status
   run-is status runs = by-run IsOfRun status runs (λ _. tt) (λ _. tt) tt tt tt tt
 
   -- a fault has its cause
-  pub run-write : (status : Status) → Runs plan task before after old new tally status → status ≡ WriteFault → Rose old.faults new.faults
-  run-write status runs = by-run (λ s. s ≡ WriteFault → Rose old.faults new.faults) status runs
+  pub run-write : (status : Status) → Runs plan task before after tally status → status ≡ WriteFault → Rose before.sink.faults after.sink.faults
+  run-write status runs = by-run (λ s. s ≡ WriteFault → Rose before.sink.faults after.sink.faults) status runs
       (λ rose _. rose) (λ _ e. cc) (λ e. cc) (λ e. cc) (λ e. cc) (λ e. cc)
 
-  pub run-read : (status : Status) → Runs plan task before after old new tally status → status ≡ ReadFault → Rose before.faults after.faults
-  run-read status runs = by-run (λ s. s ≡ ReadFault → Rose before.faults after.faults) status runs
+  pub run-read : (status : Status) → Runs plan task before after tally status → status ≡ ReadFault → Rose before.source.faults after.source.faults
+  run-read status runs = by-run (λ s. s ≡ ReadFault → Rose before.source.faults after.source.faults) status runs
       (λ _ e. cc) (λ rose _. rose) (λ e. cc) (λ e. cc) (λ e. cc) (λ e. cc)
 
-  pub run-out_still : (status : Status) → Runs plan task before after old new tally status → status ≢ WriteFault → new.faults ≡ old.faults
-  run-out_still status (inl short) other = ap (λ (s : SinkView). s.faults) short.untouched.sink_same
+  pub run-out_still : (status : Status) → Runs plan task before after tally status → status ≢ WriteFault → after.sink.faults ≡ before.sink.faults
+  run-out_still status (inl short) other = ap (λ (s : SinkView). s.faults) short.unbegun.untouched.sink_same
   run-out_still status (inr done) other =
-      not-write (new.faults ≡ old.faults) done.0.lost done.0.end done.0.summary done.1.finished.wrote.still (λ e. other (done.2 ∙ e))
+      not-write (after.sink.faults ≡ before.sink.faults) done.0.lost done.0.end done.0.summary done.1.finished.wrote.still (λ e. other (done.2 ∙ e))
 
-  pub run-records_still : (status : Status) → Runs plan task before after old new tally status → status ≢ ReadFault → status ≢ WriteFault → after.faults ≡ before.faults
-  run-records_still status (inl short) read write = ap (λ (s : SourceView). s.faults) short.untouched.source_same
+  pub run-records_still : (status : Status) → Runs plan task before after tally status → status ≢ ReadFault → status ≢ WriteFault → after.source.faults ≡ before.source.faults
+  run-records_still status (inl short) read write = ap (λ (s : SourceView). s.faults) short.unbegun.untouched.source_same
   run-records_still status (inr done) read write =
-      not-fault (after.faults ≡ before.faults) done.0.lost done.0.end done.0.summary done.1.still (λ e. read (done.2 ∙ e)) (λ e. write (done.2 ∙ e))
+      not-fault (after.source.faults ≡ before.source.faults) done.0.lost done.0.end done.0.summary done.1.still (λ e. read (done.2 ∙ e)) (λ e. write (done.2 ∙ e))
 
-  pub run-handed : (status : Status) → Runs plan task before after old new tally status → ¬ Rose old.faults new.faults → IsHandedOn old new
-  run-handed status (inl short) still = inr short.untouched.sink_same
+  pub run-handed : (status : Status) → Runs plan task before after tally status → ¬ Rose before.sink.faults after.sink.faults → IsHandedOn before.sink after.sink
+  run-handed status (inl short) still = inr short.unbegun.untouched.sink_same
   run-handed status (inr done) still =
       elim (cases_Bool done.0.lost) [
         | inl lost ↦ absurd (still (done.1.finished.wrote.cause lost))
         | inr kept ↦ done.1.finished.wrote.handed_on kept refl
       ]
 
-  pub run-out_later : (status : Status) → Runs plan task before after old new tally status → old.faults ≤ new.faults
-  run-out_later status (inl short) = omega (arith, ap (λ (s : SinkView). s.faults) short.untouched.sink_same)
+  pub run-out_later : (status : Status) → Runs plan task before after tally status → before.sink.faults ≤ after.sink.faults
+  run-out_later status (inl short) = omega (arith, ap (λ (s : SinkView). s.faults) short.unbegun.untouched.sink_same)
   run-out_later status (inr done) = done.1.finished.wrote.later
 
-  pub run-records_later : (status : Status) → Runs plan task before after old new tally status → before.faults ≤ after.faults
-  run-records_later status (inl short) = omega (arith, ap (λ (s : SourceView). s.faults) short.untouched.source_same)
+  pub run-records_later : (status : Status) → Runs plan task before after tally status → before.source.faults ≤ after.source.faults
+  run-records_later status (inl short) = omega (arith, ap (λ (s : SourceView). s.faults) short.unbegun.untouched.source_same)
   run-records_later status (inr done) = done.1.later
 
-  pub run-leaves : (status : Status) → Runs plan task before after old new tally status → LeavesSource task.origin before after
-  run-leaves status (inl short) = same-leaves task.origin before after short.untouched.source_same
+  pub run-leaves : (status : Status) → Runs plan task before after tally status → LeavesSource task.origin before after
+  run-leaves status (inl short) = same-leaves task.origin before after short.unbegun
   run-leaves status (inr done) = done.1.leaves

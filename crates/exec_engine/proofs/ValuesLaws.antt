@@ -27,15 +27,15 @@ use Rattle.record_lines.specs.Records.{records_of}
 use Rattle.run_rules.specs.Lawful.{MayEnd, Lawful}
 use Rattle.run_rules.specs.PlanTerms.{AllowsRecord}
 use Rattle.run_rules.specs.StopStates.{stop_state}
-use Rattle.run_tally.specs.Tallied.{Tallied}
 use Rattle.exec_status.specs.declared.status.Status.{Status}
 use Rattle.exec_status.specs.declared.status.Status.TheVariants.{AllValues, NoMemory}
 use Rattle.exec_engine.specs.declared.task.Origin.{Origin}
 use Rattle.exec_engine.specs.declared.task.Origin.TheVariants.{Source, Generated}
+use Rattle.exec_engine.specs.declared.tally.Tally.{Tally}
 use Rattle.exec_engine.specs.declared.task.Task.{Task}
 use Rattle.exec_engine.specs.Complete.{IsFinished, SettlesToValue, SettleToValues}
 use Rattle.exec_engine.specs.Opening.{Finds}
-use Rattle.exec_io.specs.Outside.{Outside}
+use Rattle.exec_engine.specs.Surroundings.{Surroundings}
 use Rattle.exec_engine.specs.Says.{HasNoMemory, Lines, Says, Untouched, terms_for}
 use Rattle.exec_engine.specs.Taken.{Takes, OfRecords}
 use Rattle.exec_engine.proofs.RefusedLaws.{stands-same}
@@ -129,7 +129,7 @@ small-lines task plan records outcomes small lawful = none-counted is_out_of_mem
     let P : Outcome → Type 0 = λ o. MayEnd (terms_for task plan) (i + 1) stop line o in
     small-ends task plan (i + 1) stop line small (subst P (not-memory outcome is) (lawful.each i line outcome (slice_get-get_or records i [] within) at)))
 
-module _ (task : Task) (old new : Outside) (tally : Tallied) where
+module _ (task : Task) (old new : Surroundings) (tally : Tally) where
   -- records that settle to values alone have no other line, unless memory runs out
   pub says-values : (plan : Blueprint) (status : Status) → Finds old task (λ bytes. IsPlanOf bytes plan) → IsFinished status
       → OfRecords task.origin plan.settings.input old.records (SettleToValues task plan) → Says task old new tally status → (status ≡ AllValues) ⊎ (status ≡ NoMemory)
@@ -154,6 +154,6 @@ module _ (task : Task) (old new : Outside) (tally : Tallied) where
           absurd (omega (arith, prints.holds, small-lines task lines.plan lines.records prints.outcomes (subst IsSmall (sym (stands-same lines.has stands)) small) lines.lawful))
 
 -- none of its lines is out-of-memory
-pub says-small_lines : (task : Task) (old new : Outside) (end : End) (rest : List ℕ) (outcomes : List Outcome) (lines : Lines task old new end rest outcomes) → IsSmall lines.plan → ¬ HasNoMemory outcomes
+pub says-small_lines : (task : Task) (old new : Surroundings) (end : End) (rest : List ℕ) (outcomes : List Outcome) (lines : Lines task old new end rest outcomes) → IsSmall lines.plan → ¬ HasNoMemory outcomes
 says-small_lines task old new end rest outcomes lines small some =
     omega (arith, some, small-lines task lines.plan lines.records outcomes small lines.lawful)

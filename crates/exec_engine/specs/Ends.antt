@@ -1,28 +1,29 @@
 -- How a run ends.
 use Rattle.std.specs.Prelude.{◌≡◌, ◌≢◌, ◌⊎◌, ℕ, ◌≤◌, List}
+use Rattle.exec_io.specs.Asked.{AsksOnce}
 use Rattle.exec_io.specs.Causes.{Rose}
-use Rattle.exec_io.specs.Outside.{Outside}
 use Rattle.exec_value.specs.declared.outcome.Outcome.{Outcome}
 use Rattle.exec_io.specs.Untouched.{IsHandedOn}
 use Rattle.plan_reader.specs.declared.fault.PlanFault.{PlanFault}
 use Rattle.plan_reader.specs.PlanFile.{IsPlanOf}
 use Rattle.plan_kinds.specs.Small.{IsSmall}
 use Rattle.plan_shape.specs.Blueprint.{Blueprint}
-use Rattle.run_tally.specs.Tallied.{Tallied}
 use Rattle.record_lines.specs.declared.ending.End.{End}
 use Rattle.exec_status.specs.declared.status.Status.{Status}
 use Rattle.exec_status.specs.declared.status.Status.TheVariants.{AllValues, NotAllValues, PlanRefused, NoMemory, ReadFault, WriteFault, Limit}
 use Rattle.exec_status.specs.Files.{RunsShort}
 use Rattle.exec_status.specs.Noted.{Noted}
+use Rattle.exec_engine.specs.declared.tally.Tally.{Tally}
 use Rattle.exec_engine.specs.declared.task.Task.{Task}
 use Rattle.exec_engine.specs.Complete.{IsFinished, SettleToValues}
 use Rattle.exec_engine.specs.Opening.{Finds, IsRefused}
 use Rattle.exec_engine.specs.Refusals.{IsRefusedWith}
 use Rattle.exec_engine.specs.Says.{HasNoMemory, Lines, Says, Untouched}
+use Rattle.exec_engine.specs.Surroundings.{Surroundings, streams_of}
 use Rattle.exec_engine.specs.Taken.{LeavesSource, PassesLimit, KeepsLimit, IsWithin, OfRecords}
 
 -- A run of this task ended with this tally and this status.
-pub record RunEnds (task : Task) (old new : Outside) (tally : Tallied) (status : Status)
+pub record RunEnds (task : Task) (old new : Surroundings) (tally : Tally) (status : Status)
     : Type 0 where
   -- What the status says of the plan, the records, the lines and the tally, and what notes hold.
   pub says : Says task old new tally status
@@ -41,7 +42,7 @@ pub record RunEnds (task : Task) (old new : Outside) (tally : Tallied) (status :
   pub out_still : status ≢ WriteFault → new.out.faults ≡ old.out.faults
   -- Generated records read nothing. Of a source that tells its bytes the limit is answered only where
   -- they pass one, and the end where not.
-  pub leaves : LeavesSource task.origin old.records new.records
+  pub leaves : LeavesSource task.origin (streams_of old) (streams_of new)
   pub beyond : status ≡ Limit → PassesLimit task.origin old.records
   pub within : (status ≡ AllValues) ⊎ (status ≡ NotAllValues) → KeepsLimit task.origin old.records
   -- A sink that was written to, and didn't fail, has nothing left to hand on.
@@ -70,7 +71,8 @@ pub record RunEnds (task : Task) (old new : Outside) (tally : Tallied) (status :
       (lines : Lines task old new end rest outcomes) → IsSmall lines.plan → ¬ HasNoMemory outcomes
   pub small : (plan : Blueprint) → Finds old task (λ bytes. IsPlanOf bytes plan)
       → IsSmall plan → status ≡ NoMemory → Untouched task old new tally
-  -- Nothing on the shelf changes.
+  -- The shelf is asked for the plan, once, and for nothing else. Nothing on it changes.
+  pub asks : AsksOnce task.plan.now old.shelf.asked new.shelf.asked
   pub shelf_same : new.shelf.texts ≡ old.shelf.texts
   -- No count of faults falls.
   pub shelf_later : old.shelf.faults ≤ new.shelf.faults

@@ -1,8 +1,10 @@
+pub mod Surroundings
 pub mod Opening
 pub mod Refusals
 pub mod Tasks
 pub mod Crewing
 pub mod Taken
+pub mod Tallies
 pub mod Says
 pub mod Statuses
 pub mod Closes

@@ -1,6 +1,5 @@
 -- What the shelf gives under the name of a plan.
 use Rattle.std.specs.Prelude.{◌≢◌, ℕ, List, Option}
-use Rattle.exec_io.specs.Outside.{Outside}
 use Rattle.exec_io.specs.Shelves.{Texts, Gives, Stands}
 use Rattle.plan_kinds.specs.Reached.{KindsMatch}
 use Rattle.plan_shape.specs.Blueprint.{Blueprint, IsPlan}
@@ -10,9 +9,10 @@ use Rattle.plan_reader.specs.declared.read.TheConstants.{MOST_PLAN_BYTES}
 use Rattle.plan_reader.specs.PlanFile.{IsPlanOf, IsFaultOf}
 use Rattle.run_rules.specs.PlanTerms.{MayRun}
 use Rattle.exec_engine.specs.declared.task.Task.{Task}
+use Rattle.exec_engine.specs.Surroundings.{Surroundings}
 
 -- The shelf tells its texts, and what it gives of the task's plan has this property.
-abbrev pub Finds : Outside → Task → (List ℕ → Type 0) → Type 0
+abbrev pub Finds : Surroundings → Task → (List ℕ → Type 0) → Type 0
 Finds old task P = Stands MOST_PLAN_BYTES old.shelf.texts task.plan.now P
 
 -- The bytes are refused for this cause.

@@ -5,8 +5,12 @@ use Rattle.exec_io.specs.Views.{SourceView}
 use Rattle.record_lines.specs.declared.ending.End.{End}
 use Rattle.record_lines.specs.declared.ending.End.TheVariants.{Ended}
 use Rattle.record_lines.specs.Records.{records_of, IsBeyond}
-use Rattle.record_loop.specs.Reading.{Reads}
+use Rattle.record_loop.specs.CaughtUp.{HasCaughtUp}
 use Rattle.record_loop.specs.Generated.{generated_lines}
+use Rattle.record_loop.specs.ReadStarts.{ReadsOnly}
+use Rattle.record_loop.specs.Reading.{Reads}
+use Rattle.record_loop.specs.Standing.{Opening}
+use Rattle.record_runs.specs.Endings.{Streams}
 use Rattle.exec_engine.specs.declared.task.Origin.{Origin}
 use Rattle.exec_engine.specs.declared.task.Origin.TheVariants.{Source, Generated}
 
@@ -31,10 +35,23 @@ Takes (Source form) kind before after end rest records = TakesRead before after 
 Takes (Generated count) kind before after end rest records =
     TakesGenerated kind count before after end rest records
 
+-- Nothing was read of the source.
+pub record IsUnread (before after : Streams) : Type 0 where
+  pub source_same : after.source ≡ before.source
+  pub reads_same : after.reads ≡ before.reads
+
 -- Of a source nothing is said here; for generated records nothing is read.
-abbrev pub LeavesSource : Origin → SourceView → SourceView → Type 0
+abbrev pub LeavesSource : Origin → Streams → Streams → Type 0
 LeavesSource (Source form) before after = Unit {0}
-LeavesSource (Generated count) before after = after ≡ before
+LeavesSource (Generated count) before after = IsUnread before after
+
+-- When a read of the source began, the outcome of each record whose line feed was read was written and
+-- handed on, or kept for the one line for all, and no write was lost. For generated records nothing is
+-- read.
+abbrev pub ReadsCaughtUp : Origin → Opening → Streams → Streams → Type 0
+ReadsCaughtUp (Source form) opening before after =
+    ReadsOnly (HasCaughtUp opening before.source.left) before.reads after.reads
+ReadsCaughtUp (Generated count) opening before after = IsUnread before after
 
 -- A source that tells its bytes has more than a run takes. There are never too many generated ones.
 abbrev pub PassesLimit : Origin → SourceView → Type 0

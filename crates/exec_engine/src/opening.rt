@@ -31,7 +31,7 @@ pub fn open_plan<F: Shelf>(
     name: &str,
     shelf: &mut F,
 ) -> Result<Plan, FileFault<PlanFault>>
-    ensures reads { ReadsShelf (F.told shelf.old) (F.told shelf.new) result }
+    ensures reads { ReadsShelf name.now (F.told shelf.old) (F.told shelf.new) result }
     ensures plan { IfOk result (HasPlan (F.told shelf.old).texts name.now) }
     ensures fault { IfErr result (Misses (HasRefusal (F.told shelf.old).texts name.now)) }
 {
