@@ -19,15 +19,12 @@ use Rattle.plan_shape.specs.Blueprint.{Blueprint}
 use Rattle.record_lines.specs.Lines.{text_of}
 use Rattle.record_lines.specs.Records.{records_of}
 use Rattle.record_loop.specs.Printing.{Finished}
-use Rattle.record_loop.specs.Ran.{Ran}
 use Rattle.record_loop.specs.ReadStarts.{ReadStart}
 use Rattle.record_loop.specs.declared.printer.Form.TheVariants.{Lines}
-use Rattle.record_loop.specs.declared.ending.Ending.{Ending}
-use Rattle.record_runs.specs.Endings.{EndsLines, Supply, WantsMemory, begins, supply}
-use Rattle.record_runs.specs.Accounts.{ending_in}
+use Rattle.record_loop.specs.Tallies.{IsToldBy}
+use Rattle.record_runs.specs.Accounts.{EndsRun, IsClosedFor}
+use Rattle.record_runs.specs.Endings.{Streams, WantsMemory, streams}
 use Rattle.record_runs.specs.declared.account.Account.{Account}
-use Rattle.record_runs.specs.Opened.{IsClosedAfter, blocks_for}
-use Rattle.table_steps.specs.declared.closing.Closing.{Closing}
 use Rattle.run_rules.specs.Lawful.{Lawful, MayEnd, datum_of}
 use Rattle.run_rules.specs.PlanTerms.{AllowsRecord, terms_of}
 use Rattle.by_example.specs.Adder.{pool_adder}
@@ -88,36 +85,37 @@ all-lines window lines outcomes lawful =
     mapped outcome_of lines outcomes lawful.as_many
     (λ i line outcome at bt. one-line window (i + 1) line outcome (lawful.each i line outcome at bt))
 
--- its table has no spare blocks
-closed-plain : (closing : Closing) → IsClosedAfter (blocks_for pool_adder WINDOW) closing → IsClosedAfter WINDOW closing
-closed-plain closing closed = record { joined = closed.joined; back = closed.back }
-
 -- a run of a plan that is this one keeps its promise, and that one
-pub same-ends : (plan : Blueprint) → plan ≡ pool_adder → (old new : Supply) (before after : SinkView) (answer : Result Ending AllocError) →
-    EndsLines (begins plan WINDOW Lines before) old new after answer → EndsLines (begins pool_adder WINDOW Lines before) old new after answer
-same-ends plan is old new before after answer ends =
-    subst (λ (p : Blueprint). EndsLines (begins p WINDOW Lines before) old new after answer) is ends
+pub same-ends : (plan : Blueprint) → plan ≡ pool_adder → (before after : Streams) (answer : Result Account AllocError) →
+    IfOk answer (EndsRun plan WINDOW Lines before after) → IfOk answer (EndsRun pool_adder WINDOW Lines before after)
+same-ends plan is before after answer ends = subst (λ (p : Blueprint). IfOk answer (EndsRun p WINDOW Lines before after)) is ends
 
-module _ {S K : Type 0} (source : S → SourceView) (sink : K → SinkView) (old new : S) (before after : K) where
-  adds-lines : (account : Account) → Ran WantsMemory (begins pool_adder WINDOW Lines (sink before)) (source old) (source new) (sink after) account.ending →
-      IsClosedAfter (blocks_for pool_adder WINDOW) account.closing → AddsOneToEach source sink old new before after account
-  adds-lines account ran closed =
+module _ {S K : Type 0} (source : S → SourceView) (reads : S → Option (List ReadStart)) (sink : K → SinkView) (old new : S) (before after : K) where
+  -- what its source and its sink tell
+  abbrev around : S → K → Streams
+  around records out = streams (source records) (reads records) (sink out)
+
+  adds-lines : (account : Account) → EndsRun pool_adder WINDOW Lines (around old before) (around new after) account →
+      IsClosedFor pool_adder WINDOW account.tally account.closing → AddsOneToEach source sink old new before after account
+  adds-lines account ends closed =
+      let ran = ends.ran in
       let lines = records_of ran.bytes account.ending.end in
+      let are = all-lines WINDOW lines ran.answered.outcomes ran.answered.lawful in
       record {
         bytes = ran.bytes;
         rest = ran.rest;
         reads = ran.reads;
-        all = ran.all;
-        printed = subst (λ (l : List Outcome). Finished Lines (sink before) (sink after) account.ending.summary account.ending.lost l)
-            (all-lines WINDOW lines ran.answered.outcomes ran.answered.lawful) ran.answered.finished;
-        closed = closed-plain account.closing closed;
+        all = λ whole. ran.all (inl whole);
+        printed = subst (λ (l : List Outcome). Finished Lines (sink before) (sink after) account.ending.summary account.ending.lost l) are ran.answered.finished;
+        told = subst (λ (l : List Outcome). IsToldBy pool_adder account.closing.board.table_id l account.tally) are ran.answered.told;
+        closed = closed;
       }
 
-  pub ends-adding : (plan : Blueprint) → plan ≡ pool_adder → (first last : Option (List ReadStart)) (answer : Result Account AllocError) →
-      EndsLines (begins plan WINDOW Lines (sink before)) (supply (source old) first) (supply (source new) last) (sink after) (ending_in answer) →
-      IfOk answer (λ account. IsClosedAfter (blocks_for plan WINDOW) account.closing) → IfOk answer (AddsOneToEach source sink old new before after)
-  ends-adding plan is first last (Ok account) ends closed =
+  pub ends-adding : (plan : Blueprint) → plan ≡ pool_adder → (answer : Result Account AllocError) →
+      IfOk answer (EndsRun plan WINDOW Lines (around old before) (around new after)) →
+      IfOk answer (λ account. IsClosedFor plan WINDOW account.tally account.closing) → IfOk answer (AddsOneToEach source sink old new before after)
+  ends-adding plan is (Ok account) ends closed =
       adds-lines account
-      (subst (λ (p : Blueprint). Ran WantsMemory (begins p WINDOW Lines (sink before)) (source old) (source new) (sink after) account.ending) is ends.ran)
-      (subst (λ (p : Blueprint). IsClosedAfter (blocks_for p WINDOW) account.closing) is closed)
-  ends-adding plan is first last (Err e) ends closed = tt
+      (subst (λ (p : Blueprint). EndsRun p WINDOW Lines (around old before) (around new after) account) is ends)
+      (subst (λ (p : Blueprint). IsClosedFor p WINDOW account.tally account.closing) is closed)
+  ends-adding plan is (Err e) ends closed = tt

@@ -10,7 +10,7 @@ use Rattle.run_loop.specs.declared.looped.Loop.{Loop as Looped}
 use Rattle.table_rules.specs.declared.view.View.{View}
 use Rattle.table_steps.specs.Closings.{AreAllBack, HasNothing, IsCountedBy}
 use Rattle.table_steps.specs.Views.{AreFreshHands, Board, IsHandOf, knows}
-use Rattle.table_steps.specs.declared.closing.Closing.{Closing}
+use Rattle.table_steps.specs.declared.remains.Remains.{Remains}
 use Rattle.record_runs.specs.Opened.{IsFreshHand}
 use Rattle.run_crew.specs.Crews.{IsSpare}
 use Rattle.by_example.specs.OneHand.{TheHand}
@@ -64,9 +64,9 @@ all-back board all hand one is back =
     (record { length_is = sym one; each = ((back.hand_of, back.nothing), tt) })
 
 -- and all blocks
-pub all-counted : (board : Board Blueprint) (all : List TheHand) (hand : TheHand) (closing : Closing) → all ≡ hand ∷ [] →
-    IsSpare board hand → IsCountedBy board all closing → closing.free + closing.retired ≡ board.frame.layout.blocks
-all-counted board all hand closing is back counted =
-    let count = subst (λ (hands : List TheHand). IsCountedBy board hands closing) is counted in
+pub all-counted : (board : Board Blueprint) (all : List TheHand) (hand : TheHand) (left : Remains) → all ≡ hand ∷ [] →
+    IsSpare board hand → IsCountedBy board all left → left.free + left.retired ≡ board.frame.layout.blocks
+all-counted board all hand left is back counted =
+    let count = subst (λ (hands : List TheHand). IsCountedBy board hands left) is counted in
     let even = back.even in
     omega arith

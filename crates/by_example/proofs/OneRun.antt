@@ -124,7 +124,7 @@ module _ (board : Board Blueprint) (hand : TheHand) (new : IsFreshHand board han
       }
 
   -- no request was seen
-  saw-none : (start : List Entry) (c : Collected) → HasRun start old later c → c.saw ≡ true → ⊥
+  saw-none : (start : List Entry) (c : Collected) → HasRun board start old later c → c.saw ≡ true → ⊥
   saw-none start c did saw = false≢true (sym (ap (λ (v : TheView). v.requested) seen) ∙ did.is_for.saw saw)
 
   -- and what is answered is allowed

@@ -10,9 +10,10 @@ use Rattle.record_lines.specs.Records.{records_of}
 use Rattle.record_loop.specs.Printing.{Finished}
 use Rattle.record_loop.specs.Reading.{Reads}
 use Rattle.record_loop.specs.declared.printer.Form.TheVariants.{Lines}
-use Rattle.record_runs.specs.Opened.{IsClosedAfter}
+use Rattle.record_loop.specs.Tallies.{IsToldBy}
+use Rattle.record_runs.specs.Accounts.{IsClosedFor}
 use Rattle.record_runs.specs.declared.account.Account.{Account}
-use Rattle.by_example.specs.Adder.{next_of}
+use Rattle.by_example.specs.Adder.{next_of, pool_adder}
 use Rattle.by_example.specs.declared.streaming.TheConstants.{WINDOW}
 
 -- the number that a line shows
@@ -28,8 +29,9 @@ abbrev pub outcome_of : List ℕ → Outcome
 outcome_of line = answered (number_of line)
 
 -- Of the source bytes were read until the end that the account names, and each of their lines was
--- answered so in the sink, in order, but those of a rest that was read when a write was lost. The
--- table was closed with its scope joined and each block given back.
+-- answered so in the sink, in order, but those of a rest that was read when a write was lost. Each
+-- number was answered by an operation of one table, which was closed with its scope joined and each
+-- block given back.
 pub record AddsOneToEach {S K : Type 0} (source : S → SourceView) (sink : K → SinkView) (old new : S)
     (before after : K) (account : Account) : Type 0 where
   pub bytes : List ℕ
@@ -38,4 +40,6 @@ pub record AddsOneToEach {S K : Type 0} (source : S → SourceView) (sink : K �
   pub all : account.ending.lost ≡ false → rest ≡ []
   pub printed : Finished Lines (sink before) (sink after) account.ending.summary account.ending.lost
       (map outcome_of (records_of bytes account.ending.end))
-  pub closed : IsClosedAfter WINDOW account.closing
+  pub told : IsToldBy pool_adder account.closing.board.table_id
+      (map outcome_of (records_of bytes account.ending.end)) account.tally
+  pub closed : IsClosedFor pool_adder WINDOW account.tally account.closing

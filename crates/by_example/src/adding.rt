@@ -29,6 +29,6 @@ pub fn add_one<R: Wait + Sync>(rt: &R, alloc: Global, number: i64) -> Result<Com
     let hand = hands.remove(0);
     let answer = run_number(rt, alloc, &plan, &steps, &table, hand, number);
     let closing = close_one(table, hands, answer.hand);
-    prove!(closing.free + closing.retired == 1);
+    prove!(closing.free() + closing.retired() == 1);
     answer.completion
 }

@@ -30,12 +30,13 @@ pub(crate) fn close_one(
     table: OpTable<Item>,
     mut hands: Vec<Hand<Item>>,
     hand: Hand<Item>,
-) -> Closing
+) -> Closing<Item>
     requires one { table.frame.hands ≡ 1 }
     requires none { hands.items ≡ [] }
     requires room { 0 < vec_capacity hands }
     requires back { IsSpare table hand }
-    ensures { result.free + result.retired ≡ table.frame.layout.blocks }
+    ensures board { result.board ≡ table }
+    ensures back { result.remains.free + result.remains.retired ≡ table.frame.layout.blocks }
 {
     hands.push_reserved(hand);
     table.close_table(hands)

@@ -1,9 +1,9 @@
 //! One is added to each number of a stream, by operations on workers.
-ghost use Rattle.std.specs.Prelude.{IfOk, vec_len};
+ghost use Rattle.std.specs.Prelude.{IfOk, OnErr, vec_len};
 ghost use Rattle.std.specs.Thread.{IsSync};
 ghost use Rattle.record_loop.specs.declared.printer.Form.{Form};
-ghost use Rattle.record_runs.specs.Endings.{EndsLines, begins, supply};
-ghost use Rattle.record_runs.specs.Accounts.{ending_in};
+ghost use Rattle.record_runs.specs.Accounts.{EndsRun};
+ghost use Rattle.record_runs.specs.Endings.{IsUnbegun, streams};
 ghost use Rattle.run_crew.specs.Crews.{IsCrew};
 ghost use Rattle.by_example.specs.Adder.{pool_adder};
 ghost use Rattle.by_example.specs.Streams.{AddsOneToEach};
@@ -29,7 +29,8 @@ pub const WINDOW: usize = 64;
 ///
 /// Afterwards: what `run_lines` promises for the plan. So the line of each number is that of the
 /// next number, or of the error `overflow`, and each other line is a bad record, whatever the
-/// workers did; and the table was closed with its scope joined and each block given back.
+/// workers did; it is told by an operation of the table that the account tells of, which was closed
+/// with its scope joined and each block given back.
 pub fn add_lines<R: Threads + Wait + Sync, S: RecordSource, K: Sink>(
     rt: &R,
     alloc: Global,
@@ -39,9 +40,12 @@ pub fn add_lines<R: Threads + Wait + Sync, S: RecordSource, K: Sink>(
 ) -> Result<Account, AllocError>
     requires sync { IsSync R.row }
     requires crew { IsCrew crew.workers (vec_len crew.backends) }
-    ensures ends { EndsLines (begins pool_adder WINDOW Form.Lines (K.told out.old))
-        (supply (S.told records.old) (S.reads records.old))
-        (supply (S.told records.new) (S.reads records.new)) (K.told out.new) (ending_in result) }
+    ensures ends { IfOk result (EndsRun pool_adder WINDOW Form.Lines
+        (streams (S.told records.old) (S.reads records.old) (K.told out.old))
+        (streams (S.told records.new) (S.reads records.new) (K.told out.new))) }
+    ensures unbegun { OnErr result (IsUnbegun
+        (streams (S.told records.old) (S.reads records.old) (K.told out.old))
+        (streams (S.told records.new) (S.reads records.new) (K.told out.new))) }
     ensures adds { IfOk result
         (AddsOneToEach S.told K.told records.old records.new out.old out.new) }
 {

@@ -15,8 +15,8 @@ run_lines-requires-clause-may_run g c κs within =
     subst (λ (plan : Blueprint). MayRun plan.settings) (sym c.in_ok-plan.ensures) (record { stop_after = tt; rules = refl })
 
 pub returns-clause-ends : goal.returns-clause-ends
-returns-clause-ends g c = same-ends c.in_ok-plan.plan c.in_ok-plan.ensures _ _ _ _ _ c.run_lines.ensures.ends
+returns-clause-ends g c = same-ends c.in_ok-plan.plan c.in_ok-plan.ensures _ _ c.run_lines.result c.run_lines.ensures.ends
 
 pub returns-clause-adds : goal.returns-clause-adds
 returns-clause-adds g c =
-    ends-adding _ _ _ _ _ _ c.in_ok-plan.plan c.in_ok-plan.ensures _ _ c.run_lines.result c.run_lines.ensures.ends c.run_lines.ensures.closed
+    ends-adding _ g.S.RecordSource.reads _ _ _ _ _ c.in_ok-plan.plan c.in_ok-plan.ensures c.run_lines.result c.run_lines.ensures.ends c.run_lines.ensures.closed
