@@ -40,7 +40,7 @@ class Plan:
 
     def __init__(self, sentence, kind, root, small=False, records=b"", count=None):
         self.sentence, self.small, self.records = sentence, small, records
-        self.text = json.dumps({"version": 1, "input": kind, "root": root})
+        self.text = json.dumps({"version": 2, "input": kind, "root": root})
         self.words = ["run", "plan.json"] if count is None else ["gen", "plan.json", str(count)]
         # requests are counted on one thread
         self.words += ["--workers", "0"]
@@ -49,6 +49,15 @@ class Plan:
         with open(os.path.join(folder, "plan.json"), "w", encoding="utf-8") as file:
             file.write(self.text)
         return traced.run_refusing(os.path.abspath(program), self.words, folder, self.records, number)
+
+
+class Trace(Plan):
+    """A trace to check, or a schedule to replay."""
+
+    def __init__(self, sentence, command, entries):
+        self.sentence, self.small, self.records = sentence, False, b""
+        self.text = "".join(f"{line}\n" for line in ("exec 2 1 1 counting 1", "node 1 plain", "node - plain", *entries))
+        self.words = [command, "plan.json"]
 
 
 def failing(name):
@@ -63,6 +72,22 @@ def row_of(numbers):
 ADD_ONE = {"do": "then", "child": INPUT, "job": {"job": "add", "n": 1}}
 PARSED = {"do": "then", "child": INPUT, "job": {"job": "parse"}}
 WITHIN = {"do": "bulk", "child": INPUT, "job": {"job": "within", "lo": 0, "hi": 9}}
+ADDED = {"do": "bulk", "child": INPUT, "job": {"job": "add", "n": 1}}
+STOPPING = {"do": "when_all", "children": [
+    {"do": "just", "values": [1]},
+    {"do": "upon_error", "job": {"job": "length"}, "child": {"do": "when_all", "children": [
+        {"do": "just_error", "error": "late"}, {"do": "delay", "turns": 1_000}]}}]}  # fmt: skip
+ON_POOL = {"do": "starts_on", "on": "pool", "child": INPUT}
+HOPPING = {"do": "let_error", "pick": {"job": "length"}, "bodies": [{"do": "just", "values": [-1]}], "child": {
+    "do": "then", "job": {"job": "mul", "n": 100}, "child": {"do": "then", "job": {"job": "parse"}, "child": ON_POOL}}}  # fmt: skip
+HALVED = {"do": "starts_on", "on": "pool", "child": {"do": "then", "child": INPUT, "job": {"job": "div", "n": 2}}}
+PICKING = {"do": "upon_error", "job": {"job": "length"}, "child": {
+    "do": "let_value", "child": HALVED, "pick": {"job": "pass"}, "bodies": [
+        {"do": "just", "values": [1]}, {"do": "just_error", "error": "e"}]}}  # fmt: skip
+BOTH = {"do": "ahead", "first": {"do": "then", "child": ON_POOL, "job": {"job": "mul", "n": 2}}, "second": ADD_ONE}
+WHOLE = ["0 claim 0", "0 begin 0.1", "0 await 0.1 0", "0 begin 0.0", "0 finish 0.0", "0 report 0.0", "0 finish 0.1",
+         "0 release 0"]  # fmt: skip
+CHOICES = ["0 0", "0 0", "0 0", "0 0", "0 3", "0 0", "0 3", "0 0"]
 PLANS = [
     Plan("one is added to three numbers", "int", ADD_ONE, True, b"5\n-1\nx\n"),
     Plan("of a row of 4,096 numbers one fails", "row", WITHIN, False, row_of(LONG_ROW)),
@@ -71,6 +96,13 @@ PLANS = [
     Plan("texts are parsed, of which one is long", "text", PARSED, False, b"42\nab\n" + b"0" * 50 + b"7\n"),
     Plan("plan G over 100 generated records", "int", G, count=100),
     Plan("plan G over three records", "int", G, records=b"0\n1\n2\n"),
+    Plan("one is added to the numbers of rows", "row", ADDED, False, b"[]\n[1,2]\n" + row_of(LONG_ROW)),
+    Plan("a when_all stops a delay", "int", STOPPING, False, b"0\n"),
+    Plan("texts are parsed on the pool, and a let takes the error", "text", HOPPING, False, b"42\nx\n-3\n"),
+    Plan("a let in the pool picks an error", "int", PICKING, True, b"0\n2\n"),
+    Plan("an ahead joins both", "int", BOTH, False, b"5\n-1\n"),
+    Trace("a trace is checked", "check", WHOLE),
+    Trace("a schedule is replayed", "replay", CHOICES),
 ]
 
 

@@ -1,5 +1,9 @@
 //! The tests, by what they use, and the objects in memory that they share.
+mod all_on_one_thread;
+mod always_out_of_memory;
+mod asked;
 mod backends;
+mod closings;
 mod crews;
 mod engine;
 mod statuses;
@@ -13,6 +17,7 @@ use std::alloc::{AllocError, Global};
 #[derive(Drop)]
 struct Ran {
     called: Called,
+    shelf: MemShelf,
     out: MemSink,
     notes: MemSink,
 }

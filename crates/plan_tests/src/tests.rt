@@ -1,5 +1,6 @@
 //! The tests, by what they use, and the settings that they share.
 mod building;
+mod calls;
 mod examples;
 mod reading;
 mod runs;

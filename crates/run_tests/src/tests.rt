@@ -20,7 +20,6 @@ use run_rules::at_once;
 use sig_check::check;
 use std::alloc::Global;
 use std::test::Fail;
-use table_steps::Closing;
 
 /// One more than the record.
 const ADDING: &str = r#"{"do":"then","child":{"do":"input"},"job":{"job":"add","n":1}}"#;
@@ -37,12 +36,10 @@ fn plan_of(alloc: Global, settings: &str, root: &str) -> Result<Plan, Fail>
 
 /// Whether its table was closed with its scope joined and so many blocks free.
 fn is_left(account: &Account, blocks: usize) -> bool {
-    let Closing {
-        scope,
-        free,
-        retired,
-    } = account.closing;
-    scope == ScopeState::Joined && free as usize == blocks && retired == 0
+    let closing = &account.closing;
+    closing.scope() == ScopeState::Joined
+        && closing.free() as usize == blocks
+        && closing.retired() == 0
 }
 
 /// How many blocks the table of a run of the plan has, with so many records at once.

@@ -12,6 +12,8 @@ mod bulks;
 mod decks;
 mod delays;
 mod names;
+mod pushed;
+mod waits;
 
 use exec_io::MemSink;
 use exec_recv::{Gate, OpenGate};

@@ -1,15 +1,18 @@
-//! A call of `run`, with backends that note what they are asked for.
+//! A call of `run`, past a gate, with backends that note what they are asked for.
 ghost use Rattle.std.specs.Thread.{IsSync};
 
-use exec_engine::{Backend, Status, Tally, run};
+use exec_engine::{Backend, Status, System, Tally, run};
 use exec_io::{Shelf, Sink, Source};
-use exec_recv::OpenGate;
+use exec_recv::Gate;
 use exec_words::MOST_WORKERS;
 use pool_backends::{Name, Order, RingBackend};
 use std::alloc::{AllocError, Global};
 use std::sync::atomic::{AtomicU64, Ordering};
 use std::sync::{Arc, Wait};
 use std::thread::Threads;
+
+/// How many names each backend has room for.
+const ROOM: u32 = 2;
 
 /// How often all backends of a run were asked for what.
 #[derive(Drop)]
@@ -53,7 +56,7 @@ impl Backend for Watched {
 }
 
 /// What a call of `run` came to.
-#[derive(Clone, Copy)]
+#[derive(Drop)]
 pub struct Called {
     pub status: Status,
     pub tally: Tally,
@@ -66,16 +69,13 @@ pub struct Called {
     pub submitted: u64,
 }
 
-/// Calls `run`, with backends that have room for so many names, and a tally of its own.
-pub fn call<R: Threads + Wait + Sync, F: Shelf, S: Source, K: Sink, N: Sink>(
+/// Calls `run` on this system, past this gate, with backends and a tally of its own.
+pub fn call<G: Gate + Sync, R: Threads + Wait + Sync, F: Shelf, S: Source, K: Sink, N: Sink>(
     rt: &R,
     alloc: Global,
     words: &[&str],
-    room: u32,
-    shelf: &mut F,
-    records: &mut S,
-    out: &mut K,
-    notes: &mut N,
+    gate: &G,
+    system: &mut System<F, S, K, N>,
 ) -> Result<Called, AllocError>
     requires { IsSync R.row }
 {
@@ -89,15 +89,13 @@ pub fn call<R: Threads + Wait + Sync, F: Shelf, S: Source, K: Sink, N: Sink>(
     )?;
     let mut backends: Vec<Box<dyn Backend + Send>> = Vec::new(alloc);
     for made in 0..MOST_WORKERS {
-        let ring = RingBackend::new(alloc, room)?;
+        let ring = RingBackend::new(alloc, ROOM)?;
         let asked = Arc::try_clone(&asked)?;
         backends.push(Box::new(alloc, Watched { ring, asked })?)?;
     }
     let given = Arc::strong_count(&asked) - 1;
     let mut tally = Tally::new();
-    let status = run(
-        rt, alloc, words, shelf, records, out, notes, backends, &OpenGate, &mut tally,
-    );
+    let status = run(rt, alloc, words, system, backends, gate, &mut tally);
     Ok(Called {
         status,
         tally,

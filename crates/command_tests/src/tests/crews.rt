@@ -32,7 +32,7 @@ fn called<R: Threads + Wait + Sync>(
 }
 
 /// Whether the tally has these numbers, and none of want of memory.
-fn has(tally: Tally, values: u64, errors: u64) -> bool {
+fn has(tally: &Tally, values: u64, errors: u64) -> bool {
     tally.values() == values
         && tally.errors() == errors
         && tally.stopped() == 0
@@ -40,7 +40,7 @@ fn has(tally: Tally, values: u64, errors: u64) -> bool {
 }
 
 /// Whether all backends that there may be were handed in and dropped.
-fn dropped(called: Called) -> bool {
+fn dropped(called: &Called) -> bool {
     called.given == MOST_WORKERS as usize && called.left == 0
 }
 
@@ -48,8 +48,8 @@ fn dropped(called: Called) -> bool {
 fn a_run_drops_its_backends_and_tallies_its_lines(rt: HostRuntime) -> Result<(), Fail> {
     for plan in [ADD_ONE, ON_POOL] {
         let ran = called(&rt, rt.alloc(), &["run", "plan.json"], plan)?;
-        assert!(rt; ran.status == Status::NotAllValues && dropped(ran));
-        assert!(rt; has(ran.tally, 2, 1));
+        assert!(rt; ran.status == Status::NotAllValues && dropped(&ran));
+        assert!(rt; has(&ran.tally, 2, 1));
     }
     Ok(())
 }
@@ -63,7 +63,7 @@ fn what_comes_to_no_run_drops_them_and_tallies_nothing(rt: HostRuntime) -> Resul
     ];
     for (command, status) in rows {
         let ended = called(&rt, rt.alloc(), &[command, "plan.json"], "{")?;
-        assert!(rt; ended.status == status && dropped(ended) && has(ended.tally, 0, 0));
+        assert!(rt; ended.status == status && dropped(&ended) && has(&ended.tally, 0, 0));
     }
     Ok(())
 }
@@ -71,7 +71,7 @@ fn what_comes_to_no_run_drops_them_and_tallies_nothing(rt: HostRuntime) -> Resul
 #[test]
 fn generated_records_are_tallied(rt: HostRuntime) -> Result<(), Fail> {
     let ran = called(&rt, rt.alloc(), &["gen", "plan.json", "7"], ADD_ONE)?;
-    assert!(rt; ran.status == Status::AllValues && dropped(ran) && has(ran.tally, 7, 0));
+    assert!(rt; ran.status == Status::AllValues && dropped(&ran) && has(&ran.tally, 7, 0));
     Ok(())
 }
 
@@ -90,8 +90,8 @@ fn each_worker_is_in_the_order_of_the_words(rt: HostRuntime) -> Result<(), Fail>
             &["run", "plan.json", workers, order],
             ON_POOL,
         )?;
-        assert!(rt; ran.fifo == fifo && ran.lifo == lifo && dropped(ran));
-        assert!(rt; has(ran.tally, 2, 1));
+        assert!(rt; ran.fifo == fifo && ran.lifo == lifo && dropped(&ran));
+        assert!(rt; has(&ran.tally, 2, 1));
     }
     Ok(())
 }

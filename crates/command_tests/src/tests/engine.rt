@@ -4,8 +4,9 @@ ghost use Rattle.std.specs.Thread.{IsSync};
 
 use super::backends::call;
 use super::{Ran, shelf, sink};
-use exec_engine::Status;
+use exec_engine::{Status, System};
 use exec_io::{MemSink, MemSource, NeverFails};
+use exec_recv::{Gate, OpenGate};
 use std::alloc::{AllocError, Global};
 use std::sync::Wait;
 use std::test::Fail;
@@ -15,8 +16,12 @@ use std::thread::Threads;
 pub const ADD_ONE: &str =
     r#"{"version":1,"input":"int","root":{"do":"then","child":{"do":"input"},"job":{"job":"add","n":1}}}"#;
 
+/// A first child that runs as an operation of its own.
+pub const AHEAD: &str =
+    r#"{"version":2,"input":"int","root":{"do":"ahead","first":{"do":"starts_on","on":"pool","child":{"do":"then","child":{"do":"input"},"job":{"job":"mul","n":2}}},"second":{"do":"then","child":{"do":"input"},"job":{"job":"add","n":1}}}}"#;
+
 /// A trace that is taken.
-const WHOLE_RUN: &str = "exec 2 1 1 counting 1\nnode 1 plain\nnode - plain\n\
+pub const TRACE: &str = "exec 2 1 1 counting 1\nnode 1 plain\nnode - plain\n\
     0 claim 0\n0 begin 0.1\n0 await 0.1 0\n0 begin 0.0\n0 finish 0.0\n0 report 0.0\n\
     0 finish 0.1\n0 release 0\n";
 
@@ -42,8 +47,7 @@ pub const ALL: Given<'_> = Given {
     told: &[],
 };
 
-/// A run with these words, where the shelf has this text under the name `plan.json`, and backends
-/// have room for two names.
+/// A run with these words, where the shelf has this text under the name `plan.json`.
 pub fn run_with<R: Threads + Wait + Sync>(
     rt: &R,
     alloc: Global,
@@ -53,21 +57,39 @@ pub fn run_with<R: Threads + Wait + Sync>(
 ) -> Result<Ran, AllocError>
     requires { IsSync R.row }
 {
-    let mut shelf = shelf(alloc, "plan.json", text.as_bytes(), &[])?;
-    let mut records = MemSource::new(given.input.to_vec(alloc)?, given.reads.to_vec(alloc)?);
-    let mut out = sink(alloc, given.out, given.writes)?;
-    let mut notes = sink(alloc, given.notes, given.told)?;
-    let called = call(
-        rt,
-        alloc,
-        words,
-        2,
-        &mut shelf,
-        &mut records,
-        &mut out,
-        &mut notes,
-    )?;
-    Ok(Ran { called, out, notes })
+    run_past(rt, alloc, words, text, given, &OpenGate)
+}
+
+/// The same run, past this gate.
+pub fn run_past<G: Gate + Sync, R: Threads + Wait + Sync>(
+    rt: &R,
+    alloc: Global,
+    words: &[&str],
+    text: &str,
+    given: Given<'_>,
+    gate: &G,
+) -> Result<Ran, AllocError>
+    requires { IsSync R.row }
+{
+    let mut system = System {
+        shelf: shelf(alloc, "plan.json", text.as_bytes(), &[])?,
+        records: MemSource::new(given.input.to_vec(alloc)?, given.reads.to_vec(alloc)?),
+        out: sink(alloc, given.out, given.writes)?,
+        notes: sink(alloc, given.notes, given.told)?,
+    };
+    let called = call(rt, alloc, words, gate, &mut system)?;
+    let System {
+        shelf,
+        records: _,
+        out,
+        notes,
+    } = system;
+    Ok(Ran {
+        called,
+        shelf,
+        out,
+        notes,
+    })
 }
 
 #[test]
@@ -101,7 +123,7 @@ fn out_that_fails_is_a_write_fault_of_a_check(rt: HostRuntime) -> Result<(), Fai
         writes: &[3],
         ..ALL
     };
-    let ran = run_with(&rt, alloc, &["check", "plan.json"], WHOLE_RUN, given)?;
+    let ran = run_with(&rt, alloc, &["check", "plan.json"], TRACE, given)?;
     assert!(rt; ran.called.status == Status::WriteFault);
     assert_eq!(rt; ran.out.bytes(), "ok".as_bytes());
     assert_eq!(rt; ran.notes.bytes(), "write fault\n".as_bytes());
@@ -158,24 +180,17 @@ fn a_refusal_stands_where_notes_fail(rt: HostRuntime) -> Result<(), Fail> {
 #[test]
 fn want_of_memory_ends_the_run(rt: HostRuntime) -> Result<(), Fail> {
     let alloc = rt.alloc();
-    let mut shelf = shelf(alloc, "plan.json", ADD_ONE.as_bytes(), &[])?;
-    let mut records = MemSource::new(b"5\n-1\n".to_vec(alloc)?, Vec::new(alloc));
-    let mut out = NeverFails::new(MemSink::new(alloc, 4096, Vec::new(alloc)));
-    let mut notes = NeverFails::new(MemSink::new(alloc, 4096, Vec::new(alloc)));
+    let mut system = System {
+        shelf: shelf(alloc, "plan.json", ADD_ONE.as_bytes(), &[])?,
+        records: MemSource::new(b"5\n-1\n".to_vec(alloc)?, Vec::new(alloc)),
+        out: NeverFails::new(MemSink::new(alloc, 4096, Vec::new(alloc))),
+        notes: NeverFails::new(MemSink::new(alloc, 4096, Vec::new(alloc))),
+    };
     let words = ["run", "plan.json"];
-    let called = call(
-        &rt,
-        alloc,
-        &words,
-        256,
-        &mut shelf,
-        &mut records,
-        &mut out,
-        &mut notes,
-    )?;
+    let called = call(&rt, alloc, &words, &OpenGate, &mut system)?;
     if called.status != Status::NoMemory {
         assert!(rt; called.status == Status::AllValues);
-        assert_eq!(rt; notes.inner().bytes(), "".as_bytes());
+        assert_eq!(rt; system.notes.inner().bytes(), "".as_bytes());
     }
     Ok(())
 }

@@ -9,7 +9,7 @@ use exec_value::{Completion, Datum};
 use plain_runs::PlainRuns;
 use plan_builder::{Built, Context, PlanBuilder};
 use record_lines::End;
-use record_loop::{Ending, Form, Operations, run_records};
+use record_loop::{Ending, Form, Operations, RecordSource, run_records};
 use run_rules::may_run;
 use sig_check::check;
 use std::alloc::Global;
@@ -18,7 +18,7 @@ use std::sync::Wait;
 use std::test::Fail;
 
 /// One more than the record, from the pool.
-fn adding(builder: &mut PlanBuilder) -> Built {
+pub(super) fn adding(builder: &mut PlanBuilder) -> Built {
     let input = builder.input()?;
     let added = builder.then(input, Job::Add(1))?;
     builder.starts_on(Context::Pool, added)
@@ -55,12 +55,12 @@ impl<'a> Operations for InTurns<'a> {
         self.runs.turn(rt, alloc)
     }
 
-    fn collect<R: Wait + Sync>(&mut self, rt: &R, block: u32) -> Option<Completion> {
+    fn collect<R: Wait + Sync>(&mut self, rt: &R, ticket: u32) -> Option<Completion> {
         if !self.turned {
             return None;
         }
         self.turned = false;
-        self.runs.collect(rt, block)
+        self.runs.collect(rt, ticket)
     }
 
     fn request<R: Wait + Sync>(&mut self, rt: &R) {
@@ -70,16 +70,16 @@ impl<'a> Operations for InTurns<'a> {
 
 /// What a run left.
 #[derive(Drop)]
-struct Ran {
-    ending: Ending,
-    out: MemSink,
+pub(super) struct Ran {
+    pub(super) ending: Ending,
+    pub(super) out: MemSink,
 }
 
-/// A run of `adding` in turns, with a window of 2, over a source of these bytes and a sink.
-fn run<R: Wait + Abort + Sync>(
+/// A run of `adding` in turns, with a window of 2, over a source and a sink.
+pub(super) fn run<R: Wait + Abort + Sync, S: RecordSource>(
     rt: &R,
     alloc: Global,
-    mut records: MemSource,
+    records: &mut S,
     mut out: MemSink,
 ) -> Result<Ran, Fail>
     requires { IsSync R.row }
@@ -101,7 +101,7 @@ fn run<R: Wait + Abort + Sync>(
         2,
         Form::Lines,
         &mut operations,
-        &mut records,
+        records,
         &mut out,
     )?;
     Ok(Ran { ending, out })
@@ -110,11 +110,11 @@ fn run<R: Wait + Abort + Sync>(
 #[test]
 fn operations_that_need_turns_are_waited_for(rt: HostRuntime) -> Result<(), Fail> {
     let alloc = rt.alloc();
-    let source = MemSource::new(b"5\n-1\n7\n".to_vec(alloc)?, Vec::new(alloc));
+    let mut source = MemSource::new(b"5\n-1\n7\n".to_vec(alloc)?, Vec::new(alloc));
     let ran = run(
         &rt,
         alloc,
-        source,
+        &mut source,
         MemSink::new(alloc, 4096, Vec::new(alloc)),
     )?;
     assert!(rt; ran.out.bytes() == b"1 value 6\n2 value 0\n3 value 8\n".as_slice());
@@ -125,11 +125,11 @@ fn operations_that_need_turns_are_waited_for(rt: HostRuntime) -> Result<(), Fail
 #[test]
 fn lines_whose_line_feed_was_read_are_written_at_a_fault(rt: HostRuntime) -> Result<(), Fail> {
     let alloc = rt.alloc();
-    let source = MemSource::new(b"5\n-1\n7".to_vec(alloc)?, vec![in alloc; 2u64]?);
+    let mut source = MemSource::new(b"5\n-1\n7".to_vec(alloc)?, vec![in alloc; 2u64]?);
     let ran = run(
         &rt,
         alloc,
-        source,
+        &mut source,
         MemSink::new(alloc, 4096, Vec::new(alloc)),
     )?;
     assert!(rt; ran.out.bytes() == b"1 value 6\n2 value 0\n".as_slice());
@@ -141,11 +141,11 @@ fn lines_whose_line_feed_was_read_are_written_at_a_fault(rt: HostRuntime) -> Res
 #[test]
 fn after_a_lost_write_no_record_is_begun(rt: HostRuntime) -> Result<(), Fail> {
     let alloc = rt.alloc();
-    let source = MemSource::new(b"5\n-1\n7\n8\n9\n".to_vec(alloc)?, Vec::new(alloc));
+    let mut source = MemSource::new(b"5\n-1\n7\n8\n9\n".to_vec(alloc)?, Vec::new(alloc));
     let ran = run(
         &rt,
         alloc,
-        source,
+        &mut source,
         MemSink::new(alloc, 1, vec![in alloc; 3u64]?),
     )?;
     assert!(rt; ran.out.bytes() == b"1 ".as_slice());

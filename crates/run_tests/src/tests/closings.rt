@@ -4,9 +4,10 @@ ghost use Rattle.std.specs.Thread.{IsSync};
 use super::{ADDING, is_left, nobody, plan_of};
 use exec_io::{MemSink, MemSource};
 use exec_recv::OpenGate;
+use exec_value::Kind;
 use record_lines::End;
-use record_loop::Form;
-use record_runs::{Account, run_counted, run_lines};
+use record_loop::{Form, Generated, RecordSource};
+use record_runs::{Account, run_lines};
 use run_rules::may_run;
 use std::alloc::Global;
 use std::process::Abort;
@@ -21,12 +22,12 @@ struct Ran {
     out: MemSink,
 }
 
-/// A run of `ADDING` with a window of 2, over a source of these bytes and a sink.
-fn run<R: Threads + Wait + Abort + Sync>(
+/// A run of `ADDING` with a window of 2, over these records and a sink.
+fn run<R: Threads + Wait + Abort + Sync, S: RecordSource + Drop>(
     rt: &R,
     alloc: Global,
     form: Form,
-    mut records: MemSource,
+    mut records: S,
     mut out: MemSink,
 ) -> Result<Ran, Fail>
     requires { IsSync R.row }
@@ -110,13 +111,13 @@ fn at_a_limit(rt: HostRuntime) -> Result<(), Fail> {
 #[test]
 fn after_generated_records(rt: HostRuntime) -> Result<(), Fail> {
     let alloc = rt.alloc();
-    let plan = plan_of(alloc, "", ADDING)?;
-    assert!(rt; may_run(plan.settings()));
-    let mut out = MemSink::new(alloc, 4096, Vec::new(alloc));
-    let account = run_counted(&rt, alloc, &plan, 2, 3, nobody(alloc), &OpenGate, &mut out)?;
+    let records = Generated::new(alloc, Kind::Int, 3)?;
+    let out = MemSink::new(alloc, 4096, Vec::new(alloc));
+    let ran = run(&rt, alloc, Form::Summary, records, out)?;
     let line = b"records 3 values 3 errors 0 stopped 0 out-of-memory 0 bad 0 sum 47568\n";
-    assert!(rt; out.bytes() == line.as_slice());
-    assert!(rt; account.tally.values() == 3);
-    assert!(rt; is_left(&account, 2));
+    assert!(rt; ran.out.bytes() == line.as_slice());
+    assert!(rt; ran.account.ending.end() == End::Ended);
+    assert!(rt; ran.account.tally.values() == 3);
+    assert!(rt; is_left(&ran.account, 2));
     Ok(())
 }

@@ -10,7 +10,9 @@ use super::unlawful::{Unlawful, Way};
 use super::{blocks_of, is_left, plan_of};
 use exec_io::MemSink;
 use exec_recv::{Gate, OpenGate, Point};
-use record_runs::run_counted;
+use exec_value::Kind;
+use record_loop::{Form, Generated};
+use record_runs::run_lines;
 use run_crew::{Backend, Crew, Order};
 use run_rules::{at_once, may_run};
 use std::alloc::{AllocError, Global};
@@ -80,7 +82,18 @@ pub(super) fn writes<G: Gate + Sync, R: Threads + Wait + Abort + Sync>(
     let mut out = MemSink::new(alloc, 4096, Vec::new(alloc));
     let size = at_once(&plan, window as usize);
     assert!(rt; 0 < size && size <= 256);
-    let account = run_counted(rt, alloc, &plan, size, count, crew, gate, &mut out)?;
+    let mut records = Generated::new(alloc, Kind::Int, count)?;
+    let account = run_lines(
+        rt,
+        alloc,
+        &plan,
+        size,
+        Form::Summary,
+        crew,
+        gate,
+        &mut records,
+        &mut out,
+    )?;
     Ok(out.bytes() == line.as_bytes() && is_left(&account, blocks_of(&plan, size)))
 }
 

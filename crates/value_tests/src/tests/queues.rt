@@ -2,7 +2,7 @@
 
 use crate::tests::names::name;
 use life_rules::Name;
-use loop_queue::{Drained, LoopPost, LoopQueue, ROOM};
+use loop_queue::{Drained, LoopPost, LoopQueue, MOST_POSTS, ROOM};
 use std::sync::Wait;
 use std::test::Fail;
 use std::thread;
@@ -40,6 +40,11 @@ fn next<R: Wait>(rt: &R, post: &mut LoopPost) -> Option<Name> {
 // What the post drains of the queue.
 fn drains<R: Wait>(rt: &R, post: &mut LoopPost, names: &mut Vec<Name>) -> Drained {
     post.drain(rt, names)
+}
+
+#[test]
+fn the_limits_of_a_queue_are_these_numbers(rt: HostRuntime) {
+    assert_eq!(rt; (ROOM, MOST_POSTS), (4_096, 32));
 }
 
 #[test]

@@ -4,7 +4,7 @@ ghost use Rattle.std.specs.Prelude.{◌<◌, ◌≤◌};
 use std::alloc::{AllocError, Global};
 use std::process::Abort;
 use std::test::Fail;
-use timer_wheel::{Command, LAST_TURN, MOST_TURNS, Reply, Wheel, run};
+use timer_wheel::{Command, LAST_TURN, MOST_PLACES, MOST_TURNS, Reply, Wheel, run};
 
 /// Adds a pair; stops the test where there can't be such a pair.
 fn add(rt: &impl Abort, wheel: &mut Wheel, place: u32, turns: u32) -> bool {
@@ -18,6 +18,12 @@ fn go_on_to(rt: &impl Abort, wheel: &mut Wheel, turn: u64) {
         assert!(rt; wheel.turn() < LAST_TURN);
         wheel.advance();
     }
+}
+
+#[test]
+fn the_limits_of_a_wheel_are_these_numbers(rt: HostRuntime) {
+    assert_eq!(rt; LAST_TURN, 4_611_686_018_427_387_904);
+    assert_eq!(rt; (MOST_PLACES, MOST_TURNS), (262_400, 1_000_000));
 }
 
 #[test]
