@@ -391,7 +391,7 @@ A plan is a sender expression in JSON. `exec_run run plan.json` runs it for each
 Every example below is a whole plan, and every output is what the program printed: `make docs` writes this page, and
 docs/plan.schema.json, a JSON Schema of plans for editors, with the same words (docs/make_plans.py).
 
-**A plan runs on the running table**, each record as an operation of its own, and a window of them
+**A plan runs on the running table**, each record as an operation of its own, at most a window of them
 at once. The calling thread serves the loop, and workers serve the pool, each on a thread of its own (`--workers`); with
 no worker the calling thread serves the pool too, and a plan that puts nothing there starts no thread. A stop request
 reaches the records that are started after it, and those in flight that look for one: in a hop, before a `when_all`, in
