@@ -6,7 +6,7 @@ ghost use Rattle.table_tests.specs.Ready.{IsUse};
 use super::opening::{STEP, shared, use_nodes};
 use life_rules::{Name, ScopeState};
 use node_tree::ScopeKind;
-use op_table::Closing;
+use op_table::{Cargo, Closing};
 use std::test::Fail;
 use std::thread::{Threads, join};
 use table_use::{Table, Worker};
@@ -18,8 +18,8 @@ fn is_as_opened(table: &Table, hands: usize) -> bool {
 }
 
 // Whether it was closed as it was opened.
-fn is_as_new(closing: &Closing) -> bool {
-    closing.free == 3 && closing.retired == 0 && closing.scope == ScopeState::Unused
+fn is_as_new<P: Cargo>(closing: &Closing<P>) -> bool {
+    closing.free() == 3 && closing.retired() == 0 && closing.scope() == ScopeState::Unused
 }
 
 #[test]
