@@ -23,12 +23,13 @@ use trace_commands::{check_file, replay_file};
 /// Does what the words ask for, and gives the status that this ends with.
 ///
 /// The shelf is asked for the one file that the words name. A run has as many workers as the words
-/// say, each with the backend of its number ([exec.sysctxrepl.psb]): one is handed in for each worker
-/// that there may be, and all are dropped by the end. Nothing is asked of a backend, and nothing of
-/// the gate, which is passed at each point of the run.
+/// say, each with the backend of its number ([exec.sysctxrepl.psb]): one is handed in for each
+/// worker that there may be, and all are dropped by the end. Nothing is asked of a backend, and
+/// nothing of the gate, which is passed at each point of the run.
 ///
-/// Afterwards the tally tells of this call alone, whatever it held before: the operations that a run
-/// collected from its table, one for each line that shows a completion, and how that table was closed.
+/// Afterwards the tally tells of this call alone, whatever it held before: the operations that a
+/// run collected from its table, one for each line that shows a completion, and how that table was
+/// closed.
 pub fn run<R: Threads + Wait + Sync, F: Shelf, S: RecordSource, K: Sink, N: Sink, G: Gate + Sync>(
     rt: &R,
     alloc: Global,
@@ -40,8 +41,8 @@ pub fn run<R: Threads + Wait + Sync, F: Shelf, S: RecordSource, K: Sink, N: Sink
 ) -> Status
     requires { vec_len backends ≡ MOST_WORKERS }
 
-    // Words that ask for nothing are a fault of usage, and no others are: it is told how the program
-    // is called, nothing is read, nothing is done to out, and nothing is counted.
+    // Words that ask for nothing are a fault of usage, and no others are: it is told how the
+    // program is called, nothing is read, nothing is done to out, and nothing is counted.
     ensures usage { (result ≡ Status.Usage) ↔ (command_of words.now ≡ None) }
     ensures told { command_of words.now ≡ None → UsageEnds
         (told_by F.told S.told S.reads K.told N.told system.old)

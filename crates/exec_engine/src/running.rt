@@ -26,8 +26,8 @@ use std::sync::Wait;
 use std::thread::Threads;
 
 /// Opens the plan of a task, works on all its records, and gives the status that this ends with.
-/// Generated records are a source like any other, and then `records` isn't read. The tally, which is
-/// new, is set to that of the run, where there was a plan, and memory to begin with.
+/// Generated records are a source like any other, and then `records` isn't read. The tally, which
+/// is new, is set to that of the run, where there was a plan, and memory to begin with.
 pub fn run_task<
     R: Threads + Wait + Sync,
     F: Shelf,

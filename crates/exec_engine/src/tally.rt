@@ -15,8 +15,8 @@ use std::alloc::AllocError;
 /// ([exec.recv]), and how the table was closed on which they ran. Contracts see each operation that
 /// was collected, with its plan, its table, the number of its record and its completion.
 ///
-/// Only a loop adds to what was collected, and only the closing of a table makes a [`Closing`]: so no
-/// tally but a new one is of a call that ran nothing.
+/// Only a loop adds to what was collected, and only the closing of a table makes a [`Closing`]: so
+/// no tally but a new one is of a call that ran nothing.
 #[derive(Drop)]
 pub struct Tally {
     collected: Collected,
@@ -37,8 +37,8 @@ impl Tally {
         }
     }
 
-    /// Takes over what a run collected and how its table was closed, and gives the status of the run.
-    /// Where it had no memory to begin with, nothing is taken over.
+    /// Takes over what a run collected and how its table was closed, and gives the status of the
+    /// run. Where it had no memory to begin with, nothing is taken over.
     pub(crate) fn take(&mut self, answer: Result<Account, AllocError>) -> Status
         ensures collected { IfOk answer (λ a. self.new.collected ≡ a.tally) }
         ensures closing { IfOk answer (λ a. self.new.closing ≡ Some a.closing) }

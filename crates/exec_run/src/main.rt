@@ -6,15 +6,16 @@
 //! on trust.
 #![tactic(auto)]
 
+ghost use Rattle.std.specs.Prelude.{◌≡◌, IfOk, vec_len};
+ghost use Rattle.exec_words.specs.declared.number.TheConstants.{MOST_WORKERS};
+
 use exec_engine::{Backend, Status, System, Tally, run};
 use exec_recv::OpenGate;
 use exec_words::MOST_WORKERS;
 use pool_backends::RingBackend;
-use std::alloc::AllocError;
+use std::alloc::{AllocError, Global};
 use std::io::BufWriter;
 use std::process::ExitCode;
-use std::sync::Wait;
-use std::thread::Threads;
 use std_streams::{FileShelf, Reading, Writing, words_of_command};
 
 /// How many bytes of output are kept back at most.
@@ -24,34 +25,32 @@ const OUT_BYTES: usize = 65_536;
 const RING_NAMES: u32 = 256;
 
 fn main(rt: HostRuntime) -> ExitCode {
-    let status = run_on_system(&rt, &rt).unwrap_or(Status::NoMemory);
-    ExitCode::from(status.code())
-}
-
-/// Runs the command that the program's words give, over the files of the system and its standard
-/// streams, with a ring for each worker that there may be. `threads` is the handle by which threads
-/// are started and waited for. The one error comes before the run.
-fn run_on_system<T: Threads + Wait + Sync>(
-    rt: &HostRuntime,
-    threads: &T,
-) -> Result<Status, AllocError> {
     let alloc = rt.alloc();
-    let owned = words_of_command(rt)?;
-    let words: Vec<&str> = owned.iter().map(|word| word.as_str()).collect(alloc)?;
-    let buffer = BufWriter::with_capacity(alloc, OUT_BYTES, rt.stdout());
+    let Ok(owned) = words_of_command(&rt) else {
+        return no_memory();
+    };
+    let Ok(words) = owned
+        .iter()
+        .map(|word| word.as_str())
+        .collect::<Vec<&str>>(alloc)
+    else {
+        return no_memory();
+    };
+    let Ok(backends) = rings(alloc) else {
+        return no_memory();
+    };
+    let Ok(buffer) = BufWriter::with_capacity(alloc, OUT_BYTES, rt.stdout()) else {
+        return no_memory();
+    };
     let mut system = System {
-        shelf: FileShelf::new(rt),
+        shelf: FileShelf::new(&rt),
         records: Reading::new(rt.stdin()),
-        out: Writing::new(buffer.map_err(|_| AllocError)?),
+        out: Writing::new(buffer),
         notes: Writing::new(rt.stderr()),
     };
-    let mut backends: Vec<Box<dyn Backend + Send>> = Vec::new(alloc);
-    for made in 0..MOST_WORKERS {
-        backends.push(Box::new(alloc, RingBackend::new(alloc, RING_NAMES)?)?)?;
-    }
     let mut tally = Tally::new();
     let status = run(
-        threads,
+        &rt,
         alloc,
         &words,
         &mut system,
@@ -67,5 +66,21 @@ fn run_on_system<T: Threads + Wait + Sync>(
         notes: _,
     } = system;
     let _ = out.into_inner().into_parts();
-    Ok(status)
+    ExitCode::from(status.code())
+}
+
+/// What the program ends with where there is no memory to begin with.
+fn no_memory() -> ExitCode {
+    ExitCode::from(Status::NoMemory.code())
+}
+
+/// A ring for each worker that there may be.
+fn rings(alloc: Global) -> Result<Vec<Box<dyn Backend + Send>>, AllocError>
+    ensures { IfOk result (λ rings. vec_len rings ≡ MOST_WORKERS) }
+{
+    let mut rings: Vec<Box<dyn Backend + Send>> = Vec::new(alloc);
+    for made in 0..MOST_WORKERS {
+        rings.push(Box::new(alloc, RingBackend::new(alloc, RING_NAMES)?)?)?;
+    }
+    Ok(rings)
 }

@@ -189,7 +189,8 @@ impl Source for Generated {
         ensures bound { ReadsAtMost result buf.new }
         ensures bytes { ReadConsumes (steady_view self.old).left (steady_view self.new).left
             result buf.new }
-        ensures cause { HasCause (steady_view self.old).faults (steady_view self.new).faults result }
+        ensures cause { HasCause (steady_view self.old).faults (steady_view self.new).faults
+            result }
 
         // It never fails, and gives what there is room for.
         ensures full { IsOkAnd result (λ n. n ≡ min (length self.old) (length buf.old)) }
