@@ -6,14 +6,11 @@
 //! on trust.
 #![tactic(auto)]
 
-ghost use Rattle.std.specs.Prelude.{◌≡◌, IfOk, vec_len};
-ghost use Rattle.exec_words.specs.declared.number.TheConstants.{MOST_WORKERS};
-
 use exec_engine::{Backend, Status, System, Tally, run};
 use exec_recv::OpenGate;
 use exec_words::MOST_WORKERS;
 use pool_backends::RingBackend;
-use std::alloc::{AllocError, Global};
+use std::alloc::Global;
 use std::io::BufWriter;
 use std::process::ExitCode;
 use std_streams::{FileShelf, Reading, Writing, words_of_command};
@@ -36,9 +33,15 @@ fn main(rt: HostRuntime) -> ExitCode {
     else {
         return no_memory();
     };
-    let Ok(backends) = rings(alloc) else {
-        return no_memory();
-    };
+    let mut backends: Vec<Box<dyn Backend + Send>> = Vec::new(alloc);
+    for made in 0..MOST_WORKERS {
+        let Some(ring) = ring(alloc) else {
+            return no_memory();
+        };
+        let Ok(()) = backends.push(ring) else {
+            return no_memory();
+        };
+    }
     let Ok(buffer) = BufWriter::with_capacity(alloc, OUT_BYTES, rt.stdout()) else {
         return no_memory();
     };
@@ -74,13 +77,8 @@ fn no_memory() -> ExitCode {
     ExitCode::from(Status::NoMemory.code())
 }
 
-/// A ring for each worker that there may be.
-fn rings(alloc: Global) -> Result<Vec<Box<dyn Backend + Send>>, AllocError>
-    ensures { IfOk result (λ rings. vec_len rings ≡ MOST_WORKERS) }
-{
-    let mut rings: Vec<Box<dyn Backend + Send>> = Vec::new(alloc);
-    for made in 0..MOST_WORKERS {
-        rings.push(Box::new(alloc, RingBackend::new(alloc, RING_NAMES)?)?)?;
-    }
-    Ok(rings)
+/// An empty ring for a worker. None where there is no memory for it.
+fn ring(alloc: Global) -> Option<Box<RingBackend>> {
+    let ring = RingBackend::new(alloc, RING_NAMES).ok()?;
+    Box::new(alloc, ring).ok()
 }
