@@ -87,8 +87,7 @@ def sentences(text):
     """The text in lines, a sentence beginning a line."""
     lines = []
     for sentence in re.split(r"(?<=[.:]) (?=[A-Z`\[])", text):
-        lines += textwrap.wrap(sentence, WIDTH, break_long_words=False, break_on_hyphens=False)
-    lines = [escaped(line) for line in lines]
+        lines += textwrap.wrap(escaped(sentence), WIDTH, break_long_words=False, break_on_hyphens=False)
     return "".join(("\\&" if line[0] in ".'" else "") + line + "\n" for line in lines)
 
 
