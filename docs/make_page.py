@@ -2,12 +2,14 @@
 of a plan, with the words of docs/PLANS.md and the keys of docs/make_schema.py.
 """
 import json
+import os
 import re
 import textwrap
 
 from make_schema import ELEMENT_JOBS, NODES, OTHER_JOBS, schema_of
 
 WIDTH = 80
+SENDERS = os.path.join(os.path.dirname(os.path.abspath(__file__)), "..", "samples", "senders.py")
 TOP = r"""
 .\" The manual page of plans, written by docs/make_plans.py: `man -l docs/exec_plan.5` shows it.
 .TH EXEC_PLAN 5 2026-11-29 Hulgabe "File Formats"
@@ -63,12 +65,19 @@ REFUSALS = {
     "P7 settings exclude each other": "A simple scope takes no stop request, and so no stop rule.",
 }
 
-BOTTOM = r"""
+FILES = r"""
 .SH FILES
+Below the prefix of the installation:
 .TP
 .I share/exec_run/plan.schema.json
 A JSON Schema of plans, for editors.
-It stands below the prefix of the installation.
+""".lstrip()
+IN_PYTHON = r"""
+.TP
+.I share/exec_run/senders.py
+Writes plans by operators in Python.
+""".lstrip()
+SEE_ALSO = r"""
 .SH SEE ALSO
 .BR exec_run (1),
 .BR exec_show (1).
@@ -140,5 +149,5 @@ def page_of(nodes, jobs, refused):
     parts.append(".SH JOBS\n")
     parts += [named(name, keys, jobs[name]) for name, keys in {**ELEMENT_JOBS, **OTHER_JOBS}.items()]
     parts.append(".SH REFUSALS\nA plan is refused for the first of these that holds, wherever in the file.\n")
-    parts += [refusals(refused), BOTTOM]
+    parts += [refusals(refused), FILES, IN_PYTHON if os.path.exists(SENDERS) else "", SEE_ALSO]
     return "".join(parts)
