@@ -10,14 +10,11 @@
 #[cfg(test)]
 mod tests;
 
-ghost use Rattle.std.specs.Prelude.{◌≡◌, IfOk, vec_len};
-
 use anyhow::{Context, Result, bail};
 use by_example::run_text;
 use pool_backends::{Backend, Order, RingBackend};
 use record_lines::End;
 use run_crew::Crew;
-use std::alloc::{AllocError, Global};
 use std::fs;
 use std::io::BufWriter;
 use std_streams::{Reading, Writing, words_of_command};
@@ -35,10 +32,14 @@ fn main(rt: HostRuntime) -> Result<()> {
         bail!("usage: any_plan PLAN");
     };
     let text = fs::read(&rt, name.as_str()).context("the plan can't be read")?;
+    let mut backends: Vec<Box<dyn Backend + Send>> = Vec::new(alloc);
+    for made in 0..WORKERS {
+        backends.push(Box::new(alloc, RingBackend::new(alloc, RING_NAMES)?)?)?;
+    }
     let crew = Crew {
         workers: WORKERS,
         order: Order::Fifo,
-        backends: rings(alloc)?,
+        backends,
     };
     let mut records = Reading::new(rt.stdin());
     let mut out = Writing::new(BufWriter::new(alloc, rt.stdout())?);
@@ -54,15 +55,4 @@ fn main(rt: HostRuntime) -> Result<()> {
         End::Fault => bail!("a read failed"),
         End::Limit => bail!("there are more lines than a run takes"),
     }
-}
-
-/// A ring for each worker.
-fn rings(alloc: Global) -> Result<Vec<Box<dyn Backend + Send>>, AllocError>
-    ensures { IfOk result (λ rings. vec_len rings ≡ WORKERS) }
-{
-    let mut rings: Vec<Box<dyn Backend + Send>> = Vec::new(alloc);
-    for made in 0..WORKERS {
-        rings.push(Box::new(alloc, RingBackend::new(alloc, RING_NAMES)?)?)?;
-    }
-    Ok(rings)
 }

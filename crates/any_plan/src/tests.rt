@@ -1,12 +1,13 @@
 //! The calls of by_example, over a source and a sink in memory.
-ghost use Rattle.std.specs.Prelude.{◌≡◌, IfOk, vec_len};
+ghost use Rattle.std.specs.Prelude.{IfOk, vec_len};
 ghost use Rattle.run_crew.specs.Crews.{IsCrew};
 
-use super::{WORKERS, rings};
+use super::{RING_NAMES, WORKERS};
 use by_example::{add_lines, add_one, run_text};
 use exec_io::{MemSink, MemSource, Source};
 use exec_value::{Completion, Datum};
 use plan_reader::PlanFault;
+use pool_backends::{Backend, RingBackend};
 use run_crew::{Crew, Order};
 use std::alloc::{AllocError, Global};
 use std::test::Fail;
@@ -14,10 +15,17 @@ use std::test::Fail;
 fn crew(alloc: Global) -> Result<Crew, AllocError>
     ensures { IfOk result (λ crew. IsCrew crew.workers (vec_len crew.backends)) }
 {
+    let mut backends: Vec<Box<dyn Backend + Send>> = Vec::new(alloc);
+    for _worker in 0..WORKERS {
+        backends.push(Box::new(alloc, RingBackend::new(alloc, RING_NAMES)?)?)?;
+    }
+    if backends.len() < WORKERS as usize {
+        return Err(AllocError);
+    }
     Ok(Crew {
         workers: WORKERS,
         order: Order::Fifo,
-        backends: rings(alloc)?,
+        backends,
     })
 }
 
@@ -122,7 +130,10 @@ fn the_next_number_and_the_greatest(rt: HostRuntime) -> Result<(), Fail> {
     for (number, want) in [(5, Some(6)), (-1, Some(0)), (i64::MAX, None)] {
         match (add_one(&rt, alloc, number)?, want) {
             (Completion::Value(data), Some(next)) => {
-                assert!(rt; data.as_slice() == [Datum::Int(next)].as_slice(), "{number}")
+                assert!(rt;
+                    data.as_slice() == [Datum::Int(next)].as_slice(),
+                    "{number}"
+                )
             }
             (Completion::Error(name), None) => {
                 assert!(rt; name.as_bytes() == b"overflow".as_slice(), "{number}")
