@@ -5,8 +5,8 @@
 # `make stress` runs the proved program some thousand times with 1 to 16 workers, for at most half an hour.
 # `make bench` measures the proved program, with mawk, jq and mlr beside it where they are installed (bench/measure.py).
 # `make growth` measures how its time and memory grow: with the records, the nodes and the workers (bench/growth.py).
-# `make docs` writes docs/PLANS.md, docs/exec_plan.5, docs/plan.schema.json and the table of crates in
-# docs/ARCHITECTURE.md again.
+# `make docs` writes docs/PLANS.md, docs/exec_plan.5, docs/plan.schema.json, and the page and picture of the crates
+# (docs/make_rooms.py) again.
 # `make install` installs the programs that `make run` leaves, their manual pages, their completions in bash, zsh and fish,
 # and below share/exec_run the schema of plans and senders.py, which writes plans in Python. All is below PREFIX (below
 # DESTDIR where that is given), and it builds nothing. `make uninstall` takes these files away.

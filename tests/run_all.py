@@ -1,9 +1,9 @@
 #!/usr/bin/env python3
 """Runs the tables of cases, the streams, spoilt plans and random ones over each build of the program, and over that of
 exec_show beside it; reads its pictures (tests/pictures.py), refuses the program memory (tests/refused_memory.py), tries
-what is handed out beside it (tests/pages.py, tests/completions.py, tests/scale.py, tests/recorder.py), and checks the
-documents: docs/PLANS.md, docs/exec_plan.5 and docs/plan.schema.json must be what docs/make_plans.py writes with that
-build.
+what is handed out beside it (tests/pages.py, tests/completions.py, tests/scale.py, tests/recorder.py), counts what is
+hard to read (tests/house.py), and checks the documents: docs/PLANS.md, docs/exec_plan.5 and docs/plan.schema.json must
+be what docs/make_plans.py writes with that build.
 
     tests/run_all.py [--gate STATUS] [PROGRAM..]
 
@@ -20,6 +20,7 @@ import tempfile
 
 import check_docs
 import completions
+import house
 import mutate_plans
 import pages
 import pictures
@@ -78,6 +79,7 @@ def main():
         print(f"{program}: {sum(it[0] for it in found)} tests passed, {sum(it[1] for it in found)} not")
         counts += found
     counts.append(check_docs.run())
+    counts.append(house.run())
     if given.gate:
         print(f"FAILED  rt ci ended with status {given.gate}: see its last lines above")
         counts.append((0, 1))

@@ -1,8 +1,8 @@
 //! Runs any plan for each line of standard input, by the library: `any_plan PLAN`.
 //!
-//! It is the least program over `run_text` of by_example, which has the promise: it reads the file
-//! of the plan, makes a crew, and tells in words how the run ended. docs/LIBRARY.md goes through it.
-//! That the system's files and streams do as they say is taken on trust (std_streams).
+//! It is the least program over `run_text` of by_example, which has the promise: it reads the
+//! plan's file, makes a crew, and tells in words how the run ended. docs/LIBRARY.md goes through
+//! it. That files and streams of the system do as they say is taken on trust (std_streams).
 //!
 //!     words --> the plan's file --run_text--> lines on standard output, and how the run ended
 #![tactic(auto)]

@@ -37,25 +37,34 @@ fn sink(alloc: Global) -> MemSink {
     MemSink::new(alloc, 4096, Vec::new(alloc))
 }
 
-/// A plan, lines for it, and what is written for these.
-const RUNS: [(&str, &[u8], &[u8]); 4] = [
+/// The text of a plan of version 2 for records of this kind, with these further settings.
+fn text_of(alloc: Global, input: &str, settings: &str, root: &str) -> Result<String, AllocError> {
+    format!(in alloc; r#"{{"version":2,"input":"{input}",{settings}"root":{root}}}"#)
+}
+
+/// The kind of the records and the root of a plan, lines for it, and what is written for these.
+const RUNS: [(&str, &str, &[u8], &[u8]); 4] = [
     (
-        r#"{"version":1,"input":"int","root":{"do":"then","child":{"do":"input"},"job":{"job":"mul","n":3}}}"#,
+        "int",
+        r#"{"do":"then","child":{"do":"input"},"job":{"job":"mul","n":3}}"#,
         b"5\n-1\nx\n",
         b"1 value 15\n2 value -3\n3 bad-record\n",
     ),
     (
-        r#"{"version":1,"input":"text","root":{"do":"then","child":{"do":"input"},"job":{"job":"length"}}}"#,
+        "text",
+        r#"{"do":"then","child":{"do":"input"},"job":{"job":"length"}}"#,
         b"four\n\n",
         b"1 value 4\n2 value 0\n",
     ),
     (
-        r#"{"version":1,"input":"row","root":{"do":"then","child":{"do":"bulk","child":{"do":"input"},"job":{"job":"add","n":1}},"job":{"job":"sum"}}}"#,
-        b"[1,2,3]\n[]\n",
-        b"1 value 9\n2 value 0\n",
+        "row",
+        r#"{"do":"bulk","child":{"do":"input"},"job":{"job":"within","lo":0,"hi":9}}"#,
+        b"[1,2,3]\n[4,70]\n",
+        b"1 value [1,2,3]\n2 error out-of-range@1\n",
     ),
     (
-        r#"{"version":2,"input":"int","root":{"do":"ahead","first":{"do":"then","child":{"do":"input"},"job":{"job":"mul","n":2}},"second":{"do":"just_stopped"}}}"#,
+        "int",
+        r#"{"do":"ahead","first":{"do":"input"},"second":{"do":"just_stopped"}}"#,
         b"5\n",
         b"1 stopped\n",
     ),
@@ -64,7 +73,8 @@ const RUNS: [(&str, &[u8], &[u8]); 4] = [
 #[test]
 fn a_plan_that_is_read_is_run(rt: HostRuntime) -> Result<(), Fail> {
     let alloc = rt.alloc();
-    for (text, lines, want) in RUNS {
+    for (input, root, lines, want) in RUNS {
+        let text = text_of(alloc, input, "", root)?;
         let mut records = source(alloc, lines)?;
         let mut out = sink(alloc);
         let account = run_text(
@@ -81,27 +91,24 @@ fn a_plan_that_is_read_is_run(rt: HostRuntime) -> Result<(), Fail> {
     Ok(())
 }
 
-/// A text that is no plan, and why.
-const REFUSED: [(&str, PlanFault); 6] = [
-    ("{", PlanFault::NotJson),
+/// Settings and a root that make no plan of ints, and why.
+const REFUSED: [(&str, &str, PlanFault); 6] = [
+    ("", "[", PlanFault::NotJson),
+    (r#""scope":1,"#, r#"{"do":"input"}"#, PlanFault::Form),
+    ("", r#"{"do":"inptu"}"#, PlanFault::UnknownName),
     (
-        r#"{"version":1,"input":"int","root":{"do":"input"},"scope":1}"#,
-        PlanFault::Form,
-    ),
-    (
-        r#"{"version":1,"input":"int","root":{"do":"inptu"}}"#,
-        PlanFault::UnknownName,
-    ),
-    (
-        r#"{"version":1,"input":"int","root":{"do":"when_all","children":[{"do":"input"}]}}"#,
+        "",
+        r#"{"do":"when_all","children":[{"do":"input"}]}"#,
         PlanFault::Limit,
     ),
     (
-        r#"{"version":1,"input":"int","root":{"do":"then","child":{"do":"input"},"job":{"job":"length"}}}"#,
+        "",
+        r#"{"do":"then","child":{"do":"input"},"job":{"job":"length"}}"#,
         PlanFault::Kinds,
     ),
     (
-        r#"{"version":1,"input":"int","scope":"simple","stop_after":1,"root":{"do":"input"}}"#,
+        r#""scope":"simple","stop_after":1,"#,
+        r#"{"do":"input"}"#,
         PlanFault::Excluded,
     ),
 ];
@@ -109,7 +116,8 @@ const REFUSED: [(&str, PlanFault); 6] = [
 #[test]
 fn a_text_that_is_no_plan_reads_and_writes_nothing(rt: HostRuntime) -> Result<(), Fail> {
     let alloc = rt.alloc();
-    for (text, why) in REFUSED {
+    for (settings, root, why) in REFUSED {
+        let text = text_of(alloc, "int", settings, root)?;
         let mut records = source(alloc, b"5\n")?;
         let mut out = sink(alloc);
         let crew = crew(alloc)?;

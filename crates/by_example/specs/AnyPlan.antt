@@ -9,8 +9,8 @@ use Rattle.record_runs.specs.declared.account.Account.{Account}
 use Rattle.run_rules.specs.PlanTerms.{window_of}
 use Rattle.by_example.specs.declared.streaming.TheConstants.{WINDOW}
 
--- The text is a plan, and a run of it over the lines of a source ended so, on a table that was closed
--- with its scope joined and each block given back.
+-- The text is a plan, and a run of it over the lines of a source ended so, on a table that was
+-- closed with its scope joined and each block given back.
 pub record RunsText (text : List ℕ) (before after : Streams) (account : Account) : Type 0 where
   pub plan : Blueprint
   pub is : IsPlanOf text plan
