@@ -1,12 +1,15 @@
 # `make try` runs the sample before any proof, in under a minute on four free cores.
-# `make run` proves both programs and runs the sample: half an hour on a new machine with four free cores, seconds later.
+# `make run` proves both programs and runs the sample: @RUN-CPU@ processor minutes on a new machine, @RUN-CLOCK@ by the
+# clock on four free cores; seconds later.
 # `make test` is the gate: everything is proved, and the proved program is tested.
 # `make stress` runs the proved program some thousand times with 1 to 16 workers, for at most half an hour.
-# `make bench` measures the proved program, with mawk and jq beside it where they are installed (bench/measure.py).
+# `make bench` measures the proved program, with mawk, jq and mlr beside it where they are installed (bench/measure.py).
 # `make growth` measures how its time and memory grow: with the records, the nodes and the workers (bench/growth.py).
-# `make docs` writes docs/PLANS.md, docs/plan.schema.json and the page and picture of the crates (docs/make_rooms.py) again.
-# `make install` installs the programs that `make run` leaves, their manual pages, and their completions in bash, zsh and
-# fish, below PREFIX (below DESTDIR where that is given); it builds nothing. `make uninstall` takes these files away.
+# `make docs` writes docs/PLANS.md, docs/exec_plan.5, docs/plan.schema.json, and the page and picture of the crates
+# (docs/make_rooms.py) again.
+# `make install` installs the programs that `make run` leaves, their manual pages, their completions in bash, zsh and fish,
+# and below share/exec_run the schema of plans and senders.py, which writes plans in Python. All is below PREFIX (below
+# DESTDIR where that is given), and it builds nothing. `make uninstall` takes these files away.
 
 PREFIX ?= /usr/local
 PROGRAM := crates/exec_run/out/exec_run
@@ -17,6 +20,8 @@ NUMBERS := samples/numbers.txt
 SHARE := $(DESTDIR)$(PREFIX)/share
 BIN := $(DESTDIR)$(PREFIX)/bin
 NAMES := exec_run exec_show
+PAGES := exec_run.1 exec_show.1 exec_plan.5
+SHARED := docs/plan.schema.json $(wildcard samples/senders.py)
 
 .PHONY: try run test stress bench growth docs install uninstall
 try:
@@ -52,13 +57,18 @@ install:
 	  { echo "no program at $$it: \`make run\` proves and builds it" >&2; exit 1; }; done
 	install -D -m 755 "$(PROGRAM)" "$(BIN)/exec_run"
 	install -D -m 755 "$(SHOWS)" "$(BIN)/exec_show"
+	for it in $(PAGES); do \
+	  install -D -m 644 docs/$$it "$(SHARE)/man/man$${it##*.}/$$it" || exit 1; done
 	for it in $(NAMES); do \
-	  install -D -m 644 docs/$$it.1 "$(SHARE)/man/man1/$$it.1" && \
 	  install -D -m 644 completions/$$it.bash "$(SHARE)/bash-completion/completions/$$it" && \
 	  install -D -m 644 completions/$$it.zsh "$(SHARE)/zsh/site-functions/_$$it" && \
 	  install -D -m 644 completions/$$it.fish "$(SHARE)/fish/vendor_completions.d/$$it.fish" || exit 1; done
+	for it in $(SHARED); do install -D -m 644 $$it "$(SHARE)/exec_run/$${it##*/}" || exit 1; done
 
 uninstall:
-	for it in $(NAMES); do rm -f "$(BIN)/$$it" "$(SHARE)/man/man1/$$it.1" \
+	for it in $(PAGES); do rm -f "$(SHARE)/man/man$${it##*.}/$$it"; done
+	for it in $(NAMES); do rm -f "$(BIN)/$$it" \
 	  "$(SHARE)/bash-completion/completions/$$it" "$(SHARE)/zsh/site-functions/_$$it" \
 	  "$(SHARE)/fish/vendor_completions.d/$$it.fish"; done
+	rm -f $(addprefix "$(SHARE)/exec_run/",$(notdir $(SHARED)))
+	rmdir "$(SHARE)/exec_run" 2>/dev/null || true

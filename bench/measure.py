@@ -1,5 +1,5 @@
 #!/usr/bin/env python3
-"""Measures the program, and mawk and jq on the same records, in one table.
+"""Measures the program, and mawk, jq and mlr on the same records, in one table.
 
     bench/measure.py [PROGRAM] [--rounds N] [--smaller N] [--no-instructions]
 
@@ -34,6 +34,8 @@ ROW = range(4096)
 
 INPUT = {"do": "input"}
 NUMBERED = "foreach inputs as $it (0; . + 1; \"\\(.) value \\($it{})\")"
+MILLER = ["mlr", "--inidx", "--ifs", "\t", "--onidx", "put", "-q"]
+ADDED = 't = 0; for (k, v in splitnv(gsub($1, "[\\[\\]]", ""), ",")) {t += 2 * (v + 1)}'
 SPLIT = "{gsub(/[][]/, \"\"); n = split($0, a, \",\"); t = 0; for (i = 1; i <= n; i++) t += 2 * (a[i] + 1)"
 
 
@@ -66,6 +68,7 @@ class AddOne:
     others = {
         "mawk": ["mawk", '{print NR " value " $1 + 1}'],
         "jq": ["jq", "-nr", NUMBERED.format(" + 1")],
+        "mlr": [*MILLER, 'print NR . " value " . ($1 + 1)'],
     }
 
 
@@ -88,6 +91,7 @@ class Rows:
     others = {
         "mawk": ["mawk", SPLIT + '; print NR " value " t}'],
         "jq": ["jq", "-nr", NUMBERED.format(" | map((. + 1) * 2) | add")],
+        "mlr": [*MILLER, ADDED + ' print NR . " value " . t'],
     }
 
 
@@ -166,7 +170,7 @@ def measure(program, work, given):
 
 
 def main():
-    parser = argparse.ArgumentParser(description="Measures the program, with mawk and jq beside it.")
+    parser = argparse.ArgumentParser(description="Measures the program, with mawk, jq and mlr beside it.")
     parser.add_argument("program", nargs="?", default=PROGRAM, metavar="PROGRAM")
     parser.add_argument("--rounds", type=int, default=5, metavar="N")
     parser.add_argument("--smaller", type=int, default=1, metavar="N")
@@ -175,7 +179,8 @@ def main():
     program = os.path.abspath(given.program)
     if not os.access(program, os.X_OK):
         sys.exit(f"no program at {program}: `make run` proves and builds it")
-    for tool, what in (("mawk", "its rows"), ("jq", "its rows"), ("valgrind", "the instructions")):
+    others = [(tool, "its rows") for tool in ("mawk", "jq", "mlr")]
+    for tool, what in (*others, ("valgrind", "the instructions")):
         if not shutil.which(tool) and (tool != "valgrind" or given.instructions):
             print(f"{tool} isn't installed: {what} are left out")
             given.instructions = given.instructions and tool != "valgrind"

@@ -1,6 +1,7 @@
 #!/usr/bin/env python3
 """Writes docs/PLANS.md: each node and job of a plan with a small plan, records, and what the program printed. And
-writes docs/plan.schema.json, with the same words on each node and job (docs/make_schema.py).
+writes docs/plan.schema.json and the manual page docs/exec_plan.5, with the same words on each node and job
+(docs/make_schema.py, docs/make_page.py).
 
     docs/make_plans.py crates/exec_run/out/exec_run
 
@@ -17,6 +18,7 @@ import sys
 import tempfile
 import textwrap
 
+from make_page import page_of
 from make_schema import schema_of, schema_text
 
 HERE = os.path.dirname(os.path.abspath(__file__))
@@ -123,7 +125,8 @@ NODES = [
     (
         "let_value",
         "[exec.let] One of the bodies, run under the child's value as its arguments. The pick's "
-        "number says which; a number below 0 means the first, one beyond the last means the last.",
+        "number says which; a number below 0 means the first, one beyond the last means the last. "
+        "The bodies give data of equal kinds, as far as they can give a value.",
         plan_of(
             {
                 "do": "let_value",
@@ -136,7 +139,8 @@ NODES = [
     ),
     (
         "let_error",
-        "[exec.let] The same where the child ended by an error, under the error's name as a text.",
+        "[exec.let] The same where the child ended by an error, under the error's name as a text. "
+        "Child and bodies give data of equal kinds, as far as they can give a value.",
         plan_of(
             {
                 "do": "let_error",
@@ -150,7 +154,8 @@ NODES = [
     ),
     (
         "let_stopped",
-        "[exec.let] The same where the child stopped, under no data.",
+        "[exec.let] The same where the child stopped, under no data. Child and bodies give data of equal kinds, as "
+        "far as they can give a value.",
         plan_of(
             {
                 "do": "let_stopped",
@@ -380,6 +385,7 @@ REFUSED = [
     ("P2 not JSON", "{"),
     ("P3 form", plan_of(then(INPUT, "add"))),
     ("P4 unknown name", plan_of({"do": "retry", "child": INPUT})),
+    ("P4 unknown name", plan_of({"do": "unstoppable", "child": INPUT})),
     ("P5 limit", plan_of({"do": "when_all", "children": [INPUT]})),
     ("P6 kinds", plan_of(then(INPUT, "append", text="x"))),
     ("P7 settings exclude each other", plan_of(INPUT, scope="simple", stop_after=1)),
@@ -432,7 +438,8 @@ integer of 64 bits: `1.0`, `1e2` and `-0` are none. Of a key that stands twice t
 | 7 | more than 1,000,000 records or 268,435,456 bytes | `limit` |
 
 A plan is refused for the first of these that holds, wherever in the file. A file of more than 1,048,576 bytes is
-refused by `plan refused: P1 too long`.
+refused by `plan refused: P1 too long`. `P4 unknown name` is also told of a name of another version: `unstoppable` and
+`ahead` aren't known in version 1.
 
 | a plan | what notes say |
 |---|---|"""
@@ -599,7 +606,12 @@ def main():
         page.append(example(exe, faults, name, text, plan, records, words.split()))
     page.append(summaries(exe))
     page.append(pictures(exe))
-    for name, text in (("PLANS.md", "\n".join(page)), ("plan.schema.json", schema_text(*texts()))):
+    written = {
+        "PLANS.md": "\n".join(page),
+        "plan.schema.json": schema_text(*texts()),
+        "exec_plan.5": page_of(*texts(), REFUSED),
+    }
+    for name, text in written.items():
         with open(os.path.join(HERE, name), "w", encoding="utf-8") as file:
             file.write(text)
 

@@ -27,7 +27,8 @@ from room import Room, ended, try_those
 from run_cases import beside, main
 from streams import Wrong, expect
 
-PAGE, SHOWS_PAGE = (os.path.join("docs", name) for name in ("exec_run.1", "exec_show.1"))
+PAGE, SHOWS_PAGE, PLANS_PAGE = (os.path.join("docs", name) for name in ("exec_run.1", "exec_show.1", "exec_plan.5"))
+SCHEMA, SENDERS = (os.path.join(TOP, name) for name in ("docs/plan.schema.json", "samples/senders.py"))
 MEASURE = os.path.join(TOP, "bench", "measure.py")
 # tools that a new user may not have: a block that calls one is skipped where it isn't installed
 OTHERS = ("jq", "mawk", "parallel")
@@ -48,14 +49,14 @@ def usage_of(program):
 
 
 def the_pages_have_no_warnings(_):
-    for page in (PAGE, SHOWS_PAGE):
+    for page in (PAGE, SHOWS_PAGE, PLANS_PAGE):
         for command in (["man", "--warnings", "-l", page], ["groff", "-ww", "-man", "-z", page]):
             ran = ended(command, cwd=TOP)
             expect(" ".join(command), (0, ""), (ran.returncode, ran.stderr))
 
 
 def the_pages_are_clean_by_mandoc(_):
-    for page in (PAGE, SHOWS_PAGE):
+    for page in (PAGE, SHOWS_PAGE, PLANS_PAGE):
         ran = ended(["mandoc", "-T", "lint", page], cwd=TOP)
         expect(f"mandoc -T lint {page}", (0, ""), (ran.returncode, ran.stdout))
 
@@ -85,6 +86,17 @@ def the_page_has_each_refusal_and_status(_):
             raise Wrong("a note on the page", note, "none")
     statuses = re.findall(r"^(\d)$", page.split("EXIT STATUS")[1].split("DIAGNOSTICS")[0], re.M)
     expect("statuses", list("01234567"), statuses)
+
+
+def the_page_of_plans_has_each_node_job_setting_and_refusal(_):
+    page, plans = plain_page(PLANS_PAGE), text_of(os.path.join("docs", "PLANS.md"))
+    names = re.findall(r"^### `(\w+)`$", plans, re.M) + re.findall(r"^\| `(\w+)` \|", plans, re.M)
+    refusals = re.findall(r"`plan refused: (P\d [^`]+)`", plans)
+    for name in (*names, *refusals):
+        if not re.search(rf"^{name}(?: [a-z, ]+)?$", page, re.M):
+            raise Wrong(f"a node, job, setting or refusal in {PLANS_PAGE}", name, "none")
+    if len(names) < 40 or len(set(refusals)) != 7:
+        raise Wrong("how many names and refusals docs/PLANS.md has", "40 or more, 7", f"{len(names)}, {len(refusals)}")
 
 
 def the_page_has_each_large_limit_of_the_other_pages(_):
@@ -186,6 +198,9 @@ def make_install_puts_its_files_and_make_uninstall_takes_them_away(program):
             puts[f"{prefix}/share/bash-completion/completions/{name}"] = (completion("bash", name), 0o644)
             puts[f"{prefix}/share/zsh/site-functions/_{name}"] = (completion("zsh", name), 0o644)
             puts[f"{prefix}/share/fish/vendor_completions.d/{name}.fish"] = (completion("fish", name), 0o644)
+        puts[f"{prefix}/share/man/man5/exec_plan.5"] = (os.path.join(TOP, PLANS_PAGE), 0o644)
+        for path in filter(os.path.isfile, (SCHEMA, SENDERS)):
+            puts[f"{prefix}/share/exec_run/{os.path.basename(path)}"] = (path, 0o644)
         with tempfile.TemporaryDirectory() as folder:
             ran = made(folder, "install", f"PROGRAM={program}", f"SHOWS={shows}", *words)
             expect("make install", (0, ""), (ran.returncode, ran.stderr))
@@ -214,6 +229,7 @@ TESTS = [
     (the_pages_say_each_line_of_the_usage_notes, ()),
     (the_page_tells_of_each_word, ()),
     (the_page_has_each_refusal_and_status, ()),
+    (the_page_of_plans_has_each_node_job_setting_and_refusal, ()),
     (the_page_has_each_large_limit_of_the_other_pages, ()),
     (the_examples_of_the_pages_are_what_the_programs_print, ("bash",)),
     (the_commands_on_the_pages_print_what_the_pages_say, ("bash", "awk", "grep")),

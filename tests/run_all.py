@@ -1,9 +1,9 @@
 #!/usr/bin/env python3
 """Runs the tables of cases, the streams, spoilt plans and random ones over each build of the program, and over that of
 exec_show beside it; reads its pictures (tests/pictures.py), refuses the program memory (tests/refused_memory.py), tries
-what is handed out beside it (tests/pages.py, tests/completions.py, tests/scale.py), counts what is hard to read
-(tests/house.py), and checks the documents: docs/PLANS.md and docs/plan.schema.json must be what docs/make_plans.py
-writes with that build.
+what is handed out beside it (tests/pages.py, tests/completions.py, tests/scale.py, tests/recorder.py), counts what is
+hard to read (tests/house.py), and checks the documents: docs/PLANS.md, docs/exec_plan.5 and docs/plan.schema.json must
+be what docs/make_plans.py writes with that build.
 
     tests/run_all.py [--gate STATUS] [PROGRAM..]
 
@@ -25,13 +25,14 @@ import mutate_plans
 import pages
 import pictures
 import random_plans
+import recorder
 import refused_memory
 import run_cases
 import scale
 import streams
 
 BUILDS = ("", ".by-rattle")
-WRITTEN = (os.path.join("docs", "PLANS.md"), os.path.join("docs", "plan.schema.json"))
+WRITTEN = tuple(os.path.join("docs", name) for name in ("PLANS.md", "exec_plan.5", "plan.schema.json"))
 
 
 def builds():
@@ -71,7 +72,7 @@ def main():
             counts.append((0, 1))
             continue
         scripts = (
-            run_cases, streams, mutate_plans, random_plans, pictures, refused_memory, pages, completions, scale
+            run_cases, streams, mutate_plans, random_plans, pictures, refused_memory, pages, completions, scale, recorder
         )  # fmt: skip
         found = [it.run(program) for it in scripts]
         found.append(cookbook(program))

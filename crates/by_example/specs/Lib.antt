@@ -1,4 +1,5 @@
 pub mod Adder
 pub mod Answers
+pub mod AnyPlan
 pub mod OneHand
 pub mod Streams

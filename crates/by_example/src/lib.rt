@@ -16,6 +16,7 @@
 #![tactic(auto)]
 
 mod adding;
+mod any_plan;
 mod fault;
 mod opening;
 mod planning;
@@ -23,6 +24,7 @@ mod running;
 mod streaming;
 
 pub use adding::add_one;
+pub use any_plan::run_text;
 pub use fault::AddFault;
 pub use planning::{plan_adder, plan_pool_adder};
 pub use streaming::{WINDOW, add_lines};

@@ -1,0 +1,18 @@
+-- What becomes of a stream by a plan that is read.
+use Rattle.std.specs.Prelude.{ℕ, List}
+use Rattle.plan_reader.specs.PlanFile.{IsPlanOf}
+use Rattle.plan_shape.specs.Blueprint.{Blueprint}
+use Rattle.record_loop.specs.declared.printer.Form.TheVariants.{Lines}
+use Rattle.record_runs.specs.Accounts.{EndsRun, IsClosedFor}
+use Rattle.record_runs.specs.Endings.{Streams}
+use Rattle.record_runs.specs.declared.account.Account.{Account}
+use Rattle.run_rules.specs.PlanTerms.{window_of}
+use Rattle.by_example.specs.declared.streaming.TheConstants.{WINDOW}
+
+-- The text is a plan, and a run of it over the lines of a source ended so, on a table that was
+-- closed with its scope joined and each block given back.
+pub record RunsText (text : List ℕ) (before after : Streams) (account : Account) : Type 0 where
+  pub plan : Blueprint
+  pub is : IsPlanOf text plan
+  pub ends : EndsRun plan (window_of plan WINDOW) Lines before after account
+  pub closed : IsClosedFor plan (window_of plan WINDOW) account.tally account.closing
