@@ -17,6 +17,7 @@ from check_docs import TOP, text_of
 PAGE = "docs/ARCHITECTURE.md"
 MOST_PARAMETERS, MOST_COLUMNS, MOST_LINES = 7, 100, 300
 ROW = re.compile(r"\| (.+?) \| (\d+) \|")
+IMPORT = re.compile(r"\s*(?:ghost |pub )?use ")
 FUNCTION = re.compile(r"\bfn (\w+)")
 # a name that a file of specs/ declares: `abbrev pub NAME :`, `pub NAME :`, `pub record NAME`, `pub data NAME`
 DECLARED = re.compile(r"^(?:abbrev )?pub (?:record |data |module )?([^\s:({]+)", re.MULTILINE)
@@ -85,7 +86,7 @@ def wide_lines():
     for part, ending in (("src", ".rt"), ("specs", ".antt")):
         for path in files(part, ending):
             for number, line in enumerate(text_of(path).splitlines(), 1):
-                if len(line) > MOST_COLUMNS:
+                if len(line) > MOST_COLUMNS and not IMPORT.match(line):
                     yield f"{path}:{number}"
 
 
@@ -111,7 +112,7 @@ def shared_names():
 COUNTS = {
     f"functions with more than {MOST_PARAMETERS} parameters": long_lists,
     "positions in specs (`x.1` in place of a field)": positions,
-    f"lines above {MOST_COLUMNS} columns in src and specs": wide_lines,
+    f"lines above {MOST_COLUMNS} columns in src and specs, imports aside": wide_lines,
     f"files above {MOST_LINES} lines": long_files,
     "names in specs that stand in two crates": shared_names,
 }
