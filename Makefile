@@ -1,6 +1,6 @@
 # `make try` runs the sample before any proof, in under a minute on four free cores.
-# `make run` proves both programs and runs the sample: @RUN-CPU@ processor minutes on a new machine, @RUN-CLOCK@ by the
-# clock on four free cores; seconds later.
+# `make run` proves both programs, the libraries below them side by side, and runs the sample: on a new machine with four
+# free cores well over half an hour, seconds later.
 # `make test` is the gate: everything is proved, and the proved program is tested.
 # `make stress` runs the proved program some thousand times with 1 to 16 workers, for at most half an hour.
 # `make bench` measures the proved program, with mawk, jq and mlr beside it where they are installed (bench/measure.py).
@@ -31,9 +31,11 @@ run: $(PROGRAM) $(SHOWS)
 	$(PROGRAM) run $(PLAN) < $(NUMBERS)
 
 $(PROGRAM): $(wildcard crates/*/src/*.rt crates/*/specs/*.antt)
+	tools/prove_libraries.py exec_run exec_show
 	cd crates/exec_run && rt run -- gen data/plan.json 1
 
 $(SHOWS): $(wildcard crates/*/src/*.rt crates/*/specs/*.antt)
+	tools/prove_libraries.py exec_show
 	cd crates/exec_show && rt run -- plan data/plan.json
 
 test:
