@@ -1,6 +1,8 @@
 -- What becomes of a stream by a plan that is read.
-use Rattle.std.specs.Prelude.{ℕ, List}
-use Rattle.plan_reader.specs.PlanFile.{IsPlanOf}
+use Rattle.std.specs.Prelude.{◌≢◌, ℕ, List}
+use Rattle.plan_reader.specs.PlanFile.{IsFaultOf, IsPlanOf}
+use Rattle.plan_reader.specs.declared.fault.PlanFault.{PlanFault}
+use Rattle.plan_reader.specs.declared.fault.PlanFault.TheVariants.{NoMemory}
 use Rattle.plan_shape.specs.Blueprint.{Blueprint}
 use Rattle.record_loop.specs.declared.printer.Form.TheVariants.{Lines}
 use Rattle.record_runs.specs.Accounts.{EndsRun, IsClosedFor}
@@ -16,3 +18,7 @@ pub record RunsText (text : List ℕ) (before after : Streams) (account : Accoun
   pub is : IsPlanOf text plan
   pub ends : EndsRun plan (window_of plan WINDOW) Lines before after account
   pub closed : IsClosedFor plan (window_of plan WINDOW) account.tally account.closing
+
+-- A fault that is answered is one that the text has, unless it is want of memory.
+abbrev pub AnswersFault : List ℕ → PlanFault → Type 0
+AnswersFault text fault = fault ≢ NoMemory → IsFaultOf text fault

@@ -1,11 +1,9 @@
 //! A plan that isn't known beforehand: it is read from JSON, and run over the lines of a stream.
-ghost use Rattle.std.specs.Prelude.{◌≢◌, IfOk, IfErr, OnErr, vec_len};
+ghost use Rattle.std.specs.Prelude.{IfOk, IfErr, OnErr, vec_len};
 ghost use Rattle.std.specs.Thread.{IsSync};
-ghost use Rattle.plan_reader.specs.PlanFile.{IsFaultOf};
-ghost use Rattle.plan_reader.specs.declared.fault.PlanFault.{PlanFault};
 ghost use Rattle.record_runs.specs.Endings.{IsUnbegun, streams};
 ghost use Rattle.run_crew.specs.Crews.{IsCrew};
-ghost use Rattle.by_example.specs.AnyPlan.{RunsText};
+ghost use Rattle.by_example.specs.AnyPlan.{AnswersFault, RunsText};
 
 use crate::streaming::WINDOW;
 use exec_io::Sink;
@@ -39,7 +37,7 @@ pub fn run_text<R: Threads + Wait + Sync, S: RecordSource, K: Sink>(
     ensures runs { IfOk result (RunsText text.now
         (streams (S.told records.old) (S.reads records.old) (K.told out.old))
         (streams (S.told records.new) (S.reads records.new) (K.told out.new))) }
-    ensures fault { IfErr result (λ fault. fault ≢ PlanFault.NoMemory → IsFaultOf text.now fault) }
+    ensures fault { IfErr result (AnswersFault text.now) }
     ensures unbegun { OnErr result (IsUnbegun
         (streams (S.told records.old) (S.reads records.old) (K.told out.old))
         (streams (S.told records.new) (S.reads records.new) (K.told out.new))) }
