@@ -56,6 +56,7 @@ module _ {P E : Type 0} (s : Scene P E) (c : ℕ → ℕ → CallbackPhase) (q :
         resting = old.resting;
         named = old.named;
         met = old.met;
+        asked = old.asked;
       } in
       let moved : HomesStand (with_views (λ i. owning (w i))) = subst (λ u. HomesStand (with_views u)) (λ j i. same i j) bare in
       record {
@@ -68,6 +69,7 @@ module _ {P E : Type 0} (s : Scene P E) (c : ℕ → ℕ → CallbackPhase) (q :
         resting = moved.resting;
         named = moved.named;
         met = moved.met;
+        asked = moved.asked;
       }
 
   module _ {O : Type 0} (cargo : Ghosts P E O) where

@@ -75,7 +75,7 @@ awaits_allowed {P} {E} cargo f slots id value x nodes m seated can stamped reads
           seated = subst (λ d. IsSeated f.tree f.layout (mine, d)) (sym is)
               (seated-awaited f.tree f.layout x nodes (cargo.start can.item) (cargo.lot can.item) i n value m.0 c seated);
           unowed = λ k named.
-              let child = named-child f.tree x nodes can.leave.held.idle can.idle k named in
+              let child = named-child f.tree x nodes can.leave.held can.idle k named in
               owes-not cargo f hand (beside x k) (quiet cargo f hand leaving k child).starts;
           beside_it = owes-beside cargo f hand x own.live;
         };

@@ -28,14 +28,14 @@ use Rattle.table_rules.specs.declared.cargo.Cargo.{Ghosts}
 use Rattle.table_rules.specs.declared.frame.Frame.{Frame}
 use Rattle.table_rules.specs.Scenes.{Home, Out, Empty, Full, is_out, is_full, Past, Scene, shown, scene}
 use Rattle.table_rules.specs.Homes.{named_below, seats_of, is_waiting}
-use Rattle.table_steps.specs.Slots.{slot_of, IsSeated}
+use Rattle.table_steps.specs.Slots.{slot_of, knows_idle, IsSeated}
 use Rattle.table_steps.specs.Awaits.{is_named, is_unnamed, CanAwait}
 use Rattle.table_kept.proofs.Standing.{Standing}
 use Rattle.table_kept.proofs.LiveNames.{place_of, place-live, name-live}
-use Rattle.table_kept.proofs.HeldNow.{Holding, idle-so}
+use Rattle.table_kept.proofs.HeldNow.{Holding, idle-known}
 use Rattle.table_kept.proofs.BeginSeats.{or-left, kid-any-number}
 use Rattle.table_kept.proofs.ShedHomes.{not-family}
-use Rattle.table_kept.proofs.Awaiting.{each-any, all-imp, all-named, unnamed-family, unnamed-kid, named-kid}
+use Rattle.table_kept.proofs.Awaiting.{all-imp, all-named, unnamed-family, unnamed-kid, named-kid}
 use Rattle.table_kept.proofs.Leaving.{ToLeave, is-held, is-below, may-leave, place-n, quiet, home, home-given, kid-given, home-still}
 use Rattle.table_kept.proofs.Moving.{Moves, KidMoves, moved, parent-differs, some-seat, no-seat}
 
@@ -89,12 +89,10 @@ module _ {P E O : Type 0} (cargo : Ghosts P E O) (f : Frame O) (hand : Standing 
   -- each that is named is a child that hasn't begun
   awaitable : list_all (may_be_awaited now x) nodes ≡ true
   awaitable =
-      all-imp (λ n. is_child f.tree x.node n && list_any (λ q. q == n) can.leave.held.idle) (may_be_awaited now x)
+      all-imp (λ n. is_child f.tree x.node n && knows_idle can.leave.held n) (may_be_awaited now x)
       (λ n both.
-      let parts = and_parts (is_child f.tree x.node n) (list_any (λ q. q == n) can.leave.held.idle) both in
-      and_from _ _ parts.0
-      (each-any (λ n. is_idle (control_at now (beside x n)) ≡ true) can.leave.held.idle n
-      (idle-so cargo f hand holding) parts.1)) nodes can.idle
+      let parts = and_parts (is_child f.tree x.node n) (knows_idle can.leave.held n) both in
+      and_from _ _ parts.0 (idle-known cargo f hand holding n parts.0 parts.1)) nodes can.idle
 
   pub sound-now : Sound (put now id x w u)
   sound-now =
@@ -279,4 +277,7 @@ module _ {P E O : Type 0} (cargo : Ghosts P E O) (f : Frame O) (hand : Standing 
         kids = kid-moves;
         named = λ _. names-all ∙ sym named-here;
         met = λ none. absurd (both_ways (is_waiting w) none (le-leb 1 (length nodes) can.some_child));
+        asked = λ n child begun.
+            let some_named = can.some_child in
+            let here_named = named-here in omega (arith, some_named, here_named);
       }

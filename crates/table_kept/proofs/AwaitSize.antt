@@ -12,6 +12,7 @@ use Rattle.life_kept.proofs.Trees.{child-within}
 use Rattle.table_rules.specs.declared.cargo.Cargo.{Ghosts}
 use Rattle.table_rules.specs.declared.frame.Frame.{Frame}
 use Rattle.table_steps.specs.Claims.{Seated}
+use Rattle.table_steps.specs.Slots.{knows_idle}
 use Rattle.table_steps.specs.Awaits.{CanAwait}
 
 ones-most : (test : ℕ → Bool) (size : ℕ) → total (λ n. one (test n)) size ≤ size
@@ -21,9 +22,9 @@ ones-most test (suc n) = let old = ones-most test n in let here = one-most (test
 pub named-most : {P E O : Type 0} (cargo : Ghosts P E O) (f : Frame O) (m : Seated P E) (x : Name) (nodes : List ℕ) →
     CanAwait cargo f m x nodes → length nodes ≤ length f.tree
 named-most cargo f m x nodes can =
-    let test : ℕ → Bool = λ n. is_child f.tree x.node n && list_any (λ q. q == n) can.leave.held.idle in
+    let test : ℕ → Bool = λ n. is_child f.tree x.node n && knows_idle can.leave.held n in
     let count = count-different nodes (length f.tree) test
-    (λ n passes. child-within f.tree x.node n (and_parts (is_child f.tree x.node n) (list_any (λ q. q == n) can.leave.held.idle) passes).0)
+    (λ n passes. child-within f.tree x.node n (and_parts (is_child f.tree x.node n) (knows_idle can.leave.held n) passes).0)
     can.different can.idle in
     let most = ones-most (λ n. list_any (λ m. m == n) nodes) (length f.tree) in
     omega (arith, count, most)

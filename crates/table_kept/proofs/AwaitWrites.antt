@@ -200,7 +200,7 @@ module _ {P E O : Type 0} (cargo : Ghosts P E O) (f : Frame O) (hand : Standing 
               (known-listed after i n value owing (record {
                 held = known.held;
                 owed = each-owes (IsOwedSo after) x (cargo.start can.item) (cargo.lot can.item) nodes v.owed
-                    (λ m named. owed-so m (named-child f.tree x nodes can.leave.held.idle can.idle m named)) known.owed;
+                    (λ m named. owed-so m (named-child f.tree x nodes can.leave.held can.idle m named)) known.owed;
                 reported = known.reported;
                 noted = known.noted;
                 unlooked = known.unlooked;

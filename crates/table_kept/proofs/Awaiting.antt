@@ -16,11 +16,12 @@ use Rattle.life_kept.proofs.Members.{any-beside}
 use Rattle.life_kept.proofs.Trees.{child-within}
 use Rattle.table_words.specs.declared.layout.Layout.{Layout}
 use Rattle.table_words.specs.Layouts.{place_number}
+use Rattle.table_rules.specs.declared.view.Held.{Held}
 use Rattle.table_rules.specs.declared.view.View.{View}
 use Rattle.table_rules.specs.declared.view.Owed.{Owed}
 use Rattle.table_rules.specs.Named.{count_by, without, Each}
 use Rattle.table_steps.specs.Claims.{with_step}
-use Rattle.table_steps.specs.Slots.{slot_of, kids_of, is_of_family, has_slot, IsSeated}
+use Rattle.table_steps.specs.Slots.{slot_of, kids_of, knows_idle, is_of_family, has_slot, IsSeated}
 use Rattle.table_steps.specs.Sheds.{shed}
 use Rattle.table_steps.specs.Awaits.{owes_each, awaits, is_named, is_unnamed}
 use Rattle.table_kept.proofs.Entries.{any-without}
@@ -91,11 +92,11 @@ all-named t (m ∷ ms) n all h =
     (λ later. all-named t ms n parts.1 later)
 
 -- each that is named is a child
-pub named-child : (tree : List TreeNode) (x : Name) (nodes idle : List ℕ) →
-    list_all (λ n. is_child tree x.node n && list_any (λ q. q == n) idle) nodes ≡ true → (n : ℕ) → is_named nodes n ≡ true →
+pub named-child : {E : Type 0} (tree : List TreeNode) (x : Name) (nodes : List ℕ) (held : Held E) →
+    list_all (λ n. is_child tree x.node n && knows_idle held n) nodes ≡ true → (n : ℕ) → is_named nodes n ≡ true →
     is_child tree x.node n ≡ true
-named-child tree x nodes idle all n named =
-    (and_parts _ _ (all-named (λ n. is_child tree x.node n && list_any (λ q. q == n) idle) nodes n all named)).0
+named-child tree x nodes held all n named =
+    (and_parts _ _ (all-named (λ n. is_child tree x.node n && knows_idle held n) nodes n all named)).0
 
 module _ (tree : List TreeNode) (l : Layout) (x : Name) (nodes : List ℕ) where
   -- the slots that are given back are of the node's family

@@ -1,23 +1,24 @@
 -- A begin keeps what is said of homes: the node's word becomes held, its children's homes go out, and the
 -- rule remembers its start.
-use Rattle.std.proofs.Common.{◌≡◌, ℕ, ◌+◌, ◌≤◌, Bool, true, false, not, ◌&&◌, ◌||◌, ◌==◌, if◌then◌else◌, List, Option, Some, None, refl, sym, ap, ◌∙◌, subst, arith}
+use Rattle.std.proofs.Common.{◌≡◌, ℕ, ◌+◌, ◌*◌, ◌≤◌, Bool, true, false, not, ◌&&◌, ◌||◌, ◌==◌, if◌then◌else◌, List, Option, Some, None, refl, sym, ap, ◌∙◌, subst, arith}
 use Rattle.std.specs.Prelude.{nat_le}
 use Rattle.std.specs.Option.{option_map_or}
-use Rattle.std.proofs.lemmas.Bool.{and_parts, and_from, cond-true, cond-false, both_ways, eqb-true, eq-eqb, false_from_ne_true}
+use Rattle.std.proofs.lemmas.Bool.{and_parts, and_from, cond-true, cond-false, both_ways, eqb-true, eq-eqb, false_from_ne_true, le-leb}
 use Rattle.std.proofs.lemmas.Bool.Decides.{nat_tests}
 use Rattle.life_rules.specs.declared.words.ControlWord.{ControlWord}
 use Rattle.life_rules.specs.declared.words.ControlWord.TheVariants.{Idle, Busy}
 use Rattle.life_rules.specs.declared.event.Name.{Name}
 use Rattle.node_tree.specs.Tree.{is_root, is_child, parent_of}
-use Rattle.life_rules.specs.Words.{is_open, is_idle, is_done, is_under_way}
+use Rattle.life_rules.specs.Words.{is_open, is_idle, is_done, is_under_way, pending}
 use Rattle.common_lemmas.specs.Sums.{one}
 use Rattle.life_rules.specs.Views.{beside, same}
 use Rattle.life_rules.specs.States.{State, size, is_live, control_at, stand}
 use Rattle.common_lemmas.proofs.Bool.{either}
 use Rattle.life_rules.proofs.Names.{same-refl, same-other, by_name}
-use Rattle.common_lemmas.proofs.Totals.{total-same}
+use Rattle.common_lemmas.proofs.Totals.{total-same, total-at}
 use Rattle.life_rules.proofs.Readings.{lives, is_live-from, stand-at}
 use Rattle.life_kept.proofs.Trees.{child-parent, parent-child, child-within}
+use Rattle.life_kept.proofs.Holding.{weight-most}
 use Rattle.life_kept.proofs.Puts.{times-same}
 use Rattle.table_rules.specs.Scenes.{Out, Empty, Full, is_out, is_full, Past, Scene}
 use Rattle.table_rules.specs.Homes.{is_waiting, is_resting, home_of, seats_of, named_below, done_below, HomesStand}
@@ -228,6 +229,22 @@ module _ {P E : Type 0} (s : Scene P E) (h : ℕ) (x : Name) (may : MayBegin s.s
       (ap (λ z. is_done (control_at base z)) (sym e) ∙ ap is_done (x-idle base h x may)) done))
       (λ ne. still is_done (beside y n) ne ∙ done))
 
+  -- the parent of a node whose start is owed waits, and its last await named some
+  parent-named : (y : Name) (n : ℕ) → is_child base.tree y.node n ≡ true → x ≡ beside y n → 1 ≤ s.past.named y
+  parent-named y n child is =
+      let within = child-within base.tree y.node n child in
+      let all = stand-at base (λ v. v.starts) h x may.below in
+      let owes = may.owes in
+      let here : stand base (λ v. v.starts) x ≡ stand base (λ v. v.starts) (beside y n) = ap (stand base (λ v. v.starts)) is in
+      let most = weight-most base y n may.sound within child in
+      let waits = homes.named y (le-leb 1 (pending (control_at base y)) (omega (arith, most, all, owes, here))) in
+      let kid : ℕ → ℕ =
+      λ m. one (is_under_way (control_at base (beside y m))) + stand base (λ v. v.starts) (beside y m)
+      + one (is_done (control_at base (beside y m)) && is_full (home_of s (beside y m))) in
+      let at : one (is_child base.tree y.node n) * kid n ≤ named_below s y = total-at (λ m. one (is_child base.tree y.node m) * kid m) (size base) n within in
+      let whole : one (is_child base.tree y.node n) * kid n ≡ 1 * kid n = λ k. one (child k) * kid n in
+      omega (arith, at, whole, waits, all, owes, here)
+
   pub homes-begun : HomesStand begun_scene
   homes-begun =
       record {
@@ -287,4 +304,26 @@ module _ {P E : Type 0} (s : Scene P E) (h : ℕ) (x : Name) (may : MayBegin s.s
             let was = homes.met y (sym (still is_idle y ne) ∙ begun) (sym (still is_waiting y ne) ∙ rests) in
             let named : begun_past.named y ≡ s.past.named y = cond-false (same x y) 0 (s.past.named y) (same-other x y ne) in
             let more = done-begun y in omega (arith, was, named, more));
+        asked = λ y n child begun.
+            by_name x y
+            (λ e.
+            let below : is_child base.tree x.node n ≡ true = subst (λ z. is_child base.tree z.node n ≡ true) (sym e) child in
+            let apart : x ≡ beside x n → ⊥ =
+            λ own.
+            let none = kid-weightless base h x may n below in
+            let all = stand-at base (λ v. v.starts) h x may.below in
+            let owes = may.owes in
+            let here : stand base (λ v. v.starts) x ≡ stand base (λ v. v.starts) (beside x n) = ap (stand base (λ v. v.starts)) own in
+            absurd (omega (arith, none, all, owes, here)) in
+            let now : is_idle (control_at begun_scene.state (beside x n)) ≡ false =
+            subst (λ z. is_idle (control_at begun_scene.state (beside z n)) ≡ false) (sym e) begun in
+            absurd (both_ways (is_idle (control_at base (beside x n)))
+            (ap is_idle (sym (word-other base h x may (beside x n) apart)) ∙ now) (kid-idle base h x may n below)))
+            (λ ne.
+            let named : begun_past.named y ≡ s.past.named y = cond-false (same x y) 0 (s.past.named y) (same-other x y ne) in
+            let some : 1 ≤ s.past.named y =
+            by_name x (beside y n)
+            (λ is. parent-named y n child is)
+            (λ apart. homes.asked y n child (ap is_idle (sym (word-other base h x may (beside y n) apart)) ∙ begun)) in
+            omega (arith, named, some));
       }

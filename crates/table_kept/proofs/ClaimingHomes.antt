@@ -166,6 +166,7 @@ module _ {P E : Type 0} (s : Scene P E) (h b : ℕ) (may : MayClaim s.state h b)
         met = λ x begun rests.
             let was = homes.met x (ap is_idle (sym (like x)) ∙ begun) (ap is_waiting (sym (like x)) ∙ rests) in
             let same = done-same x in omega (arith, was, same);
+        asked = λ x n child begun. homes.asked x n child (ap is_idle (sym (like (beside x n))) ∙ begun);
       }
 
   module _ {O : Type 0} (cargo : Ghosts P E O) (over : O) where

@@ -154,6 +154,7 @@ module _ {P E O : Type 0} (cargo : Ghosts P E O) (f : Frame O) (hand : Standing 
             kid-left cargo f hand leaving Done u is-put homes_now r.past n child refl refl refl (kid-home n child);
         named = λ none. cc;
         met = λ _. r.stands.homes.met x (ap is_idle (is-held cargo f hand leaving).word) (ap is_waiting (is-held cargo f hand leaving).word);
+        asked = r.stands.homes.asked x;
       }
 
   abbrev moving : Move here

@@ -139,6 +139,7 @@ module _ {P E O : Type 0} (cargo : Ghosts P E O) (f : Frame O) (hand : Standing 
             (λ e. parent-differs f.tree r.stands.sound.tree x.node n child (λ k. (e k).node))) (kid-home n child);
         named = λ none. cc;
         met = λ _. r.stands.homes.met x (ap is_idle (is-held cargo f hand left_node).word) (ap is_waiting (is-held cargo f hand left_node).word);
+        asked = r.stands.homes.asked x;
       }
 
   abbrev moving : Move here

@@ -1,7 +1,8 @@
 -- What the rule says of a node that a hand holds, at a step of this hand.
-use Rattle.std.proofs.Common.{◌≡◌, ℕ, ◌<◌, ◌≤◌, true, false, ◌||◌, Some, refl, sym, ap, ◌∙◌, subst, arith}
+use Rattle.std.proofs.Common.{◌≡◌, ℕ, ◌<◌, ◌≤◌, true, false, ◌||◌, ◌==◌, Some, refl, sym, ap, ◌∙◌, subst, arith}
 use Rattle.std.specs.Prelude.{Option, MatchOption, nat_le}
-use Rattle.std.proofs.lemmas.Bool.{false_from_ne_true, leb-true, leb-false}
+use Rattle.std.specs.List.{list_any}
+use Rattle.std.proofs.lemmas.Bool.{eqb-true, false_from_ne_true, leb-true, leb-false}
 use mathlib.Core.Option.{some}
 use lib.ListN.{get_elem?}
 use Rattle.life_rules.specs.declared.words.ControlWord.{ControlWord}
@@ -29,13 +30,14 @@ use Rattle.table_rules.specs.ShownViews.{shown_view}
 use Rattle.table_rules.specs.Scenes.{Scene, shown, scene}
 use Rattle.table_rules.specs.Notes.{is_still, IsHeldSo}
 use Rattle.table_rules.specs.Running.{Running}
-use Rattle.table_steps.specs.Slots.{has_seen}
+use Rattle.table_steps.specs.Slots.{has_seen, knows_idle}
 use Rattle.table_kept.proofs.Standing.{Standing}
 use Rattle.table_kept.proofs.Entries.{IsFound, found, each-found, each-map}
 use Rattle.table_kept.proofs.Seats.{at_within}
 use Rattle.table_kept.proofs.ViewMoves.{view-here}
 use Rattle.table_kept.proofs.SeenStands.{seen-stands}
 use Rattle.table_kept.proofs.BeginSeats.{or-cases}
+use Rattle.table_kept.proofs.Awaiting.{each-any}
 
 held-under_way : (c : ControlWord) → is_under_way c ≡ false → one (is_held c) ≡ 0
 held-under_way Idle h = refl
@@ -118,6 +120,17 @@ module _ {P E O : Type 0} (cargo : Ghosts P E O) (f : Frame O) (hand : Standing 
       each-map (λ n. (is_child f.tree e.name.node n ≡ true) × (is_idle (control_at state (beside e.name n)) ≡ true))
       (λ n. is_idle (control_at state (beside x n)) ≡ true)
       (λ n both. subst (λ z. is_idle (control_at state (beside z n)) ≡ true) is-found.name_is both.1) e.idle so.idle
+
+  -- a child that the hand knows to be idle is so: it has read it, or no await has named any
+  pub idle-known : (n : ℕ) → is_child f.tree x.node n ≡ true → knows_idle e n ≡ true → is_idle (control_at state (beside x n)) ≡ true
+  idle-known n child known =
+      or-cases (e.named == 0) (list_any (λ q. q == n) e.idle) known
+      (λ none.
+      let zero = eqb-true e.named 0 none in
+      either (is_idle (control_at state (beside x n)))
+      (λ t. t)
+      (λ begun. let asked = r.stands.homes.asked x n child begun in let named = named-so in absurd (omega (arith, zero, asked, named))))
+      (λ read. each-any (λ m. is_idle (control_at state (beside x m)) ≡ true) e.idle n idle-so read)
 
   pub phase-so : MatchOption e.phase (Unit {0}) (λ known. is_still known (phase_at state x))
   phase-so =

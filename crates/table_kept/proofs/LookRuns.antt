@@ -95,6 +95,7 @@ module _ {P E O : Type 0} (cargo : Ghosts P E O) (f : Frame O) (hand : Standing 
         resting = old.resting;
         named = old.named;
         met = old.met;
+        asked = old.asked;
       } in
       let moved : HomesStand (beside_views (plain_views views)) =
       subst (λ w. HomesStand (beside_views w))
@@ -109,6 +110,7 @@ module _ {P E O : Type 0} (cargo : Ghosts P E O) (f : Frame O) (hand : Standing 
         resting = moved.resting;
         named = moved.named;
         met = moved.met;
+        asked = moved.asked;
       }
 
   held-still : (e : Held E) → IsHeldSo before e → IsHeldSo looked e

@@ -116,6 +116,8 @@ module _ {P E : Type 0} (s : Scene P E) (h : ℕ) (x : Name) (w : ControlWord) (
     pub named : is_waiting w ≡ true → named_below moved x ≡ past.named x
     -- and where it doesn't, as many of them are done
     pub met : is_waiting w ≡ false → past.named x ≤ done_below base x
+    -- no child has begun where its last await named none
+    pub asked : (n : ℕ) → is_child base.tree x.node n ≡ true → is_idle (control_at base (beside x n)) ≡ false → 1 ≤ past.named x
 
   module _ (mv : Moves) where
     pub word-here : control_at put_state x ≡ w

@@ -224,6 +224,27 @@ module _ {P E : Type 0} (s : Scene P E) (task : Move s) (homes : HomesStand s) w
       (ap (λ z. is_done (control_at base z)) (sym e) ∙ (under_way-parts (control_at base x) mv.under_way).1) done))
       (λ ne. ap is_done (word-other (beside y n) ne) ∙ done))
 
+  -- a node that has begun had begun before
+  begun-before : (y : Name) → is_idle (control_at put_state y) ≡ false → is_idle (control_at base y) ≡ false
+  begun-before y begun =
+      by_name x y
+      (λ e. subst (λ z. is_idle (control_at base z) ≡ false) e (under_way-parts (control_at base x) mv.under_way).0)
+      (λ ne. ap is_idle (sym (word-other y ne)) ∙ begun)
+
+  -- of a node whose child has begun the last await named some
+  asked-moved : (y : Name) (n : ℕ) → is_child base.tree y.node n ≡ true → is_idle (control_at put_state (beside y n)) ≡ false →
+      1 ≤ past.named y
+  asked-moved y n child begun =
+      let was = begun-before (beside y n) begun in
+      by_name x y
+      (λ e.
+      subst (λ z. 1 ≤ past.named z) e
+      (mv.asked n (subst (λ z. is_child base.tree z.node n ≡ true) (sym e) child)
+      (subst (λ z. is_idle (control_at base (beside z n)) ≡ false) (sym e) was)))
+      (λ ne.
+      let before = homes.asked y n child was in
+      let named = mv.named_other y ne in omega (arith, before, named))
+
   pub homes-moved : HomesStand moved
   homes-moved =
       record {
@@ -260,4 +281,5 @@ module _ {P E : Type 0} (s : Scene P E) (task : Move s) (homes : HomesStand s) w
             let word = sym (word-other y ne) in
             let was = homes.met y (ap is_idle word ∙ begun) (ap is_waiting word ∙ still) in
             let named = mv.named_other y ne in omega (arith, was, named, more));
+        asked = asked-moved;
       }

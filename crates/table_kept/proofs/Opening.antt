@@ -19,7 +19,7 @@ use Rattle.node_tree.specs.Tree.{IsTree}
 use Rattle.life_rules.specs.declared.limits.TheConstants.{MOST_BLOCKS, MOST_HANDS}
 use Rattle.node_tree.specs.declared.node.TheConstants.{MOST_NODES}
 use Rattle.life_rules.specs.Words.{is_open, is_idle, is_done, is_under_way, clear}
-use Rattle.life_rules.specs.Views.{blank}
+use Rattle.life_rules.specs.Views.{beside, blank}
 use Rattle.common_lemmas.specs.Sums.{one}
 use Rattle.life_rules.specs.States.{State, is_live, control_at}
 use Rattle.life_rules.specs.Opening.{opening}
@@ -147,6 +147,7 @@ module _ {P E O : Type 0} (cargo : Ghosts P E O) (over : O) (task : Opens) where
           resting = λ x n r child. unlike x is_resting refl r;
           named = λ x w. unlike x is_waiting refl w;
           met = λ x b rests. begun x b;
+          asked = λ x n child b. begun (beside x n) b;
         };
         starts = record {
           shows = λ x item live e. unlive x live;

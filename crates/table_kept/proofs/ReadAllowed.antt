@@ -2,7 +2,7 @@
 use Rattle.std.proofs.Common.{◌≡◌, ℕ, Bool, true, false, not, ◌&&◌, ◌==◌, cond, List, ◌∷◌, set, Option, Some, refl, sym, ap, ◌∙◌, subst}
 use Rattle.std.specs.Prelude.{slice_index}
 use Rattle.std.specs.Option.{option_map_or}
-use Rattle.std.proofs.lemmas.Bool.{both_ways, cond-true, cond-false, eqb-true}
+use Rattle.std.proofs.lemmas.Bool.{both_ways, cond-true, cond-false}
 use Rattle.life_rules.specs.declared.words.ControlWord.TheVariants.{Idle}
 use Rattle.life_rules.specs.declared.words.CallbackPhase.{CallbackPhase}
 use Rattle.life_rules.specs.declared.words.CallbackPhase.TheVariants.{Never, Armed, Running as Runs, Ran, Removed}
@@ -34,11 +34,10 @@ use Rattle.table_steps.specs.Slots.{IsSeated}
 use Rattle.table_steps.specs.Readings.{notes_phase, above_it, says_at, says_begun, says_phase, notes_idle, reads_child, reads_phase, KnowsIdle, ChildReads, HoldsAbove, Holds}
 use Rattle.table_kept.proofs.Standing.{Standing}
 use Rattle.table_kept.proofs.Listing.{AllowsListed, allows-listed, lists-one}
-use Rattle.table_kept.proofs.Entries.{each-passing}
 use Rattle.table_kept.proofs.FoundNow.{phase-said, control-said}
 use Rattle.table_kept.proofs.Loads.{looks_keep}
 use Rattle.table_kept.proofs.BeginSeats.{seated-logged}
-use Rattle.table_kept.proofs.HeldNow.{Holding, held, idle-so}
+use Rattle.table_kept.proofs.HeldNow.{Holding, held, idle-known}
 use Rattle.table_kept.proofs.Noting.{noting-keeps, seated-noted}
 
 pub still-refl : (p : CallbackPhase) → is_still p p
@@ -147,10 +146,7 @@ child_allowed {P} {E} cargo f slots id x n m h child s r deep at small =
     let idle-again : KnowsIdle x n m → says_begun x.generation w ≡ false =
     λ known.
     let noted : Holding hand = record { name = x; entry = known.held; holds = known.holds } in
-    let kid = each-passing (λ q. is_idle (control_at (shown f s) (beside x q)) ≡ true) (λ q. q == n) known.held.idle known.idle
-    (idle-so cargo f hand noted) in
-    idle-unsaid cargo f s r x n live child
-    (subst (λ q. is_idle (control_at (shown f s) (beside x q)) ≡ true) (eqb-true kid.0 n kid.1) kid.2) in
+    idle-unsaid cargo f s r x n live child (idle-known cargo f hand noted n child known.idle) in
     let told : View P E → View P E = λ z. logged i w z in (
       (reads_child x (beside x n) i w m).0,
       keeps,

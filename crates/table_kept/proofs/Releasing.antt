@@ -225,6 +225,8 @@ module _ {P E : Type 0} (s : Scene P E) (h b : ℕ) (needs : MayRelease s.state 
             let word = sym (word-same x apart) in
             let was = homes.met x (ap is_idle word ∙ begun) (ap is_waiting word ∙ rests) in
             let same = done-same x apart in omega (arith, was, same);
+        asked = λ x n child begun.
+            let apart = begun-apart (beside x n) begun in homes.asked x n child (ap is_idle (sym (word-same (beside x n) apart)) ∙ begun);
       }
 
   module _ {O : Type 0} (cargo : Ghosts P E O) (over : O) where

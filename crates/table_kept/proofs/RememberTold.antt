@@ -119,6 +119,6 @@ named-places cargo f m x nodes sized block can =
     record {
       within = block;
       each = λ n named.
-          let below = child-within f.tree x.node n (named-child f.tree x nodes can.leave.held.idle can.idle n named) in
+          let below = child-within f.tree x.node n (named-child f.tree x nodes can.leave.held can.idle n named) in
           omega (arith, below, sized);
     }

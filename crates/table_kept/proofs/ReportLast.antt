@@ -162,6 +162,7 @@ module _ {P E O : Type 0} (cargo : Ghosts P E O) (f : Frame O) (hand : Standing 
         met = λ _.
             let count = counts-named cargo f hand task.report in
             let done = full-kids-done cargo f hand task.report in omega (arith, count, done);
+        asked = r.stands.homes.asked x;
       }
 
   abbrev moving : Move here

@@ -172,6 +172,7 @@ module _ {P E O : Type 0} (cargo : Ghosts P E O) (f : Frame O) (hand : Standing 
         named = λ _. names-same ∙ r.stands.homes.named x waits-before;
         met = λ none.
             absurd (more (let g = leb-false 1 (k - 1) none in let l = waits cargo f hand c can in omega (arith, g, l)));
+        asked = r.stands.homes.asked x;
       }
 
   abbrev moving : Move here

@@ -160,6 +160,7 @@ module _ {P E O : Type 0} (cargo : Ghosts P E O) (f : Frame O) (hand : Standing 
             kid-left cargo f hand leaving w u is-put homes_now r.past n child rest.held refl refl (kid-home n child);
         named = λ waits. absurd (both_ways (is_waiting w) rest.waits waits);
         met = λ _. r.stands.homes.met x (ap is_idle held-now.word) (ap is_waiting held-now.word);
+        asked = r.stands.homes.asked x;
       }
 
   abbrev moving : Move here

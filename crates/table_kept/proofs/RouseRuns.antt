@@ -178,6 +178,7 @@ module _ {P E O : Type 0} (cargo : Ghosts P E O) (f : Frame O) (hand : Standing 
         kids = kid-moves;
         named = λ none. cc;
         met = λ _. r.stands.homes.met x (ap is_idle parked) (ap is_waiting parked);
+        asked = r.stands.homes.asked x;
       }
 
   abbrev moving : Move here

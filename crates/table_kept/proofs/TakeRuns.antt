@@ -137,6 +137,7 @@ module _ {P E O : Type 0} (cargo : Ghosts P E O) (f : Frame O) (hand : Standing 
         kids = kid-moves;
         named = λ none. cc;
         met = λ _. r.stands.homes.met x word.begun (ap (nat_le 1) word.none);
+        asked = r.stands.homes.asked x;
       }
 
   abbrev moving : Move here

@@ -77,3 +77,6 @@ module _ {P E : Type 0} (s : Scene P E) where
     -- of a node that has begun and waits for none, as many children are done as that named
     pub met : (x : Name) → is_idle (control_at s.state x) ≡ false →
         is_waiting (control_at s.state x) ≡ false → s.past.named x ≤ done_below s.state x
+    -- no child has begun of a node whose last await named none
+    pub asked : (x : Name) (n : ℕ) → is_child s.state.tree x.node n ≡ true →
+        is_idle (control_at s.state (beside x n)) ≡ false → 1 ≤ s.past.named x

@@ -14,7 +14,7 @@ use Rattle.table_rules.specs.declared.view.View.{View}
 use Rattle.table_rules.specs.declared.view.Owed.{Owed}
 use Rattle.table_steps.specs.Owing.{owing, AreOfItsBlock}
 use Rattle.table_steps.specs.Claims.{with_step, Seated}
-use Rattle.table_steps.specs.Slots.{Aim, slot_of, kids_of, IsSeated, has_seen, home_at}
+use Rattle.table_steps.specs.Slots.{Aim, slot_of, kids_of, knows_idle, IsSeated, has_seen, home_at}
 use Rattle.table_steps.specs.Sheds.{shed}
 use Rattle.table_steps.specs.Rests.{lets_go, CanLeave}
 
@@ -39,7 +39,7 @@ is_unnamed tree l x nodes slot =
 
 -- the hand holds the node with an item in its home that shows the node's start, is no completion, fits by
 -- what the hand has seen of requests and was told, and asks for no more children than are named. It names
--- different children, at least one, that it has read as not begun
+-- different children, at least one, that it knows haven't begun
 pub record CanAwait {P E O : Type 0} (cargo : Ghosts P E O) (f : Frame O) (m : Seated P E) (x : Name) (nodes : List ℕ) : Type 0 where
   pub leave : CanLeave f m x
   pub item : P
@@ -50,7 +50,7 @@ pub record CanAwait {P E O : Type 0} (cargo : Ghosts P E O) (f : Frame O) (m : S
   pub bound : cargo.least item ≤ length nodes
   pub some_child : 1 ≤ length nodes
   pub different : are_different nodes ≡ true
-  pub idle : list_all (λ n. is_child f.tree x.node n && list_any (λ q. q == n) leave.held.idle) nodes ≡ true
+  pub idle : list_all (λ n. is_child f.tree x.node n && knows_idle leave.held n) nodes ≡ true
 
 -- the store: the hand gave back the home of the node, with the item, and those of the children that aren't
 -- named

@@ -1,6 +1,5 @@
 -- What a hand notes of a node that it holds, by loads of words.
 use Rattle.std.specs.Prelude.{◌≡◌, ℕ, Bool, true, false, not, ◌&&◌, ◌==◌, if◌then◌else◌, List, [], ◌∷◌, Some}
-use Rattle.std.specs.List.{list_any}
 use Rattle.std.specs.Option.{option_map_or}
 use Rattle.node_tree.specs.declared.node.TreeNode.{TreeNode}
 use Rattle.life_rules.specs.declared.words.CallbackPhase.{CallbackPhase}
@@ -16,7 +15,7 @@ use Rattle.table_rules.specs.declared.frame.Frame.{Frame}
 use Rattle.table_rules.specs.declared.view.View.{View}
 use Rattle.table_rules.specs.declared.view.Held.{Held}
 use Rattle.table_steps.specs.Claims.{logged, Seated}
-use Rattle.table_steps.specs.Slots.{held_at}
+use Rattle.table_steps.specs.Slots.{held_at, knows_idle}
 
 -- the list, with its first entry of x changed so
 abbrev pub at_entry : {A : Type 0} → (A → Name) → (A → A) → Name → List A → List A
@@ -55,13 +54,13 @@ abbrev pub reads_child : {P E : Type 0} → Name → Name → ℕ → ℕ → Se
 reads_child x child i word m =
     (logged i word (if says_begun child.generation word then m.0 else notes_idle x child.node m.0), m.1)
 
--- the hand holds x, and has read that this child of it hasn't begun
+-- the hand holds x, and knows that this child of it hasn't begun
 pub record KnowsIdle {P E : Type 0} (x : Name) (n : ℕ) (m : Seated P E) : Type 0 where
   pub held : Held E
   pub holds : held_at m.0 x ≡ Some held
-  pub idle : list_any (λ q. q == n) held.idle ≡ true
+  pub idle : knows_idle held n ≡ true
 
--- and a child that it had read as not begun still hasn't
+-- and a child of which it knew so still hasn't
 abbrev pub ChildReads : {P E : Type 0} → Name → Name → ℕ → ℕ → Seated P E → Seated P E → Type 0
 ChildReads x child i word m m' =
     (m' ≡ reads_child x child i word m)

@@ -40,6 +40,11 @@ kept slot (c ∷ cs) = if c.0 == slot then Some c.1 else kept slot cs
 abbrev pub held_at : {P E : Type 0} → View P E → Name → Option (Held E)
 held_at v x = find_by (λ e. e.name) v.held x
 
+-- a hand that holds a node with this entry knows that the node's child hasn't begun: it has read so, or the
+-- node has named none yet
+abbrev pub knows_idle : {E : Type 0} → Held E → ℕ → Bool
+knows_idle held n = held.named == 0 || list_any (λ q. q == n) held.idle
+
 abbrev pub owed_at : {P E : Type 0} → View P E → Name → Option (Owed E)
 owed_at v x = find_by (λ e. e.name) v.owed x
 

@@ -19,9 +19,9 @@ pub const SCOPE: usize = 0;
 /// The index of the word of the scope's source.
 pub const SCOPE_SOURCE: usize = 16;
 
-/// How many words are left free behind those of each block, so that hands on two blocks share no
-/// cache line.
-const FREE: usize = 15;
+/// How many words each block has before those of its places: its own and 15 free ones, so that
+/// hands on two blocks share no cache line.
+const HEAD: usize = 16;
 
 const FIRST_BLOCK: usize = 32;
 
@@ -48,21 +48,9 @@ impl Layout {
     fn block_words(&self) -> usize
         requires nodes { self.now.nodes ≤ MOST_NODES }
         ensures value { result ≡ block_words self.now }
-        ensures few { result ≤ 3 * MOST_NODES + 16 }
+        ensures few { result ≤ 4 * MOST_NODES + 16 }
     {
-        1 + 3 * self.nodes as usize + FREE
-    }
-
-    // The index of the word of a block that has so many of its words before it.
-    fn word_of_block(&self, block: u32, before: usize) -> usize
-        requires blocks { self.now.blocks ≤ MOST_BLOCKS }
-        requires nodes { self.now.nodes ≤ MOST_NODES }
-        requires block { block < self.now.blocks }
-        requires before { before < block_words self.now }
-        ensures value { result ≡ word_of_block self.now block before }
-        ensures within { result < words_in self.now }
-    {
-        FIRST_BLOCK + block as usize * self.block_words() + before
+        HEAD + 4 * self.nodes as usize
     }
 
     /// The number of a place, which is that of its home.
@@ -77,6 +65,18 @@ impl Layout {
         block as usize * self.nodes as usize + node as usize
     }
 
+    // The index of a place's first word. It is the place's number that is multiplied, as for homes.
+    fn first_word(&self, block: u32, node: u32) -> usize
+        requires blocks { self.now.blocks ≤ MOST_BLOCKS }
+        requires nodes { self.now.nodes ≤ MOST_NODES }
+        requires block { block < self.now.blocks }
+        requires node { node < self.now.nodes }
+        ensures value { result ≡ index self.now (OfControl block node) }
+        ensures within { result + 3 < words_in self.now }
+    {
+        FIRST_BLOCK + HEAD * (block as usize + 1) + 4 * self.place(block, node)
+    }
+
     /// The index of a block's word.
     pub fn block(&self, block: u32) -> usize
         requires blocks { self.now.blocks ≤ MOST_BLOCKS }
@@ -85,7 +85,7 @@ impl Layout {
         ensures value { result ≡ index self.now (OfBlock block) }
         ensures within { result < words_in self.now }
     {
-        self.word_of_block(block, 0)
+        FIRST_BLOCK + HEAD * block as usize + 4 * self.nodes as usize * block as usize
     }
 
     /// The index of a place's control word.
@@ -97,7 +97,7 @@ impl Layout {
         ensures value { result ≡ index self.now (OfControl block node) }
         ensures within { result < words_in self.now }
     {
-        self.word_of_block(block, 1 + node as usize)
+        self.first_word(block, node)
     }
 
     /// The index of a place's callback word.
@@ -109,7 +109,7 @@ impl Layout {
         ensures value { result ≡ index self.now (OfCallback block node) }
         ensures within { result < words_in self.now }
     {
-        self.word_of_block(block, 1 + self.nodes as usize + node as usize)
+        self.first_word(block, node) + 1
     }
 
     /// The index of a place's source word.
@@ -121,7 +121,7 @@ impl Layout {
         ensures value { result ≡ index self.now (OfSource block node) }
         ensures within { result < words_in self.now }
     {
-        self.word_of_block(block, 1 + 2 * self.nodes as usize + node as usize)
+        self.first_word(block, node) + 2
     }
 }
 
