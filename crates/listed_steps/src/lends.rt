@@ -9,6 +9,7 @@ ghost use Rattle.listed_steps.specs.contracts.hand.Hand.{the_row};
 use crate::hand::Hand;
 use crate::lists::Lists;
 use crate::table::StepTable;
+use crate::words::slot_mut;
 use atomic_table::TableRule;
 
 impl<S: Drop, V: Lists> Hand<S, V> {
@@ -28,6 +29,6 @@ impl<S: Drop, V: Lists> Hand<S, V> {
         ensures value { self.old.me.1 ≡ (slot, result.now) ∷ rest self.old.me.1 }
     {
         let seat = &mut self.seat;
-        seat.slot_mut(&table.table.shared, slot)
+        slot_mut(seat, &table.words, slot)
     }
 }

@@ -6,6 +6,10 @@
 //! split and a join leave the lists alone. So whoever reads the list knows what was done, whatever
 //! else a caller's Play says of view and slots.
 //!
+//! The bodies that list a step reach the words only through `Words`, whose calls are single steps of
+//! a hand: so they can't look at a word in a way that no list has. Each call of `Words` is one call
+//! of atomic_table.
+//!
 //!     load .. fetch_sub    entry read left :: steps
 //!     split                steps, and a fresh list for the new hand
 //!     join                 steps
@@ -19,6 +23,7 @@ mod lists;
 mod seen;
 mod steps;
 mod table;
+mod words;
 
 pub use hand::Hand;
 pub use lists::Lists;

@@ -1,8 +1,8 @@
 //! The steps. Each is one atomic step on a word, sequentially consistent, and lists itself.
-ghost use Rattle.std.specs.Prelude.{◌≡◌, ℕ, ◌+◌, ◌-◌, ◌%◌, ◌^◌, ◌<◌, ◌==◌, [], ◌∷◌, bit_or};
+ghost use Rattle.std.specs.Prelude.{◌≡◌, ℕ, ◌+◌, ◌-◌, ◌%◌, ◌^◌, ◌<◌, ◌==◌, [], bit_or};
 ghost use mathlib.Core.Option.{none};
 ghost use prog.Atomic.{either};
-ghost use Rattle.atomic_table.specs.Table.{step, Allows, Splits, Joins, rest};
+ghost use Rattle.atomic_table.specs.Table.{step, Allows, Splits, Joins};
 ghost use Rattle.listed_steps.specs.Lists.{Listed, ListsApart};
 
 use crate::hand::Hand;
@@ -25,9 +25,7 @@ impl<S: Drop, V: Lists, K, P: TableRule<S, V, K>> StepTable<S, V, K, P> {
             (M.then (step self.now.table_id.slots word 0 0 none) hand.old.me result)
             hand.old.me hand.new.me }
     {
-        self.table
-            .shared
-            .load::<Listing<Load, M>>(&mut hand.seat, word)
+        self.words.load::<Listing<Load, M>>(&mut hand.seat, word)
     }
 
     /// Writes the word, and lists what it found there: so it is a swap, which costs the same on
@@ -43,8 +41,7 @@ impl<S: Drop, V: Lists, K, P: TableRule<S, V, K>> StepTable<S, V, K, P> {
             (M.then (step self.now.table_id.slots word new 0 none) hand.old.me read)
             hand.old.me hand.new.me) }
     {
-        self.table
-            .shared
+        self.words
             .swap::<Listing<Swap, M>>(&mut hand.seat, word, new);
     }
 
@@ -60,8 +57,7 @@ impl<S: Drop, V: Lists, K, P: TableRule<S, V, K>> StepTable<S, V, K, P> {
             (M.then (step self.now.table_id.slots word bits 0 none) hand.old.me result)
             hand.old.me hand.new.me }
     {
-        self.table
-            .shared
+        self.words
             .fetch_or::<Listing<FetchOr, M>>(&mut hand.seat, word, bits)
     }
 
@@ -78,8 +74,7 @@ impl<S: Drop, V: Lists, K, P: TableRule<S, V, K>> StepTable<S, V, K, P> {
             (M.then (step self.now.table_id.slots word more 0 none) hand.old.me result)
             hand.old.me hand.new.me }
     {
-        self.table
-            .shared
+        self.words
             .fetch_add::<Listing<FetchAdd, M>>(&mut hand.seat, word, more)
     }
 
@@ -96,8 +91,7 @@ impl<S: Drop, V: Lists, K, P: TableRule<S, V, K>> StepTable<S, V, K, P> {
             (M.then (step self.now.table_id.slots word less 0 none) hand.old.me result)
             hand.old.me hand.new.me }
     {
-        self.table
-            .shared
+        self.words
             .fetch_sub::<Listing<FetchSub, M>>(&mut hand.seat, word, less)
     }
 
@@ -120,8 +114,7 @@ impl<S: Drop, V: Lists, K, P: TableRule<S, V, K>> StepTable<S, V, K, P> {
             (M.then (step self.now.table_id.slots word old new none) hand.old.me result)
             hand.old.me hand.new.me }
     {
-        self.table
-            .shared
+        self.words
             .compare_exchange::<Listing<CompareExchange, M>>(&mut hand.seat, word, old, new)
     }
 
@@ -140,7 +133,7 @@ impl<S: Drop, V: Lists, K, P: TableRule<S, V, K>> StepTable<S, V, K, P> {
         ensures right { result.me ≡ (M.right hand.old.me.0, []) }
     {
         Hand {
-            seat: self.table.shared.split_seat::<M>(&mut hand.seat),
+            seat: self.words.split::<M>(&mut hand.seat),
         }
     }
 
@@ -157,17 +150,6 @@ impl<S: Drop, V: Lists, K, P: TableRule<S, V, K>> StepTable<S, V, K, P> {
         ensures id { hand.new.id ≡ hand.old.id }
         ensures both { hand.new.me ≡ (M.both hand.old.me.0 other.me.0, hand.old.me.1) }
     {
-        self.table.shared.join_seat::<M>(&mut hand.seat, other.seat);
-    }
-
-    /// A plain read and write of the slot that the hand took last. It is no step.
-    pub fn exchange(&self, hand: &mut Hand<S, V>, slot: usize, new: S) -> S
-        requires { (hand.old.table_id ≡ self.now.table_id)
-            × ((old : S) × (hand.old.me.1 ≡ (slot, old) ∷ rest hand.old.me.1)) }
-        ensures { (hand.new.table_id ≡ hand.old.table_id) × (hand.new.id ≡ hand.old.id)
-            × (hand.old.me.1 ≡ (slot, result) ∷ rest hand.old.me.1)
-            × (hand.new.me ≡ (hand.old.me.0, (slot, new) ∷ rest hand.old.me.1)) }
-    {
-        self.table.shared.exchange(&mut hand.seat, slot, new)
+        self.words.join::<M>(&mut hand.seat, other.seat);
     }
 }

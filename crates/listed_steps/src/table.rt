@@ -5,14 +5,15 @@ ghost use Rattle.atomic_table.specs.Table.{opening, Final, Seen};
 
 use crate::hand::Hand;
 use crate::lists::Lists;
-use atomic_table::{Closed, Table, TableRule};
+use crate::words::Words;
+use atomic_table::{Closed, TableRule};
 use std::alloc::{AllocError, Global};
 use std::marker::Model;
 
 /// A table of words and slots under the rule P. Threads share it, and step on it by hands.
 #[derive(Drop)]
 pub struct StepTable<S: Drop, V: Lists, K, P: TableRule<S, V, K>> {
-    pub(crate) table: Table<S, V, K, P, Global>,
+    pub(crate) words: Words<S, V, K, P>,
 }
 
 impl<S: Drop, V: Lists, K, P: TableRule<S, V, K>> Model for StepTable<S, V, K, P> {
@@ -20,7 +21,7 @@ impl<S: Drop, V: Lists, K, P: TableRule<S, V, K>> Model for StepTable<S, V, K, P
 
     ghost Value = { Board K };
 
-    ghost view = { λ t. record { table_id = t.table.shared.table_id; key = t.table.shared.key } };
+    ghost view = { λ t. t.words };
 }
 
 impl<T: Drop, V: Lists, K, P: TableRule<Option<T>, V, K>> StepTable<Option<T>, V, K, P> {
@@ -42,8 +43,8 @@ impl<T: Drop, V: Lists, K, P: TableRule<Option<T>, V, K>> StepTable<Option<T>, V
         ensures id { IfOk result (λ t. t.1.id ≡ 0) }
         ensures me { IfOk result (λ t. t.1.me ≡ (P.first about.now, [])) }
     {
-        let (table, seat) = Table::vacant(alloc, words, slots, about)?;
-        Ok((StepTable { table }, Hand { seat }))
+        let (words, seat) = Words::vacant(alloc, words, slots, about)?;
+        Ok((StepTable { words }, Hand { seat }))
     }
 }
 
@@ -57,6 +58,6 @@ impl<S: Drop, V: Lists, K, P: TableRule<S, V, K>> StepTable<S, V, K, P> {
         ensures last { Final (Seen (P.holds self.key) hand.id hand.me.0)
             (slots_items result.words) (slots_items result.slots) }
     {
-        self.table.close_with(hand.seat)
+        self.words.close_with(hand.seat)
     }
 }
