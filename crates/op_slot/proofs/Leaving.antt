@@ -28,7 +28,7 @@ use Rattle.table_steps.specs.Finishes.{is_settled, is_of_kids, CanEnd, CanFinish
 use Rattle.table_steps.specs.Releases.{CanRelease}
 use Rattle.table_steps.specs.Reports.{CanReport}
 use Rattle.table_steps.specs.Rests.{CanLeave, CanRest, RestsAt}
-use Rattle.table_steps.specs.Slots.{slot_of, is_of_family, kids_of, kept, has_seen}
+use Rattle.table_steps.specs.Slots.{knows_idle, slot_of, is_of_family, kids_of, kept, has_seen}
 use Rattle.table_steps.specs.Swaps.{HasHome}
 use Rattle.op_slot.specs.Puts.{FitsOwed, CanPut}
 use Rattle.op_slot.specs.Tends.{IsCalm, OwesReport, HasPlaces, Owes, Tends}
@@ -112,7 +112,7 @@ module _ {P E O : Type 0} (cargo : Ghosts P E O) (f : Frame O) (x : Name) (m : S
     -- or await children that it has read as not begun
     pub tends-awaits : (item : P) (nodes : List ℕ) → Tends f x held (Some item) kid m → GoesOn cargo f x m held item →
         cargo.least item ≤ length nodes → 1 ≤ length nodes → are_different nodes ≡ true →
-        list_all (λ n. is_child f.tree x.node n && list_any (λ q. q == n) held.idle) nodes ≡ true → CanAwait cargo f m x nodes
+        list_all (λ n. is_child f.tree x.node n && knows_idle held n) nodes ≡ true → CanAwait cargo f m x nodes
     tends-awaits item nodes has on bound some different idle =
         record {
           leave = leaves f x m held (Some item) kid has calm empty;

@@ -6,3 +6,4 @@ pub mod Tending
 pub mod Leaving
 pub mod Found
 pub mod Staying
+pub mod Loans

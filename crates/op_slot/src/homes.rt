@@ -25,7 +25,16 @@ pub fn put_home<P: Cargo>(table: &OpTable<P>, hand: &mut Hand<P>, name: Name, it
     ensures put { IsPut table.now.frame name item hand.old.me hand.new.me }
     ensures begins { BeginsThen P.Cargo table.now.frame name item hand.old.me hand.new.me }
 {
-    table.fill_home(hand, name, item);
+    match hand.home_mut(table, name) {
+        Some(home) => {
+            // so that nothing is dropped
+            if home.is_some() {
+                unreachable!()
+            }
+            *home = Some(item);
+        }
+        None => unreachable!(),
+    }
 }
 
 /// Takes what lies in the node's home, which is empty afterwards. None exactly where it was empty.
@@ -43,5 +52,8 @@ pub fn take_home<P: Cargo>(table: &OpTable<P>, hand: &mut Hand<P>, name: Name) -
     ensures stays { Stays table.now hand.old hand.new }
     ensures taken { IsTakenOut table.now.frame name result hand.old.me hand.new.me }
 {
-    table.empty_home(hand, name)
+    match hand.home_mut(table, name) {
+        Some(home) => home.take(),
+        None => unreachable!(),
+    }
 }

@@ -1,1 +1,3 @@
 mod Exchange
+mod LowestOwed
+mod OnlyChild

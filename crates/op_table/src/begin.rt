@@ -36,7 +36,7 @@ impl<P: Cargo> OpTable<P> {
 
     // Writes the source of a node that has one as clear, at the name's generation: no word of the
     // source was written at it yet, and a request only adds its bit.
-    fn renew<K: Subject>(&self, seat: &mut SeatOf<P>, name: Name)
+    pub(crate) fn renew<K: Subject>(&self, seat: &mut SeatOf<P>, name: Name)
         requires table { IsHandOf self.now seat.old }
         requires place { IsPlaceIn self.now name }
         requires needs { CanBegin P.Cargo self.now.frame seat.old.me name }
@@ -59,7 +59,7 @@ impl<P: Cargo> OpTable<P> {
     }
 
     // Makes the node held, where its source is renewed.
-    fn begin_at<K: Subject>(&self, seat: &mut SeatOf<P>, name: Name)
+    pub(crate) fn begin_at<K: Subject>(&self, seat: &mut SeatOf<P>, name: Name)
         requires table { IsHandOf self.now seat.old }
         requires place { IsPlaceIn self.now name }
         requires needs { CanBegin P.Cargo self.now.frame seat.old.me name }

@@ -6,9 +6,10 @@
 //! none waits.
 //!
 //! Beside its seat a hand has two sets (name_set), in room that `open` takes. One has the starts
-//! that it owes: `claim` and `await_children` add to it, `begin` takes out, and `owed` reads it. The
-//! other has the callbacks that it runs: `run_step` adds to it, `end_run_step` and
-//! `withdraw_own_step` take out, and `runs` reads it.
+//! that it owes: `claim` and `await_children` add to it, `begin` takes out, and `owed` reads it. An
+//! only child that `begin_child` awaits and begins at once comes into no set. The other has the
+//! callbacks that it runs: `run_step` adds to it, `end_run_step` and `withdraw_own_step` take out,
+//! and `runs` reads it.
 //!
 //! # The life of a block
 //!
@@ -18,6 +19,7 @@
 //!
 //!     idle --begin--> held --finish--> done --release_step--> idle again, at the next generation
 //!     held --await_children--> busy k --report--> busy k-1 .. busy 0 = held
+//!     held --begin_child--> busy 1, and its child idle --> held
 //!     held --rest--> ready (loop or pool) --take--> held
 //!     held --park--> parked --take_parked--> held
 //!                    parked --rouse--> ready (loop)
@@ -44,6 +46,7 @@ mod claim;
 mod close;
 mod enter;
 mod finish;
+mod lends;
 mod looks;
 mod open;
 mod owing;

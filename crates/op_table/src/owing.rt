@@ -1,9 +1,10 @@
 //! The starts that a hand owes.
-ghost use Rattle.std.specs.Prelude.{◌≡◌, [], MatchOption};
+ghost use Rattle.std.specs.Prelude.{◌≡◌, [], IfSome, MatchOption};
 ghost use Rattle.name_set.specs.Sets.{IsOfItsBlock};
 ghost use Rattle.table_steps.specs.Views.{IsHandOf, IsPlaceIn, knows};
 ghost use Rattle.table_steps.specs.Owing.{Owes};
 ghost use Rattle.table_steps.specs.Remembers.{AreAdded, ArePlacesOf};
+ghost use Rattle.op_table.specs.LowestOwed.{IsLowestOwed};
 
 use crate::table::{Hand, OpTable, SeatOf};
 use life_rules::Name;
@@ -37,12 +38,14 @@ impl<P: Cargo> Hand<P> {
 }
 
 impl<P: Cargo> OpTable<P> {
-    /// A node whose start this hand owes. None exactly where it owes none.
+    /// The node of the lowest place whose start this hand owes, so that children begin in their
+    /// order. None exactly where it owes none.
     ///
     /// No step: the hand remembers what it owes.
     pub fn owed(&self, hand: &Hand<P>) -> Option<Name>
         requires table { IsHandOf self.now hand.now }
         ensures owes { MatchOption result ((knows hand.now).owed ≡ []) (Owes (knows hand.now)) }
+        ensures lowest { IfSome result (IsLowestOwed self.now.frame.layout (knows hand.now)) }
         ensures place { MatchOption result (Unit {0}) (IsPlaceIn self.now) }
     {
         let _layout = self.frame.layout;

@@ -1,4 +1,4 @@
-//! How a hand moves what is in one of its homes.
+//! How a hand turns to one of its homes, and fills it.
 ghost use Rattle.std.specs.Prelude.{◌≡◌, ℕ, Some, None};
 ghost use Rattle.table_words.specs.Layouts.{OfControl, index};
 ghost use Rattle.table_steps.specs.Views.{IsHandOf, IsPlaceIn, aim_at, IsSameHand, Stays};
@@ -6,28 +6,23 @@ ghost use Rattle.table_steps.specs.Slots.{slot_of, home_at};
 ghost use Rattle.table_steps.specs.Swaps.{HasHome, TurnsTo, IsSwapped};
 
 use crate::plays::{Subject, Turns};
-use crate::table::{Hand, OpTable, SeatOf};
+use crate::table::{OpTable, SeatOf};
 use life_rules::Name;
 use std::marker::Brand;
 use table_rules::Cargo;
 
 impl<P: Cargo> OpTable<P> {
-    /// Puts this into the node's home, which is empty.
-    ///
-    /// Step: one load of the node's control word, by which the hand turns to this home. The move
-    /// itself is no step: no other hand sees a home that this hand has.
-    /// Needs: the hand has the home, and nothing lies in it.
-    /// Afterwards: this lies in the home. Nothing else changed.
+    // Puts this into the node's home, which is empty, by the load that turns to it.
     #[inline(always)]
-    pub fn fill_home(&self, hand: &mut Hand<P>, name: Name, item: P)
-        requires table { IsHandOf self.now hand.old }
+    pub(crate) fn fill_at(&self, seat: &mut SeatOf<P>, name: Name, item: P)
+        requires table { IsHandOf self.now seat.old }
         requires place { IsPlaceIn self.now name }
-        requires empty { home_at self.now.frame.layout hand.old.me name ≡ Some None }
-        ensures stays { Stays self.now hand.old hand.new }
-        ensures filled { IsSwapped self.now.frame name (Some item) None hand.old.me hand.new.me }
+        requires empty { home_at self.now.frame.layout seat.old.me name ≡ Some None }
+        ensures stays { Stays self.now seat.old seat.new }
+        ensures filled { IsSwapped self.now.frame name (Some item) None seat.old.me seat.new.me }
     {
-        let slot = self.turn_to::<Brand>(&mut hand.seat, name);
-        let home = hand.seat.slot_mut(&self.table, slot);
+        let slot = self.turn_to::<Brand>(seat, name);
+        let home = seat.slot_mut(&self.table, slot);
         // so that nothing is dropped
         if home.is_some() {
             unreachable!()
@@ -35,27 +30,10 @@ impl<P: Cargo> OpTable<P> {
         *home = Some(item);
     }
 
-    /// Takes what lies in the node's home, which is empty afterwards.
-    ///
-    /// Step: that of `fill_home`.
-    /// Needs: the hand has the home.
-    /// Afterwards: what lay in the home is the answer. Nothing else changed.
-    #[inline(always)]
-    pub fn empty_home(&self, hand: &mut Hand<P>, name: Name) -> Option<P>
-        requires table { IsHandOf self.now hand.old }
-        requires place { IsPlaceIn self.now name }
-        requires home { HasHome self.now.frame.layout hand.old.me name }
-        ensures stays { Stays self.now hand.old hand.new }
-        ensures emptied { IsSwapped self.now.frame name None result hand.old.me hand.new.me }
-    {
-        let slot = self.turn_to::<Brand>(&mut hand.seat, name);
-        hand.seat.slot_mut(&self.table, slot).take()
-    }
-
     // The load gives the home back and takes it again, so that it is the one that is lent. The
     // answer is its slot.
     #[inline(always)]
-    fn turn_to<K: Subject>(&self, seat: &mut SeatOf<P>, name: Name) -> usize
+    pub(crate) fn turn_to<K: Subject>(&self, seat: &mut SeatOf<P>, name: Name) -> usize
         requires table { IsHandOf self.now seat.old }
         requires place { IsPlaceIn self.now name }
         requires home { HasHome self.now.frame.layout seat.old.me name }

@@ -3,6 +3,7 @@ ghost use Rattle.std.specs.Prelude.{◌≡◌};
 ghost use Rattle.table_steps.specs.Views.{IsHandOf, IsPlaceIn, aim_at, Stays};
 ghost use Rattle.table_steps.specs.Awaits.{CanAwait};
 ghost use Rattle.table_steps.specs.Steps.{Awaited};
+ghost use Rattle.op_table.specs.OnlyChild.{CanBeginChild, BeginsChild};
 
 use crate::owing::add_children;
 use crate::plays::{Awaits, Naming, Subject};
@@ -33,6 +34,34 @@ impl<P: Cargo> OpTable<P> {
         let _layout = self.frame.layout;
         self.await_at::<Brand, Brand>(&mut hand.seat, name, children);
         add_children(&mut hand.owed, name, children);
+    }
+
+    /// Leaves the node, with the item in its home, until this child has reported, and begins the
+    /// child with the other item. So an only child comes and goes without being remembered as owed.
+    ///
+    /// Step: that of `await_children` for the child alone, one load of the child's control word, by
+    /// which the hand turns to the child's home, and those of `begin`.
+    /// Needs: as `await_children`. The item is no completion. The start that it shows goes on with
+    /// the node's, has the table's key, and draws the lot that the item in the node's home fixes.
+    /// Afterwards: the hand holds the child, and has its home with the item, and the empty homes of
+    /// its children. It has given back the node's and the other children's.
+    pub fn begin_child(&self, hand: &mut Hand<P>, name: Name, child: u32, item: P)
+        requires table { IsHandOf self.now hand.old }
+        requires place { IsPlaceIn self.now name }
+        requires needs { CanBeginChild P.Cargo self.now.frame name child item hand.old.me }
+        ensures stays { Stays self.now hand.old hand.new }
+        ensures begins { BeginsChild P.Cargo self.now.frame name child item
+            hand.old.me hand.new.me }
+    {
+        let _layout = self.frame.layout;
+        let node = Name {
+            node: child,
+            ..name
+        };
+        self.await_at::<Brand, Brand>(&mut hand.seat, name, &[child]);
+        self.fill_at(&mut hand.seat, node, item);
+        self.renew::<Brand>(&mut hand.seat, node);
+        self.begin_at::<Brand>(&mut hand.seat, node);
     }
 
     // Makes the node busy.

@@ -2,7 +2,7 @@
 use Rattle.std.proofs.Common.{◌≡◌, inl, inr, ℕ, zero, suc, ◌≤◌, Bool, true, false, ◌&&◌, ◌||◌, ◌==◌, List, [], ◌∷◌, length, arith, refl, sym, ap, ◌∙◌, subst}
 use Rattle.std.specs.Prelude.{Option, Some, None}
 use Rattle.std.specs.List.{list_any, list_all}
-use Rattle.std.proofs.lemmas.Bool.{and_from, cond-true, cond-false, eq-eqb}
+use Rattle.std.proofs.lemmas.Bool.{and_from, or_right, cond-true, cond-false, eq-eqb}
 use Rattle.common_lemmas.proofs.Bool.{either}
 use Rattle.life_rules.specs.declared.event.Name.{Name}
 use Rattle.common_lemmas.specs.Lists.{are_different}
@@ -17,6 +17,7 @@ use Rattle.table_steps.specs.Views.{Board, aimed}
 use Rattle.table_steps.specs.Awaits.{is_named, AwaitsAt, CanAwait}
 use Rattle.table_steps.specs.Claims.{Seated, Missed}
 use Rattle.table_steps.specs.Readings.{IsBegunAs, HoldsAbove}
+use Rattle.table_steps.specs.Slots.{knows_idle}
 use Rattle.op_slot.specs.Searches.{IsMissedBelow, IsFound}
 use Rattle.op_slot.specs.Tends.{AreApart, IsCalm, KeepsOwed, OwesReport, Owes}
 use Rattle.op_slot.proofs.Places.{kids-apart}
@@ -97,7 +98,7 @@ first-held board x is env m holds y n child name =
 module _ {board : Board ℕ} {x : Name} {env : Env} {m : Seated Item Entry} (is : IsNode board x)
     (holds : HoldsNode board.frame x env m) (nodes : List ℕ) where
   can-wait : IsCalm m → 1 ≤ length nodes → are_different nodes ≡ true →
-      list_all (λ n. is_child board.frame.tree x.node n && list_any (λ q. q == n) holds.held.idle) nodes ≡ true →
+      list_all (λ n. is_child board.frame.tree x.node n && knows_idle holds.held n) nodes ≡ true →
       CanAwait ghosts board.frame m x nodes
   can-wait calm some different idle =
       tends-awaits ghosts board.frame x m holds.held (λ _. None) calm (λ n child. refl) (Going env) nodes holds.tends
@@ -155,7 +156,8 @@ module _ {board : Board ℕ} {x : Name} {env : Env} {n : ℕ} {m m1 : Seated Ite
   pub one-waits : CanAwait ghosts board.frame m1 x (n ∷ [])
   one-waits =
       can-wait is noted-idle (n ∷ []) noted-calm (omega arith) refl
-      (and_from _ _ (and_from _ _ here (ap (λ b. b || list_any (λ q. q == n) holds.held.idle) own)) refl)
+      (and_from _ _
+      (and_from _ _ here (or_right (holds.held.named == 0) _ (ap (λ b. b || list_any (λ q. q == n) holds.held.idle) own))) refl)
 
   pub one-owes : (m2 : Seated Item Entry) (i was left : ℕ) → AwaitsAt ghosts (aimed board.frame x) (n ∷ []) i was left m1 m2 → OwesKid board.frame x n env m2
   one-owes m2 i was left did = waits-owes is noted-idle (n ∷ []) m2 i was left n did child (ap (λ b. b || is_named [] n) own)
@@ -195,10 +197,13 @@ module _ {board : Board ℕ} {x : Name} {env : Env} {m m1 m2 : Seated Item Entry
     read = read;
   }
 
+  known : ((noted-idle branch).held.named == 0 || true) ≡ true
+  known = or_right ((noted-idle branch).held.named == 0) true refl
+
   pub root-waits : CanAwait ghosts board.frame m2 x (0 ∷ 2 ∷ [])
   root-waits =
       can-wait leaf.is (noted-idle branch) (0 ∷ 2 ∷ []) (noted-calm branch) (omega arith) refl
-      (and_from _ _ (and_from _ _ (here leaf) refl) (and_from _ _ (and_from _ _ (here branch) refl) refl))
+      (and_from _ _ (and_from _ _ (here leaf) known) (and_from _ _ (and_from _ _ (here branch) known) refl))
 
   module _ (m3 : Seated Item Entry) (i was busy : ℕ) (did : AwaitsAt ghosts (aimed board.frame x) (0 ∷ 2 ∷ []) i was busy m2 m3) where
     pub leaf-owes : OwesKid board.frame x 0 env m3

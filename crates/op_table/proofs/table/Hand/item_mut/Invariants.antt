@@ -1,5 +1,5 @@
 use Rattle.table_steps.specs.Views.{aim_at}
-use Rattle.op_table.proofs.table.OpTable.fill_home.Given as goal
+use Rattle.op_table.proofs.table.Hand.item_mut.Given as goal
 
 abbrev pub ghosts-turn_to : goal.ghosts-turn_to
 ghosts-turn_to g a = record { aim = aim_at a.self.now a.name }

@@ -1,33 +1,29 @@
-use Rattle.std.proofs.Common.{sym, ap, ◌∙◌, refl, subst}
+use Rattle.std.proofs.Common.{sym, ap, ◌∙◌, refl}
 use Rattle.std.proofs.lemmas.Bool.{true≢false}
 use Rattle.std.specs.Prelude.{Some, None, is_some, unwrap_or}
 use Rattle.table_words.specs.Layouts.{OfControl, index}
-use Rattle.table_steps.specs.Views.{aim_at, IsSameHand}
-use Rattle.table_steps.specs.Swaps.{HasHome}
+use Rattle.table_steps.specs.Views.{aim_at}
 use Rattle.table_kept.proofs.Hands.{hand-seated}
 use Rattle.table_kept.proofs.Swapping.{turned-first, swapped-told, swapped-seated}
 use Rattle.op_table.proofs.Exchange.{exchange}
-use Rattle.op_table.proofs.table.OpTable.fill_home.Goals as goal
+use Rattle.op_table.proofs.table.OpTable.fill_at.Goals as goal
 
 pub turn_to-slot-requires-clause-home : goal.turn_to-slot-requires-clause-home
-turn_to-slot-requires-clause-home g c = λ κs _.
-    subst (λ z. HasHome c.args.self.now.frame.layout z.me c.args.name) (sym c.hand.view_is)
-    (record { inside = None; home = c.requires.empty })
+turn_to-slot-requires-clause-home g c = λ κs _. record { inside = None; home = c.requires.empty }
 
 pub slot_mut-home-requires : goal.slot_mut-home-requires
 slot_mut-home-requires g c = (
-  c.turn_to-slot.ensures.same.0 ∙ (ap (λ z. z.table_id) c.hand.view_is
-      ∙ (c.requires.table.table_is ∙ sym (ap (λ b. b.table_id) c.self.view_is))),
+  c.turn_to-slot.ensures.same.0 ∙ (c.requires.table.table_is ∙ sym (ap (λ b. b.table_id) c.self.view_is)),
   turned-first c.turn_to-slot.result (aim_at c.args.self.now c.args.name)
       (index c.args.self.now.frame.layout (OfControl c.args.name.block c.args.name.node))
-      c.turn_to-slot.ensures.turned.0 c.hand.inside.seat.me c.turn_to-slot.new.seat.me
+      c.turn_to-slot.ensures.turned.0 c.args.seat.now.me c.turn_to-slot.new.seat.me
       c.turn_to-slot.ensures.turned.1 c.turn_to-slot.ensures.slot,
 )
 
 pub unreachable-requires : goal.unreachable-requires
 unreachable-requires g c =
     let did = swapped-told c.args.self.now.frame
-    (exchange c.args.self.now.frame c.args.name None c.hand.view_is c.turn_to-slot.ensures.turned
+    (exchange c.args.self.now.frame c.args.name {inside = c.args.seat.now} None refl c.turn_to-slot.ensures.turned
     c.turn_to-slot.ensures.slot c.slot_mut-home.ensures.value refl) in
     let vacant = ap (λ z. is_some (unwrap_or z None)) (sym did.home ∙ c.requires.empty) in
     true≢false (sym c.if-is_some.true ∙ (c.is_some.ensures ∙ vacant))
@@ -35,14 +31,13 @@ unreachable-requires g c =
 pub returns-clause-filled : goal.returns-clause-filled
 returns-clause-filled g c =
     let did = swapped-told c.args.self.now.frame
-    (exchange c.args.self.now.frame c.args.name (Some c.args.item) c.hand.view_is c.turn_to-slot.ensures.turned
+    (exchange c.args.self.now.frame c.args.name {inside = c.args.seat.now} (Some c.args.item) refl c.turn_to-slot.ensures.turned
     c.turn_to-slot.ensures.slot c.slot_mut-home.ensures.value refl) in
     record { word = did.word; home = c.requires.empty; me_is = did.me_is }
 
 pub returns-clause-stays : goal.returns-clause-stays
 returns-clause-stays g c =
-    hand-seated c.args.self.now c.args.hand.now _ c.requires.table
-    (subst (λ z. IsSameHand z c.turn_to-slot.new.seat) c.hand.view_is c.turn_to-slot.ensures.same)
+    hand-seated c.args.self.now c.args.seat.now _ c.requires.table c.turn_to-slot.ensures.same
     (swapped-seated c.args.self.now.frame
-    (exchange c.args.self.now.frame c.args.name (Some c.args.item) c.hand.view_is c.turn_to-slot.ensures.turned
+    (exchange c.args.self.now.frame c.args.name {inside = c.args.seat.now} (Some c.args.item) refl c.turn_to-slot.ensures.turned
     c.turn_to-slot.ensures.slot c.slot_mut-home.ensures.value refl))
