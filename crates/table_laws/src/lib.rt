@@ -12,6 +12,8 @@ mod scopes;
 mod stepping;
 
 pub use callbacks::callbacks_run_once;
-pub use operations::{operations_end_once, parents_end_with_all};
+pub use operations::{noted_operations_are_open, operations_end_once, parents_end_with_all};
 pub use scopes::{joined_scopes_are_empty, scope_bits_stay};
-pub use stepping::{calls_list_their_steps, listed_steps_are_made, operations_list_their_steps};
+pub use stepping::{
+    calls_list_their_steps, listed_steps_are_made, operations_list_their_steps, steps_are_moves,
+};

@@ -2,6 +2,7 @@
 ghost use Rattle.table_laws.specs.Laws.{DoneIsOver, ParentsWait, ReleasesQuiet};
 ghost use Rattle.table_laws.specs.Bounds.{EndWithAll, FinishWithAll, HoldWithAll, RestWithAll};
 ghost use Rattle.table_laws.specs.Lasting.{DoneForGood};
+ghost use Rattle.table_laws.specs.Noted.{NotedIsOpen};
 
 use table_rules::Cargo;
 
@@ -22,4 +23,11 @@ pub fn parents_end_with_all<P: Cargo>()
     ensures finishes { FinishWithAll P.Cargo }
     ensures holds { HoldWithAll P.Cargo }
     ensures rests { RestWithAll P.Cargo }
+{}
+
+/// An operation that a hand claimed and began is open until some hand gives its block back: the
+/// word of its block says so, or a hand lists the step that left it at a later generation, or
+/// retired.
+pub fn noted_operations_are_open<P: Cargo>()
+    ensures { NotedIsOpen P.Cargo }
 {}
