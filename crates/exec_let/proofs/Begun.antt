@@ -230,4 +230,5 @@ module _ (board : Board Blueprint) (x : Name) (node : Node) (start : List Entry)
             calmly = λ none. subst NeedsNoRequest (sym is)
                 ((body-may (has_seen board.frame.tree m2.0 (beside x body)) saw-seen).fits.1 none).start;
             idle = idle-known board x start body 1 m1 looked.has.ready child m2 read;
+            tree = b.lets.over.is_tree;
           }

@@ -24,7 +24,7 @@ use Rattle.exec_start.specs.Entries.{asked_of, start_below}
 use Rattle.exec_start.specs.Parcels.{Delivery}
 use Rattle.start_laws.specs.Lets.{channel_of, pick_of}
 use Rattle.exec_recv.specs.declared.next.Next.{Next}
-use Rattle.exec_recv.specs.declared.next.Next.TheVariants.{Rest, Ready}
+use Rattle.exec_recv.specs.declared.next.Next.TheVariants.{Go, Ready}
 use Rattle.exec_recv.specs.Steppable.{CanStep}
 use Rattle.node_steps.specs.Completes.{CompletesWith}
 use Rattle.node_steps.specs.Leaves.{IsLeftAt, IsLeftIn}
@@ -33,9 +33,9 @@ use Rattle.node_steps.specs.TakenOut.{newest_in}
 use Rattle.exec_let.specs.Kinds.{let_child, is_small}
 
 module _ (board : Board Blueprint) (x : Name) (next : Next) (m' : Seated Item Entry) where
-  -- x awaits this body, which can begin with these data as its arguments
+  -- x awaits this body, which began with these data as its arguments, and with which the hand goes on
   pub record Awaits (body : ℕ) (values : List Datum) : Type 0 where
-    pub next_is : next ≡ Rest
+    pub next_is : next ≡ Go (beside x body)
     pub start : List Entry
     pub from : Seated Item Entry
     pub awaits : IsAwaiting board x start body

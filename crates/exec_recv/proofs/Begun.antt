@@ -16,12 +16,14 @@ use Rattle.life_rules.proofs.Names.{same-refl, same-true}
 use Rattle.node_tree.specs.Tree.{nearest}
 use Rattle.plan_shape.specs.Blueprint.{Blueprint}
 use Rattle.table_words.specs.Layouts.{place_number}
+use Rattle.table_rules.specs.declared.view.Held.{Held}
 use Rattle.table_rules.specs.declared.view.Owed.{Owed}
 use Rattle.table_rules.specs.Named.{count_by, find_by, without, Each}
 use Rattle.table_rules.specs.ShownViews.{has_source_ref}
 use Rattle.table_steps.specs.Views.{Board, aimed}
-use Rattle.table_steps.specs.Begins.{Begins, begun_as}
+use Rattle.table_steps.specs.Begins.{Begins, begun_as, start_shown}
 use Rattle.table_steps.specs.Claims.{Seated}
+use Rattle.table_steps.specs.Owing.{Owes}
 use Rattle.table_steps.specs.Reports.{laid}
 use Rattle.table_steps.specs.Slots.{AreApart, slot_of, kids_of, kept, has_seen, is_of_family, owed_at}
 use Rattle.table_kept.proofs.Entries.{count-without, each-without}
@@ -90,7 +92,7 @@ module _ (board : Board Blueprint) (y : Name) (places : HasPlaces board.frame y)
   middle-seen : did.middle.0.seen ≡ m.0.seen
   middle-seen = renewed-same board.frame y m did.middle did.renewed (λ (z : Seated Item Entry). z.0.seen) (λ i read left z. refl)
 
-  owed-after : m'.0.owed ≡ without at_owed m.0.owed y
+  pub owed-after : m'.0.owed ≡ without at_owed m.0.owed y
   owed-after =
       ap (λ (z : Seated Item Entry). z.0.owed) did.began.did.me_is ∙ ap (λ (l : List (Owed Entry)). without at_owed l y) middle-owed
 
@@ -171,6 +173,19 @@ module _ (board : Board Blueprint) (y : Name) (places : HasPlaces board.frame y)
 
   pub begun-starts : AllCanStart board m'
   begun-starts z owes = can-after z owes.owed owes.owes
+
+  -- the starts that are owed still were owed before
+  pub owed-still : (z : Name) → Owes m'.0 z → Owes m.0 z
+  owed-still z owes = record { owed = owes.owed; owes = owed-before z owes.owed owes.owes }
+
+  -- the hand holds the node, and beside it what it held
+  pub begun-held : m'.0.held ≡ begun_as board.frame.tree y (start_in can.begin.item) did.began.did.told did.began.did.told_children ∷ m.0.held
+  begun-held =
+      ap (λ (z : Seated Item Entry). z.0.held) did.began.did.me_is
+      ∙ ap (λ (i : Option (Option Item)). begun_as board.frame.tree y (start_shown ghosts i) did.began.did.told did.began.did.told_children ∷ did.middle.0.held)
+      (ap (kept (slot_of board.frame.layout y)) middle-slots ∙ can.begin.home)
+      ∙ ap (λ (l : List (Held Entry)). begun_as board.frame.tree y (start_in can.begin.item) did.began.did.told did.began.did.told_children ∷ l)
+      (renewed-same board.frame y m did.middle did.renewed (λ (z : Seated Item Entry). z.0.held) (λ i read left z. refl))
 
   pub begun-steps : IsCalm m → m.0.runs ≡ [] → CanStep board y m'
   begun-steps calm unrun =

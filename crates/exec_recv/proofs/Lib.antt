@@ -9,6 +9,7 @@ pub mod Running
 pub mod Actions
 pub mod Arriving
 pub mod Begun
+pub mod BegunAside
 pub mod Failing
 pub mod Stopping
 pub mod Completing

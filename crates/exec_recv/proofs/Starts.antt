@@ -31,7 +31,7 @@ owes-as m m' y owed_same owes =
     }
 
 -- a child isn't the root
-child-inner : (tree : List TreeNode) (p n : ℕ) → IsTree tree → is_child tree p n ≡ true → is_root tree n ≡ false
+pub child-inner : (tree : List TreeNode) (p n : ℕ) → IsTree tree → is_child tree p n ≡ true → is_root tree n ≡ false
 child-inner tree p n is below =
     either (is_root tree n)
     (λ root. absurd (both_ways (is_child tree p n) (root-orphan tree is p n (child-within tree p n below) root) below))

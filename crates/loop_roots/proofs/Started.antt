@@ -24,7 +24,9 @@ use Rattle.exec_recv.specs.Asides.{Aside, aside_of, KeepsAside}
 use Rattle.exec_recv.specs.Beginnings.{OwesNoRoot}
 use Rattle.exec_recv.specs.Over.{IsOver}
 use Rattle.loop_walk.specs.Resting.{CanGoOn}
-use Rattle.loop_walk.proofs.Going.{begun-goes, owed-then, renewed-aside}
+use Rattle.exec_recv.proofs.Begun.{owed-after}
+use Rattle.exec_recv.proofs.BegunAside.{renewed-aside}
+use Rattle.loop_walk.proofs.Going.{begun-goes}
 use Rattle.loop_roots.specs.Leaves.{LeavesAside}
 use Rattle.loop_roots.specs.Starts.{IsPlaced, with_started, with_claimed}
 use Rattle.loop_roots.proofs.Growing.{Grows, grows-one, grows-on, aside-grows, leaves-with, leaves-then, aside-leaves}
@@ -86,8 +88,8 @@ module _ (board : Board Blueprint) (b : Block) (env : List Entry) (m m' : Seated
   begun-owed : m'.0.owed ≡ []
   begun-owed =
       let owed : Owed Entry = record { name = root; above = []; lot = [] } in
-      owed-then board root begun.middle m' begun.placed.only (placed-owes board b env m begun.middle begun.placed)
-      (root-places board begun.plan begun.over b.index b.generation begun.placed.within) begun.did begun.apart
+      owed-after board root (root-places board begun.plan begun.over b.index b.generation begun.placed.within) begun.middle m'
+      (begun.placed.only.starts root (placed-owes board b env m begun.middle begun.placed)) begun.placed.only.starts begun.did begun.apart
       ∙ ap (λ (l : List (Owed Entry)). without at_owed l root) begun.placed.owed
       ∙ cond-true (same root root) [] (owed ∷ []) (same-refl root)
 
@@ -113,9 +115,7 @@ module _ (board : Board Blueprint) (b : Block) (env : List Entry) (m m' : Seated
       ∙ begun.placed.home)
 
   renewed : KeepsAside begun.middle begun.did.middle
-  renewed =
-      renewed-aside board root begun.middle m' begun.placed.only (placed-owes board b env m begun.middle begun.placed)
-      (root-places board begun.plan begun.over b.index b.generation begun.placed.within) begun.did begun.apart
+  renewed = renewed-aside board root begun.middle m' begun.did
 
   abbrev noting : Aside → Aside
   noting a = record a { noted = record { name = root; start = env } ∷ a.noted }

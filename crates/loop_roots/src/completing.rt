@@ -28,6 +28,7 @@ pub struct Ended {
 }
 
 // The operation of this record had no memory to start its child.
+#[inline(always)]
 fn want_of_memory(number: u32) -> Collected
     ensures number { result.number ≡ number }
     ensures completion { result.completion ≡ NoMemory }
@@ -41,6 +42,7 @@ fn want_of_memory(number: u32) -> Collected
 }
 
 // With its child's parcel a root completes as its child did.
+#[inline(always)]
 fn as_child(env: &Env, parcel: Parcel) -> Collected
     requires root { IsOfRoot (Rest env.now (Some parcel)) }
     ensures { CompletesAs (Rest env.now (Some parcel)) result }
@@ -57,6 +59,7 @@ fn as_child(env: &Env, parcel: Parcel) -> Collected
 
 /// What the item of a root completes the operation with. A root that keeps no parcel of its child
 /// had no memory to start it.
+#[inline(always)]
 pub(crate) fn completed(item: Item) -> Ended
     requires root { IsOfRoot item }
     ensures env { result.env ≡ start_in item }

@@ -26,6 +26,7 @@ fn may_run(phase: CallbackPhase) -> bool
 
 // Removes the root's callback, where it is registered. A receiver node registers none, and hand 0
 // alone runs callbacks under the scope: so this doesn't wait.
+#[inline(always)]
 fn settle_root(table: &OpTable<Item>, hand: &mut Hand<Item>, root: Name)
     requires hand { IsHandOf table.now hand.old }
     requires place { IsPlaceIn table.now root }
@@ -46,6 +47,7 @@ fn settle_root(table: &OpTable<Item>, hand: &mut Hand<Item>, root: Name)
 
 // Takes the block's root, and takes out what lies in its home. None only where the root wasn't
 // ready in the loop.
+#[inline(always)]
 fn take_root(table: &OpTable<Item>, hand: &mut Hand<Item>, block: Block) -> Option<Item>
     requires hand { IsHandOf table.now hand.old }
     requires over { IsOver table.now table.now.frame.over.value }
@@ -64,6 +66,7 @@ fn take_root(table: &OpTable<Item>, hand: &mut Hand<Item>, block: Block) -> Opti
 }
 
 // Finishes the block's root, whose callback is settled, and gives the block back.
+#[inline(always)]
 fn give_back<G: Gate, R: Wait + Sync>(
     rt: &R,
     table: &OpTable<Item>,
@@ -86,6 +89,7 @@ fn give_back<G: Gate, R: Wait + Sync>(
 
 /// Takes the block's root, takes out what lies in its home, finishes it and gives the block back.
 /// None only where the root wasn't ready in the loop. The gate is passed just before the release.
+#[inline(always)]
 pub(crate) fn empty_root<G: Gate, R: Wait + Sync>(
     rt: &R,
     table: &OpTable<Item>,

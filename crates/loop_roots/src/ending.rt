@@ -23,6 +23,7 @@ use std::sync::Wait;
 /// the operation completed with is want of memory, or allowed for that start, and is of its number.
 /// Where it saw a stop request, the hand made the scope's. All else that its view says is as before,
 /// but for requests that it has seen and the list of its steps.
+#[inline(always)]
 pub fn end_root<G: Gate, R: Wait + Sync>(
     rt: &R,
     table: &OpTable<Item>,

@@ -15,6 +15,7 @@ use std::sync::Wait;
 
 // Claims a free block, and puts the start into the home of its root. The environment comes back
 // where no block was free.
+#[inline(always)]
 fn place(table: &OpTable<Item>, hand: &mut Hand<Item>, from: u32, env: Env) -> Result<Block, Env>
     requires hand { IsHandOf table.now hand.old }
     requires over { IsOver table.now table.now.frame.over.value }
@@ -45,6 +46,7 @@ fn place(table: &OpTable<Item>, hand: &mut Hand<Item>, from: u32, env: Env) -> R
 /// shows, and the stepper stepped it. The hand has noted that start, and had noted none of this
 /// root before. All else that its view says is as before, but for requests that it has seen and the
 /// list of its steps.
+#[inline(always)]
 pub fn begin_root<T: Stepper, M: Mail, R: Wait + Sync>(
     rt: &R,
     alloc: Global,

@@ -23,7 +23,7 @@ use Rattle.table_steps.specs.Awaits.{owes_each, is_named, is_unnamed, CanAwait, 
 use Rattle.table_steps.specs.Claims.{Seated}
 use Rattle.table_steps.specs.Lefts.{LeavesControl}
 use Rattle.table_steps.specs.Owing.{owing, Owes}
-use Rattle.table_steps.specs.Slots.{slot_of, kids_of, kept, is_of_family, has_seen}
+use Rattle.table_steps.specs.Slots.{slot_of, kids_of, knows_idle, kept, is_of_family, has_seen}
 use Rattle.table_steps.specs.Steps.{control_index}
 use Rattle.op_slot.specs.Puts.{CanPut, IsPut}
 use Rattle.op_slot.specs.Tends.{Tends}
@@ -109,9 +109,9 @@ module _ (board : Board Blueprint) (x : Name) (start : List Entry) (kept_one : O
     lies : Tends board.frame x ready.held (Some item) (λ _. None) m1
     lies = put-tends board x start kept_one 0 m may.ready may.child may.saw may.small m1 put
 
-    idle : (i : ℕ) → i < length children → list_any (λ q. q == slice_index children i) ready.held.idle ≡ true
+    idle : (i : ℕ) → i < length children → knows_idle ready.held (slice_index children i) ≡ true
     idle i within =
-        subst (λ (h : Held Entry). list_any (λ q. q == slice_index children i) h.idle ≡ true)
+        subst (λ (h : Held Entry). knows_idle h (slice_index children i) ≡ true)
         (same_Some may.idle.held ready.held (sym may.idle.holds ∙ ready.tends.holds)) (may.idle.idle i within)
 
     -- the children can be awaited

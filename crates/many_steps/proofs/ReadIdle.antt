@@ -1,7 +1,7 @@
 -- A child of a node is read in the middle of the node's step.
-use Rattle.std.proofs.Common.{◌≡◌, inl, inr, ℕ, ◌+◌, true, false, ◌==◌, List, get_or, arith, sym, ap, ◌∙◌, subst}
+use Rattle.std.proofs.Common.{◌≡◌, inl, inr, ℕ, ◌+◌, Bool, true, false, ◌||◌, ◌==◌, List, get_or, arith, refl, sym, ap, ◌∙◌, subst}
 use Rattle.std.specs.List.{list_any}
-use Rattle.std.proofs.lemmas.Bool.{cases_lt}
+use Rattle.std.proofs.lemmas.Bool.{or_right, cases_lt}
 use Rattle.std.proofs.lemmas.Option.{same_Some}
 use Rattle.life_rules.specs.declared.event.Name.{Name}
 use Rattle.life_rules.specs.Views.{beside}
@@ -12,11 +12,12 @@ use Rattle.table_rules.specs.Named.{find_by}
 use Rattle.table_steps.specs.Views.{Board}
 use Rattle.table_steps.specs.Claims.{Seated}
 use Rattle.table_steps.specs.Readings.{IsBegunAs}
+use Rattle.table_steps.specs.Slots.{knows_idle}
 use Rattle.exec_start.specs.declared.entry.Entry.{Entry}
 use Rattle.exec_start.specs.declared.item.Item.{Item}
 use Rattle.node_steps.specs.Midway.{IsReady}
 use Rattle.table_steps.specs.Readings.{KnowsIdle}
-use Rattle.node_steps.proofs.Noting.{notes-held, or-true}
+use Rattle.node_steps.proofs.Noting.{notes-held}
 use Rattle.node_steps.proofs.Reading.{with_idle, idle-slight, begun-so, idle-notes}
 use Rattle.many_steps.specs.Kids.{KnowsAllIdle, KeepsIdle}
 
@@ -31,6 +32,11 @@ idles-on x m between m' first next =
       still = λ before had n is.
           next.still (first.held before had) (first.holds before had) n (first.still before had n is);
     }
+
+-- one more that was read is known beside those that were
+knows-more : (none read known : Bool) → (none || known) ≡ true → (none || (read || known)) ≡ true
+knows-more true read known is = refl
+knows-more false read known is = or_right read known is
 
 -- what is known of the children of x stays so when a child is read
 module _ (board : Board Blueprint) (x : Name) (n : ℕ) (child : is_child board.frame.tree x.node n ≡ true) (m m' : Seated Item Entry)
@@ -53,7 +59,7 @@ module _ (board : Board Blueprint) (x : Name) (n : ℕ) (child : is_child board.
       record {
         held = λ before had. with_idle n before;
         holds = λ before had. notes-held board x (with_idle n) (idle-slight n) m m' notes before had;
-        still = λ before had k known. or-true (n == k) (list_any (λ q. q == k) before.idle) known;
+        still = λ before had k known. knows-more (before.named == 0) (n == k) (list_any (λ q. q == k) before.idle) known;
       }
 
 -- of no child, and of one more
@@ -73,8 +79,8 @@ all-idle-more x children i m m' before still new =
         | inl old ↦ still.still before.held before.holds (get_or children j 0) (before.idle j old)
         | inr last ↦
             let at : i ≡ j = omega (arith, less, last) in
-            subst (λ k. list_any (λ q. q == get_or children k 0) held.idle ≡ true) at
-            (subst (λ (h : Held Entry). list_any (λ q. q == get_or children i 0) h.idle ≡ true)
+            subst (λ k. knows_idle held (get_or children k 0) ≡ true) at
+            (subst (λ (h : Held Entry). knows_idle h (get_or children i 0) ≡ true)
             (same_Some new.held held (sym new.holds ∙ holds)) new.idle)
       ];
     }

@@ -1,6 +1,5 @@
 -- Several children of a node that a hand holds.
-use Rattle.std.specs.Prelude.{◌≡◌, ℕ, ◌<◌, true, ◌==◌, List, length, slice_index, Some}
-use Rattle.std.specs.List.{list_any}
+use Rattle.std.specs.Prelude.{◌≡◌, ℕ, ◌<◌, true, List, length, slice_index, Some}
 use Rattle.common_lemmas.specs.Lists.{are_different}
 use Rattle.life_rules.specs.declared.event.Name.{Name}
 use Rattle.node_tree.specs.Tree.{is_child}
@@ -8,7 +7,7 @@ use Rattle.plan_shape.specs.Blueprint.{Blueprint}
 use Rattle.table_rules.specs.declared.view.Held.{Held}
 use Rattle.table_steps.specs.Views.{Board}
 use Rattle.table_steps.specs.Claims.{Seated}
-use Rattle.table_steps.specs.Slots.{held_at}
+use Rattle.table_steps.specs.Slots.{held_at, knows_idle}
 use Rattle.exec_start.specs.declared.entry.Entry.{Entry}
 use Rattle.exec_start.specs.declared.item.Item.{Item}
 
@@ -18,18 +17,17 @@ pub record AreKids (board : Board Blueprint) (x : Name) (children : List ℕ) : 
       is_child board.frame.tree x.node (slice_index children i) ≡ true
   pub different : are_different children ≡ true
 
--- the hand holds x, and has read that the first so many of these children haven't begun
+-- the hand holds x, and knows that the first so many of these children haven't begun
 pub record KnowsAllIdle (x : Name) (children : List ℕ) (count : ℕ) (m : Seated Item Entry) :
     Type 0 where
   pub held : Held Entry
   pub holds : held_at m.0 x ≡ Some held
-  pub idle : (i : ℕ) → i < count → list_any (λ q. q == slice_index children i) held.idle ≡ true
+  pub idle : (i : ℕ) → i < count → knows_idle held (slice_index children i) ≡ true
 
--- the hand holds x still, and what it has read as not begun of the children of x it still knows
+-- the hand holds x still, and of each child of x of which it knew that it hasn't begun it still knows so
 pub record KeepsIdle (x : Name) (m m' : Seated Item Entry) : Type 0 where
   pub held : (before : Held Entry) → held_at m.0 x ≡ Some before → Held Entry
   pub holds : (before : Held Entry) (had : held_at m.0 x ≡ Some before) →
       held_at m'.0 x ≡ Some (held before had)
   pub still : (before : Held Entry) (had : held_at m.0 x ≡ Some before) (n : ℕ) →
-      list_any (λ q. q == n) before.idle ≡ true →
-      list_any (λ q. q == n) (held before had).idle ≡ true
+      knows_idle before n ≡ true → knows_idle (held before had) n ≡ true

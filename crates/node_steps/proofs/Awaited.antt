@@ -20,15 +20,17 @@ use Rattle.table_rules.specs.declared.view.Owed.{Owed}
 use Rattle.table_rules.specs.Named.{find_by, count_by, without, Each}
 use Rattle.table_steps.specs.Views.{Board, IsPlaceIn, aim_at, aimed}
 use Rattle.table_steps.specs.Awaits.{is_named, is_unnamed, CanAwait, AwaitsAt}
+use Rattle.table_steps.specs.Begins.{Begins, begun_as}
 use Rattle.table_steps.specs.Claims.{Seated}
 use Rattle.table_steps.specs.Lefts.{LeavesControl}
 use Rattle.table_steps.specs.Owing.{owing}
-use Rattle.table_steps.specs.Slots.{slot_of, kids_of, kept, is_of_family, has_seen}
+use Rattle.table_steps.specs.Slots.{AreApart, slot_of, kids_of, knows_idle, kept, is_of_family, has_seen}
 use Rattle.table_steps.specs.Steps.{control_index}
-use Rattle.op_slot.specs.Puts.{FitsOwed, CanPut, IsPut}
-use Rattle.op_slot.specs.Tends.{Owes}
+use Rattle.op_table.specs.OnlyChild.{CanBeginChild}
+use Rattle.op_slot.specs.Puts.{CanPut, IsPut}
+use Rattle.op_slot.specs.Tends.{IsCalm, HasPlaces, Tends, Owes}
 use Rattle.op_slot.proofs.Kept.{kept-shed}
-use Rattle.op_slot.proofs.Leaving.{tends-awaits, owes-fits, owes-puts, awaited-owes}
+use Rattle.op_slot.proofs.Leaving.{tends-awaits, awaited-owes}
 use Rattle.op_slot.proofs.Places.{kid-within}
 use Rattle.op_slot.proofs.Tending.{swapped-owes, swapped-else}
 use Rattle.exec_value.specs.declared.outcome.Completion.TheVariants.{NoMemory}
@@ -36,14 +38,19 @@ use Rattle.exec_start.specs.contracts.item.ItemCargo.TheImpl.{ghosts}
 use Rattle.exec_start.specs.declared.entry.Entry.{Entry}
 use Rattle.exec_start.specs.declared.item.Item.{Item}
 use Rattle.exec_start.specs.declared.item.Item.TheVariants.{Start, Rest}
+use Rattle.exec_start.specs.Items.{start_in}
 use Rattle.exec_start.specs.Fits.{FitsHome}
 use Rattle.exec_start.proofs.Fitting.{start-fits, below-names}
-use Rattle.exec_recv.specs.declared.next.Next.TheVariants.{Rest as IsAtRest}
+use Rattle.exec_recv.specs.declared.next.Next.TheVariants.{Go}
 use Rattle.exec_recv.specs.Asides.{aside_of, KeepsAside}
 use Rattle.exec_recv.specs.Beginnings.{CanStart, AllCanStart}
-use Rattle.exec_recv.specs.Nexts.{OwesNewBelow, IsStepped}
+use Rattle.exec_recv.specs.Nexts.{OwesNewBelow, GoesTo, IsStepped}
 use Rattle.exec_recv.proofs.Asiding.{aside-on, aside-one}
+use Rattle.exec_recv.proofs.Begun.{begun-starts, begun-steps, begun-held, owed-still}
+use Rattle.exec_recv.proofs.BegunAside.{begun-aside}
 use Rattle.exec_recv.proofs.Fitting.{fits-more, sees-more}
+use Rattle.exec_recv.proofs.Places.{tree-places}
+use Rattle.exec_recv.proofs.Starts.{child-inner}
 use Rattle.node_steps.specs.Midway.{Ready}
 use Rattle.node_steps.specs.Starts.{MayAwait, IsAwaiting}
 use Rattle.node_steps.proofs.Left.{can-put, put-tends, put-calm, put-on, put-beside, put-held, put-starts, put-elsewhere}
@@ -87,18 +94,40 @@ module _ (board : Board Blueprint) (x : Name) (start : List Entry) (n : ℕ) (be
     abbrev ready : Ready board x start 0 m
     ready = may.ready
 
-    idle : list_any (λ q. q == n) ready.held.idle ≡ true
+    idle : knows_idle ready.held n ≡ true
     idle =
-        subst (λ (h : Held Entry). list_any (λ q. q == n) h.idle ≡ true)
+        subst (λ (h : Held Entry). knows_idle h n ≡ true)
         (same_Some may.idle.held ready.held (sym may.idle.holds ∙ ready.tends.holds)) may.idle.idle
 
     -- the child can be awaited
-    pub can-await : CanAwait ghosts board.frame m1 x (n ∷ [])
+    can-await : CanAwait ghosts board.frame m1 x (n ∷ [])
     can-await =
         tends-awaits ghosts board.frame x m1 ready.held (λ _. None) (put-calm board x start None 0 m ready tt (λ e. refl) (λ s. none-known) m1 put)
         (λ k at. refl) item (n ∷ []) (put-tends board x start None 0 m ready tt (λ e. refl) (λ s. none-known) m1 put)
         (put-on board x start None 0 m ready tt (λ e. refl) (λ s. none-known) m1 put) may.few (omega arith) refl
         (and_from _ _ (and_from _ _ may.child idle) refl)
+
+    -- what the home of x keeps
+    here : Tends board.frame x ready.held (Some item) (λ _. None) m1
+    here = put-tends board x start None 0 m ready tt (λ e. refl) (λ s. none-known) m1 put
+
+    inside-same : (a b : Item) → Some (Some a) ≡ Some (Some b) → a ≡ b
+    inside-same a b e = cc
+
+    -- and then begun with its own start
+    pub can-begin : CanBeginChild ghosts board.frame x n (Start below) m1
+    can-begin =
+        let await = can-await in
+        let held : await.leave.held ≡ ready.held = same_Some await.leave.held ready.held (sym await.leave.holds ∙ here.holds) in
+        let kept_item : await.item ≡ item = inside-same await.item item (sym await.home ∙ here.own) in
+        record {
+          await = await;
+          entry = may.entry;
+          start = may.below_is ∙ ap (λ (s : List Entry). may.entry ∷ s) (ready.shows ∙ ap (λ (h : Held Entry). h.start) (sym held));
+          key = may.key;
+          drawn = may.draws ∙ ap (λ (i : Item). ghosts.lot i) (sym kept_item);
+          goes_on = λ e. e;
+        }
 
     module _ (m2 : Seated Item Entry) (awaited : LeavesControl (aim_at board x) (Busy 0) (Busy 1) (AwaitsAt ghosts (aim_at board x) (n ∷ [])) m1 m2) where
       abbrev did : AwaitsAt ghosts (aimed board.frame x) (n ∷ []) (control_index board x) awaited.read awaited.left m1 m2
@@ -129,16 +158,11 @@ module _ (board : Board Blueprint) (x : Name) (start : List Entry) (n : ℕ) (be
           subst (λ k. FitsHome (Start below) k (has_seen board.frame.tree m'.0 y)) may.node
           (start-fits below (below-names below may.begins) (has_seen board.frame.tree m'.0 y) (λ none. may.calmly (sym so ∙ none)))
 
-      child-fits : FitsOwed ghosts board.frame m2 y (Start below)
-      child-fits =
-          owes-fits board.frame y m2 ghosts (Start below) None owed child-owes may.entry may.below_is may.key
-          may.draws (below-fits m2 seen-so) (λ e. e)
-
-      pub child-put : CanPut ghosts board.frame m2 y (Start below)
-      child-put = owes-puts board.frame y m2 ghosts (Start below) owed child-owes child-fits
-
-      pub child-place : IsPlaceIn board y
+      child-place : IsPlaceIn board y
       child-place = record { block = ready.place.block; node = kid-within board.frame x ready.places n may.child }
+
+      child-places : HasPlaces board.frame y
+      child-places = tree-places board y may.tree ready.places.wide child-place
 
       module _ (m3 : Seated Item Entry) (last : IsPut board.frame y (Start below) m2 m3) where
         child-has : Owes board.frame y owed (Some (Start below)) m3
@@ -149,13 +173,10 @@ module _ (board : Board Blueprint) (x : Name) (start : List Entry) (n : ℕ) (be
             ap (λ (z : Seated Item Entry). z.0.owed) last.me_is ∙ ap (λ (z : Seated Item Entry). z.0.owed) did.me_is
             ∙ ap (λ (i : Item). record { name = y; above = ghosts.start i; lot = ghosts.lot i } ∷ m1.0.owed) item-is
           where
-            inside-same : (a b : Item) → Some (Some a) ≡ Some (Some b) → a ≡ b
-            inside-same a b e = cc
-
             item-is : did.item ≡ item
             item-is =
                 inside-same did.item item
-                (sym did.home ∙ (put-tends board x start None 0 m ready tt (λ e. refl) (λ s. none-known) m1 put).own)
+                (sym did.home ∙ here.own)
 
         await-aside : KeepsAside m1 m2
         await-aside =
@@ -288,24 +309,56 @@ module _ (board : Board Blueprint) (x : Name) (start : List Entry) (n : ℕ) (be
             let first = (put-beside board x start None 0 m ready tt (λ e. refl) (λ s. none-known) m1 put).owed in
             inl (record { owed = owes.owed; owes = ap owed_by (sym first) ∙ sym later ∙ owes.owes }))
 
-        pub await-stepped : IsStepped board x m m3 IsAtRest
-        await-stepped =
-            record {
-              aside = aside-on m m1 m3 (put-beside board x start None 0 m ready tt (λ e. refl) (λ s. none-known) m1 put).aside after-aside;
-              starts = await-starts;
-              owes = await-owes;
-              goes = ap (λ (z : Seated Item Entry). z.0.held) last.me_is ∙ ap (λ (z : Seated Item Entry). z.0.held) did.me_is
-                  ∙ ap (λ (l : List (Held Entry)). without (λ (e : Held Entry). e.name) l x)
-                  (put-held board x start None 0 m ready tt (λ e. refl) (λ s. none-known) m1 put);
-            }
+        -- and then the child began
+        module _ (m4 : Seated Item Entry) (begins : Begins ghosts (aimed board.frame y) m3 m4) (apart : AreApart m4.1) where
+          still-calm : IsCalm m3
+          still-calm =
+              ap (λ (z : Seated Item Entry). z.0.scans) last.me_is ∙ ap (λ (z : Seated Item Entry). z.0.scans) did.me_is
+              ∙ put-calm board x start None 0 m ready tt (λ e. refl) (λ s. none-known) m1 put
 
-        pub is-awaiting : IsAwaiting board x start n below m m3
-        is-awaiting =
-            record {
-              full = m1;
-              put = (put-beside board x start None 0 m ready tt (λ e. refl) (λ s. none-known) m1 put).aside;
-              home = (put-tends board x start None 0 m ready tt (λ e. refl) (λ s. none-known) m1 put).own;
-              waiting = m2;
-              awaits = awaited;
-              child_put = last;
-            }
+          still-unrun : m3.0.runs ≡ []
+          still-unrun =
+              ap (λ (z : Seated Item Entry). z.0.runs) last.me_is ∙ ap (λ (z : Seated Item Entry). z.0.runs) did.me_is
+              ∙ ap (λ (z : Seated Item Entry). z.0.runs) put.me_is ∙ ready.unrun
+
+          -- beside the child the hand holds what it held beside x
+          held-then : m3.0.held ≡ without (λ (e : Held Entry). e.name) m.0.held x
+          held-then =
+              ap (λ (z : Seated Item Entry). z.0.held) last.me_is ∙ ap (λ (z : Seated Item Entry). z.0.held) did.me_is
+              ∙ ap (λ (l : List (Held Entry)). without (λ (e : Held Entry). e.name) l x)
+              (put-held board x start None 0 m ready tt (λ e. refl) (λ s. none-known) m1 put)
+
+          goes-to : GoesTo board x m m4 y
+          goes-to =
+              record {
+                held = begun_as board.frame.tree y (start_in child-starts.begin.item) begins.began.did.told begins.began.did.told_children;
+                holds = begun-held board y child-places m3 m4 child-starts await-starts begins apart
+                    ∙ ap
+                    (λ (l : List (Held Entry)).
+                    begun_as board.frame.tree y (start_in child-starts.begin.item) begins.began.did.told begins.began.did.told_children ∷ l) held-then;
+                can = begun-steps board y child-places m3 m4 child-starts await-starts begins apart still-calm still-unrun;
+              }
+
+          pub await-stepped : IsStepped board x m m4 (Go y)
+          await-stepped =
+              record {
+                aside = aside-on m m3 m4
+                    (aside-on m m1 m3 (put-beside board x start None 0 m ready tt (λ e. refl) (λ s. none-known) m1 put).aside after-aside)
+                    (begun-aside board y m3 m4 begins (child-inner board.frame.tree x.node n may.tree may.child));
+                starts = begun-starts board y child-places m3 m4 child-starts await-starts begins apart;
+                owes = λ z owes. await-owes z (owed-still board y child-places m3 m4 child-starts await-starts begins apart z owes);
+                goes = goes-to;
+              }
+
+          pub is-awaiting : IsAwaiting board x start n below m m4
+          is-awaiting =
+              record {
+                full = m1;
+                put = (put-beside board x start None 0 m ready tt (λ e. refl) (λ s. none-known) m1 put).aside;
+                home = here.own;
+                waiting = m2;
+                awaits = awaited;
+                filled = m3;
+                child_put = last;
+                begins = begins;
+              }

@@ -1,15 +1,15 @@
 -- Whether a child of a node has begun is read in the middle of the node's step.
-use Rattle.std.proofs.Common.{◌≡◌, ℕ, true, false, ◌||◌, ◌==◌, List, ◌∷◌, length, refl, sym, ap, ◌∙◌}
+use Rattle.std.proofs.Common.{◌≡◌, ℕ, true, false, ◌||◌, ◌==◌, List, ◌∷◌, refl, sym, ap, ◌∙◌}
 use Rattle.std.specs.Prelude.{Option}
 use Rattle.std.specs.List.{list_any}
 use Rattle.std.specs.Option.{option_map_or}
-use Rattle.std.proofs.lemmas.Bool.{cond-true, cond-false, eq-eqb}
+use Rattle.std.proofs.lemmas.Bool.{or_left, or_right, cond-true, cond-false, eq-eqb}
 use Rattle.life_rules.specs.declared.event.Name.{Name}
 use Rattle.life_rules.specs.Views.{beside}
-use Rattle.life_kept.proofs.Trees.{child-parent, child-within}
+use Rattle.life_kept.proofs.Trees.{child-parent}
 use Rattle.listed_steps.specs.Lists.{entry}
 use Rattle.node_tree.specs.Tree.{is_child}
-use Rattle.op_slot.proofs.Places.{kid-within, kid-among}
+use Rattle.op_slot.proofs.Places.{kid-within}
 use Rattle.plan_shape.specs.Blueprint.{Blueprint}
 use Rattle.table_rules.specs.declared.view.View.{View}
 use Rattle.table_rules.specs.declared.view.Held.{Held}
@@ -43,9 +43,7 @@ begun-idle board x n m child begun =
     record {
       held = begun.held;
       holds = begun.holds;
-      idle = ap (list_any (λ q. q == n)) begun.idle
-          ∙ kid-among board.frame.tree x.node (λ q. q == n) (length board.frame.tree) n (child-within board.frame.tree x.node n child) child
-          (eq-eqb n n refl);
+      idle = or_left (begun.held.named == 0) _ (eq-eqb begun.held.named 0 begun.named);
     }
 
 module _ (board : Board Blueprint) (x : Name) (start : List Entry) (n : ℕ) (least : ℕ) (m : Seated Item Entry) (ready : Ready board x start least m)
@@ -114,5 +112,5 @@ module _ (board : Board Blueprint) (x : Name) (start : List Entry) (n : ℕ) (le
           record {
             held = with_idle n ready.held;
             holds = notes-held board x (with_idle n) (idle-slight n) m m' idle-notes ready.held ready.tends.holds;
-            idle = ap (λ b. b || list_any (λ q. q == n) ready.held.idle) (eq-eqb n n refl);
+            idle = or_right (ready.held.named == 0) _ (ap (λ b. b || list_any (λ q. q == n) ready.held.idle) (eq-eqb n n refl));
           }

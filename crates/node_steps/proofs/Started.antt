@@ -63,6 +63,7 @@ module _ (board : Board Blueprint) (plan : Blueprint) (x : Name) (start : List E
         begins = subst BeginsBelow (sym below_is) run-begins;
         calmly = λ none. subst NeedsNoRequest (sym below_is) (plain-below start n may.runs);
         idle = idle;
+        tree = over.is_tree;
       }
 
   -- where there is no memory, the arguments don't stand in place

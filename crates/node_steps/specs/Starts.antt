@@ -4,10 +4,11 @@ use Rattle.exec_value.specs.Place.{AreInPlace}
 use Rattle.life_rules.specs.declared.event.Name.{Name}
 use Rattle.life_rules.specs.declared.words.ControlWord.TheVariants.{Busy}
 use Rattle.life_rules.specs.Views.{beside}
-use Rattle.node_tree.specs.Tree.{is_child}
+use Rattle.node_tree.specs.Tree.{IsTree, is_child}
 use Rattle.plan_shape.specs.Blueprint.{Blueprint}
 use Rattle.table_steps.specs.Views.{Board, aim_at}
 use Rattle.table_steps.specs.Awaits.{AwaitsAt}
+use Rattle.table_steps.specs.Begins.{Begins}
 use Rattle.table_steps.specs.Claims.{Seated}
 use Rattle.table_steps.specs.Lefts.{LeavesControl}
 use Rattle.table_steps.specs.Readings.{KnowsIdle, IsBegunAs}
@@ -22,7 +23,7 @@ use Rattle.exec_start.specs.Bounds.{least_of}
 use Rattle.exec_start.specs.Entries.{plan_of, node_of, args_of, whole_row, plan_node, start_below}
 use Rattle.exec_start.specs.Starts.{NeedsNoRequest, BeginsBelow}
 use Rattle.exec_recv.specs.declared.next.Next.{Next}
-use Rattle.exec_recv.specs.declared.next.Next.TheVariants.{Rest as IsAtRest}
+use Rattle.exec_recv.specs.declared.next.Next.TheVariants.{Go}
 use Rattle.exec_recv.specs.Asides.{KeepsAside}
 use Rattle.node_steps.specs.Midway.{Ready, KeepsOthers}
 use Rattle.node_steps.specs.Wants.{IsLeftBare, EndsWanting}
@@ -58,9 +59,10 @@ module _ (board : Board Blueprint) (x : Name) (start : List Entry) (n : ℕ)
     pub begins : BeginsBelow below
     pub calmly : has_seen board.frame.tree m.0 (beside x n) ≡ false → NeedsNoRequest below
     pub idle : KnowsIdle x n m
+    pub tree : IsTree board.frame.tree
 
-  -- x was left with its start in its home, awaiting the child, and then the child's was put into
-  -- the child's
+  -- x was left with its start in its home, awaiting the child; the child's was put into the child's,
+  -- and the child began
   pub record IsAwaiting (m m' : Seated Item Entry) : Type 0 where
     pub full : Seated Item Entry
     pub put : KeepsAside m full
@@ -68,7 +70,9 @@ module _ (board : Board Blueprint) (x : Name) (start : List Entry) (n : ℕ)
     pub waiting : Seated Item Entry
     pub awaits : LeavesControl (aim_at board x) (Busy 0) (Busy 1)
         (AwaitsAt ghosts (aim_at board x) (n ∷ [])) full waiting
-    pub child_put : IsPut board.frame (beside x n) (Start below) waiting m'
+    pub filled : Seated Item Entry
+    pub child_put : IsPut board.frame (beside x n) (Start below) waiting filled
+    pub begins : Begins ghosts (aim_at board (beside x n)) filled m'
 
 -- The step has come so far that x, with this start, can run its child n with its own arguments, or
 -- be left with its start alone. The child has this of `asked`.
@@ -81,9 +85,9 @@ pub record MayRun (board : Board Blueprint) (x : Name) (start : List Entry) (n :
 
 module _ (board : Board Blueprint) (x : Name) (start : List Entry) (n : ℕ) (next : Next)
     (m m' : Seated Item Entry) where
-  -- x awaits the child
+  -- x awaits the child, with which the hand goes on
   pub record HasStarted : Type 0 where
-    pub next_is : next ≡ IsAtRest
+    pub next_is : next ≡ Go (beside x n)
     pub awaiting : IsAwaiting board x start n (child_start n start) m m'
 
   -- there was no memory for the child's arguments, which don't stand in place

@@ -1,12 +1,13 @@
 //! How a step awaits the one child of its node.
 ghost use Rattle.std.specs.Prelude.{◌≡◌, [], IfOk, IsOk};
 ghost use Rattle.exec_value.specs.Place.{AreInPlace};
+ghost use Rattle.life_rules.specs.Views.{beside};
 ghost use Rattle.plan_kinds.specs.Runnable.{IsRunnable};
 ghost use Rattle.table_steps.specs.Views.{IsHandOf, Stays};
 ghost use Rattle.exec_start.specs.Entries.{plan_of, args_of};
 ghost use Rattle.exec_start.specs.Fits.{FitsChild};
 ghost use Rattle.exec_start.specs.Starts.{BeginsBelow};
-ghost use Rattle.exec_recv.specs.declared.next.Next.TheVariants.{Rest};
+ghost use Rattle.exec_recv.specs.declared.next.Next.TheVariants.{Go};
 ghost use Rattle.exec_recv.specs.Nexts.{IsStepped};
 ghost use Rattle.node_steps.specs.Starts.{RunsBelow, asked_for_child, child_start, MayAwait, IsAwaiting};
 
@@ -51,14 +52,14 @@ pub fn child_env(
     Ok(env.below(plan, child, args, no_row(), asked))
 }
 
-/// Leaves the node with its environment in its home until the child has reported, and puts the
-/// child's environment into the child's home.
+/// Leaves the node with its environment in its home until the child has reported, and begins the
+/// child with the other environment. The hand goes on with the child.
 ///
-/// Step: those of `put_home`, `await_children` and `put_home`.
+/// Step: those of `put_home` and of `begin_child`.
 /// Needs: the homes of the node and of its children are empty. The environment shows the node's
 /// start, and the other that of the child, which runs with the same arguments. The hand has read
 /// that the child hasn't begun.
-/// Afterwards: the hand holds the node no more, and can begin the child.
+/// Afterwards: the hand holds the child in place of the node, and may step it.
 #[inline(always)]
 pub fn await_child(
     table: &OpTable<Item>,
@@ -71,16 +72,14 @@ pub fn await_child(
     requires hand { IsHandOf table.now hand.old }
     requires may { MayAwait table.now name env child below hand.old.me }
     ensures stays { Stays table.now hand.old hand.new }
-    ensures next { result ≡ Rest }
+    ensures next { result ≡ Go (beside name child) }
     ensures awaits { IsAwaiting table.now name env child below hand.old.me hand.new.me }
     ensures stepped { IsStepped table.now name hand.old.me hand.new.me result }
 {
     put_home(table, hand, name, Item::Rest(env, None));
-    table.await_children(hand, name, &[child]);
-    let node = Name {
+    table.begin_child(hand, name, child, Item::Start(below));
+    Next::Go(Name {
         node: child,
         ..name
-    };
-    put_home(table, hand, node, Item::Start(below));
-    Next::Rest
+    })
 }

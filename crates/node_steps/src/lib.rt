@@ -8,7 +8,7 @@
 //!     step of a node --take_out--> ready --complete--> Go(parent), Rest
 //!                                    |  \--without_memory--> the same, with want of memory
 //!                                    |
-//!                                    +--await_child, start_child--> Rest: it awaits its child
+//!                                    +--await_child, start_child--> Go(child), which it awaits
 //!                                    +--leave_at_rest--> Ready(on)
 //!                                    +--leave_parked--> Parked
 #![tactic(auto)]

@@ -27,6 +27,7 @@ pub enum Slot {
 }
 
 /// Starts the operation of a record, by turns where there is no room for it at once.
+#[inline(always)]
 fn start<R: Wait + Sync, O: Operations>(
     rt: &R,
     alloc: Global,
@@ -50,6 +51,7 @@ fn start<R: Wait + Sync, O: Operations>(
 }
 
 /// Begins the record of this number, whose line has this text. A line without a text is too long.
+#[inline(always)]
 pub fn begin<R: Wait + Sync, O: Operations>(
     rt: &R,
     alloc: Global,

@@ -20,6 +20,7 @@ use std::sync::Wait;
 
 /// Starts an operation with an association of the scope (P3149, `spawn`). The environment comes back
 /// where the scope takes no association, or no block is free.
+#[inline(always)]
 pub(crate) fn enter<T: Stepper, R: Wait + Sync>(
     rt: &R,
     alloc: Global,

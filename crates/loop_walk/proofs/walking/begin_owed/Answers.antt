@@ -1,8 +1,10 @@
 use Rattle.std.proofs.Common.{sym, subst}
 use Rattle.exec_recv.proofs.Asiding.{aside-here}
+use Rattle.exec_recv.proofs.Begun.{owed-still}
+use Rattle.exec_recv.proofs.BegunAside.{begun-aside}
 use Rattle.exec_recv.proofs.Places.{over-places}
 use Rattle.loop_walk.specs.Resting.{GoesOn}
-use Rattle.loop_walk.proofs.Going.{only-rests, begun-goes, begun-aside, owed-before}
+use Rattle.loop_walk.proofs.Going.{only-rests, begun-goes}
 use Rattle.loop_walk.proofs.walking.begin_owed.Goals as goal
 
 pub begin-requires-clause-needs : goal.begin-requires-clause-needs
@@ -12,9 +14,8 @@ pub returns-clause-aside : goal.returns-clause-aside
 returns-clause-aside g c =
     let board = c.args.table.now in
     let name = c.in_ok-name.name in
-    begun-aside board name c.args.hand.now.me c.begin.new.hand.me c.requires.owes.has c.in_ok-name.ensures.owes
-    (over-places board _ name c.requires.over c.in_ok-name.ensures.place) c.begin.ensures.begun
-    c.begin.ensures.stays.hand.seated.apart (c.requires.owes.inner name c.in_ok-name.ensures.owes)
+    begun-aside board name c.args.hand.now.me c.begin.new.hand.me c.begin.ensures.begun
+    (c.requires.owes.inner name c.in_ok-name.ensures.owes)
 
 pub returns-clause-next : goal.returns-clause-next
 returns-clause-next g c =
@@ -27,7 +28,7 @@ returns-clause-next g c =
     c.begin.ensures.begun apart
     (λ z owes_z.
     owes.inner z
-    (owed-before board name c.args.hand.now.me c.begin.new.hand.me owes.has c.in_ok-name.ensures.owes places
+    (owed-still board name places c.args.hand.now.me c.begin.new.hand.me (owes.has.starts name c.in_ok-name.ensures.owes) owes.has.starts
     c.begin.ensures.begun apart z owes_z))
 
 pub returns-in_err-name-clause-aside : goal.returns-in_err-name-clause-aside
