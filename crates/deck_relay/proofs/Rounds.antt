@@ -9,7 +9,8 @@ use Rattle.deck_relay.specs.declared.tokens.Tokens.{Tokens}
 use Rattle.deck_relay.specs.declared.thefts.Theft.{Theft}
 use Rattle.deck_relay.specs.Rule.{taking}
 use Rattle.deck_relay.specs.Decks.{theft_view, theft_deque, all_taken, stolen_of}
-use Rattle.deck_relay.specs.Moves.{IsOnceMore, Missed}
+use Rattle.deck_relay.specs.Steals.{Missed, MissedBelow, StealsInTurn}
+use Rattle.deck_relay.specs.Laws.{IsOnceMore}
 use Rattle.deck_relay.proofs.Seats.{got, no-more, map-same, map-got}
 
 module _ {X : Type 0} where
@@ -35,11 +36,14 @@ module _ {X : Type 0} where
 pub record Round (place at : ℕ) (old new : List Theft) : Type 0 where
   pub deques : map theft_deque new ≡ map theft_deque old
   pub views : map theft_view new ≡ map theft_view old
-  pub missed : (k : ℕ) (before after : Theft) → k < at → k ≢ place → slice_get old k ≡ Some before → slice_get new k ≡ Some after → Missed before after
+  pub missed : MissedBelow at place old new
   pub rest : (k : ℕ) → at ≤ k → slice_get new k ≡ slice_get old k
 
 at-least : (k at : ℕ) → k ≡ at → at ≤ k
 at-least k at same = omega (arith, same)
+
+nearer-than : (k at : ℕ) → k < at → k ≢ at
+nearer-than k at below same = omega (arith, same, below)
 
 nearer : (k at : ℕ) → k < at + 1 → k ≢ at → k < at
 nearer k at below differs = omega (arith, below, differs)
@@ -106,14 +110,27 @@ taken-once name (x ∷ xs) (suc i) v w here is weight =
     let b = sum_by-append weight x.taken (all_taken xs) in
     omega (arith, later, a, b)
 
-pub steals : (place at : ℕ) (old now : List Theft) (before after : Theft) (name : Name) → Round place at old now → slice_get now at ≡ Some before →
-    theft_view after ≡ taking (theft_view before) (name ∷ []) → IsOnceMore name (stolen_of old) (stolen_of (set now at after))
-steals place at old now before after name round here is weight =
-    let once = taken-once name (map theft_view now) at (theft_view before) (theft_view after) (map-got theft_view now at before here) is weight in
-    let new : sum_by weight (stolen_of (set now at after)) ≡ sum_by weight (all_taken (set (map theft_view now) at (theft_view after))) =
-    ap (λ l. sum_by weight (all_taken l)) (map-set theft_view now at after) in
-    let was : sum_by weight (stolen_of now) ≡ sum_by weight (stolen_of old) = ap (λ l. sum_by weight (all_taken l)) round.views in
-    omega (arith, once, new, was)
+pub stolen-once : (place : ℕ) (old new : List Theft) (name : Name) → StealsInTurn place old new name → IsOnceMore name (stolen_of old) (stolen_of new)
+stolen-once place old new name by weight =
+    let view : Tokens = theft_view by.theft in
+    let once = taken-once name (map theft_view old) by.from view (taking view (name ∷ [])) (map-got theft_view old by.from by.theft by.there) refl weight in
+    let is : sum_by weight (stolen_of new) ≡ sum_by weight (all_taken (set (map theft_view old) by.from (taking view (name ∷ [])))) =
+    ap (λ l. sum_by weight (all_taken l)) by.views in
+    is ∙ once
+
+-- the place where a steal gave a name
+pub steals : (place at : ℕ) (old now : List Theft) (before after : Theft) (name : Name) → Round place at old now → at ≢ place → slice_get now at ≡ Some before →
+    theft_view after ≡ taking (theft_view before) (name ∷ []) → StealsInTurn place old (set now at after) name
+steals place at old now before after name round other here is =
+    record {
+      from = at;
+      other = other;
+      theft = before;
+      there = sym (round.rest at (at-least at at refl)) ∙ here;
+      views = map-set theft_view now at after ∙ (λ i. set (round.views i) at (is i));
+      before = λ k first last below apart was seen.
+          round.missed k first last below apart was (sym (got-else now at k after (nearer-than k at below)) ∙ seen);
+    }
 
 pub keeps-deques : (place at : ℕ) (old now : List Theft) (before after : Theft) → Round place at old now → slice_get now at ≡ Some before →
     theft_deque after ≡ theft_deque before → map theft_deque (set now at after) ≡ map theft_deque old

@@ -2,7 +2,7 @@
 use Rattle.std.proofs.Common.{List, [], ◌∷◌, ◌++◌, arith}
 use Rattle.std.proofs.lemmas.List.Sums.{sum_by-append}
 use Rattle.life_rules.specs.declared.event.Name.{Name}
-use Rattle.deck_relay.specs.Moves.{IsOnceMore}
+use Rattle.deck_relay.specs.Laws.{IsOnceMore}
 
 pub in-first : (name : Name) (a b : List Name) → IsOnceMore name (a ++ b) ((a ++ name ∷ []) ++ b)
 in-first name a b weight =

@@ -16,12 +16,16 @@ theft_view theft = deque_view theft.pass
 abbrev pub theft_deque : Theft → RowsId × Global
 theft_deque theft = (theft.pass.rows, theft.pass.heap)
 
--- what the owner's pass of the deck's deque knows, and its pass of the shared queue
+-- what the owner's pass of the deck's deque knows, its pass of the shared queue, and what it steals
+-- through
 abbrev pub own_view : Deck → Tokens
 own_view deck = worker_view deck.own
 
 abbrev pub queue_view : Deck → Tokens
 queue_view deck = view deck.pass
+
+abbrev pub thefts_view : Deck → List Tokens
+thefts_view deck = map theft_view deck.thefts.items
 
 -- which deque is the deck's own, and which it steals from, in the order of the places
 abbrev pub own_deque : Deck → RowsId × Global

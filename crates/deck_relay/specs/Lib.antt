@@ -1,10 +1,11 @@
 pub mod Rule
 pub mod Decks
 pub mod SameDecks
+pub mod Steals
 pub mod Moves
+pub mod Laws
 pub mod Relays
 pub mod Lending
 pub mod Columns
 pub mod Openings
 pub mod Adding
-pub mod Steals

@@ -1,43 +1,77 @@
 -- What a call of a deck does, and why a name comes back or none is found.
-use Rattle.std.specs.Prelude.{◌≡◌, ◌≢◌, ℕ, ◌+◌, ◌<◌, ◌⊎◌, List, [], sum_by, slice_get, Some}
-use Rattle.crossbeam_deque.specs.Handles.{taken}
+use Rattle.std.specs.Prelude.{◌≡◌, ◌≢◌, ℕ, ◌<◌, ◌≤◌, ◌⊎◌, List, [], ◌∷◌, slice_get, Some}
+use Rattle.crossbeam_deque.specs.Handles.{taken, worker_capacity, worker_index}
 use Rattle.crossbeam_queue.specs.Fifo.{Held}
 use Rattle.life_rules.specs.declared.event.Name.{Name}
 use Rattle.deck_relay.specs.declared.thefts.Theft.{Theft}
 use Rattle.deck_relay.specs.declared.deck.Deck.{Deck}
-use Rattle.deck_relay.specs.Rule.{Stood}
-use Rattle.deck_relay.specs.Decks.{theft_view, own_view, queue_view, given_of, taken_of}
+use Rattle.deck_relay.specs.Rule.{giving, taking, Stood}
+use Rattle.deck_relay.specs.Decks.{theft_view, own_view, queue_view, thefts_view}
+use Rattle.deck_relay.specs.Steals.{StealsInTurn, AllMissed}
 
--- Among these names this one stands once more than before.
-abbrev pub IsOnceMore : Name → List Name → List Name → Type 0
-IsOnceMore name old new = (weight : Name → ℕ) → sum_by weight new ≡ sum_by weight old + weight name
+-- The name came in at the back of the deck's own deque, and all else is as before.
+pub record GivesOwn (name : Name) (old new : Deck) : Type 0 where
+  pub own : own_view new ≡ giving (own_view old) (name ∷ [])
+  pub queue : queue_view new ≡ queue_view old
+  pub thefts : thefts_view new ≡ thefts_view old
 
--- The deck gave the name, to its own deque or to the shared queue.
-pub record Gives (name : Name) (old new : Deck) : Type 0 where
-  pub given : IsOnceMore name (given_of old) (given_of new)
-  pub taken : taken_of new ≡ taken_of old
+-- The name came in at the back of the shared queue, and all else is as before.
+pub record GivesShared (name : Name) (old new : Deck) : Type 0 where
+  pub own : own_view new ≡ own_view old
+  pub queue : queue_view new ≡ giving (queue_view old) (name ∷ [])
+  pub thefts : thefts_view new ≡ thefts_view old
+
+-- As many names had come into the deck's own deque as its newest ring has slots.
+abbrev pub IsOwnFull : Deck → Type 0
+IsOwnFull deck = worker_capacity deck.own ≤ worker_index deck.own
+
+-- Its own deque was full, and the name came into the shared queue.
+pub record PassesOn (name : Name) (old new : Deck) : Type 0 where
+  pub full : IsOwnFull old
+  pub gives : GivesShared name old new
+
+-- The name came into the deck's own deque, or into the shared queue where that was full.
+abbrev pub Pushes : Name → Deck → Deck → Type 0
+Pushes name old new = GivesOwn name old new ⊎ PassesOn name old new
+
+-- The deck gave and took nothing.
+pub record MovesNothing (old new : Deck) : Type 0 where
+  pub own : own_view new ≡ own_view old
+  pub queue : queue_view new ≡ queue_view old
+  pub thefts : thefts_view new ≡ thefts_view old
 
 -- This is the name, and the deck gave and took nothing: the shared queue was full at a step of the
 -- call.
 pub record HandsBack (name : Name) (old new : Deck) (back : Name) : Type 0 where
   pub is : back ≡ name
-  pub given : given_of new ≡ given_of old
-  pub taken : taken_of new ≡ taken_of old
+  pub nothing : MovesNothing old new
   pub full : Held 4096 (Stood (queue_view old))
 
--- The deck took the name.
-pub record Takes (name : Name) (old new : Deck) : Type 0 where
-  pub taken : IsOnceMore name (taken_of old) (taken_of new)
-  pub given : given_of new ≡ given_of old
+-- The name left the deck's own deque, and all else is as before.
+pub record TakesOwn (name : Name) (old new : Deck) : Type 0 where
+  pub own : own_view new ≡ taking (own_view old) (name ∷ [])
+  pub queue : queue_view new ≡ queue_view old
+  pub thefts : thefts_view new ≡ thefts_view old
 
--- A steal found none: its deque was empty at a step of the call, or a name left it first.
-abbrev pub Missed : Theft → Theft → Type 0
-Missed old new = Stood (theft_view old) [] ⊎ (taken old.pass < taken new.pass)
+-- The deck's deque was empty at a step of the call, and then the name left the shared queue.
+pub record TakesShared (name : Name) (old new : Deck) : Type 0 where
+  pub own_empty : Stood (own_view old) []
+  pub own : own_view new ≡ own_view old
+  pub queue : queue_view new ≡ taking (queue_view old) (name ∷ [])
+  pub thefts : thefts_view new ≡ thefts_view old
 
--- So did the steal from each deque but the one at this place.
-abbrev pub AllMissed : ℕ → List Theft → List Theft → Type 0
-AllMissed place old new = (k : ℕ) (before after : Theft) → k ≢ place →
-    slice_get old k ≡ Some before → slice_get new k ≡ Some after → Missed before after
+-- The deck's deque and the shared queue were empty, each at a step of the call, and then the name
+-- was stolen.
+pub record TakesStolen (name : Name) (old new : Deck) : Type 0 where
+  pub own_empty : Stood (own_view old) []
+  pub queue_empty : Held 0 (Stood (queue_view old))
+  pub own : own_view new ≡ own_view old
+  pub queue : queue_view new ≡ queue_view old
+  pub steals : StealsInTurn old.place old.thefts.items new.thefts.items name
+
+-- The deck took the name: of its own deque, else of the shared queue, else of another deque.
+abbrev pub Takes : Name → Deck → Deck → Type 0
+Takes name old new = TakesOwn name old new ⊎ (TakesShared name old new ⊎ TakesStolen name old new)
 
 -- No name was found, each at a step of the call: the deck's deque was empty, and so was the shared
 -- queue, and each other deque was empty or the steal from it was lost.
@@ -45,5 +79,4 @@ pub record FindsNone (old new : Deck) : Type 0 where
   pub own : Stood (own_view old) []
   pub queue : Held 0 (Stood (queue_view old))
   pub others : AllMissed old.place old.thefts.items new.thefts.items
-  pub given : given_of new ≡ given_of old
-  pub taken : taken_of new ≡ taken_of old
+  pub nothing : MovesNothing old new

@@ -1,7 +1,7 @@
 //! The calls of a deck.
 ghost use Rattle.std.specs.Prelude.{◌≡◌, ◌<◌, IfOk, IfErr, IfSome, IfNone, length};
 ghost use Rattle.deck_relay.specs.Decks.{IsSameDeck};
-ghost use Rattle.deck_relay.specs.Moves.{Gives, HandsBack, Takes, FindsNone};
+ghost use Rattle.deck_relay.specs.Moves.{GivesShared, IsOwnFull, Pushes, HandsBack, Takes, FindsNone};
 
 use crate::deck::Deck;
 use crate::deques::{Gives as Joins, Takes as Leaves};
@@ -35,7 +35,7 @@ impl Deck {
     /// where the queue was full at a step of this call.
     pub fn offer<R: Wait>(&mut self, rt: &R, name: Name) -> Result<(), Name>
         ensures same { IsSameDeck self.old self.new }
-        ensures offered { IfOk result (λ _. Gives name self.old self.new) }
+        ensures offered { IfOk result (λ _. GivesShared name self.old self.new) }
         ensures back { IfErr result (HandsBack name self.old self.new) }
     {
         let queue = &self.queue.line;
@@ -48,13 +48,15 @@ impl Deck {
         }
     }
 
-    /// Adds the name to the deck's own deque, or to the shared queue where the deque hands it back,
-    /// and wakes a hand that sleeps. The name comes back only where the shared queue was full at a
-    /// step of this call.
+    /// Adds the name to the deck's own deque, or to the shared queue where the deque can't grow,
+    /// and wakes a hand that sleeps. It goes on to the shared queue only where as many names had
+    /// come into the deque as its newest ring has slots. The name comes back only where, besides,
+    /// the shared queue was full at a step of this call.
     pub fn push<R: Wait>(&mut self, rt: &R, name: Name) -> Result<(), Name>
         ensures same { IsSameDeck self.old self.new }
-        ensures pushed { IfOk result (λ _. Gives name self.old self.new) }
+        ensures pushed { IfOk result (λ _. Pushes name self.old self.new) }
         ensures back { IfErr result (HandsBack name self.old self.new) }
+        ensures full { IfErr result (λ _. IsOwnFull self.old) }
     {
         match self.own.push_as::<Joins>(name) {
             Ok(()) => {

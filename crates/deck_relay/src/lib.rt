@@ -31,6 +31,7 @@ mod calls;
 mod columns;
 mod deck;
 mod deques;
+mod law;
 mod lending;
 mod queues;
 mod relay;
@@ -39,6 +40,7 @@ mod thefts;
 mod tokens;
 
 pub use deck::Deck;
+pub use law::names_count_once;
 pub use life_rules::Name;
 pub use relay::Relay;
 pub use sleepers::Sleeper;

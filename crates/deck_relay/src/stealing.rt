@@ -1,8 +1,7 @@
 //! How a deck steals.
 ghost use Rattle.std.specs.Prelude.{◌≡◌, map, length, IfSome, IfNone};
-ghost use Rattle.deck_relay.specs.Decks.{theft_view, theft_deque, stolen_of};
-ghost use Rattle.deck_relay.specs.Moves.{Missed, AllMissed};
-ghost use Rattle.deck_relay.specs.Steals.{Steals, StealsOnce};
+ghost use Rattle.deck_relay.specs.Decks.{theft_view, theft_deque};
+ghost use Rattle.deck_relay.specs.Steals.{Steals, Missed, AllMissed, StealsInTurn};
 
 use crate::deques::Takes;
 use crate::thefts::Theft;
@@ -26,8 +25,8 @@ pub(crate) fn steal(theft: &mut Theft) -> Option<Name>
 // One round: a steal from each deque but the one at this place, until one gives a name.
 pub(crate) fn steal_round(thefts: &mut [Theft], place: u32) -> Option<Name>
     ensures deques { map theft_deque thefts.new ≡ map theft_deque thefts.old }
-    ensures stolen { IfSome result (StealsOnce thefts.old thefts.new) }
-    ensures same { IfNone result (stolen_of thefts.new ≡ stolen_of thefts.old) }
+    ensures stolen { IfSome result (StealsInTurn place thefts.old thefts.new) }
+    ensures same { IfNone result (map theft_view thefts.new ≡ map theft_view thefts.old) }
     ensures missed { IfNone result (AllMissed place thefts.old thefts.new) }
 {
     let own = place as usize;

@@ -131,11 +131,9 @@ takes pass v part x items views h at =
       refl,
     )
 
--- what a pass knows of what it posted, and with every share of all
+-- what a pass learns at a moment, and with every share
 pub stands : (pass : ℕ) (v : Known) → Learns Ordered pass v (Stood v)
-stands pass v items views h at =
-    let f = h.fits pass v at in
-    record { gone = h.gone; order = λ k low high. f.order k (f.owns k low high) }
+stands pass v items views h at = record { views = views; pass = pass; there = at; ordered = h }
 
 pub tells : (pass : ℕ) (v : Known) → v.share ≡ 32 → Learns Ordered pass v (Tells v)
 tells pass v all items views h at =

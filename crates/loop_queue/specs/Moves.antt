@@ -1,5 +1,7 @@
 -- What a call of a post does, and why a name comes back or none is found.
-use Rattle.std.specs.Prelude.{◌≡◌, ℕ, ◌-◌, ◌^◌, ◌⊎◌, List, [], ◌∷◌, ◌++◌, length, map}
+use Rattle.std.specs.Prelude.{◌≡◌, ℕ, ◌-◌, ◌^◌, ◌<◌, ◌≤◌, ◌⊎◌, List, [], ◌∷◌, ◌++◌, length, map, vec_capacity, vec_len}
+use Rattle.std.specs.declared.alloc.Global.{Global}
+use Rattle.std.specs.declared.vec.Vec.{Vec}
 use Rattle.crossbeam_queue.specs.Fifo.{Held}
 use Rattle.life_rules.specs.declared.event.Name.{Name}
 use Rattle.loop_queue.specs.declared.entry.Entry.{Entry}
@@ -50,21 +52,24 @@ pub record Moves (moved : ℕ) (names more_names : List Name) (old new : LoopPos
   pub drained : drained_of new ≡ drained_of old ++ entries
   pub posted : posted_of new ≡ posted_of old
 
--- Between two calls of the post: some names were moved, and then the queue was found empty.
+-- Between two calls of the post: fewer names were moved than the queue has room for, and then the
+-- queue was found empty.
 pub record EmptiesAfter (count : ℕ) (names more : List Name) (old new : LoopPost) : Type 0 where
+  pub few : count < 4096
   pub last : LoopPost
   pub moves : Moves count names more old last
   pub none : FindsNone last new
 
--- Some names were moved, and then one was drained for which there was no memory.
-pub record LosesAfter (count : ℕ) (names more : List Name) (old new : LoopPost) : Type 0 where
-  pub last : LoopPost
-  pub lost : Name
-  pub moves : Moves count names more old last
-  pub drains : Takes lost last new
+-- Fewer names were moved than the queue has room for. The list is full, and the next name, if there
+-- is one, stays in the queue.
+pub record StopsAfter (count : ℕ) (names : List Name) (more : Vec Name Global)
+    (old new : LoopPost) : Type 0 where
+  pub few : count < 4096
+  pub moves : Moves count names more.items old new
+  pub full : vec_capacity more ≤ vec_len more
 
 -- What a drain says of the names in a list, before and after, and of the post.
-abbrev pub Drains : Drained → List Name → List Name → LoopPost → LoopPost → Type 0
-Drains (Emptied count) names more old new = EmptiesAfter count names more old new
-Drains Most names more old new = Moves 4096 names more old new
-Drains (NoMemory count) names more old new = LosesAfter count names more old new
+abbrev pub Drains : Drained → List Name → Vec Name Global → LoopPost → LoopPost → Type 0
+Drains (Emptied count) names more old new = EmptiesAfter count names more.items old new
+Drains Most names more old new = Moves 4096 names more.items old new
+Drains (NoMemory count) names more old new = StopsAfter count names more old new

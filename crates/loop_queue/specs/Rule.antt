@@ -75,11 +75,12 @@ pub record Ordered (items : List Entry) (views : List Known) : Type 0 where
   pub fits : (pass : ℕ) (v : Known) → get_elem? views pass ≡ some v →
       Fits owner gone items (sum_by (λ u. length u.drained) views) pass v
 
--- What a pass learns of the entries in the queue at a moment: under each number of its own, what it
--- posted is what had left the queue and then what the queue held.
+-- At a moment the queue held these entries, and this pass was among those that post and drain.
 pub record Stood (v : Known) (items : List Entry) : Type 0 where
-  pub gone : List Entry
-  pub order : (k : ℕ) → v.from ≤ k → k < v.upto → of_post k v.posted ≡ of_post k (gone ++ items)
+  pub views : List Known
+  pub pass : ℕ
+  pub there : get_elem? views pass ≡ some v
+  pub ordered : Ordered items views
 
 -- What is learned with every share: under each number, what was posted is what left the queue and
 -- then what it holds; and what was drained is what left it, in order, where that is known.

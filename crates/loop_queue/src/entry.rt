@@ -14,10 +14,10 @@ pub struct Entry {
 #[must_use]
 #[derive(Clone, Copy, Debug, PartialEq, Eq)]
 pub enum Drained {
-    /// So many names were moved, and then the queue was read as empty.
+    /// So many names were moved, fewer than the queue has room for, and then it was read as empty.
     Emptied(u32),
     /// As many names were moved as the queue has room for.
     Most,
-    /// So many names were moved, and there was no memory for the next, which is lost.
+    /// So many names were moved, and there was no memory for more. The next stays in the queue.
     NoMemory(u32),
 }

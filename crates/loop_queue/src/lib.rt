@@ -18,12 +18,14 @@
 
 mod closing;
 mod entry;
+mod law;
 mod opening;
 mod post;
 mod posting;
 mod queue;
 
 pub use entry::{Drained, Entry};
+pub use law::limits_of_queues;
 pub use life_rules::Name;
 pub use post::LoopPost;
 pub use queue::{LoopQueue, MOST_POSTS, ROOM};

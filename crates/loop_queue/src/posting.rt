@@ -58,19 +58,20 @@ impl LoopPost {
     }
 
     /// Moves names from the queue to the back of a list, until the queue was read as empty, as many
-    /// were moved as it has room for, or there is no memory for the next.
+    /// were moved as it has room for, or there is no memory for more. It asks for memory before it
+    /// takes a name, so no name is lost.
     pub fn drain<R: Wait>(&mut self, rt: &R, names: &mut Vec<Name>) -> Drained
         ensures same { IsSamePost self.old self.new }
-        ensures drained { Drains result names.old.items names.new.items self.old self.new }
+        ensures drained { Drains result names.old.items names.new self.old self.new }
     {
         for moved in 0..ROOM as u32 {
+            if names.reserve(1).is_err() {
+                return Drained::NoMemory(moved);
+            }
             let Some(name) = self.take(rt) else {
                 return Drained::Emptied(moved);
             };
-            match names.push(name) {
-                Ok(()) => {}
-                Err(_) => return Drained::NoMemory(moved),
-            }
+            names.push_reserved(name);
         }
         Drained::Most
     }

@@ -1,6 +1,8 @@
 -- A deck that stays, and lists of names that became longer.
 use Rattle.std.proofs.Common.{◌≡◌, ℕ, List, [], ◌∷◌, ◌++◌, append_assoc, append-nil, sym, ap, ◌∙◌, subst}
 use Rattle.std.specs.Prelude.{Option, Some}
+use Rattle.std.specs.declared.alloc.Global.{Global}
+use Rattle.std.specs.declared.vec.Vec.{Vec}
 use Rattle.life_rules.specs.declared.event.Name.{Name}
 use Rattle.deck_relay.specs.declared.deck.Deck.{Deck}
 use Rattle.deck_relay.specs.Decks.{IsSameDeck}
@@ -35,8 +37,8 @@ longer-one names longer after name more is =
 moves-longer : (count : ℕ) (names longer : List Name) (old new : LoopPost) → Moves count names longer old new → IsLonger names longer
 moves-longer count names longer old new moves = record { others = _; is = moves.is }
 
-pub drains-longer : (answer : Drained) (names longer : List Name) (old new : LoopPost) → Drains answer names longer old new →
-    IsLonger names longer
-drains-longer (Emptied count) names longer old new did = moves-longer count names longer old did.last did.moves
-drains-longer Most names longer old new did = moves-longer 4096 names longer old new did
-drains-longer (NoMemory count) names longer old new did = moves-longer count names longer old did.last did.moves
+pub drains-longer : (answer : Drained) (names : List Name) (longer : Vec Name Global) (old new : LoopPost) → Drains answer names longer old new →
+    IsLonger names longer.items
+drains-longer (Emptied count) names longer old new did = moves-longer count names longer.items old did.last did.moves
+drains-longer Most names longer old new did = moves-longer 4096 names longer.items old new did
+drains-longer (NoMemory count) names longer old new did = moves-longer count names longer.items old new did.moves

@@ -15,8 +15,8 @@ use node_tree::Context;
 use std::sync::Wait;
 
 impl Loop {
-    /// Tells the loop of a node that is ready in this context, as if it had left it so itself: where
-    /// its hand has a deck, the name of one that is ready in the pool is pushed there.
+    /// Tells the loop of a node that is ready in this context, as if it had left it so itself:
+    /// where its hand has a deck, the name of one that is ready in the pool is pushed there.
     pub fn tell<R: Wait + Sync>(&mut self, rt: &R, name: Name, on: Context)
         requires sync { IsSync R.row }
         ensures rest { self.new ≡ record self.old { names = self.new.names } }
@@ -27,11 +27,10 @@ impl Loop {
 
     /// Moves names from a queue to the back of those that the loop was told of, through this post
     /// ([exec.run.loop]): until the queue was read as empty, as many were moved as it has room for,
-    /// or there is no memory for the next, which is lost: a turn finds its node. The next poll
-    /// serves them.
+    /// or there is no memory for the next, which stays there. The next poll serves them.
     pub fn drain<R: Wait>(&mut self, rt: &R, post: &mut LoopPost) -> Drained
         ensures same { IsSamePost post.old post.new }
-        ensures drained { Drains result (told self.old) (told self.new) post.old post.new }
+        ensures drained { Drains result (told self.old) self.new.names.list post.old post.new }
         ensures rest { IsTold (told self.new) self.old self.new }
         ensures more { IsLonger (told self.old) (told self.new) }
         ensures deck { KeepsDeck (deck_of self.old) (deck_of self.new) }

@@ -18,6 +18,7 @@
 
 mod buckets;
 mod commands;
+mod law;
 mod limits;
 mod links;
 mod lists;
@@ -25,5 +26,6 @@ mod settling;
 mod wheel;
 
 pub use commands::{Command, Reply, run};
+pub use law::limits_of_wheels;
 pub use limits::{LAST_TURN, MOST_PLACES, MOST_TURNS};
 pub use wheel::Wheel;

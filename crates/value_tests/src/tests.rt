@@ -5,6 +5,7 @@ mod names;
 mod outcomes;
 mod queues;
 mod records;
+mod sleeping;
 mod streams;
 mod summaries;
 mod values;

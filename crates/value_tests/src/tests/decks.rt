@@ -53,6 +53,31 @@ fn a_third_deck_takes_each_name_once(rt: HostRuntime) -> Result<(), Fail> {
     Ok(())
 }
 
+// Whether the deck at the second place takes what the one at the first pushes, and then nothing.
+fn steals<R: Wait>(rt: &R, decks: &mut [Deck], from: u32, to: u32) -> bool {
+    let Some(owner) = decks.get_mut(from as usize) else {
+        return false;
+    };
+    if owner.push(rt, name(from)).is_err() {
+        return false;
+    }
+    let Some(thief) = decks.get_mut(to as usize) else {
+        return false;
+    };
+    next(rt, thief) == Some(name(from)) && next(rt, thief) == None
+}
+
+#[test]
+fn each_deck_steals_from_each_other(rt: HostRuntime) -> Result<(), Fail> {
+    let mut decks = Relay::open(rt.alloc(), 3)?;
+    for from in 0..4 {
+        for to in 0..4 {
+            assert!(rt; steals(&rt, decks.as_mut_slice(), from, to));
+        }
+    }
+    Ok(())
+}
+
 #[test]
 fn a_deck_moves_to_a_thread(rt: HostRuntime) -> Result<(), Fail> {
     let mut decks = Relay::open(rt.alloc(), 1)?;

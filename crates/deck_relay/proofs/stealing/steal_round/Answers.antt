@@ -16,7 +16,7 @@ pub returns-in-Some-clause-stolen : goal.returns-in-Some-clause-stolen
 returns-in-Some-clause-stolen c =
     let other = c.index-thefts-k.result in
     steals c.args.place c.loop-k.k c.args.thefts.now c.loop-k.thefts (get_or c.loop-k.thefts c.loop-k.k other) c.steal.new.theft c.in-Some.name
-    c.loop-k.invariant (read c.loop-k.thefts c.loop-k.k other (omega arith)) c.in-Some.ensures.stolen
+    c.loop-k.invariant (λ same. let no : ⊥ = omega (arith, same) in no) (read c.loop-k.thefts c.loop-k.k other (omega arith)) c.in-Some.ensures.stolen
 
 pub returns-in-Some-clause-deques : goal.returns-in-Some-clause-deques
 returns-in-Some-clause-deques c =

@@ -1,10 +1,9 @@
-use Rattle.std.proofs.Common.{refl}
+use Rattle.std.proofs.Common.{inl, refl}
 use Rattle.deck_relay.proofs.Balances.{gives}
-use Rattle.deck_relay.proofs.Effects.{gives-own}
 use Rattle.deck_relay.proofs.deck.Deck.push.Goals as goal
 
 pub push_as-requires-clause-pushes : goal.push_as-requires-clause-pushes
 push_as-requires-clause-pushes g c = gives _ _ _ c.args.self.now.part
 
 pub returns-in-Ok-clause-pushed : goal.returns-in-Ok-clause-pushed
-returns-in-Ok-clause-pushed g c = gives-own c.args.name c.args.self.now _ c.in-Ok.ensures.rule.0 refl refl
+returns-in-Ok-clause-pushed g c = inl (record { own = c.in-Ok.ensures.rule.0; queue = refl; thefts = refl })

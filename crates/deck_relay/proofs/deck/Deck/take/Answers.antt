@@ -1,9 +1,9 @@
-use Rattle.std.proofs.Common.{◌≡◌, List, length, refl, sym, ap, ◌∙◌}
+use Rattle.std.proofs.Common.{◌≡◌, List, length, inl, inr, refl, sym, ap, ◌∙◌}
 use Rattle.std.proofs.lemmas.List.{length-map, with_items_is}
 use Rattle.deck_relay.specs.declared.thefts.Theft.{Theft}
 use Rattle.deck_relay.specs.Decks.{theft_deque}
 use Rattle.deck_relay.proofs.Balances.{takes, finds, fetches, stands}
-use Rattle.deck_relay.proofs.Effects.{takes-own, takes-queue, finds-some, finds-none}
+use Rattle.deck_relay.proofs.Effects.{finds-some, finds-none}
 use Rattle.deck_relay.proofs.deck.Deck.take.Goals as goal
 
 pub pop_as-requires-clause-fifo : goal.pop_as-requires-clause-fifo
@@ -16,11 +16,16 @@ pub pop_as-requires-2-clause-rule : goal.pop_as-requires-2-clause-rule
 pop_as-requires-2-clause-rule g c = (fetches _ _ c.args.self.now.queued, stands _ _)
 
 pub returns-in-Some-clause-taken : goal.returns-in-Some-clause-taken
-returns-in-Some-clause-taken g c = takes-own c.in-Some.name c.args.self.now _ c.in-Some.ensures.rule refl refl
+returns-in-Some-clause-taken g c = inl (record { own = c.in-Some.ensures.rule; queue = refl; thefts = refl })
 
 pub returns-in-Some-pop_as-clause-taken : goal.returns-in-Some-pop_as-clause-taken
 returns-in-Some-pop_as-clause-taken g c =
-    takes-queue c.in-Some-pop_as.name c.args.self.now _ c.in-None.ensures.rule.0 c.in-Some-pop_as.ensures.rule refl
+    inr (inl (record {
+      own_empty = c.in-None.ensures.rule.1;
+      own = c.in-None.ensures.rule.0;
+      queue = c.in-Some-pop_as.ensures.rule;
+      thefts = refl;
+    }))
 
 pub returns-clause-taken : goal.returns-clause-taken
 returns-clause-taken g c =
@@ -29,7 +34,8 @@ returns-clause-taken g c =
     let now : List Theft = c.steal_round.new.thefts in
     let long : length now ≡ deck.thefts.len =
     sym (length-map now theft_deque) ∙ ap length c.steal_round.ensures.deques ∙ length-map was theft_deque ∙ c.as_mut_slice.ensures.len in
-    finds-some c.steal_round.result deck _ was now c.in-None.ensures.rule.0 c.in-None-pop_as.ensures.rule.0
+    finds-some c.steal_round.result deck _ was now c.in-None.ensures.rule.1 c.in-None-pop_as.ensures.rule.1
+    c.in-None.ensures.rule.0 c.in-None-pop_as.ensures.rule.0
     c.as_mut_slice.ensures.value (with_items_is deck.thefts now long) c.steal_round.ensures.stolen
 
 pub returns-clause-none : goal.returns-clause-none

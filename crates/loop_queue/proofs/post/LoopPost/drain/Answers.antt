@@ -1,18 +1,18 @@
-use Rattle.std.proofs.Common.{◌∙◌}
+use Rattle.std.proofs.Common.{◌∙◌, arith}
 use Rattle.loop_queue.proofs.post.LoopPost.drain.Goals as goal
 
-pub returns-in-Err-clause-drained : goal.returns-in-Err-clause-drained
-returns-in-Err-clause-drained g c =
+pub returns-in_default-clause-drained : goal.returns-in_default-clause-drained
+returns-in_default-clause-drained g c =
     let moves = c.loop-moved.invariant.moves in
     record {
+      few = omega arith;
       last = c.loop-moved.self;
-      lost = c.in-Some.name;
       moves = record {
         entries = moves.entries;
         count = moves.count;
-        is = c.in-Err.ensures.items ∙ moves.is;
+        is = c.reserve.ensures.items ∙ moves.is;
         drained = moves.drained;
         posted = moves.posted;
       };
-      drains = c.in-Some.ensures.taken;
+      none = c.in_default.ensures.none;
     }
