@@ -97,7 +97,7 @@ fn pushed(mut values: Data, datum: Datum) -> Result<Reading<Data>, AllocError>
 }
 
 /// The constant that a value is.
-fn constant_of(alloc: Global, value: &Value) -> Result<Reading<Datum>, AllocError>
+pub fn constant_of(alloc: Global, value: &Value) -> Result<Reading<Datum>, AllocError>
     ensures { IfOk result (λ reading. reading ≡ constant_of (view value.now)) }
 {
     if let Some(number) = value.as_i64() {

@@ -41,7 +41,7 @@ pub enum JobWord {
 }
 
 /// The job of this name.
-pub(crate) fn job_named(name: &str) -> Option<JobWord>
+pub fn job_named(name: &str) -> Option<JobWord>
     ensures { result ≡ job_named name.now }
 {
     if let Some(plain) = plain_job_named(name) {
@@ -106,7 +106,7 @@ fn other_job_named(name: &str) -> Option<JobWord>
 }
 
 /// The keys that a job has.
-pub(crate) fn job_keys(word: JobWord) -> &'static [&'static str]
+pub fn job_keys(word: JobWord) -> &'static [&'static str]
     ensures { map (λ key. key.now) result.now ≡ job_keys word }
 {
     match word {

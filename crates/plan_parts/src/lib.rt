@@ -14,9 +14,9 @@ mod object;
 mod reading;
 mod scalar;
 
-pub use constant::constants_at;
+pub use constant::{constant_of, constants_at};
 pub use job::job_at;
-pub use job_word::{Arithmetic, JobWord, PlainJob};
+pub use job_word::{Arithmetic, JobWord, PlainJob, job_keys, job_named};
 pub use law::limits;
 pub use name_table::named;
 pub use object::{has_unknown_key, number_at, text_at, with_keys};

@@ -1,19 +1,12 @@
--- The first node that is sought, one level down; and how many nodes an array has.
-use Rattle.std.proofs.Common.{◌≡◌, ℕ, zero, suc, ◌-◌, ◌<◌, Bool, true, false, List, [], ◌∷◌, length, Some, None, refl, ap, ◌∙◌, arith, sub-one}
+-- The first node that is sought, one level down.
+use Rattle.std.proofs.Common.{◌≡◌, ℕ, zero, suc, ◌-◌, ◌<◌, Bool, true, false, List, Some, None, refl, ap, ◌∙◌, arith, sub-one}
 use Rattle.std.specs.Prelude.{if◌then◌else◌}
 use Rattle.serde_json.specs.Data.{Data}
-use Rattle.serde_json.specs.View.{items_view}
-use Rattle.serde_json.specs.declared.value.Value.{Value}
 use Rattle.plan_reader.specs.declared.node_word.NodeWord.{NodeWord}
 use Rattle.plan_places.specs.declared.seeking.Search.{Search}
 use Rattle.plan_places.specs.declared.sought.Sought.{Sought}
-use Rattle.plan_places.specs.Own.{item_count, word_at}
-use Rattle.plan_places.specs.Seeking.{below, first_at, in_known, in_parts, is_it}
-
--- as many nodes as the array has
-pub counted : (values : List Value) → item_count (items_view values) ≡ length values
-counted [] = refl
-counted (v ∷ vs) = ap suc (counted vs)
+use Rattle.plan_reasons.specs.Own.{word_at}
+use Rattle.plan_places.specs.Seeking.{below, first_at, in_known, in_parts, is_it, site_at}
 
 -- no level
 pub first-zero : (v : Bool) (levels : ℕ) (s : Sought) (path : List ℕ) (d : Data) → levels ≡ 0
@@ -24,7 +17,7 @@ first-zero v levels s path d is = rw is refl
 -- one level down
 first-suc : (v : Bool) (levels : ℕ) (s : Sought) (path : List ℕ) (d : Data) → 0 < levels
     → first_at v levels s path d
-    ≡ (if is_it v s d then Some path
+    ≡ (if is_it v s d then Some (site_at v s path d)
     else in_known (λ word. first_at v (levels - 1) (below s word)) (word_at v d) path d)
 unfolding first_at
 first-suc v zero s path d some = absurd (omega arith)
@@ -32,7 +25,7 @@ first-suc v (suc levels) s path d some = rw sub-one refl
 
 -- a node that is sought
 pub first-here : (v : Bool) (levels : ℕ) (s : Sought) (path : List ℕ) (d : Data) → 0 < levels
-    → is_it v s d ≡ true → Some path ≡ first_at v levels s path d
+    → is_it v s d ≡ true → Some (site_at v s path d) ≡ first_at v levels s path d
 first-here v levels s path d some is = rw (first-suc v levels s path d some, is) refl
 
 -- one whose name isn't known

@@ -1,19 +1,26 @@
 //! Why bytes are no plan, and where.
-ghost use Rattle.std.specs.Prelude.{IfOk};
+ghost use Rattle.std.specs.Prelude.{IfOk, string_bytes};
 ghost use Rattle.serde_json.specs.View.{view};
-ghost use Rattle.plan_places.specs.Refusals.{IsRefusal};
-ghost use Rattle.plan_places.specs.Told.{Tells, TellsLimit, limited, node_text, sought_place, whole};
+ghost use Rattle.plan_places.specs.Refusals.{IsRefusal, IsValueRefusal, TellsOfValue, TellsPosition};
+ghost use Rattle.plan_places.specs.Told.{Tells, at_site, excluding, faulty, in_keys, limited, of_whole, site_of};
 
 use crate::json::{position_of, value_of};
 use crate::kinds::kinds_refusal;
-use crate::own::faults_of;
 use crate::place::{node_text, own_keys};
-use crate::seeking::first_of;
+use crate::seeking::{Spot, first_of};
 use crate::sought::Sought;
-use plan_reader::{PlanFault, known_settings};
-use plan_shape::MOST_DEPTH;
+use plan_reader::{MOST_PLAN_BYTES, PlanFault, known_settings};
+use plan_reasons::{Fault, excluded, faults_of, settings_wrong};
+use plan_shape::{MOST_DEPTH, MOST_FIRST_VERSION_NODES, MOST_PLAN_NODES};
 use serde_json::Value;
 use std::alloc::{AllocError, Global};
+
+// The numbers that sentences name are the limits that a plan is held to.
+const _: () = prove!(MOST_PLAN_BYTES == 1_048_576);
+
+const _: () = prove!(MOST_FIRST_VERSION_NODES == 256 && MOST_PLAN_NODES == 1_024);
+
+const _: () = prove!(MOST_DEPTH == 56);
 
 /// Why bytes are no plan: the causes of `PlanFault`, told apart further where that can be.
 #[derive(Clone, Copy, Debug, PartialEq, Eq)]
@@ -37,11 +44,13 @@ pub enum Cause {
     Excluded,
 }
 
-/// Why bytes are no plan, and the place of that, as it stands in a sentence.
+/// Why bytes are no plan: a cause, the place as it stands in a sentence, and the reason, which
+/// names the word that is wrong and says what was wanted there.
 #[derive(Drop)]
 pub struct Refusal {
     pub cause: Cause,
     pub place: Vec<u8>,
+    pub reason: String,
 }
 
 /// The refusal that is told of bytes which `read_plan` refuses for this fault.
@@ -49,89 +58,138 @@ pub fn refusal_of(alloc: Global, bytes: &[u8], fault: PlanFault) -> Result<Refus
     ensures { IfOk result (IsRefusal bytes.now fault) }
 {
     match fault {
-        PlanFault::TooLong => Ok(at_whole(alloc, Cause::TooLong)),
-        PlanFault::NotJson => Ok(Refusal {
-            cause: Cause::NotJson,
-            place: position_of(alloc, bytes)?,
-        }),
-        PlanFault::Form => match value_of(alloc, bytes)? {
-            Some(value) => sought_refusal(alloc, Cause::Form, Sought::Form, &value),
-            None => Ok(at_whole(alloc, Cause::Form)),
-        },
-        PlanFault::UnknownName => match value_of(alloc, bytes)? {
-            Some(value) => sought_refusal(alloc, Cause::UnknownName, Sought::Name, &value),
-            None => Ok(at_whole(alloc, Cause::UnknownName)),
-        },
-        PlanFault::Limit => match value_of(alloc, bytes)? {
-            Some(value) => limit_refusal(alloc, &value),
-            None => Ok(at_whole(alloc, Cause::Limit)),
-        },
-        PlanFault::Kinds => match value_of(alloc, bytes)? {
-            Some(value) => kinds_refusal(alloc, bytes, &value),
-            None => Ok(at_whole(alloc, Cause::Kinds)),
-        },
-        PlanFault::Excluded => Ok(Refusal {
-            cause: Cause::Excluded,
-            place: own_keys(alloc)?,
-        }),
+        PlanFault::TooLong => {
+            of_whole(
+                alloc,
+                Cause::TooLong,
+                "the file has more than 1048576 bytes",
+            )
+        }
+        PlanFault::NotJson => position_refusal(alloc, bytes),
         PlanFault::NoMemory => Err(AllocError),
+        _ => told_of(alloc, bytes, fault),
+    }
+}
+
+/// The same of a fault of the JSON value that the bytes are.
+fn told_of(alloc: Global, bytes: &[u8], fault: PlanFault) -> Result<Refusal, AllocError>
+    ensures { IfOk result (TellsOfValue bytes.now fault) }
+{
+    match value_of(alloc, bytes)? {
+        Some(value) => value_refusal(alloc, bytes, fault, &value),
+        // The bytes are JSON where `read_plan` tells such a fault.
+        None => {
+            let refusal = position_refusal(alloc, bytes)?;
+            Ok(refusal)
+        }
+    }
+}
+
+/// Of bytes that aren't JSON.
+fn position_refusal(alloc: Global, bytes: &[u8]) -> Result<Refusal, AllocError>
+    ensures { IfOk result TellsPosition }
+{
+    Ok(Refusal {
+        cause: Cause::NotJson,
+        place: position_of(alloc, bytes)?,
+        reason: String::from_str(
+            alloc,
+            "the file is no UTF-8, no JSON, or nests more than 127 deep",
+        )?,
+    })
+}
+
+/// Of bytes with this JSON value.
+fn value_refusal(
+    alloc: Global,
+    bytes: &[u8],
+    fault: PlanFault,
+    value: &Value,
+) -> Result<Refusal, AllocError>
+    ensures { IfOk result (IsValueRefusal bytes.now (view value.now) fault) }
+{
+    match fault {
+        PlanFault::Form => faulty_refusal(alloc, Cause::Form, Fault::Form, value),
+        PlanFault::UnknownName => faulty_refusal(alloc, Cause::UnknownName, Fault::Name, value),
+        PlanFault::Limit => limit_refusal(alloc, value),
+        PlanFault::Kinds => kinds_refusal(alloc, bytes, value),
+        PlanFault::Excluded => in_keys(alloc, Cause::Excluded, excluded(alloc, value)?),
+        _ => Err(AllocError),
     }
 }
 
 /// Of the file as a whole.
-pub(crate) fn at_whole(alloc: Global, cause: Cause) -> Refusal
-    ensures { Tells cause whole result }
+pub(crate) fn of_whole(alloc: Global, cause: Cause, reason: &str) -> Result<Refusal, AllocError>
+    ensures { IfOk result (Tells (of_whole cause reason.now)) }
 {
-    Refusal {
+    Ok(Refusal {
         cause,
         place: Vec::new(alloc),
-    }
+        reason: String::from_str(alloc, reason)?,
+    })
+}
+
+/// Of the keys beside `root`.
+fn in_keys(alloc: Global, cause: Cause, reason: String) -> Result<Refusal, AllocError>
+    ensures { IfOk result (Tells (in_keys cause (string_bytes reason))) }
+{
+    Ok(Refusal {
+        cause,
+        place: own_keys(alloc)?,
+        reason,
+    })
+}
+
+/// Of a node that was found.
+pub(crate) fn at_spot(alloc: Global, cause: Cause, spot: Spot) -> Result<Refusal, AllocError>
+    ensures { IfOk result (Tells (at_site cause (site_of spot))) }
+{
+    Ok(Refusal {
+        cause,
+        place: node_text(alloc, &spot.path)?,
+        reason: spot.reason,
+    })
 }
 
 /// Of a fault that a node has, or else the keys beside `root`.
-fn sought_refusal(
+fn faulty_refusal(
     alloc: Global,
     cause: Cause,
-    sought: Sought,
+    fault: Fault,
     value: &Value,
 ) -> Result<Refusal, AllocError>
-    ensures { IfOk result (Tells cause (sought_place sought (view value.now))) }
+    ensures { IfOk result (Tells (faulty cause fault (view value.now))) }
 {
-    let place = match first_of(alloc, sought, value)? {
-        Some(path) => node_text(alloc, &path)?,
-        None => own_keys(alloc)?,
-    };
-    Ok(Refusal { cause, place })
+    match first_of(alloc, Sought::Own(fault), value)? {
+        Some(spot) => at_spot(alloc, cause, spot),
+        None => in_keys(alloc, cause, settings_wrong(alloc, fault, value)?),
+    }
 }
 
 /// Of a limit.
 #[tactic(auto, unfolding(crate::specs::Told::limited))]
 fn limit_refusal(alloc: Global, value: &Value) -> Result<Refusal, AllocError>
-    ensures { IfOk result (TellsLimit (limited (view value.now))) }
+    ensures { IfOk result (Tells (limited (view value.now))) }
 {
-    if let Some(path) = first_of(alloc, Sought::Limit, value)? {
-        return node_refusal(alloc, Cause::Limit, &path);
+    if let Some(spot) = first_of(alloc, Sought::Own(Fault::Limit), value)? {
+        return at_spot(alloc, Cause::Limit, spot);
     }
     if faults_of(known_settings(value)).limit {
-        let place = own_keys(alloc)?;
-        return Ok(Refusal {
-            cause: Cause::Limit,
-            place,
-        });
+        return in_keys(
+            alloc,
+            Cause::Limit,
+            settings_wrong(alloc, Fault::Limit, value)?,
+        );
     }
-    if let Some(path) = first_of(alloc, Sought::Below(MOST_DEPTH), value)? {
-        return node_refusal(alloc, Cause::Depth, &path);
+    if let Some(spot) = first_of(alloc, Sought::Below(MOST_DEPTH), value)? {
+        return at_spot(alloc, Cause::Depth, spot);
     }
     match first_of(alloc, Sought::Ahead(false), value)? {
-        Some(path) => node_refusal(alloc, Cause::Misplaced, &path),
-        None => Ok(at_whole(alloc, Cause::Size)),
+        Some(spot) => at_spot(alloc, Cause::Misplaced, spot),
+        None => of_whole(
+            alloc,
+            Cause::Size,
+            "there are more nodes than a plan may have: 256 in version 1, and else 1024",
+        ),
     }
-}
-
-/// Of a node, by its path.
-pub(crate) fn node_refusal(alloc: Global, cause: Cause, path: &[u8]) -> Result<Refusal, AllocError>
-    ensures { IfOk result (Tells cause (node_text path.now)) }
-{
-    let place = node_text(alloc, path)?;
-    Ok(Refusal { cause, place })
 }

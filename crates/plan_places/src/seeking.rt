@@ -1,15 +1,22 @@
 //! The first node of a plan file that is sought: a node comes before those below it.
 ghost use Rattle.std.specs.Prelude.{◌≡◌, ◌<◌, ◌-◌, IfOk};
 ghost use Rattle.serde_json.specs.View.{items_view, view};
-ghost use Rattle.plan_places.specs.Seeking.{below, found_by, in_array, in_child, in_items, in_parts};
-ghost use Rattle.plan_places.specs.Told.{IsText, first_of};
+ghost use Rattle.plan_places.specs.Seeking.{below, found_by, in_array, in_child, in_items, in_parts, site_at};
+ghost use Rattle.plan_places.specs.Told.{IsSite, first_of, site_of};
 
-use crate::own::word_at;
 use crate::path::{Key, at_item, at_key};
-use crate::sought::{Sought, below, is_it};
+use crate::sought::{Sought, below, is_it, reason_of};
 use plan_reader::{MOST_LEVELS, NodeWord, is_first_version};
+use plan_reasons::word_at;
 use serde_json::Value;
 use std::alloc::{AllocError, Global};
+
+/// A node that was found: its path, and why it is refused.
+#[derive(Drop)]
+pub(crate) struct Spot {
+    pub(crate) path: Vec<u8>,
+    pub(crate) reason: String,
+}
 
 /// A search of nodes, in a plan of version 1 or of a later one, so many levels deep.
 #[derive(Clone, Copy)]
@@ -33,16 +40,27 @@ impl Search {
         }
     }
 
-    /// The path of the first node that is sought, among this one and those below it.
+    /// This node, which is sought.
+    fn spot(self, alloc: Global, path: &[u8], value: &Value) -> Result<Spot, AllocError>
+        ensures { IfOk result (λ spot. site_of spot
+            ≡ site_at self.is_first self.sought path.now (view value.now)) }
+    {
+        Ok(Spot {
+            path: Vec::from_slice(alloc, path)?,
+            reason: reason_of(alloc, self.is_first, self.sought, value)?,
+        })
+    }
+
+    /// The first node that is sought, among this one and those below it.
     #[cycle(search)]
-    fn first(self, alloc: Global, path: &[u8], value: &Value) -> Result<Option<Vec<u8>>, AllocError>
-        ensures { IfOk result (IsText (found_by self path.now (view value.now))) }
+    fn first(self, alloc: Global, path: &[u8], value: &Value) -> Result<Option<Spot>, AllocError>
+        ensures { IfOk result (IsSite (found_by self path.now (view value.now))) }
     {
         if self.levels == 0 {
             return Ok(None);
         }
         if is_it(alloc, self.is_first, self.sought, value)? {
-            return Ok(Some(Vec::from_slice(alloc, path)?));
+            return Ok(Some(self.spot(alloc, path, value)?));
         }
         match word_at(self.is_first, value) {
             Some(word) => self.under(word).in_parts(alloc, word, path, value),
@@ -59,9 +77,9 @@ impl Search {
         word: NodeWord,
         path: &[u8],
         value: &Value,
-    ) -> Result<Option<Vec<u8>>, AllocError>
+    ) -> Result<Option<Spot>, AllocError>
         ensures { IfOk result
-            (IsText (in_parts (found_by self) word path.now (view value.now))) }
+            (IsSite (in_parts (found_by self) word path.now (view value.now))) }
     {
         match word {
             NodeWord::Leaf(_) => Ok(None),
@@ -87,8 +105,8 @@ impl Search {
         key: Key,
         path: &[u8],
         value: &Value,
-    ) -> Result<Option<Vec<u8>>, AllocError>
-        ensures { IfOk result (IsText (in_child (found_by self) key path.now (view value.now))) }
+    ) -> Result<Option<Spot>, AllocError>
+        ensures { IfOk result (IsSite (in_child (found_by self) key path.now (view value.now))) }
     {
         match value.get(key.name()) {
             Some(child) => {
@@ -108,8 +126,8 @@ impl Search {
         key: Key,
         path: &[u8],
         value: &Value,
-    ) -> Result<Option<Vec<u8>>, AllocError>
-        ensures { IfOk result (IsText (in_array (found_by self) key path.now (view value.now))) }
+    ) -> Result<Option<Spot>, AllocError>
+        ensures { IfOk result (IsSite (in_array (found_by self) key path.now (view value.now))) }
     {
         match value.get(key.name()).and_then(Value::as_array) {
             Some(values) => {
@@ -127,9 +145,9 @@ impl Search {
         alloc: Global,
         path: &[u8],
         values: &[Value],
-    ) -> Result<Option<Vec<u8>>, AllocError>
+    ) -> Result<Option<Spot>, AllocError>
         ensures { IfOk result
-            (IsText (in_items (found_by self) 0 path.now (items_view values.now))) }
+            (IsSite (in_items (found_by self) 0 path.now (items_view values.now))) }
     {
         for index in 0..values.len() {
             let item = at_item(alloc, path, index as u64)?;
@@ -141,14 +159,14 @@ impl Search {
     }
 }
 
-/// The path of the first node of a file that is sought.
+/// The first node of a file that is sought.
 #[tactic(auto, unfolding(crate::specs::Told::first_of))]
 pub(crate) fn first_of(
     alloc: Global,
     sought: Sought,
     value: &Value,
-) -> Result<Option<Vec<u8>>, AllocError>
-    ensures { IfOk result (IsText (first_of sought (view value.now))) }
+) -> Result<Option<Spot>, AllocError>
+    ensures { IfOk result (IsSite (first_of sought (view value.now))) }
 {
     let search = Search {
         is_first: is_first_version(value),

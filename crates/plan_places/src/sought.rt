@@ -1,22 +1,18 @@
 //! What is sought in a plan file.
-ghost use Rattle.std.specs.Prelude.{◌≡◌, IfOk};
+ghost use Rattle.std.specs.Prelude.{◌≡◌, IfOk, string_bytes};
 ghost use Rattle.serde_json.specs.View.{view};
-ghost use Rattle.plan_places.specs.Seeking.{bars, below, is_ahead, is_it};
+ghost use Rattle.plan_places.specs.Seeking.{bars, below, is_ahead, is_it, reason_of};
 
-use crate::own::{bars_bulk, own_faults, word_at};
 use plan_reader::{Adaptor, NodeWord};
+use plan_reasons::{Fault, bars_bulk, node_wrong, other_job, own_faults, word_at};
 use serde_json::Value;
 use std::alloc::{AllocError, Global};
 
 /// What is sought in a plan file.
 #[derive(Clone, Copy)]
 pub(crate) enum Sought {
-    /// A node whose own form is wrong.
-    Form,
-    /// A node of which a name isn't known.
-    Name,
-    /// A node that passes a limit by itself.
-    Limit,
+    /// A node that has this fault, apart from the nodes below it.
+    Own(Fault),
     /// A bulk whose job isn't over elements.
     OtherJob,
     /// A node so many levels below.
@@ -42,12 +38,32 @@ pub(crate) fn is_it(
     ensures { IfOk result (λ is. is ≡ is_it is_first sought (view value.now)) }
 {
     match sought {
-        Sought::Form => Ok(own_faults(alloc, is_first, value)?.form),
-        Sought::Name => Ok(own_faults(alloc, is_first, value)?.name),
-        Sought::Limit => Ok(own_faults(alloc, is_first, value)?.limit),
+        Sought::Own(fault) => Ok(fault.is_in(own_faults(alloc, is_first, value)?)),
         Sought::OtherJob => bars_bulk(alloc, word_at(is_first, value), value),
         Sought::Below(left) => Ok(left == 0),
         Sought::Ahead(barred) => Ok(barred && is_ahead(word_at(is_first, value))),
+    }
+}
+
+/// Why a node that is sought is refused.
+#[tactic(auto, unfolding(crate::specs::Seeking::reason_of))]
+pub(crate) fn reason_of(
+    alloc: Global,
+    is_first: bool,
+    sought: Sought,
+    value: &Value,
+) -> Result<String, AllocError>
+    ensures { IfOk result
+        (λ text. string_bytes text ≡ reason_of is_first sought (view value.now)) }
+{
+    match sought {
+        Sought::Own(fault) => node_wrong(alloc, fault, is_first, value),
+        Sought::OtherJob => other_job(alloc, value),
+        Sought::Below(_) => String::from_str(alloc, "the node stands more than 56 deep"),
+        Sought::Ahead(_) => String::from_str(
+            alloc,
+            "an ahead stands below a when_all, an unstoppable or another ahead",
+        ),
     }
 }
 

@@ -31,6 +31,15 @@ pub fn check(alloc: Global, plan: &Plan) -> Result<Sigs, SigFault>
     }
 }
 
+/// The signatures of a plan's nodes, whether or not their kinds match: a node whose kinds don't is
+/// never a value.
+pub fn signatures(alloc: Global, plan: &Plan) -> Result<Sigs, AllocError>
+    ensures { IfOk result (AreSignatures plan.now) }
+{
+    let found = find_all(alloc, plan)?;
+    Ok(Sigs::new(sigs_of(alloc, found)?))
+}
+
 /// What there is to find of each node.
 fn find_all(alloc: Global, plan: &Plan) -> Result<Vec<Option<Finding>>, AllocError>
     ensures all { IfOk result (λ findings. FindsAll plan.now findings.items) }

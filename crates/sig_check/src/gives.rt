@@ -56,7 +56,7 @@ pub(crate) fn ending(job: &Job, kinds: &[Kind]) -> Sig
 }
 
 /// The shape of what a job gives for a value of this shape.
-pub(crate) fn gives_for(job: &Job, shape: &Option<KindList>) -> Option<KindList>
+pub fn gives_for(job: &Job, shape: &Option<KindList>) -> Option<KindList>
     ensures { result ≡ option_and_then (gives job.now) shape.now }
 {
     match shape {
@@ -66,7 +66,7 @@ pub(crate) fn gives_for(job: &Job, shape: &Option<KindList>) -> Option<KindList>
 }
 
 /// Whether a job takes a value of this shape.
-pub(crate) fn takes_value(job: &Job, shape: &Option<KindList>) -> bool
+pub fn takes_value(job: &Job, shape: &Option<KindList>) -> bool
     ensures { result ≡ never_or (takes job.now) shape.now }
 {
     match shape {

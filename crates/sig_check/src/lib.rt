@@ -2,7 +2,7 @@
 //!
 //! It stands on `plan_kinds`, which says what signatures are and that they are kept, and on
 //! `plan_shape`, which has the plans. `check` answers the signature of every node, or the first node
-//! whose kinds don't match.
+//! whose kinds don't match; `signatures` answers them whether or not they match.
 #![tactic(auto)]
 
 mod checking;
@@ -18,7 +18,9 @@ mod sigs;
 mod values;
 mod walk;
 
-pub use checking::check;
+pub use checking::{check, signatures};
 pub use fault::SigFault;
+pub use gives::{gives_for, takes_value};
 pub use plan_kinds::{KindList, Sig};
+pub use shapes::agrees;
 pub use sigs::Sigs;

@@ -55,7 +55,7 @@ pub(crate) fn only(own: &[Sig]) -> &Sig
 }
 
 /// Whether one of the two is never a value, or both lists are equal.
-fn agrees(first: &Option<KindList>, second: &Option<KindList>) -> bool
+pub fn agrees(first: &Option<KindList>, second: &Option<KindList>) -> bool
     ensures { result ≡ agrees first.now second.now }
 {
     match (first, second) {

@@ -18,6 +18,14 @@ use Rattle.plan_reader.specs.declared.node_word.NodeWord.{NodeWord}
 use Rattle.plan_reader.specs.declared.node_word.NodeWord.TheVariants.{Leaf, Adaptor, Let, Bulk, WhenAll, Ahead}
 use Rattle.plan_reader.specs.NodeParts.{adaptor_node, leaf_node}
 use Rattle.plan_reader.specs.NodeWords.{node_keys, node_named}
+use Rattle.plan_reasons.specs.declared.own.Fault.{Fault}
+use Rattle.plan_reasons.specs.declared.own.Fault.TheVariants.{Form, Name, Limit}
+
+-- one of the faults is among these
+abbrev pub has : Fault → Faults → Bool
+has Form faults = faults.form
+has Name faults = faults.name
+has Limit faults = faults.limit
 
 -- the node that the name of a value is of, in a plan of version 1 or of a later one
 abbrev pub word_at : Bool → Data → Option NodeWord

@@ -1,9 +1,9 @@
 use Rattle.std.proofs.Common.{◌≡◌, true, false, sym, ap, ◌∙◌, refl}
 use Rattle.serde_json.specs.View.{items_view}
 use Rattle.plan_shape.specs.Conditions.{is_within}
-use Rattle.plan_places.specs.Own.{item_count}
-use Rattle.plan_places.proofs.Searched.{counted}
-use Rattle.plan_places.proofs.own.count_faults.Goals as goal
+use Rattle.plan_reasons.specs.Own.{item_count}
+use Rattle.plan_reasons.proofs.Counted.{counted}
+use Rattle.plan_reasons.proofs.own.count_faults.Goals as goal
 
 pub returns-then-is_within : goal.returns-then-is_within
 returns-then-is_within c =

@@ -1,9 +1,8 @@
 //! What is wrong with a node of a plan file apart from the nodes below it.
-ghost use Rattle.std.specs.Prelude.{◌≡◌, IfOk};
+ghost use Rattle.std.specs.Prelude.{◌≡◌, IfOk, map};
 ghost use Rattle.serde_json.specs.View.{items_view, view};
 ghost use Rattle.plan_shape.specs.Conditions.{is_within};
-ghost use Rattle.plan_places.specs.Own.{bars_bulk, child_faults, count_faults, faults_of, is_other_job, key_faults, list_faults, own_faults, part_faults, word_at};
-ghost use Rattle.plan_reader.specs.NodeWords.{node_keys};
+ghost use Rattle.plan_reasons.specs.Own.{bars_bulk, child_faults, count_faults, faults_of, has, is_other_job, key_faults, list_faults, own_faults, part_faults, word_at};
 
 use exec_job::Job;
 use plan_parts::{
@@ -15,8 +14,29 @@ use plan_shape::{FEWEST_CHILDREN, MOST_BODIES, MOST_CHILDREN};
 use serde_json::Value;
 use std::alloc::{AllocError, Global};
 
+/// A cause that a node is refused for.
+#[derive(Clone, Copy)]
+pub enum Fault {
+    Form,
+    Name,
+    Limit,
+}
+
+impl Fault {
+    /// Whether it is among these faults.
+    pub fn is_in(self, faults: Faults) -> bool
+        ensures { result ≡ has self faults }
+    {
+        match self {
+            Fault::Form => faults.form,
+            Fault::Name => faults.name,
+            Fault::Limit => faults.limit,
+        }
+    }
+}
+
 /// The node that the name of a value is of, in a plan of version 1 or of a later one.
-pub(crate) fn word_at(is_first: bool, value: &Value) -> Option<NodeWord>
+pub fn word_at(is_first: bool, value: &Value) -> Option<NodeWord>
     ensures { result ≡ word_at is_first (view value.now) }
 {
     match text_at(value, "do") {
@@ -26,7 +46,7 @@ pub(crate) fn word_at(is_first: bool, value: &Value) -> Option<NodeWord>
 }
 
 /// What is wrong with a part.
-pub(crate) fn faults_of<A: Drop>(reading: Reading<A>) -> Faults
+pub fn faults_of<A: Drop>(reading: Reading<A>) -> Faults
     ensures { result ≡ faults_of reading }
 {
     match reading {
@@ -35,11 +55,11 @@ pub(crate) fn faults_of<A: Drop>(reading: Reading<A>) -> Faults
     }
 }
 
-/// A key that the node of this name hasn't.
-fn key_faults(word: NodeWord, value: &Value) -> Faults
-    ensures { result ≡ key_faults (node_keys word) (view value.now) }
+/// A key that isn't one of these.
+pub(crate) fn key_faults(value: &Value, known: &[&str]) -> Faults
+    ensures { result ≡ key_faults (map (λ key. key.now) known.now) (view value.now) }
 {
-    if has_unknown_key(value, node_keys(word)) {
+    if has_unknown_key(value, known) {
         NAME_FAULT
     } else {
         NO_FAULT
@@ -47,7 +67,7 @@ fn key_faults(word: NodeWord, value: &Value) -> Faults
 }
 
 /// The key of a node below isn't there.
-fn child_faults(value: &Value, key: &str) -> Faults
+pub(crate) fn child_faults(value: &Value, key: &str) -> Faults
     ensures { result ≡ child_faults key.now (view value.now) }
 {
     match value.get(key) {
@@ -75,7 +95,7 @@ fn count_faults(fewest: usize, most: usize, nodes: &[Value]) -> Faults
 }
 
 /// The key of an array of nodes isn't there, or they are too few or too many.
-fn list_faults(value: &Value, key: &str, fewest: usize, most: usize) -> Faults
+pub(crate) fn list_faults(value: &Value, key: &str, fewest: usize, most: usize) -> Faults
     ensures { result ≡ list_faults fewest most key.now (view value.now) }
 {
     match value.get(key).and_then(Value::as_array) {
@@ -114,14 +134,14 @@ fn part_faults(alloc: Global, word: NodeWord, value: &Value) -> Result<Faults, A
 /// What is wrong with a node: it needs a name that is a string, and one that isn't known is its
 /// only fault.
 #[tactic(auto, unfolding(crate::specs::Own::own_faults))]
-pub(crate) fn own_faults(alloc: Global, is_first: bool, value: &Value) -> Result<Faults, AllocError>
+pub fn own_faults(alloc: Global, is_first: bool, value: &Value) -> Result<Faults, AllocError>
     ensures { IfOk result (λ faults. faults ≡ own_faults is_first (view value.now)) }
 {
     match text_at(value, "do") {
         Some(name) => match node_named(is_first, name) {
             Some(word) => {
                 let parts = part_faults(alloc, word, value)?;
-                Ok(key_faults(word, value).both(parts))
+                Ok(key_faults(value, node_keys(word)).both(parts))
             }
             None => Ok(NAME_FAULT),
         },
@@ -140,11 +160,7 @@ fn is_other_job(reading: Reading<Job>) -> bool
 }
 
 /// Whether the node is a bulk with such a job.
-pub(crate) fn bars_bulk(
-    alloc: Global,
-    word: Option<NodeWord>,
-    value: &Value,
-) -> Result<bool, AllocError>
+pub fn bars_bulk(alloc: Global, word: Option<NodeWord>, value: &Value) -> Result<bool, AllocError>
     ensures { IfOk result (λ bars. bars ≡ bars_bulk word (view value.now)) }
 {
     match word {

@@ -1,0 +1,9 @@
+pub mod Own
+pub mod Parts
+pub mod Shown
+pub mod Sentences
+pub mod Jobs
+pub mod Nodes
+pub mod Settings
+pub mod Texts
+pub mod Kinds
