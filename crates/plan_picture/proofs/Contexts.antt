@@ -1,20 +1,15 @@
 -- What each step of a walk gives.
-use Rattle.std.proofs.Common.{◌≡◌, ◌⊎◌, ℕ, zero, suc, ◌+◌, ◌<◌, ◌≤◌, ◌-◌, List, [], ◌∷◌, length, take, drop, get_or, Option, Some, None, Result, Ok, Err, refl, sym, ap, ◌∙◌, inl, inr, arith}
-use Rattle.std.specs.Prelude.{slice_get, IfSome, OnOk}
+use Rattle.std.proofs.Common.{◌≡◌, ◌⊎◌, ℕ, zero, suc, ◌+◌, ◌<◌, ◌≤◌, ◌-◌, List, [], ◌∷◌, length, take, drop, get_or, Option, Some, Result, Ok, Err, refl, ap, ◌∙◌, inl, inr, arith}
+use Rattle.std.specs.Prelude.{slice_get, OnOk}
 use Rattle.std.specs.Option.{option_map_or}
 use Rattle.std.proofs.lemmas.List.Sums.{fold_more}
 use Rattle.std.proofs.lemmas.List.{take_all}
 use Rattle.std.proofs.lemmas.Option.{slice_get_past}
 use Rattle.plan_rules.specs.declared.node.Node.{Node}
-use Rattle.plan_shape.specs.Finish.{passes}
-use Rattle.plan_shape.specs.PlanTree.{spawns}
-use Rattle.plan_shape.proofs.LeastLemmas.{least-IsLeast}
 use Rattle.plan_kinds.specs.Runs.{run_by, bodies_of}
 use Rattle.plan_picture.specs.declared.home.Home.{Home}
-use Rattle.plan_picture.specs.declared.home.Home.TheVariants.{Loop}
 use Rattle.plan_picture.specs.Homes.{either, entered, left}
 use Rattle.plan_picture.specs.Ends.{Ends, end_case, end_of, end_of_all, end_of_children}
-use Rattle.plan_picture.specs.Starts.{parent_in, spawner_in, start_below, started_by, start_of}
 
 -- no step down is taken
 pub end_of-here : (nodes : List Node) (steps n : ℕ) (start : Home) → (steps ≡ 0) ⊎ (length nodes ≤ n) → end_of nodes steps n start ≡ start
@@ -47,31 +42,6 @@ end_of_children-first below start (n ∷ ns) some =
 pub end_of_children-none : (below : Ends) (start : Home) (numbers : List ℕ) → length numbers ≡ 0 → end_of_children below start numbers ≡ start
 end_of_children-none below start [] none = refl
 end_of_children-none below start (n ∷ ns) none = absurd (omega arith)
-
--- the `ahead` that starts a node is a node
-pub spawner_within : (nodes : List Node) (n : ℕ) (found : Option ℕ) → found ≡ spawner_in nodes n → IfSome found (λ ahead. ahead < length nodes)
-unfolding spawner_in
-spawner_within nodes n None is = tt
-spawner_within nodes n (Some ahead) is =
-    (least-IsLeast (passes (spawns n) nodes) (length nodes) ahead (sym is)).within
-
--- no step up is taken
-pub start_of-loop : (nodes : List Node) (steps n : ℕ) → (steps ≡ 0) ⊎ (parent_in nodes n ≡ None) → start_of nodes steps n ≡ Loop
-unfolding start_of
-start_of-loop nodes zero n why = refl
-start_of-loop nodes (suc steps) n (inl none) = absurd (omega arith)
-start_of-loop nodes (suc steps) n (inr none) =
-    ap (λ (o : Option ℕ). option_map_or (λ p. started_by nodes steps n (start_of nodes steps p) p) o Loop) none
-
--- one is
-pub start_of-below : (nodes : List Node) (steps below n parent : ℕ) (node : Node) → steps ≡ suc below → parent_in nodes n ≡ Some parent → slice_get nodes parent ≡ Some node → start_of nodes steps n ≡ start_below nodes below node n (start_of nodes below parent)
-unfolding start_of
-start_of-below nodes zero below n parent node one up at = absurd (omega arith)
-start_of-below nodes (suc steps) below n parent node one up at =
-    let same : steps ≡ below = omega arith in
-    ap (λ (o : Option ℕ). option_map_or (λ p. started_by nodes steps n (start_of nodes steps p) p) o Loop) up
-    ∙ ap (λ (o : Option Node). option_map_or (λ x. start_below nodes steps x n (start_of nodes steps parent)) o Loop) at
-    ∙ ap (λ s. start_below nodes s node n (start_of nodes s parent)) same
 
 -- where a node completes, put together as the code does
 pub end_of-parts : (below : Ends) (start entering own all result : Home) (node : Node) (children bodies : List ℕ) → entering ≡ entered node start → children ≡ run_by node → bodies ≡ bodies_of node → own ≡ end_of_children below entering children → all ≡ end_of_all below own own bodies → result ≡ left node all → result ≡ end_case below start node

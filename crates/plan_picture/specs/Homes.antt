@@ -18,11 +18,17 @@ either Loop Loop = Loop
 either Pool Pool = Pool
 either first second = Either
 
--- what a box says of the contexts
-abbrev pub home_word : Home → List ℕ
-home_word Loop = codes "the loop"
-home_word Pool = codes "the pool"
-home_word Either = codes "the loop or the pool"
+-- the colour of a box whose node is started there
+abbrev pub fill_of : Home → List ℕ
+fill_of Loop = codes "#d0e4ff"
+fill_of Pool = codes "#ffe3c2"
+fill_of Either = codes "#e6d5f5"
+
+-- the colour of the border of a box whose node completes there
+abbrev pub border_of : Home → List ℕ
+border_of Loop = codes "#1f5fbf"
+border_of Pool = codes "#c05a00"
+border_of Either = codes "#7030a0"
 
 -- where a node starts its children, where it is started there itself; an `ahead` waits for the loop,
 -- which starts them there

@@ -1,6 +1,10 @@
+pub mod Folds
 pub mod Names
+pub mod Quoted
+pub mod Words
 pub mod Homes
 pub mod Ends
-pub mod Starts
+pub mod Shapes
 pub mod Lines
+pub mod Drawing
 pub mod Picture

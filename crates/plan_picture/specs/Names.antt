@@ -1,5 +1,5 @@
 -- What nodes and kinds are called.
-use Rattle.std.specs.Prelude.{ℕ, Bool, true, false, List, codes}
+use Rattle.std.specs.Prelude.{ℕ, List, codes}
 use Rattle.exec_value.specs.declared.kinds.Kind.{Kind}
 use Rattle.exec_value.specs.declared.kinds.Kind.TheVariants as kind
 use Rattle.plan_rules.specs.declared.node.Node.{Node}
@@ -30,15 +30,10 @@ name_of (Part bulk part) = codes "part [exec.bulk]"
 name_of (Unstoppable child) = codes "unstoppable [exec.unstoppable]"
 name_of (Ahead first second) = codes "ahead, spawn_future of P3149"
 
--- the node is a part of a bulk, which isn't drawn
-abbrev pub is_part : Node → Bool
-is_part (Part bulk part) = true
-is_part node = false
-
--- what a box says of a datum of this kind, behind a blank
+-- what a box says of a datum of this kind
 abbrev pub kind_word : Kind → List ℕ
-kind_word kind.Int = codes " int"
-kind_word kind.Text = codes " text"
-kind_word kind.Row = codes " row"
-kind_word kind.MaybeInt = codes " optional-int"
-kind_word kind.MaybeText = codes " optional-text"
+kind_word kind.Int = codes "int"
+kind_word kind.Text = codes "text"
+kind_word kind.Row = codes "row"
+kind_word kind.MaybeInt = codes "optional-int"
+kind_word kind.MaybeText = codes "optional-text"

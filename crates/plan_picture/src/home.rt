@@ -1,6 +1,6 @@
 //! The contexts in which a node may be.
 ghost use Rattle.std.specs.Prelude.{◌≡◌};
-ghost use Rattle.plan_picture.specs.Homes.{either, home_of, home_word};
+ghost use Rattle.plan_picture.specs.Homes.{border_of, either, fill_of, home_of};
 
 use node_tree::Context;
 
@@ -36,13 +36,24 @@ pub(crate) fn either(first: Home, second: Home) -> Home
     }
 }
 
-/// What a box says of the contexts.
-pub(crate) fn home_word(home: Home) -> &'static str
-    ensures { result.now ≡ home_word home }
+/// The colour of a box whose node is started there.
+pub(crate) fn fill_of(home: Home) -> &'static str
+    ensures { result.now ≡ fill_of home }
 {
     match home {
-        Home::Loop => "the loop",
-        Home::Pool => "the pool",
-        Home::Either => "the loop or the pool",
+        Home::Loop => "#d0e4ff",
+        Home::Pool => "#ffe3c2",
+        Home::Either => "#e6d5f5",
+    }
+}
+
+/// The colour of the border of a box whose node completes there.
+pub(crate) fn border_of(home: Home) -> &'static str
+    ensures { result.now ≡ border_of home }
+{
+    match home {
+        Home::Loop => "#1f5fbf",
+        Home::Pool => "#c05a00",
+        Home::Either => "#7030a0",
     }
 }

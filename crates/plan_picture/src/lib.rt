@@ -2,21 +2,30 @@
 //!
 //!     Plan, Sigs --picture_of--> text of a digraph
 //!
-//! A box is a node, with its number and the standard's name; the arrows go to its children, in order.
-//! A box says in which contexts the node is started and completes, the stop source that its callback
-//! is registered on, and what it can complete with. The parts of a bulk are not drawn.
+//! A box is a node, with its number, the standard's name and its own data; arrows go to its children,
+//! in order, and dashed ones to its bodies. Its colour is the context in which the node is started,
+//! that of its border the context in which it completes. A box also says which stop source its
+//! callback is registered on, and what it can complete with. Of equal neighbours the first is drawn,
+//! with their count. The parts of a bulk are not drawn.
+//!
+//!     root --draw_from--> box, arrows, and below them each child and each body --draw_from--> ..
 //!
 //! The text is exactly that of specs/: `picture_of`, line by line. It stands on `picture_text`, which
 //! puts texts together, and on `sig_check`, which has the signatures. Want of memory is the only
 //! fault.
 #![tactic(auto)]
 
+mod drawing;
 mod ends;
+mod folds;
 mod home;
+mod job;
 mod lines;
 mod name;
+mod own;
 mod picture;
+mod quoted;
 mod runs;
-mod starts;
+mod shape;
 
 pub use picture::picture_of;

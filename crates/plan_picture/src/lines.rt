@@ -1,49 +1,48 @@
-//! The lines of a box.
-ghost use Rattle.std.specs.Prelude.{◌≡◌, OnOk};
-ghost use Rattle.std.specs.List.{flat_map};
+//! The lines of a box, and arrows.
+ghost use Rattle.std.specs.Prelude.{◌≡◌, map, IfOk, OnOk};
 ghost use Rattle.node_tree.specs.Nearest.{read};
 ghost use Rattle.picture_text.specs.Adding.{Adds};
+ghost use Rattle.plan_picture.specs.Folds.{texts_of};
 ghost use Rattle.plan_picture.specs.Names.{kind_word};
-ghost use Rattle.plan_picture.specs.Lines.{box_start, box_end, edge, flag_word, source_line, value_line};
+ghost use Rattle.plan_picture.specs.Lines.{arrow, body_arrow, box_end, box_node, box_start, flag_word, source_line, value_line};
 
-use crate::home::{Home, home_word};
+use crate::folds::{Fold, put_folded, put_times};
+use crate::home::{Home, border_of, fill_of};
 use crate::name::{kind_word, name_of};
+use crate::own::put_own;
 use exec_value::Kind;
 use itoa::Buffer;
 use node_tree::NearestSource;
 use picture_text::put_all;
 use plan_kinds::{KindList, Sig};
 use plan_rules::{Node, NodeId};
-use std::alloc::AllocError;
+use std::alloc::{AllocError, Global};
 
-/// Adds the start of a box: the node's number and name, and its contexts.
-pub(crate) fn put_box_start(
-    number: NodeId,
-    node: &Node,
-    start: Home,
-    end: Home,
-    text: &mut Vec<u8>,
-) -> Result<(), AllocError>
-    ensures { OnOk result
-        (Adds text.old.items text.new.items (box_start number node.now start end)) }
+/// Adds the start of a box: the node's number and name.
+fn put_box_start(number: NodeId, node: &Node, text: &mut Vec<u8>) -> Result<(), AllocError>
+    ensures { OnOk result (Adds text.old.items text.new.items (box_start number node.now)) }
 {
     let mut buffer = Buffer::new();
     let digits = buffer.format(number);
     put_all(
-        &[
-            "  n",
-            digits,
-            " [label=\"",
-            digits,
-            " ",
-            name_of(node),
-            "\\nstarted in ",
-            home_word(start),
-            ", completes in ",
-            home_word(end),
-        ],
+        &["  n", digits, " [label=\"", digits, " ", name_of(node)],
         text,
     )
+}
+
+/// Adds what a box has of its node, which stands for `count` equal neighbours.
+pub(crate) fn put_box_node(
+    alloc: Global,
+    number: NodeId,
+    node: &Node,
+    count: usize,
+    text: &mut Vec<u8>,
+) -> Result<(), AllocError>
+    ensures { OnOk result (Adds text.old.items text.new.items (box_node number node.now count)) }
+{
+    put_box_start(number, node, text)?;
+    put_times(count, text)?;
+    put_own(alloc, node, text)
 }
 
 /// Adds the line of a node's nearest stop source.
@@ -60,25 +59,38 @@ pub(crate) fn put_source_line(source: NearestSource, text: &mut Vec<u8>) -> Resu
     }
 }
 
-/// Adds the words of kinds.
-fn put_kinds(kinds: &[Kind], text: &mut Vec<u8>) -> Result<(), AllocError>
-    ensures { OnOk result (Adds text.old.items text.new.items (flat_map kind_word kinds.now)) }
+/// The name of a kind.
+fn word_of_kind(alloc: Global, kind: Kind) -> Result<Vec<u8>, AllocError>
+    ensures { IfOk result (λ word. word.items ≡ kind_word kind) }
 {
+    Vec::from_slice(alloc, kind_word(kind).as_bytes())
+}
+
+/// The names of kinds.
+fn words_of_kinds(alloc: Global, kinds: &[Kind]) -> Result<Vec<Vec<u8>>, AllocError>
+    ensures { IfOk result (λ words. texts_of words.items ≡ map kind_word kinds.now) }
+{
+    let mut words = Vec::new(alloc);
     for kind in kinds {
-        put_all(&[kind_word(*kind)], text)?;
+        words.push(word_of_kind(alloc, *kind)?)?;
     }
-    Ok(())
+    Ok(words)
 }
 
 /// Adds the line of a node's values, where it may have one.
-pub(crate) fn put_value_line(value: &Option<KindList>, text: &mut Vec<u8>) -> Result<(), AllocError>
+pub(crate) fn put_value_line(
+    alloc: Global,
+    value: &Option<KindList>,
+    text: &mut Vec<u8>,
+) -> Result<(), AllocError>
     ensures { OnOk result (Adds text.old.items text.new.items (value_line value.now)) }
 {
     match value {
         None => put_all(&[], text),
         Some(kinds) => {
+            let words = words_of_kinds(alloc, kinds.as_slice())?;
             put_all(&["\\nset_value"], text)?;
-            put_kinds(kinds.as_slice(), text)
+            put_folded(alloc, &words, text)
         }
     }
 }
@@ -90,23 +102,33 @@ fn flag_word(flag: bool, word: &'static str) -> &'static str
     if flag { word } else { "" }
 }
 
-/// Adds the rest of a box: whether the node may end by an error, and whether by stopped.
-pub(crate) fn put_box_end(sig: &Sig, text: &mut Vec<u8>) -> Result<(), AllocError>
-    ensures { OnOk result (Adds text.old.items text.new.items (box_end sig.now)) }
+/// Adds the rest of a box: whether the node may end by an error, and whether by stopped; and the
+/// colours of where it is started and where it completes.
+pub(crate) fn put_box_end(
+    sig: &Sig,
+    start: Home,
+    end: Home,
+    text: &mut Vec<u8>,
+) -> Result<(), AllocError>
+    ensures { OnOk result (Adds text.old.items text.new.items (box_end sig.now start end)) }
 {
     put_all(
         &[
             flag_word(sig.may_error, "\\nset_error"),
             flag_word(sig.may_stop, "\\nset_stopped"),
+            "\" fillcolor=\"",
+            fill_of(start),
+            "\" color=\"",
+            border_of(end),
             "\"];\n",
         ],
         text,
     )
 }
 
-/// Adds the arrow from a node to one below it.
-fn put_edge(number: NodeId, child: NodeId, text: &mut Vec<u8>) -> Result<(), AllocError>
-    ensures { OnOk result (Adds text.old.items text.new.items (edge number child)) }
+/// Adds the arrow from a node to a child.
+pub(crate) fn put_arrow(number: NodeId, child: NodeId, text: &mut Vec<u8>) -> Result<(), AllocError>
+    ensures { OnOk result (Adds text.old.items text.new.items (arrow number child)) }
 {
     let mut first = Buffer::new();
     let mut second = Buffer::new();
@@ -122,17 +144,30 @@ fn put_edge(number: NodeId, child: NodeId, text: &mut Vec<u8>) -> Result<(), All
     )
 }
 
-/// Adds the arrows from a node to these below it.
-pub(crate) fn put_edges(
+/// Adds the arrow from a node to a body, the first of a fold.
+pub(crate) fn put_body_arrow(
     number: NodeId,
-    children: &[NodeId],
+    body: NodeId,
+    fold: Fold,
     text: &mut Vec<u8>,
 ) -> Result<(), AllocError>
-    ensures { OnOk result
-        (Adds text.old.items text.new.items (flat_map (edge number) children.now)) }
+    ensures { OnOk result (Adds text.old.items text.new.items
+        (body_arrow number body fold.at fold.count)) }
 {
-    for child in children {
-        put_edge(number, *child, text)?;
-    }
-    Ok(())
+    let mut first = Buffer::new();
+    let mut second = Buffer::new();
+    let mut third = Buffer::new();
+    put_all(
+        &[
+            "  n",
+            first.format(number),
+            " -> n",
+            second.format(body),
+            " [style=dashed label=\"body ",
+            third.format(fold.at),
+        ],
+        text,
+    )?;
+    put_times(fold.count, text)?;
+    put_all(&["\"];\n"], text)
 }

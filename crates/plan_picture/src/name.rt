@@ -1,6 +1,6 @@
 //! What nodes and kinds are called.
 ghost use Rattle.std.specs.Prelude.{◌≡◌};
-ghost use Rattle.plan_picture.specs.Names.{is_part, kind_word, name_of};
+ghost use Rattle.plan_picture.specs.Names.{kind_word, name_of};
 
 use exec_value::Kind;
 use plan_rules::Node;
@@ -35,22 +35,15 @@ pub(crate) fn name_of(node: &Node) -> &'static str
     }
 }
 
-/// Whether the node is a part of a bulk, which isn't drawn.
-pub(crate) fn is_part(node: &Node) -> bool
-    ensures { result ≡ is_part node.now }
-{
-    matches!(node, Node::Part { .. })
-}
-
-/// What a box says of a datum of this kind, behind a blank.
+/// What a box says of a datum of this kind.
 pub(crate) fn kind_word(kind: Kind) -> &'static str
     ensures { result.now ≡ kind_word kind }
 {
     match kind {
-        Kind::Int => " int",
-        Kind::Text => " text",
-        Kind::Row => " row",
-        Kind::MaybeInt => " optional-int",
-        Kind::MaybeText => " optional-text",
+        Kind::Int => "int",
+        Kind::Text => "text",
+        Kind::Row => "row",
+        Kind::MaybeInt => "optional-int",
+        Kind::MaybeText => "optional-text",
     }
 }

@@ -1,76 +1,56 @@
 //! The picture of a plan.
-ghost use Rattle.std.specs.Prelude.{◌≡◌, ◌<◌, length, IfOk, OnOk};
-ghost use Rattle.std.specs.Option.{option_map_or};
+ghost use Rattle.std.specs.Prelude.{◌≡◌, length, IfOk, OnOk};
 ghost use Rattle.picture_text.specs.Adding.{Adds};
-ghost use Rattle.plan_picture.specs.Picture.{arrows, box_text, node_text, picture_of};
+ghost use Rattle.plan_picture.specs.Picture.{legend_text, picture_of, sample_text};
 
-use crate::ends::end_of;
-use crate::lines::{put_box_end, put_box_start, put_edges, put_source_line, put_value_line};
-use crate::name::is_part;
-use crate::runs::{bodies_of, run_by};
-use crate::starts::start_of;
+use crate::drawing::{Spot, draw_from};
+use crate::home::{Home, border_of, fill_of};
 use picture_text::put_all;
-use plan_rules::{Node, NodeId};
 use plan_shape::{MOST_DEPTH, Plan};
 use sig_check::Sigs;
 use std::alloc::{AllocError, Global};
 
-/// Adds the box of a node.
-fn put_box(
-    alloc: Global,
-    plan: &Plan,
-    sigs: &Sigs,
-    number: NodeId,
-    node: &Node,
+/// Adds a box of the legend: a context, in its colours.
+fn put_sample(
+    name: &'static str,
+    shown: &'static str,
+    home: Home,
     text: &mut Vec<u8>,
 ) -> Result<(), AllocError>
-    requires within { number < length plan.now.nodes }
-    requires known { length sigs.now ≡ length plan.now.nodes }
     ensures { OnOk result (Adds text.old.items text.new.items
-        (box_text plan.now.nodes sigs.now number node.now)) }
+        (sample_text name.now shown.now home)) }
 {
-    let sig = sigs.of(number);
-    let start = start_of(alloc, plan, MOST_DEPTH, number)?;
-    let end = end_of(alloc, plan, MOST_DEPTH, number, start)?;
-    put_box_start(number, node, start, end, text)?;
-    put_source_line(plan.tree().nearest(number), text)?;
-    put_value_line(&sig.value, text)?;
-    put_box_end(sig, text)
+    put_all(
+        &[
+            "    ",
+            name,
+            " [label=\"",
+            shown,
+            "\" fillcolor=\"",
+            fill_of(home),
+            "\" color=\"",
+            border_of(home),
+            "\"];\n",
+        ],
+        text,
+    )
 }
 
-/// Adds the arrows from a node to its children, in order.
-fn put_arrows(
-    alloc: Global,
-    number: NodeId,
-    node: &Node,
-    text: &mut Vec<u8>,
-) -> Result<(), AllocError>
-    ensures { OnOk result (Adds text.old.items text.new.items (arrows number node.now)) }
+/// Adds the legend: what the colours of a box say.
+fn put_legend(text: &mut Vec<u8>) -> Result<(), AllocError>
+    ensures { OnOk result (Adds text.old.items text.new.items legend_text) }
 {
-    let children = run_by(alloc, node)?;
-    put_edges(number, &children, text)?;
-    put_edges(number, bodies_of(node), text)
-}
-
-/// Adds what the picture has of a node.
-fn put_node(
-    alloc: Global,
-    plan: &Plan,
-    sigs: &Sigs,
-    number: NodeId,
-    text: &mut Vec<u8>,
-) -> Result<(), AllocError>
-    requires within { number < length plan.now.nodes }
-    requires known { length sigs.now ≡ length plan.now.nodes }
-    ensures { OnOk result (Adds text.old.items text.new.items
-        (node_text plan.now.nodes sigs.now number)) }
-{
-    let node = plan.node(number);
-    if is_part(node) {
-        return put_all(&[], text);
-    }
-    put_box(alloc, plan, sigs, number, node, text)?;
-    put_arrows(alloc, number, node, text)
+    put_all(
+        &[
+            "  subgraph cluster_legend {\n    label=\"fill: where a node is started, \
+border: where it completes\\nx2: two equal neighbours, drawn once\";\n",
+        ],
+        text,
+    )?;
+    put_sample("either", "the loop or the pool", Home::Either, text)?;
+    put_sample("pool", "the pool", Home::Pool, text)?;
+    put_sample("loop", "the loop", Home::Loop, text)?;
+    put_all(&["  }\n"], text)
 }
 
 /// The text of a plan's picture, by the signatures of its nodes.
@@ -80,12 +60,16 @@ pub fn picture_of(alloc: Global, plan: &Plan, sigs: &Sigs) -> Result<Vec<u8>, Al
 {
     let mut text = Vec::new(alloc);
     put_all(
-        &["digraph plan {\n  graph [ordering=out];\n  node [shape=box];\n"],
+        &["digraph plan {\n  graph [ordering=out];\n  node [shape=box style=filled penwidth=3];\n"],
         &mut text,
     )?;
-    for number in 0..plan.size() {
-        put_node(alloc, plan, sigs, number, &mut text)?;
-    }
+    put_legend(&mut text)?;
+    let root = Spot {
+        number: plan.size().saturating_sub(1),
+        count: 1,
+        start: Home::Loop,
+    };
+    draw_from(alloc, plan, sigs, MOST_DEPTH, root, &mut text)?;
     put_all(&["}\n"], &mut text)?;
     Ok(text)
 }

@@ -1,14 +1,18 @@
 -- What each row of a picture gives.
-use Rattle.std.proofs.Common.{◌≡◌, ℕ, ◌+◌, ◌<◌, ◌≤◌, List, [], take, Option, Some, Result, Ok, Err, sym, ap, arith}
-use Rattle.std.specs.Prelude.{slice_get, OnOk}
-use Rattle.std.specs.List.{flat_map, range_with_len}
+use Rattle.std.proofs.Common.{◌≡◌, ℕ, ◌+◌, ◌<◌, ◌≤◌, List, [], length, take, get_or, Option, Some, Result, Ok, Err, sym, ap, ◌∙◌, arith}
+use Rattle.std.specs.Prelude.{slice_get, max, OnOk}
+use Rattle.std.specs.List.{flat_map, fold, range_with_len}
 use Rattle.std.specs.Option.{option_map_or}
+use Rattle.std.proofs.lemmas.List.{take_all}
+use Rattle.std.proofs.lemmas.List.Sums.{fold_more}
 use Rattle.std.proofs.lemmas.List.FromFn.{length-range_with_len, get_or-range_with_len}
 use Rattle.trace_text.specs.declared.entry.Entry.{Entry}
 use Rattle.picture_text.specs.Adding.{Adds}
 use Rattle.picture_text.proofs.Joining.{Adds-each, Adds-more}
-use Rattle.trace_picture.specs.Steps.{step_text}
-use Rattle.trace_picture.specs.Picture.{step_at}
+use Rattle.trace_picture.specs.declared.frame.Frame.{Frame}
+use Rattle.trace_picture.specs.Bars.{bar_at, bar_in, begun}
+use Rattle.trace_picture.specs.Rows.{length_at, shown_row}
+use Rattle.trace_picture.specs.Picture.{length_of, row_of}
 
 -- of each number below a bound: one number more, and all of them
 module _ (g : ℕ → List ℕ) (bound i : ℕ) where
@@ -20,9 +24,35 @@ module _ (g : ℕ → List ℕ) (bound i : ℕ) where
   pub row-each : {old new : List ℕ} → Adds old new (flat_map g (take i (range_with_len 0 bound))) → bound ≤ i → Adds old new (flat_map g (range_with_len 0 bound))
   row-each p all = Adds-each g (range_with_len 0 bound) i p (omega (arith, all, length-range_with_len 0 bound))
 
--- the line of an entry that is there
-pub step-here : (entries : List Entry) (n : ℕ) (entry : Entry) → slice_get entries n ≡ Some entry → step_text n entry ≡ step_at entries n
-step-here entries n entry at = sym (ap (λ (o : Option Entry). option_map_or (step_text n) o []) at)
+-- the row of an entry that is there
+pub row-here : (frame : Frame) (refused : Option ℕ) (entries : List Entry) (n : ℕ) (entry : Entry) → slice_get entries n ≡ Some entry → shown_row frame refused n entry ≡ row_of frame refused entries n
+row-here frame refused entries n entry at =
+    sym (ap (λ (o : Option Entry). option_map_or (shown_row frame refused n) o []) at)
+
+-- its length
+pub length-here : (frame : Frame) (entries : List Entry) (n : ℕ) (entry : Entry) → slice_get entries n ≡ Some entry → length_at frame n entry ≡ length_of frame entries n
+length-here frame entries n entry at =
+    sym (ap (λ (o : Option Entry). option_map_or (length_at frame n) o 0) at)
+
+-- the longest of one more
+pub longest-more : (f : ℕ → ℕ) (bound i most long : ℕ) → most ≡ fold (λ most n. max (f n) most) 0 (take i (range_with_len 0 bound)) → long ≡ f i → i < bound → max long most ≡ fold (λ most n. max (f n) most) 0 (take (i + 1) (range_with_len 0 bound))
+longest-more f bound i most long so_far is here =
+    let all = range_with_len 0 bound in
+    let step = λ (most : ℕ) (n : ℕ). max (f n) most in
+    let inside : i < length all = omega (arith, here, length-range_with_len 0 bound) in
+    let at : get_or all i 0 ≡ i = omega (arith, get_or-range_with_len 0 bound i 0 here) in
+    ap (λ l. max l most) is ∙ ap (max (f i)) so_far
+    ∙ sym (fold_more step 0 all i 0 inside ∙ ap (step (fold step 0 (take i all))) at)
+
+pub longest-all : (f : ℕ → ℕ) (bound i most : ℕ) → most ≡ fold (λ most n. max (f n) most) 0 (take i (range_with_len 0 bound)) → bound ≤ i → most ≡ fold (λ most n. max (f n) most) 0 (range_with_len 0 bound)
+longest-all f bound i most so_far all =
+    so_far ∙ ap (fold (λ (most : ℕ) (n : ℕ). max (f n) most) 0) (take_all i (range_with_len 0 bound) (omega (arith, all, length-range_with_len 0 bound)))
+
+-- the bar of an entry that is there
+pub bar-here : (frame : Frame) (entries : List Entry) (n : ℕ) (entry : Entry) → slice_get entries n ≡ Some entry → bar_at frame entries n ≡ option_map_or (bar_in frame entries n) (begun entry (take n entries)) []
+unfolding bar_at
+bar-here frame entries n entry at =
+    ap (λ (o : Option Entry). option_map_or (λ e. option_map_or (bar_in frame entries n) (begun e (take n entries)) []) o []) at
 
 -- what follows where a call succeeded
 pub on_ok : {T E A B : Type 0} (r : Result T E) → (A → B) → OnOk r A → OnOk r B

@@ -1,39 +1,91 @@
--- The bars of blocks: each from the row in which its block is claimed to that in which it is released,
--- or to the last.
-use Rattle.std.specs.Prelude.{ℕ, ◌+◌, ◌==◌, Bool, false, List, [], ◌∷◌, length, drop, position, slice_get, codes, decimal}
+-- Bars: the lives of blocks, each from claim to release, and the runs of callbacks, each from the run
+-- of an armed one to its end. One that doesn't end goes to the last row.
+use Rattle.std.specs.Prelude.{ℕ, ◌+◌, ◌-◌, ◌*◌, ◌==◌, Bool, false, List, [], ◌∷◌, ◌++◌, length, drop, take, max, min, nat_lt, position, slice_get, codes, decimal, Option, Some, None, if◌then◌else◌}
 use Rattle.std.specs.List.{concat}
 use Rattle.std.specs.Option.{option_map_or}
 use Rattle.life_rules.specs.declared.event.Event.{Event}
-use Rattle.life_rules.specs.declared.event.Event.TheVariants.{Claim, Release}
+use Rattle.life_rules.specs.declared.event.Event.TheVariants as event
+use Rattle.life_rules.specs.declared.event.Place.{Place}
 use Rattle.trace_text.specs.declared.entry.Entry.{Entry}
+use Rattle.trace_picture.specs.declared.bar.Bar.{Bar}
+use Rattle.trace_picture.specs.declared.bar.Bar.TheVariants.{Life, Run}
+use Rattle.trace_picture.specs.declared.frame.Frame.{Frame}
+use Rattle.trace_picture.specs.declared.layout.TheConstants.{ROW}
+use Rattle.trace_picture.specs.Armed.{is_armed, same_place}
+use Rattle.trace_picture.specs.Frames.{row_at}
+use Rattle.trace_picture.specs.Layout.{column_x, lane_x}
 
--- the event gives the block back
-abbrev pub releases : ℕ → Event → Bool
-releases block (Release given) = given == block
-releases block event = false
+-- the bar of a callback that a hand runs, behind these earlier entries: where it is armed
+abbrev pub run_begun : Place → ℕ → List Entry → Option Bar
+run_begun place hand earlier = if is_armed place earlier then Some (Run place hand) else None
 
-abbrev pub is_release : ℕ → Entry → Bool
-is_release block entry = releases block entry.event
+-- the bar that begins with an event of a hand, behind these earlier entries
+abbrev pub begun_by : ℕ → List Entry → Event → Option Bar
+begun_by hand earlier (event.Claim block) = Some (Life block)
+begun_by hand earlier (event.Run source place) = run_begun place hand earlier
+begun_by hand earlier other = None
 
--- how many rows the life of a block has, with these entries behind its claim
-abbrev pub life_length : ℕ → List Entry → ℕ
-life_length block later =
-    option_map_or (λ before. before + 2) (position (is_release block) later) (length later + 1)
+abbrev pub begun : Entry → List Entry → Option Bar
+begun entry earlier = begun_by entry.hand earlier entry.event
 
--- the bar of a block
-unfoldable pub bar_text : ℕ → ℕ → ℕ → List ℕ
-bar_text n block rows = concat (
-    codes "<rect class=\"block\" x=\"" ∷ decimal block ∷ codes "em\" y=\"" ∷ decimal n
-    ∷ codes "em\" width=\"10\" height=\"" ∷ decimal rows ∷ codes "em\"><title>block "
-    ∷ decimal block ∷ codes "</title></rect>\n" ∷ [])
+-- the bar ends with the event
+abbrev pub ended_by : Bar → Event → Bool
+ended_by (Life block) (event.Release given) = given == block
+ended_by (Run place hand) (event.EndRun given) = same_place given place
+ended_by bar other = false
 
--- the bar that begins in row n with this event, before these entries
-abbrev pub bar_of : ℕ → List Entry → Event → List ℕ
-bar_of n later (Claim block) = bar_text n block (life_length block later)
-bar_of n later event = []
+abbrev pub ends : Bar → Entry → Bool
+ends bar entry = ended_by bar entry.event
 
--- the bar that begins at the entry of this number
-unfoldable pub bar_at : List Entry → ℕ → List ℕ
-bar_at entries n =
-    option_map_or (λ (entry : Entry). bar_of n (drop (n + 1) entries) entry.event)
+-- how many rows a bar has, with these entries behind its first
+abbrev pub rows_of_bar : Bar → List Entry → ℕ
+rows_of_bar bar later =
+    option_map_or (λ before. before + 2) (position (ends bar) later) (length later + 1)
+
+-- where a bar stands: in the column of its block, or at the edge of the lane of its hand
+abbrev pub x_of : Frame → Bar → ℕ
+x_of frame (Life block) = column_x block
+x_of frame (Run place hand) = 3 + lane_x frame.blocks hand
+
+-- the class of a bar, which gives its colour
+abbrev pub class_of_bar : Bar → List ℕ
+class_of_bar (Life block) = codes "block"
+class_of_bar (Run place hand) = codes "run"
+
+-- what a viewer says of a bar
+unfoldable pub title_of : Bar → List ℕ
+title_of (Life block) = concat (codes "<title>block " ∷ decimal block ∷ codes "</title>" ∷ [])
+title_of (Run place hand) = concat (
+    codes "<title>callback of " ∷ decimal place.block ∷ codes "." ∷ decimal place.node
+    ∷ codes "</title>" ∷ [])
+
+-- where a bar stands, and how high it is
+abbrev pub bar_start : Frame → Bar → ℕ → ℕ → List ℕ
+bar_start frame bar top bottom = concat (
+    codes "<rect class=\"" ∷ class_of_bar bar ∷ codes "\" x=\"" ∷ decimal (x_of frame bar)
+    ∷ codes "\" y=\"" ∷ decimal (row_at frame top) ∷ codes "\" width=\"12\" height=\""
+    ∷ decimal (ROW * (bottom - top)) ∷ codes "\">" ∷ [])
+
+-- a bar from its top row to the row behind its last
+unfoldable pub bar_text : Frame → Bar → ℕ → ℕ → List ℕ
+bar_text frame bar top bottom = bar_start frame bar top bottom ++ (title_of bar ++ codes "</rect>\n")
+
+-- what is shown between these rows: nothing where the bar ends before the first or begins behind the
+-- last
+abbrev pub bar_between : Frame → Bar → ℕ → ℕ → List ℕ
+bar_between frame bar top bottom =
+    if nat_lt top bottom then bar_text frame bar top bottom else []
+
+-- what is shown of a bar that begins in row n and has so many
+unfoldable pub shown_bar : Frame → Bar → ℕ → ℕ → List ℕ
+shown_bar frame bar n rows = bar_between frame bar (max n frame.from) (min (n + rows) frame.to)
+
+-- the same by the entries
+abbrev pub bar_in : Frame → List Entry → ℕ → Bar → List ℕ
+bar_in frame entries n bar = shown_bar frame bar n (rows_of_bar bar (drop (n + 1) entries))
+
+-- what is shown of the bar that begins at the entry of this number, where one does
+unfoldable pub bar_at : Frame → List Entry → ℕ → List ℕ
+bar_at frame entries n =
+    option_map_or (λ entry. option_map_or (bar_in frame entries n) (begun entry (take n entries)) [])
     (slice_get entries n) []

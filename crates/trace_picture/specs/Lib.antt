@@ -1,4 +1,7 @@
-pub mod Words
-pub mod Steps
+pub mod Layout
+pub mod Frames
+pub mod Armed
 pub mod Bars
+pub mod Rows
+pub mod Headings
 pub mod Picture

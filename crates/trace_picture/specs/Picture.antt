@@ -1,42 +1,60 @@
 -- The picture of a trace.
-use Rattle.std.specs.Prelude.{ℕ, List, [], ◌∷◌, ◌++◌, length, slice_get, codes, decimal}
-use Rattle.std.specs.List.{concat, flat_map, range_with_len}
+use Rattle.std.specs.Prelude.{ℕ, List, [], ◌++◌, length, max, slice_get, codes, Option}
+use Rattle.std.specs.List.{flat_map, fold, range_with_len}
 use Rattle.std.specs.Option.{option_map_or}
 use Rattle.trace_text.specs.declared.entry.Entry.{Entry}
 use Rattle.trace_text.specs.Values.{TraceValue}
-use Rattle.trace_picture.specs.Steps.{lane_text, step_text}
+use Rattle.trace_picture.specs.declared.frame.Frame.{Frame}
+use Rattle.trace_picture.specs.declared.shown.Shown.{Shown}
 use Rattle.trace_picture.specs.Bars.{bar_at}
+use Rattle.trace_picture.specs.Frames.{frame_of, rows_of}
+use Rattle.trace_picture.specs.Headings.{column_text, head_text, lane_text, legend_text}
+use Rattle.trace_picture.specs.Layout.{height_of, width_of}
+use Rattle.trace_picture.specs.Rows.{length_at, shown_row}
 
--- the head of the image: its size, and the colours of its classes
-unfoldable pub head_text : ℕ → ℕ → List ℕ
-head_text hands rows = concat (
-    codes "<svg xmlns=\"http://www.w3.org/2000/svg\" font-size=\"20\" font-family=\"monospace\" width=\""
-    ∷ decimal hands ∷ codes "9em\" height=\"" ∷ decimal rows
-    ∷ codes "em\">\n<style>text { font-size: 12px } .life { fill: black } .callback { fill: green } .scan { fill: red } .scope { fill: blue } .lane { fill: silver } .block { fill: orange }</style>\n"
-    ∷ [])
+-- how many bytes the text of the entry of this number has, where it is shown
+abbrev pub length_of : Frame → List Entry → ℕ → ℕ
+length_of frame entries n = option_map_or (length_at frame n) (slice_get entries n) 0
 
--- the lanes of hands
-abbrev pub lanes_text : ℕ → ℕ → List ℕ
-lanes_text rows hands = flat_map (lane_text rows) (range_with_len 0 hands)
+-- the length of the longest text of an entry that is shown
+abbrev pub longest : Frame → List Entry → ℕ
+longest frame entries =
+    fold (λ most n. max (length_of frame entries n) most) 0 (range_with_len 0 (length entries))
 
--- the line of the entry of this number
-abbrev pub step_at : List Entry → ℕ → List ℕ
-step_at entries n = option_map_or (step_text n) (slice_get entries n) []
+-- the headings of the columns of blocks
+abbrev pub columns_text : ℕ → List ℕ
+columns_text blocks = flat_map column_text (range_with_len 0 blocks)
 
--- the lines of entries
-abbrev pub steps_text : List Entry → List ℕ
-steps_text entries = flat_map (step_at entries) (range_with_len 0 (length entries))
+-- the lanes of hands, and their headings
+abbrev pub lanes_text : Frame → ℕ → List ℕ
+lanes_text frame hands = flat_map (lane_text frame) (range_with_len 0 hands)
 
--- the bars of blocks, which stand to the right of the lanes of so many hands, and the image's end
-abbrev pub bars_text : ℕ → List Entry → List ℕ
-bars_text hands entries =
-    concat (codes "<svg x=\"" ∷ decimal hands ∷ codes "0em\">\n" ∷ [])
-    ++ (flat_map (bar_at entries) (range_with_len 0 (length entries)) ++ codes "</svg>\n</svg>\n")
+-- what is shown of the bars
+abbrev pub bars_text : Frame → List Entry → List ℕ
+bars_text frame entries = flat_map (bar_at frame entries) (range_with_len 0 (length entries))
 
--- the image by the numbers of hands and of rows
-abbrev pub image_text : ℕ → ℕ → List Entry → List ℕ
-image_text hands rows entries =
-    head_text hands rows ++ (lanes_text rows hands ++ (steps_text entries ++ bars_text hands entries))
+-- the row of the entry of this number, where it is shown
+abbrev pub row_of : Frame → Option ℕ → List Entry → ℕ → List ℕ
+row_of frame refused entries n = option_map_or (shown_row frame refused n) (slice_get entries n) []
 
-unfoldable pub picture_of : TraceValue → List ℕ
-picture_of trace = image_text trace.opening.hands (length trace.entries) trace.entries
+-- the rows of the entries that are shown
+abbrev pub rows_text : Frame → Option ℕ → List Entry → List ℕ
+rows_text frame refused entries =
+    flat_map (row_of frame refused entries) (range_with_len 0 (length entries))
+
+-- the size of the image, and the colours of its classes
+abbrev pub sized_head : Frame → ℕ → List Entry → List ℕ
+sized_head frame hands entries =
+    head_text (width_of frame.blocks hands (longest frame entries)) (height_of (rows_of frame))
+
+-- the image of what is shown
+unfoldable pub image_text : Frame → ℕ → Option ℕ → List Entry → List ℕ
+image_text frame hands refused entries =
+    sized_head frame hands entries
+    ++ (legend_text ++ (columns_text frame.blocks ++ (lanes_text frame hands
+    ++ (bars_text frame entries ++ (rows_text frame refused entries ++ codes "</svg>\n")))))
+
+-- the picture of a trace, of which this is shown
+unfoldable pub picture_of : TraceValue → Shown → List ℕ
+picture_of trace shown =
+    image_text (frame_of trace shown) trace.opening.hands shown.refused trace.entries

@@ -1,80 +1,118 @@
 //! The picture of a trace.
 ghost use Rattle.std.specs.Prelude.{◌≡◌, ◌≤◌, length, IfOk, OnOk};
 ghost use Rattle.picture_text.specs.Adding.{Adds};
-ghost use Rattle.trace_picture.specs.Picture.{bars_text, head_text, lanes_text, picture_of, steps_text};
+ghost use Rattle.trace_picture.specs.Picture.{bars_text, columns_text, image_text, lanes_text, longest, picture_of, rows_text};
 ghost use Rattle.trace_text.specs.declared.limits.TheConstants.{ENTRIES};
 
 use crate::bar::put_bar_at;
-use crate::step::{put_lane, put_step};
-use itoa::Buffer;
+use crate::frame::{Frame, frame_of, rows_of};
+use crate::heading::{put_column, put_head, put_lane, put_legend};
+use crate::layout::{height_of, width_of};
+use crate::row::{length_at, put_shown_row};
+use crate::shown::Shown;
 use picture_text::put_all;
 use std::alloc::{AllocError, Global};
 use trace_text::{Entry, Trace};
 
-/// Adds the head of the image: its size, and the colours of its classes.
-fn put_head(hands: u32, rows: u64, text: &mut Vec<u8>) -> Result<(), AllocError>
-    ensures { OnOk result (Adds text.old.items text.new.items (head_text hands rows)) }
+/// The length of the longest text of an entry that is shown.
+fn longest(alloc: Global, frame: Frame, entries: &[Entry]) -> Result<u64, AllocError>
+    ensures { IfOk result (λ most. most ≡ longest frame entries.now) }
 {
-    let mut first = Buffer::new();
-    let mut second = Buffer::new();
-    put_all(
-        &[
-            "<svg xmlns=\"http://www.w3.org/2000/svg\" font-size=\"20\" font-family=\"monospace\" width=\"",
-            first.format(hands),
-            "9em\" height=\"",
-            second.format(rows),
-            "em\">\n<style>text { font-size: 12px } .life { fill: black } .callback { fill: green } \
-.scan { fill: red } .scope { fill: blue } .lane { fill: silver } .block { fill: orange }</style>\n",
-        ],
-        text,
-    )
+    let mut most = 0;
+    for number in 0..entries.len() {
+        most = length_at(alloc, frame, number as u64, &entries[number])?.max(most);
+    }
+    Ok(most)
 }
 
-/// Adds the lanes of hands.
-fn put_lanes(hands: u32, rows: u64, text: &mut Vec<u8>) -> Result<(), AllocError>
-    ensures { OnOk result (Adds text.old.items text.new.items (lanes_text rows hands)) }
+/// Adds the headings of the columns of blocks.
+fn put_columns(blocks: u32, text: &mut Vec<u8>) -> Result<(), AllocError>
+    ensures { OnOk result (Adds text.old.items text.new.items (columns_text blocks)) }
+{
+    for block in 0..blocks {
+        put_column(block, text)?;
+    }
+    Ok(())
+}
+
+/// Adds the lanes of hands, and their headings.
+fn put_lanes(frame: Frame, hands: u32, text: &mut Vec<u8>) -> Result<(), AllocError>
+    requires { frame.to ≤ ENTRIES }
+    ensures { OnOk result (Adds text.old.items text.new.items (lanes_text frame hands)) }
 {
     for hand in 0..hands {
-        put_lane(hand, rows, text)?;
+        put_lane(frame, hand, text)?;
     }
     Ok(())
 }
 
-/// Adds the lines of entries.
-fn put_steps(entries: &[Entry], text: &mut Vec<u8>) -> Result<(), AllocError>
-    requires { length entries.now ≤ ENTRIES }
-    ensures { OnOk result (Adds text.old.items text.new.items (steps_text entries.now)) }
+/// Adds what is shown of the bars.
+fn put_bars(frame: Frame, entries: &[Entry], text: &mut Vec<u8>) -> Result<(), AllocError>
+    requires few { length entries.now ≤ ENTRIES }
+    requires shown { frame.to ≤ ENTRIES }
+    ensures { OnOk result (Adds text.old.items text.new.items (bars_text frame entries.now)) }
 {
     for number in 0..entries.len() {
-        put_step(number as u64, &entries[number], text)?;
+        put_bar_at(frame, entries, number, text)?;
     }
     Ok(())
 }
 
-/// Adds the bars of blocks, which stand to the right of the lanes of so many hands.
-fn put_bars(hands: u32, entries: &[Entry], text: &mut Vec<u8>) -> Result<(), AllocError>
+/// Adds the rows of the entries that are shown.
+fn put_rows(
+    frame: Frame,
+    entries: &[Entry],
+    refused: Option<u32>,
+    text: &mut Vec<u8>,
+) -> Result<(), AllocError>
     requires { length entries.now ≤ ENTRIES }
-    ensures { OnOk result (Adds text.old.items text.new.items (bars_text hands entries.now)) }
+    ensures { OnOk result (Adds text.old.items text.new.items
+        (rows_text frame refused entries.now)) }
 {
-    let mut buffer = Buffer::new();
-    put_all(&["<svg x=\"", buffer.format(hands), "0em\">\n"], text)?;
     for number in 0..entries.len() {
-        put_bar_at(entries, number, text)?;
+        put_shown_row(frame, number as u64, &entries[number], refused, text)?;
     }
-    put_all(&["</svg>\n</svg>\n"], text)
+    Ok(())
 }
 
-/// The text of a trace's picture.
-pub fn picture_of(alloc: Global, trace: &Trace) -> Result<Vec<u8>, AllocError>
-    ensures { IfOk result (λ text. text.items ≡ picture_of trace.now) }
+/// Adds the image of what is shown.
+fn put_image(
+    alloc: Global,
+    frame: Frame,
+    hands: u32,
+    entries: &[Entry],
+    refused: Option<u32>,
+    text: &mut Vec<u8>,
+) -> Result<(), AllocError>
+    requires few { length entries.now ≤ ENTRIES }
+    requires shown { frame.to ≤ ENTRIES }
+    ensures { OnOk result (Adds text.old.items text.new.items
+        (image_text frame hands refused entries.now)) }
 {
+    let width = width_of(frame.blocks, hands, longest(alloc, frame, entries)?);
+    put_head(width, height_of(rows_of(frame)), text)?;
+    put_legend(text)?;
+    put_columns(frame.blocks, text)?;
+    put_lanes(frame, hands, text)?;
+    put_bars(frame, entries, text)?;
+    put_rows(frame, entries, refused, text)?;
+    put_all(&["</svg>\n"], text)
+}
+
+/// The text of a trace's picture, of which this is shown.
+pub fn picture_of(alloc: Global, trace: &Trace, shown: Shown) -> Result<Vec<u8>, AllocError>
+    ensures { IfOk result (λ text. text.items ≡ picture_of trace.now shown) }
+{
+    let frame = frame_of(trace, shown);
     let hands = trace.opening().hands();
-    let entries = trace.entries();
-    let rows = entries.len() as u64;
     let mut text = Vec::new(alloc);
-    put_head(hands, rows, &mut text)?;
-    put_lanes(hands, rows, &mut text)?;
-    put_steps(entries, &mut text)?;
-    put_bars(hands, entries, &mut text)?;
+    put_image(
+        alloc,
+        frame,
+        hands,
+        trace.entries(),
+        shown.refused,
+        &mut text,
+    )?;
     Ok(text)
 }

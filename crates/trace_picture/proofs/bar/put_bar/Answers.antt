@@ -1,6 +1,10 @@
+use Rattle.picture_text.proofs.Joining.{Adds-then}
 use Rattle.trace_picture.specs.Bars.{bar_text}
+use Rattle.trace_picture.proofs.Rows.{on_ok}
 use Rattle.trace_picture.proofs.bar.put_bar.Goals as goal
 
 pub returns : goal.returns
 unfolding bar_text
-returns c = simp (c.format-digits.ensures.text, c.format.ensures.text, c.format-2.ensures.text) at c.put_all.ensures
+returns c =
+    let start = simp (c.class_of_bar.ensures, c.x_of.ensures, c.row_at.ensures, c.format.ensures.text, c.format-2.ensures.text, c.format-3.ensures.text) at c.in_ok-put_all.ensures in
+    on_ok c.put_all-2.result (λ end. Adds-then start (Adds-then c.in_ok-put_title.ensures end)) c.put_all-2.ensures

@@ -7,4 +7,4 @@ use Rattle.trace_picture.proofs.picture.put_bars.Given as goal
 abbrev pub invariant-loop-number : goal.invariant-loop-number
 invariant-loop-number l =
     Adds l.initial.text.items l.text.items
-    (flat_map (bar_at l.entries) (take l.number (range_with_len 0 (length l.entries))))
+    (flat_map (bar_at l.frame l.entries) (take l.number (range_with_len 0 (length l.entries))))

@@ -1,11 +1,11 @@
 use Rattle.std.proofs.Common.{arith}
-use Rattle.trace_picture.specs.Steps.{lane_text}
+use Rattle.trace_picture.specs.Headings.{lane_text}
 use Rattle.trace_picture.proofs.Rows.{row-each, row-more}
 use Rattle.trace_picture.proofs.picture.put_lanes.Goals as goal
 
 pub loop-hand-preserved : goal.loop-hand-preserved
 loop-hand-preserved c =
-    row-more (lane_text c.args.rows) c.args.hands c.loop-hand.hand c.loop-hand.invariant c.in_ok-put_lane.ensures (omega arith)
+    row-more (lane_text c.args.frame) c.args.hands c.loop-hand.hand c.loop-hand.invariant c.in_ok-put_lane.ensures (omega arith)
 
 pub returns : goal.returns
-returns c = row-each (lane_text c.args.rows) c.args.hands c.loop-hand.hand c.loop-hand.invariant (omega arith)
+returns c = row-each (lane_text c.args.frame) c.args.hands c.loop-hand.hand c.loop-hand.invariant (omega arith)
