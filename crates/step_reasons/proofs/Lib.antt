@@ -1,0 +1,11 @@
+pub mod Firsts
+pub mod Passing
+pub mod Complete
+pub mod Facts
+pub mod Told
+pub mod Views
+pub mod Zeros
+pub mod Children
+pub mod Standings
+pub mod ScanPlaces
+pub mod Forbidding

@@ -1,0 +1,5 @@
+use Rattle.picture_text.proofs.Joining.{Adds-then}
+use Rattle.trace_reasons.proofs.sentence.put_stands.Goals as goal
+
+pub returns : goal.returns
+returns c = Adds-then c.in_ok-put_subject.ensures c.in_ok-put_standing.ensures

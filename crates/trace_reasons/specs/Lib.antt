@@ -1,0 +1,4 @@
+pub mod Sentences
+pub mod Since
+pub mod Open
+pub mod Explaining
