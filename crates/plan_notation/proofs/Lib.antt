@@ -1,0 +1,8 @@
+pub mod Joins
+pub mod NodeSteps
+mod Parsed
+pub mod Stacks
+pub mod Whole
+pub mod WholeWords
+pub mod WholeNodes
+pub mod Ends

@@ -1,0 +1,13 @@
+pub mod Grammar
+pub mod Constants
+pub mod Names
+pub mod Settings
+pub mod Said
+pub mod Frames
+pub mod States
+pub mod Assembled
+pub mod Arguments
+pub mod Machine
+pub mod Reading
+pub mod Tokens
+pub mod NodeTokens

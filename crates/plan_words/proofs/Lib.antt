@@ -1,0 +1,7 @@
+pub mod Unplaced
+pub mod Bytes
+pub mod Laying
+pub mod Broken
+pub mod PageLemmas
+pub mod LongLemmas
+pub mod Numerals
