@@ -1,4 +1,3 @@
-pub mod Asks
 pub mod Reasons
 pub mod Answers
 pub mod Shows

@@ -6,10 +6,10 @@ ghost use Rattle.trace_commands.specs.Answers.{Prints};
 use exec_io::{Failed, Sink};
 use exec_status::{Status, tell};
 
-/// What is answered of a file: a picture, or why there is none.
+/// What is answered of a file: a picture, or why there is none; or what is said of a trace.
 #[derive(Drop)]
 pub struct Answer {
-    /// Whether it is a picture.
+    /// Whether it is a picture, or each entry of the trace is a step.
     pub drawn: bool,
     pub text: Vec<u8>,
 }

@@ -1,18 +1,16 @@
 //! What is answered of a plan file.
-ghost use Rattle.std.specs.Prelude.{◌≢◌, IfOk, IfErr};
+ghost use Rattle.std.specs.Prelude.{IfOk, IfErr};
 ghost use Rattle.exec_status.specs.Files.{IsFaultOf as IsFileFault, Misses, ReadsShelf};
 ghost use Rattle.plan_kinds.specs.Reached.{KindsMatch};
 ghost use Rattle.sig_check.specs.Checked.{AreSignatures};
-ghost use Rattle.picture_commands.specs.Answers.{HasShown, IsShownAs, ShowsPlan, the_plan};
-ghost use Rattle.plan_reader.specs.PlanFile.{IsFaultOf};
+ghost use Rattle.picture_commands.specs.Answers.{HasShown, IsShownAs, IsDrawingOf, the_plan};
 ghost use Rattle.trace_commands.specs.Refusals.{HasRefusal};
 
 use crate::answer::Answer;
-use crate::reason::reason_of;
+use crate::reason::told;
 use exec_io::Shelf;
 use exec_status::FileFault;
 use plan_picture::picture_of;
-use plan_places::refusal_of;
 use plan_reader::{PlanFault, read_plan};
 use plan_shape::Plan;
 use sig_check::{SigFault, Sigs, check};
@@ -57,27 +55,17 @@ fn drawn_or_told(alloc: Global, bytes: &[u8]) -> Result<Answer, AllocError>
             text: drawing_of(alloc, &plan)?,
         }),
         Err(PlanFault::NoMemory) => Err(AllocError),
-        Err(fault) => told(alloc, bytes, fault),
+        Err(fault) => Ok(Answer {
+            drawn: false,
+            text: told(alloc, bytes, fault)?,
+        }),
     }
-}
-
-/// Why these bytes are no plan.
-fn told(alloc: Global, bytes: &[u8], fault: PlanFault) -> Result<Answer, AllocError>
-    requires cause { fault ≢ PlanFault.NoMemory }
-    requires is { IsFaultOf bytes.now fault }
-    ensures { IfOk result (IsShownAs the_plan bytes.now) }
-{
-    let refusal = refusal_of(alloc, bytes, fault)?;
-    Ok(Answer {
-        drawn: false,
-        text: reason_of(alloc, &refusal)?,
-    })
 }
 
 /// The picture of a plan.
 fn drawing_of(alloc: Global, plan: &Plan) -> Result<Vec<u8>, AllocError>
     requires { KindsMatch plan.now.nodes plan.now.settings.input }
-    ensures { IfOk result (λ text. ShowsPlan plan.now text.items) }
+    ensures { IfOk result (λ text. IsDrawingOf plan.now text.items) }
 {
     let sigs = sigs_of(alloc, plan)?;
     picture_of(alloc, plan, &sigs)

@@ -1,18 +1,33 @@
 //! Why bytes are no plan, and where, in a sentence.
-ghost use Rattle.std.specs.Prelude.{◌≡◌, IfOk};
-ghost use Rattle.picture_commands.specs.Reasons.{head_of, reason_of, tail_of};
+ghost use Rattle.std.specs.Prelude.{◌≡◌, ◌≢◌, IfOk};
+ghost use Rattle.picture_commands.specs.Answers.{IsReasoned};
+ghost use Rattle.picture_commands.specs.Reasons.{head_of, reason_of};
+ghost use Rattle.plan_reader.specs.PlanFile.{IsFaultOf};
 
-use plan_places::{Cause, Refusal};
+use plan_places::{Cause, Refusal, refusal_of};
+use plan_reader::PlanFault;
 use std::alloc::{AllocError, Global};
 
+/// Why these bytes are no plan.
+pub(crate) fn told(alloc: Global, bytes: &[u8], fault: PlanFault) -> Result<Vec<u8>, AllocError>
+    requires cause { fault ≢ PlanFault.NoMemory }
+    requires is { IsFaultOf bytes.now fault }
+    ensures { IfOk result (λ text. IsReasoned bytes.now text.items) }
+{
+    let refusal = refusal_of(alloc, bytes, fault)?;
+    reason_of(alloc, &refusal)
+}
+
 /// Why bytes are no plan, and where, in a sentence.
-pub(crate) fn reason_of(alloc: Global, refusal: &Refusal) -> Result<Vec<u8>, AllocError>
+fn reason_of(alloc: Global, refusal: &Refusal) -> Result<Vec<u8>, AllocError>
     ensures { IfOk result
-        (λ text. text.items ≡ reason_of refusal.now.cause refusal.now.place.items) }
+        (λ text. text.items ≡ reason_of refusal.now) }
 {
     let mut text = Vec::from_slice(alloc, head_of(refusal.cause))?;
     text.extend_from_slice(&refusal.place)?;
-    text.extend_from_slice(tail_of(refusal.cause))?;
+    text.extend_from_slice(b": ")?;
+    text.extend_from_slice(refusal.reason.as_bytes())?;
+    text.extend_from_slice(b"\n")?;
     Ok(text)
 }
 
@@ -28,35 +43,5 @@ fn head_of(cause: Cause) -> &'static [u8]
         Cause::Limit | Cause::Depth | Cause::Misplaced | Cause::Size => b"refused: P5 limit",
         Cause::OtherJob | Cause::Kinds => b"refused: P6 kinds",
         Cause::Excluded => b"refused: P7 settings exclude each other",
-    }
-}
-
-/// The sentence behind its place.
-fn tail_of(cause: Cause) -> &'static [u8]
-    ensures { result.now ≡ tail_of cause }
-{
-    match cause {
-        Cause::TooLong => b": the file has more than 1048576 bytes\n",
-        Cause::NotJson => b": the file is no UTF-8, no JSON, or nests more than 127 deep\n",
-        Cause::Form => {
-            b": a value has another JSON type than its key asks for, a needed key is missing, or a \
-name of an error is none\n"
-        }
-        Cause::UnknownName => {
-            b": a key, a node, a job, a kind, a context, a query, a rule or a version isn't known\n"
-        }
-        Cause::Limit => b": a number, a length or a count is outside its limits\n",
-        Cause::Depth => b": the node stands more than 56 deep\n",
-        Cause::Misplaced => {
-            b": an ahead stands below a when_all, an unstoppable or another ahead\n"
-        }
-        Cause::Size => {
-            b": there are more nodes than a plan may have: 256 in version 1, and else 1024\n"
-        }
-        Cause::OtherJob => b": the job of the bulk is none over the elements of a row\n",
-        Cause::Kinds => {
-            b": the kinds of the node aren't those that its job or its siblings take\n"
-        }
-        Cause::Excluded => b": a simple scope takes no stop request, and a rule makes one\n",
     }
 }

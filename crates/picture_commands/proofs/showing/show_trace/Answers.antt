@@ -7,17 +7,17 @@ use Rattle.picture_commands.proofs.showing.show_trace.Goals as goal
 
 pub returns-in-Ok : goal.returns-in-Ok
 returns-in-Ok g c = λ records.
-    answered the_trace c.args.name.now
+    answered (the_trace c.args.rows) c.args.name.now
     (outside (g.F.Shelf.told c.args.shelf.now) records (g.K.Sink.told c.args.out.now) (g.N.Sink.told c.args.notes.now))
     (outside (g.F.Shelf.told c.trace_answer.new.shelf) records (g.K.Sink.told c.print_answer.new.out) (g.N.Sink.told c.conclude.new.notes))
-    (status_of c.in-Ok.answer.drawn) c.print_answer.result c.conclude.result trace-decided (is_answer c.in-Ok.answer.drawn)
+    (status_of c.in-Ok.answer.drawn) c.print_answer.result c.conclude.result (trace-decided c.args.rows) (is_answer c.in-Ok.answer.drawn)
     c.in-Ok.ensures.answer c.in-Ok.ensures.reads refl c.print_answer.ensures.prints c.conclude.ensures.concludes
     c.print_answer.ensures.later c.conclude.ensures.later
 
 pub returns-in-Err : goal.returns-in-Err
 returns-in-Err g c = λ records.
-    missed the_trace c.args.name.now
+    missed (the_trace c.args.rows) c.args.name.now
     (outside (g.F.Shelf.told c.args.shelf.now) records (g.K.Sink.told c.args.out.now) (g.N.Sink.told c.args.notes.now))
     (outside (g.F.Shelf.told c.trace_answer.new.shelf) records (g.K.Sink.told c.args.out.now) (g.N.Sink.told c.give_up.new.notes))
-    c.in-Err.fault c.give_up.result trace-decided c.in-Err.ensures.fault c.give_up.ensures.gives_up
+    c.in-Err.fault c.give_up.result (trace-decided c.args.rows) c.in-Err.ensures.fault c.give_up.ensures.gives_up
     c.in-Err.ensures.reads refl refl c.give_up.ensures.later

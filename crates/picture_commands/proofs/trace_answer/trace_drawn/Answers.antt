@@ -8,5 +8,5 @@ returns-in-Ok-drawing_of-clause-answer c = record {
   trace = c.in-Ok.trace;
   read = c.in-Ok.ensures.ok;
   status_is = ap status_of c.in-Ok-drawing_of.ensures.drawn;
-  text_is = c.in-Ok-drawing_of.ensures.text;
+  picture = c.in-Ok-drawing_of.ensures.text;
 }
