@@ -1,0 +1,11 @@
+pub mod AskLaws
+pub mod DealtLaws
+pub mod EndLaws
+pub mod JoinLaws
+pub mod LookLaws
+pub mod NoteLaws
+pub mod OpenLaws
+pub mod OrderLaws
+pub mod StatusLaws
+pub mod SummaryLaws
+pub mod TurnLaws

@@ -1,0 +1,28 @@
+-- Texts that are written with other names for what stands in them.
+use Rattle.std.proofs.Common.{◌≡◌, ℕ, List, ◌++◌, Result, sym, subst, append_assoc}
+use Rattle.exec_io.specs.declared.fault.Failed.{Failed}
+use Rattle.exec_io.specs.Views.{SinkView}
+use Rattle.exec_io.specs.Writing.{Puts}
+
+five : (a b c x y : List ℕ) → (((a ++ x) ++ b) ++ y) ++ c ≡ a ++ (x ++ (b ++ (y ++ c)))
+five a b c x y = simp append_assoc
+
+seven : (a b c d x y z : List ℕ) → (((((a ++ x) ++ b) ++ y) ++ c) ++ z) ++ d ≡ a ++ (x ++ (b ++ (y ++ (c ++ (z ++ d)))))
+seven a b c d x y z = simp append_assoc
+
+module _ {s t : SinkView} {r : Result (Unit {0}) Failed} where
+  pub one : (a b x y : List ℕ) → x ≡ y → Puts s t r (a ++ (x ++ b)) → Puts s t r (a ++ (y ++ b))
+  one a b x y same puts = subst (λ (l : List ℕ). Puts s t r (a ++ (l ++ b))) same puts
+
+  pub two : (a b c x y v w : List ℕ) → x ≡ y → v ≡ w → Puts s t r (a ++ (x ++ (b ++ (v ++ c)))) → Puts s t r ((((a ++ y) ++ b) ++ w) ++ c)
+  two a b c x y v w first second puts =
+      subst (λ (l : List ℕ). Puts s t r l) (sym (five a b c y w))
+      (subst (λ (l : List ℕ). Puts s t r (a ++ (l ++ (b ++ (w ++ c))))) first
+      (subst (λ (l : List ℕ). Puts s t r (a ++ (x ++ (b ++ (l ++ c))))) second puts))
+
+  pub three : (a b c d x y v w m n : List ℕ) → x ≡ y → v ≡ w → m ≡ n → Puts s t r (a ++ (x ++ (b ++ (v ++ (c ++ (m ++ d)))))) → Puts s t r ((((((a ++ y) ++ b) ++ w) ++ c) ++ n) ++ d)
+  three a b c d x y v w m n first second third puts =
+      subst (λ (l : List ℕ). Puts s t r l) (sym (seven a b c d y w n))
+      (subst (λ (l : List ℕ). Puts s t r (a ++ (l ++ (b ++ (w ++ (c ++ (n ++ d))))))) first
+      (subst (λ (l : List ℕ). Puts s t r (a ++ (x ++ (b ++ (l ++ (c ++ (n ++ d))))))) second
+      (subst (λ (l : List ℕ). Puts s t r (a ++ (x ++ (b ++ (v ++ (c ++ (l ++ d))))))) third puts)))

@@ -1,0 +1,9 @@
+pub mod Asks
+pub mod Statuses
+pub mod Parts
+pub mod Faults
+pub mod Joins
+pub mod Summaries
+pub mod Endings
+pub mod Notes
+pub mod Turns

@@ -1,0 +1,9 @@
+pub mod Sorts
+pub mod Lines
+pub mod Folders
+pub mod Readers
+pub mod Tallies
+pub mod Faults
+pub mod Puts
+pub mod MemFolders
+pub mod Outcomes
