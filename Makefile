@@ -1,6 +1,6 @@
 # `make try` runs the sample before any proof, in under a minute on four free cores.
-# `make run` proves both programs, the libraries below them side by side, and runs the sample: on a new machine with four
-# free cores well over half an hour, seconds later.
+# `make run` proves the three programs, the libraries below them side by side, and runs the sample: on a new machine with
+# four free cores well over half an hour, seconds later.
 # `make test` is the gate: everything is proved, and the proved program is tested.
 # `make stress` runs the proved program some thousand times with 1 to 16 workers, for at most half an hour.
 # `make bench` measures the proved program, with mawk, jq and mlr beside it where they are installed (bench/measure.py).
@@ -14,29 +14,34 @@
 PREFIX ?= /usr/local
 PROGRAM := crates/exec_run/out/exec_run
 SHOWS := crates/exec_show/out/exec_show
+JOINS := crates/exec_join/out/exec_join
 PLAN := samples/add_one.json
 NUMBERS := samples/numbers.txt
 
 SHARE := $(DESTDIR)$(PREFIX)/share
 BIN := $(DESTDIR)$(PREFIX)/bin
 NAMES := exec_run exec_show
-PAGES := exec_run.1 exec_show.1 exec_plan.5
+PAGES := exec_run.1 exec_show.1 exec_join.1 exec_plan.5
 SHARED := docs/plan.schema.json $(wildcard samples/senders.py)
 
 .PHONY: try run test stress bench growth docs install uninstall
 try:
 	cd crates/exec_run && rt try --data add_one.json=../../$(PLAN) -- run add_one.json < ../../$(NUMBERS)
 
-run: $(PROGRAM) $(SHOWS)
+run: $(PROGRAM) $(SHOWS) $(JOINS)
 	$(PROGRAM) run $(PLAN) < $(NUMBERS)
 
 $(PROGRAM): $(wildcard crates/*/src/*.rt crates/*/specs/*.antt)
-	tools/prove_libraries.py exec_run exec_show
+	tools/prove_libraries.py exec_run exec_show exec_join
 	cd crates/exec_run && rt run -- gen data/plan.json 1
 
 $(SHOWS): $(wildcard crates/*/src/*.rt crates/*/specs/*.antt)
 	tools/prove_libraries.py exec_show
 	cd crates/exec_show && rt run -- plan data/plan.json
+
+$(JOINS): $(wildcard crates/*/src/*.rt crates/*/specs/*.antt)
+	tools/prove_libraries.py exec_join
+	cd crates/exec_join && rt run -- lines data/a data/b
 
 test:
 	.ci/run
@@ -55,10 +60,11 @@ docs: $(PROGRAM) $(SHOWS)
 	tests/check_docs.py --write
 
 install:
-	@for it in "$(PROGRAM)" "$(SHOWS)"; do test -x "$$it" || \
+	@for it in "$(PROGRAM)" "$(SHOWS)" "$(JOINS)"; do test -x "$$it" || \
 	  { echo "no program at $$it: \`make run\` proves and builds it" >&2; exit 1; }; done
 	install -D -m 755 "$(PROGRAM)" "$(BIN)/exec_run"
 	install -D -m 755 "$(SHOWS)" "$(BIN)/exec_show"
+	install -D -m 755 "$(JOINS)" "$(BIN)/exec_join"
 	for it in $(PAGES); do \
 	  install -D -m 644 docs/$$it "$(SHARE)/man/man$${it##*.}/$$it" || exit 1; done
 	for it in $(NAMES); do \
@@ -72,5 +78,6 @@ uninstall:
 	for it in $(NAMES); do rm -f "$(BIN)/$$it" \
 	  "$(SHARE)/bash-completion/completions/$$it" "$(SHARE)/zsh/site-functions/_$$it" \
 	  "$(SHARE)/fish/vendor_completions.d/$$it.fish"; done
+	rm -f "$(BIN)/exec_join"
 	rm -f $(addprefix "$(SHARE)/exec_run/",$(notdir $(SHARED)))
 	rmdir "$(SHARE)/exec_run" 2>/dev/null || true

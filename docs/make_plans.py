@@ -5,7 +5,7 @@ writes docs/plan.schema.json and the manual page docs/exec_plan.5, with the same
 
     docs/make_plans.py crates/exec_run/out/exec_run
 
-Pictures are what exec_show prints, built beside it.
+Pictures, and plans in the notation of senders, are what exec_show prints, built beside it.
 
 Each plan is tried against the schema where Python has the package jsonschema, and so are those of
 tests/cases/plan_files.json: the schema must pass what the program takes, and refuse what it refuses for its form,
@@ -22,6 +22,8 @@ from make_page import page_of
 from make_schema import schema_of, schema_text
 
 HERE = os.path.dirname(os.path.abspath(__file__))
+# what a plan's canonical text has where the plan tells nothing
+DEFAULTS = {"scope": "counting", "on_error": "go"}
 
 INPUT = {"do": "input"}
 STOPPED = {"do": "just_stopped"}
@@ -439,7 +441,7 @@ integer of 64 bits: `1.0`, `1e2` and `-0` are none. Of a key that stands twice t
 
 A plan is refused for the first of these that holds, wherever in the file. A file of more than 1,048,576 bytes is
 refused by `plan refused: P1 too long`. `P4 unknown name` is also told of a name of another version: `unstoppable` and
-`ahead` aren't known in version 1.
+`ahead` aren't known in version 1. `exec_show plan plan.json` finds the place ("Pictures", below).
 
 | a plan | what notes say |
 |---|---|"""
@@ -452,24 +454,74 @@ nothing, and prints that line.
 """
 
 
+NOTATION = """## The notation of senders
+
+`exec_show write FILE` reads a plan as P2300 writes senders, and prints it as JSON in one line; `exec_show text
+plan.json` prints a plan in that notation, in lines of at most 100 columns, and what it prints is read back as the
+same plan. Nodes, jobs, contexts, kinds and settings have the names that they have in JSON.
+
+- Settings come first, each a name and its value: `version 2`, `input text`, `scope simple`, `on_error stop`,
+  `stop_after 5`. Without them the version is 1 and the input `int`; of a setting that stands twice the last counts.
+- Then comes a sender: `input`, `just(1, "a", [2,3])`, `just_error("name")`, `just_stopped`, `schedule(pool)`,
+  `delay(3)`, `read_env(record)`, `starts_on(pool, sender)`, `when_all(sender, ..)` or `ahead(sender, sender)`.
+- A bar hands a sender to the node behind it: `then(job)`, `upon_error(job)`, `upon_stopped(job)`, `let_value(job,
+  sender, ..)`, `let_error(job, sender, ..)`, `let_stopped(job, sender, ..)`, `continues_on(pool)`,
+  `stopped_as_optional(int)`, `stopped_as_error("name")`, `bulk(job)` or `unstoppable`. The sender is its `child`.
+- A job is its name and its operands, in the order of its keys in the section on jobs, without commas: `add 1`,
+  `within 1 9`, `append "x"`, `give 1 "two" [3]`.
+- Numbers, texts and rows are those of JSON. Blanks and line ends stand anywhere between words and marks, and behind
+  the commas of a row; from `#` to the end of its line stands a comment. A text goes on in the next one behind a
+  backslash: `"ab"\\` and `"cd"` on the next line are `"abcd"`.
+
+A text that is no plan is refused in one line, with its line and column, which counts characters, and the exit status
+is 1. First a text is refused for the first word or mark that can't stand there, and then as a plan is, with the place
+of the node.
+"""
+
+
+TEXTS = [
+    "input int\non_error stop\n\n# cents, and what they come to with tax\n"
+    "input | then(mul 119) | then(div 100) | then(show) | upon_error(append \"?\")\n",
+    "input int\nwhen_all(\n  starts_on(pool, inptu | then(mul 2)),\n  input\n) | then(sum)\n",
+    "input int\nwhen_all(input, input | then(show)) | then(sum)\n",
+    "ahead(input | then(mul 2), input)\n",
+    "schedule(pol)\n",
+]
+
 PICTURES = """## Pictures
 
 `exec_show plan plan.json`, a program beside `exec_run`, reads no records: it prints the plan as a digraph in the
 language of Graphviz, for `dot -Tsvg`. A box is a node, with its number and the name that the standard has for it;
-arrows go to its children, in order, and then to the bodies of a let. The parts of a bulk are not drawn. A box says
+arrows go to its children, in order, and dashed ones, with the body's number, to the bodies of a let. The parts of a bulk
+are not drawn. Of neighbours that are equal, all below them too, the first alone is drawn, and its box says how many there
+are, as `x51`. The colour of a box is the context in which its node is started, that of its border the context in which it
+completes; a legend says which is which. Where a hop finds a stop that was requested before its record was started, it
+completes where it was started, and so may what follows it. The loop starts the children of an `ahead`, and it completes
+there. A box says
 
-- in which contexts the node is started, and in which it completes. Where a hop finds a stop that was requested before its
-  record was started, it completes where it was started, and so may what follows it. The loop starts the
-  children of an `ahead`, and it completes there;
+- the node's own data, in the words of the plan file: its job, the values of a `just`, the turns of a `delay`, a let's
+  pick, a context, a query, a kind or an error;
 - which stop source its callback is registered on: that of the scope, that of a `when_all`, by its number, or none below
   an `unstoppable`;
 - what it can complete with: `set_value` with the kinds of the data, `set_error`, `set_stopped`. What isn't named never
-  comes, want of memory aside.
+  comes, want of memory aside. Equal kinds that stand side by side are counted, as `int x51`.
 
 Of a file that is no plan it prints in one line for which of the causes above it is refused, and where: a node by its path
 from the root, as `root.children[1].child`; the plan's own keys, which are those beside `root`; or a line and a column. Of
 several nodes that have the fault the first is told, and a node comes before those below it; of kinds that don't match it
-is the first in the order of numbers. The exit status is 0 with a picture, 1 with such a line, and otherwise as above.
+is the first in the order of numbers. Behind the place stands the word that is wrong, and what was wanted there: `unknown
+key "comment"; then takes child, do, job`, or `"turns" takes an integer from 0 to 1000000, not -1`. The exit status is 0
+with a picture, 1 with such a line, and otherwise as above.
+"""
+
+DRAWN = """The plan of samples/fan_out.json, lets in a let, and a `when_all` of 51 equal children, as `dot` draws them (the plans
+of the last two stand in docs/pictures):
+
+![A when_all of three children, two of which start on the pool](pictures/fan_out.svg)
+
+![Lets in a let: dashed arrows go to the bodies, with their numbers](pictures/lets.svg)
+
+![A when_all, and one box that stands for its 51 children](pictures/fan.svg)
 """
 
 
@@ -529,6 +581,17 @@ def wrapped(text):
     return "\n".join(textwrap.wrap(text, 100, break_long_words=False, break_on_hyphens=False))
 
 
+def notation(exe, plan):
+    """A plan in the notation, which is read back as that plan."""
+    status, text, notes = call(shower(exe), plan, [], command="text")
+    if status or notes:
+        sys.exit(f"a plan in the notation: {status} {notes}")
+    status, back, notes = call(shower(exe), text, [], command="write")
+    if status or notes or json.loads(back) != DEFAULTS | plan:
+        sys.exit(f"a text read back: {status} {back} {notes}")
+    return text
+
+
 def example(exe, faults, name, text, plan, records, words=()):
     status, out, notes = call(exe, plan, records, words)
     wrong = faults and faults(plan)
@@ -538,6 +601,7 @@ def example(exe, faults, name, text, plan, records, words=()):
     options = f", with `{' '.join(words)}`," if words else ""
     return (
         f"### `{name}`\n\n{wrapped(text)}\n\n```json\n{compact(plan)}\n```\n\n"
+        f"In the notation of senders:\n\n```text\n{notation(exe, plan)}```\n\n"
         f"Records {shown}{options} give, with exit status {status}:\n\n```text\n{out}```\n"
     )
 
@@ -580,8 +644,19 @@ def pictures(exe):
         sys.exit(f"a refusal: {status} {notes}")
     return (
         f"{PICTURES}\n```json\n{compact(plan)}\n```\n\ngives\n\n```text\n{picture}```\n\n"
-        f"```json\n{compact(bad)}\n```\n\ngives\n\n```text\n{sentence}```\n"
+        f"{DRAWN}\n```json\n{compact(bad)}\n```\n\ngives\n\n```text\n{sentence}```\n"
     )
+
+
+def notations(exe):
+    """The notation: its page, a plan, and texts that are refused."""
+    page = [NOTATION]
+    for text in TEXTS:
+        status, out, notes = call(shower(exe), text, [], command="write")
+        if status > 1 or notes:
+            sys.exit(f"a text: {status} {notes}")
+        page.append(f"```text\n{text}```\n\ngives\n\n```{'text' if status else 'json'}\n{out}```\n")
+    return "\n".join(page)
 
 
 def main():
@@ -605,6 +680,7 @@ def main():
     for name, text, plan, records, words in SETTINGS:
         page.append(example(exe, faults, name, text, plan, records, words.split()))
     page.append(summaries(exe))
+    page.append(notations(exe))
     page.append(pictures(exe))
     written = {
         "PLANS.md": "\n".join(page),

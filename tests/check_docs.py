@@ -5,7 +5,8 @@
 
 crates/README.md and docs/crates.svg show the rooms and crates of crates.txt, as docs/make_rooms.py writes them; --write
 writes them so. Each call that the drawings of docs/ARCHITECTURE.md name is a function of a file beside it. Each name in docs/PROVED.md stands in some crate, and each file that README.md or a page of docs/ names
-is there. Code in docs/LIBRARY.md stands so in the file that was named last before it. The last line is `N passed, M failed`; the status is 1 where one failed.
+is there. Code in docs/LIBRARY.md stands so in the file that was named last before it. No crate that uses atomic_table calls
+one of its words that no hand lists (UNLISTED). The last line is `N passed, M failed`; the status is 1 where one failed.
 """
 import os
 import re
@@ -20,6 +21,10 @@ PROVED = "docs/PROVED.md"
 QUOTING = "docs/LIBRARY.md"
 # a path as the documents write it, from the top of the repository or from crates/
 PATH = re.compile(r"(?<![\w/.<])(?:[\w.-]+/)+[\w.-]+\.(?:rt|antt|md|json|py|sh|edit|txt)\b")
+
+# what atomic_table offers beside the steps of a seat: looks without a seat, seats that a look makes, and sleep. A table's
+# hands list their steps, and these would be none; no contract can refuse them where the words are in reach
+UNLISTED = re.compile(r"(?:\.|::)(peek|load_new_seat|swap_new_seat|park|wake_one|wake_all)\b")
 
 # a line of a drawing: calls, then files below crates/, of which a later one may be named without its folder
 DRAWN = re.compile(r" *(\S.*?)  +((?:\w+/src/\w+\.rt)(?:, (?:\w+/src/)?\w+\.rt)*)(?:  .*)?")
@@ -106,9 +111,30 @@ def faults_of_quotes():
     return said if pieces else [f"{QUOTING} quotes no code"]
 
 
+def table_sources():
+    """The sources of the crates that use atomic_table."""
+    for crate in sorted(os.listdir(os.path.join(TOP, "crates"))):
+        folder = os.path.join("crates", crate, "src")
+        if os.path.isdir(os.path.join(TOP, folder)):
+            files = sorted(os.listdir(os.path.join(TOP, folder)))
+            names = [f"{folder}/{name}" for name in files if name.endswith(".rt")]
+            if any(re.search(r"^use atomic_table::", text_of(name), re.M) for name in names):
+                yield from names
+
+
+def faults_of_steps():
+    """The calls of a table's words that no hand lists."""
+    said, names = [], list(table_sources())
+    for name in names:
+        for number, line in enumerate(text_of(name).splitlines(), 1):
+            for call in UNLISTED.findall(line.split("//")[0]):
+                said.append(f"{name}:{number}: `{call}` is a step that no hand lists")
+    return said if names else ["no crate uses atomic_table"]
+
+
 def run():
     """Checks the documents. The answer is how many checks passed and how many failed."""
-    found = [make_rooms.faults(), faults_of_drawings(), faults_of_names(), faults_of_paths(), faults_of_quotes()]
+    found = [make_rooms.faults(), faults_of_drawings(), faults_of_names(), faults_of_paths(), faults_of_quotes(), faults_of_steps()]
     for fault in sum(found, []):
         print(f"FAILED  {fault}")
     failed = sum(1 for faults in found if faults)

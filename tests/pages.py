@@ -27,7 +27,9 @@ from room import Room, ended, try_those
 from run_cases import beside, main
 from streams import Wrong, expect
 
-PAGE, SHOWS_PAGE, PLANS_PAGE = (os.path.join("docs", name) for name in ("exec_run.1", "exec_show.1", "exec_plan.5"))
+PAGE, SHOWS_PAGE, JOINS_PAGE, PLANS_PAGE = PAGES = [
+    os.path.join("docs", name) for name in ("exec_run.1", "exec_show.1", "exec_join.1", "exec_plan.5")
+]
 SCHEMA, SENDERS = (os.path.join(TOP, name) for name in ("docs/plan.schema.json", "samples/senders.py"))
 MEASURE = os.path.join(TOP, "bench", "measure.py")
 # tools that a new user may not have: a block that calls one is skipped where it isn't installed
@@ -49,20 +51,21 @@ def usage_of(program):
 
 
 def the_pages_have_no_warnings(_):
-    for page in (PAGE, SHOWS_PAGE, PLANS_PAGE):
+    for page in PAGES:
         for command in (["man", "--warnings", "-l", page], ["groff", "-ww", "-man", "-z", page]):
             ran = ended(command, cwd=TOP)
             expect(" ".join(command), (0, ""), (ran.returncode, ran.stderr))
 
 
 def the_pages_are_clean_by_mandoc(_):
-    for page in (PAGE, SHOWS_PAGE, PLANS_PAGE):
+    for page in PAGES:
         ran = ended(["mandoc", "-T", "lint", page], cwd=TOP)
         expect(f"mandoc -T lint {page}", (0, ""), (ran.returncode, ran.stdout))
 
 
 def the_pages_say_each_line_of_the_usage_notes(program):
-    for of, page, count in ((program, PAGE, 4), (beside(program, "exec_show"), SHOWS_PAGE, 2)):
+    shows, joins = beside(program, "exec_show"), beside(program, "exec_join")
+    for of, page, count in ((program, PAGE, 4), (shows, SHOWS_PAGE, 5), (joins, JOINS_PAGE, 2)):
         lines = [line.removeprefix("usage: ") for line in usage_of(of)]
         expect(f"how many commands {page} has", count, len(lines))
         synopsis = plain_page(page).split("SYNOPSIS")[1].split("DESCRIPTION")[0]
@@ -137,7 +140,7 @@ def printed(room, block):
 
 
 def the_examples_of_the_pages_are_what_the_programs_print(program):
-    for page in (PAGE, SHOWS_PAGE):
+    for page in (PAGE, SHOWS_PAGE, JOINS_PAGE):
         examples = text_of(page).split(".SH EXAMPLES\n.EX\n")[1].split(".EE")[0]
         block = unescaped(re.sub(r"\\f[BP]", "", examples))
         with Room(program) as room:
@@ -179,7 +182,7 @@ def the_script_that_measures_finds_what_is_due(program):
 
 def made(folder, *words):
     """`make` of its own, whatever an outer one was called with."""
-    outside = ("MAKEFLAGS", "MFLAGS", "MAKELEVEL", "PREFIX", "DESTDIR", "PROGRAM", "SHOWS")
+    outside = ("MAKEFLAGS", "MFLAGS", "MAKELEVEL", "PREFIX", "DESTDIR", "PROGRAM", "SHOWS", "JOINS")
     kept = {name: value for name, value in os.environ.items() if name not in outside}
     return ended(["make", "-s", "-C", TOP, *words, f"DESTDIR={folder}"], env=kept)
 
@@ -191,18 +194,20 @@ def files_below(folder):
 
 def make_install_puts_its_files_and_make_uninstall_takes_them_away(program):
     for prefix, words in (("usr/local", []), ("opt/exec", ["PREFIX=/opt/exec"])):
-        puts, shows = {}, beside(program, "exec_show")
+        puts, shows, joins = {}, beside(program, "exec_show"), beside(program, "exec_join")
         for name, built, page in (("exec_run", program, PAGE), ("exec_show", shows, SHOWS_PAGE)):
             puts[f"{prefix}/bin/{name}"] = (built, 0o755)
             puts[f"{prefix}/share/man/man1/{name}.1"] = (os.path.join(TOP, page), 0o644)
             puts[f"{prefix}/share/bash-completion/completions/{name}"] = (completion("bash", name), 0o644)
             puts[f"{prefix}/share/zsh/site-functions/_{name}"] = (completion("zsh", name), 0o644)
             puts[f"{prefix}/share/fish/vendor_completions.d/{name}.fish"] = (completion("fish", name), 0o644)
+        puts[f"{prefix}/bin/exec_join"] = (joins, 0o755)
+        puts[f"{prefix}/share/man/man1/exec_join.1"] = (os.path.join(TOP, JOINS_PAGE), 0o644)
         puts[f"{prefix}/share/man/man5/exec_plan.5"] = (os.path.join(TOP, PLANS_PAGE), 0o644)
         for path in filter(os.path.isfile, (SCHEMA, SENDERS)):
             puts[f"{prefix}/share/exec_run/{os.path.basename(path)}"] = (path, 0o644)
         with tempfile.TemporaryDirectory() as folder:
-            ran = made(folder, "install", f"PROGRAM={program}", f"SHOWS={shows}", *words)
+            ran = made(folder, "install", f"PROGRAM={program}", f"SHOWS={shows}", f"JOINS={joins}", *words)
             expect("make install", (0, ""), (ran.returncode, ran.stderr))
             expect("the files", sorted(puts), files_below(folder))
             for name, (source, mode) in puts.items():

@@ -18,14 +18,15 @@ def ended(command, **settings):
 
 
 class Room:
-    """A folder with the samples, a plan, and both programs on the path, where commands are run."""
+    """A folder with the samples, a plan, and the programs on the path, where commands are run."""
 
     def __init__(self, program, plan=plan_of(ADD_ONE).decode()):
         self.folder = tempfile.TemporaryDirectory()
         self.name = self.folder.name
         os.mkdir(self.path("bin"))
         os.symlink(program, self.path("bin/exec_run"))
-        os.symlink(beside(program, "exec_show"), self.path("bin/exec_show"))
+        for name in ("exec_show", "exec_join"):
+            os.symlink(beside(program, name), self.path(f"bin/{name}"))
         os.symlink(os.path.join(TOP, "samples"), self.path("samples"))
         self.write("plan.json", plan)
 

@@ -1,9 +1,10 @@
 #!/usr/bin/env python3
 """Runs the tables of cases, the streams, spoilt plans and random ones over each build of the program, and over that of
-exec_show beside it; reads its pictures (tests/pictures.py), refuses the program memory (tests/refused_memory.py), tries
-what is handed out beside it (tests/pages.py, tests/completions.py, tests/scale.py, tests/recorder.py), counts what is
-hard to read (tests/house.py), and checks the documents: docs/PLANS.md, docs/exec_plan.5 and docs/plan.schema.json must
-be what docs/make_plans.py writes with that build.
+exec_show beside it; reads its pictures (tests/pictures.py), what it says of refused plans (tests/refusals.py) and of
+refused entries (tests/reasons.py), and its plans as text (tests/notation.py); refuses the program memory
+(tests/refused_memory.py); tries what is handed out beside it (tests/pages.py, tests/completions.py, tests/scale.py,
+tests/engines.py, tests/recorder.py); counts what is hard to read (tests/house.py); and checks the documents:
+docs/PLANS.md, docs/exec_plan.5 and docs/plan.schema.json must be what docs/make_plans.py writes with that build.
 
     tests/run_all.py [--gate STATUS] [PROGRAM..]
 
@@ -20,12 +21,16 @@ import tempfile
 
 import check_docs
 import completions
+import engines
 import house
 import mutate_plans
+import notation
 import pages
 import pictures
 import random_plans
+import reasons
 import recorder
+import refusals
 import refused_memory
 import run_cases
 import scale
@@ -44,7 +49,7 @@ def builds():
 def cookbook(program):
     """Writes docs/PLANS.md and the schema anew in a copy. The answer is how many checks passed and how many failed."""
     with tempfile.TemporaryDirectory() as folder:
-        for name in ("docs", "tests"):
+        for name in ("docs", "samples", "tests"):
             shutil.copytree(os.path.join(check_docs.TOP, name), os.path.join(folder, name))
         command = [sys.executable, "docs/make_plans.py", os.path.abspath(program)]
         made = subprocess.run(command, cwd=folder, capture_output=True, check=False)
@@ -72,7 +77,8 @@ def main():
             counts.append((0, 1))
             continue
         scripts = (
-            run_cases, streams, mutate_plans, random_plans, pictures, refused_memory, pages, completions, scale, recorder
+            run_cases, streams, mutate_plans, random_plans, pictures, refusals, reasons, notation, refused_memory, pages,
+            completions, scale, engines, recorder
         )  # fmt: skip
         found = [it.run(program) for it in scripts]
         found.append(cookbook(program))
