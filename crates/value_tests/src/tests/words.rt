@@ -25,6 +25,6 @@ fn the_largest_table_has_so_many_words(rt: HostRuntime) {
         blocks: 256,
         nodes: 1025,
     };
-    assert!(rt; layout.words() == 32 + 256 * (3 * 1025 + 16));
-    assert!(rt; layout.source(255, 1024) == layout.words() - 16);
+    assert!(rt; layout.words() == 32 + 256 * (4 * 1025 + 16));
+    assert!(rt; layout.source(255, 1024) == layout.words() - 2);
 }
