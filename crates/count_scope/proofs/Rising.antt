@@ -4,7 +4,7 @@ use Rattle.std.proofs.lemmas.Bool.{and_parts, and_from, or_parts, eqb-true, not-
 use Rattle.life_rules.specs.declared.scope.ScopeWord.{ScopeWord}
 use Rattle.life_rules.specs.Scopes.{may_seal}
 use Rattle.table_words.specs.Stamps.{bit}
-use Rattle.listed_steps.specs.declared.seen.Seen.{Seen}
+use Rattle.listed_words.specs.declared.seen.Seen.{Seen}
 use Rattle.table_rules.specs.Grown.{HasBitsOf, KeepsBits}
 use Rattle.count_scope.specs.Seals.{IsFresh}
 use Rattle.count_scope.specs.Tries.{is_settled}

@@ -2,8 +2,8 @@
 use Rattle.std.specs.Prelude.{◌≡◌, ℕ, List, [], ◌∷◌}
 use Rattle.life_rules.specs.declared.scope.ScopeWord.{ScopeWord}
 use Rattle.table_words.specs.ScopeNumbers.{scope_read}
-use Rattle.listed_steps.specs.declared.seen.Seen.{Seen}
-use Rattle.listed_steps.specs.Lists.{entry}
+use Rattle.listed_words.specs.declared.seen.Seen.{Seen}
+use Rattle.listed_words.specs.Lists.{entry}
 use Rattle.table_rules.specs.declared.view.View.{View}
 use Rattle.table_rules.specs.Grown.{HasBitsOf}
 use Rattle.table_steps.specs.Claims.{with_step, Seated}

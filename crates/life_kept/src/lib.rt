@@ -1,8 +1,8 @@
 //! The laws of an operation's life: what is sound stays sound at each of its steps, and a block is
 //! given back only when nothing touches it any more.
 //!
-//! It stands on life_rules, which has the steps and says what `Sound` and `Quiet` are. Its functions
-//! do nothing: their contracts are the laws, over every state.
+//! It stands on life_rules, which has the steps and says what `Sound` and `Quiet` are. Its
+//! functions do nothing: their contracts are the laws, over every state.
 #![tactic(auto)]
 
 ghost use Rattle.std.specs.Prelude.{ℕ, List};

@@ -22,7 +22,8 @@ use Rattle.life_laws.specs.Reached.{Reached, first}
 -- what is sound stays sound
 abbrev pub SoundIsKept : Type 0
 SoundIsKept =
-    (old : State) (hand : ℕ) (event : Event) (new : State) → Sound old → Step old hand event new → Sound new
+    (old : State) (hand : ℕ) (event : Event) (new : State) → Sound old → Step old hand event new →
+    Sound new
 
 -- whatever all hands do, the state is sound between any two steps
 abbrev pub ReachedIsSound : Type 0

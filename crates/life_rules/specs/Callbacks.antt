@@ -15,7 +15,8 @@ use Rattle.life_rules.specs.Scans.{is_next_in}
 pub record IsFresh (s : State) (x : Name) : Type 0 where
   pub callback : phase_at s x ≡ Never
   pub source : bits_at s (Node x) ≡ clear
-  pub children : (n : ℕ) → is_child s.tree x.node n ≡ true → is_idle (control_at s (beside x n)) ≡ true
+  pub children : (n : ℕ) → is_child s.tree x.node n ≡ true →
+      is_idle (control_at s (beside x n)) ≡ true
 
 abbrev pub BeginsInOrder : State → Type 0
 BeginsInOrder s = (x : Name) → is_idle (control_at s x) ≡ true → IsFresh s x

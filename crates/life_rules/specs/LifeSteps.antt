@@ -109,9 +109,11 @@ may_report s h p =
     let v = s.view h in
     is_place s p
     && (nat_le 1 (v.reports (name_at s p))
-    && option_map_or (λ q. not (is_scanning v (Node (name_of s p.block q)))) (parent_of s.tree p.node) false)
+    && option_map_or (λ q. not (is_scanning v (Node (name_of s p.block q))))
+    (parent_of s.tree p.node) false)
 
--- the child's report to its parent x: one child less is pending, and after the last the hand holds x
+-- the child's report to its parent x: one child less is pending, and after the last the hand holds
+-- x
 abbrev pub reported_to : State → ℕ → Place → Name → State
 reported_to s h p x =
     let v = s.view h in

@@ -12,7 +12,8 @@ use Rattle.life_rules.specs.States.{State, size, is_live, control_at, stand}
 use Rattle.common_lemmas.specs.Sums.{total}
 
 -- how often all views together have a name, against its word
-pub record Fits (holds starts reports finished : ℕ) (live root : Bool) (word : ControlWord) : Type 0 where
+pub record Fits (holds starts reports finished : ℕ) (live root : Bool)
+    (word : ControlWord) : Type 0 where
   -- a node is held exactly where a view holds it
   pub held : holds ≡ one (is_held word)
   -- one whose start is owed is of an open block, and idle
@@ -30,7 +31,8 @@ IsOwned s x =
     Fits (stand s (λ v. v.holds) x) (stand s (λ v. v.starts) x) (stand s (λ v. v.reports) x)
     (stand s (λ v. v.finished) x) (is_live s x) (is_root s.tree x.node) (control_at s x)
 
--- what a child counts for in its parent's word: it is under way, its start is owed, its report is owed
+-- what a child counts for in its parent's word: it is under way, its start is owed, its report is
+-- owed
 abbrev pub weight : State → Name → ℕ
 weight s x =
     one (is_under_way (control_at s x)) + stand s (λ v. v.starts) x + stand s (λ v. v.reports) x

@@ -8,8 +8,8 @@ use Rattle.life_rules.specs.LifeSteps.{may_release}
 use Rattle.life_rules.specs.Sound.{Sound}
 use Rattle.life_rules.specs.States.{State, size, name_of, control_at, phase_at, stand}
 
--- no view has the node in any way but as a finished root, its callback is at rest, no scan is of its
--- source, and it is done where it has begun
+-- no view has the node in any way but as a finished root, its callback is at rest, no scan is of
+-- its source, and it is done where it has begun
 pub record IsQuietAt (s : State) (x : Name) : Type 0 where
   pub holds : stand s (λ v. v.holds) x ≡ 0
   pub starts : stand s (λ v. v.starts) x ≡ 0

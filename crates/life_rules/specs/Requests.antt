@@ -12,11 +12,12 @@ use Rattle.common_lemmas.specs.Sums.{total}
 use Rattle.life_rules.specs.Scans.{HasPassed}
 use Rattle.life_rules.specs.Callbacks.{nearest_is_requested}
 
--- the view is where a scan of x's source may stand: it runs x's callback, holds x, or owes the report
--- of a child of x
+-- the view is where a scan of x's source may stand: it runs x's callback, holds x, or owes the
+-- report of a child of x
 abbrev pub may_scan : State → View → Name → ℕ
 may_scan s v x =
-    v.runs x + v.holds x + total (λ n. one (is_child s.tree x.node n) * v.reports (beside x n)) (size s)
+    v.runs x + v.holds x + total (λ n. one (is_child s.tree x.node n) * v.reports (beside x n))
+    (size s)
 
 -- a scan of the source may go on: it is requested, and isn't scanned
 pub record IsScannable (s : State) (source : SourceRef) : Type 0 where
@@ -48,7 +49,8 @@ pub record RequestsFollow (s : State) : Type 0 where
 -- the source was scanned, or a view's scan of it has passed x
 abbrev pub WasPassed : State → SourceRef → Name → Type 0
 WasPassed s source x =
-    ((bits_at s source).scanned ≡ true) ⊎ ((h : ℕ) × (h < s.hands) × HasPassed s (s.view h) source x)
+    ((bits_at s source).scanned ≡ true)
+    ⊎ ((h : ℕ) × (h < s.hands) × HasPassed s (s.view h) source x)
 
 -- some view hasn't looked after x yet, or has seen the request after arming it
 abbrev pub IsNoted : State → Name → Type 0
@@ -58,5 +60,6 @@ IsNoted s x =
 -- a place that is still armed behind a scan is looked after by the view that armed it
 abbrev pub NothingMissed : State → Type 0
 NothingMissed s =
-    (x : Name) (source : SourceRef) → nearest_of s x ≡ Some source → is_armed (phase_at s x) ≡ true →
+    (x : Name) (source : SourceRef) → nearest_of s x ≡ Some source →
+    is_armed (phase_at s x) ≡ true →
     WasPassed s source x → IsNoted s x

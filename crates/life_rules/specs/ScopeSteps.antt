@@ -1,5 +1,5 @@
--- The steps of the counting scope, and the step that wakes a parked node. `may_x` is what the step x
--- needs, `after_x` the state after it.
+-- The steps of the counting scope, and the step that wakes a parked node. `may_x` is what the step
+-- x needs, `after_x` the state after it.
 use Rattle.std.specs.Prelude.{ℕ, ◌+◌, ◌-◌, Bool, true, not, ◌&&◌, ◌||◌, ◌==◌, nat_le, if◌then◌else◌}
 use Rattle.life_rules.specs.declared.words.ControlWord.TheVariants.{ReadyLoop}
 use Rattle.life_rules.specs.declared.scope.ScopeWord.{ScopeWord}

@@ -83,8 +83,8 @@ has_begun_below s x =
 abbrev pub has_seen_nearest : State → View → Name → Bool
 has_seen_nearest s v x = option_map_or v.seen (nearest_of s x) false
 
--- the hand passes the request of the nearest source on to x: it runs x's callback, or holds x before
--- its children begin and has seen that request
+-- the hand passes the request of the nearest source on to x: it runs x's callback, or holds x
+-- before its children begin and has seen that request
 abbrev pub may_forward : State → View → Name → Bool
 may_forward s v x =
     nat_le 1 (v.runs x)
@@ -94,7 +94,8 @@ may_forward s v x =
 abbrev pub has : View → Name → Bool
 has v x = nat_le 1 (v.holds x + v.starts x + v.reports x + v.finished x + v.runs x)
 
--- the source can't go away under the hand: it is the scope's, or of an operation that the hand is in
+-- the source can't go away under the hand: it is the scope's, or of an operation that the hand is
+-- in
 abbrev pub is_live_for : State → View → SourceRef → Bool
 is_live_for s v Scope = true
 is_live_for s v (Node x) = some_below (λ n. has v (beside x n)) (size s)
@@ -194,7 +195,8 @@ after_withdraw s h p =
     else with_view s h
     (record v { seen = option_map_or (λ source. note source true v.seen) (nearest_of s x) v.seen })
 
--- withdraw_own: the hand holds the node and runs its callback, and doesn't scan the node's own source
+-- withdraw_own: the hand holds the node and runs its callback, and doesn't scan the node's own
+-- source
 abbrev pub may_withdraw_own : State → ℕ → Place → Bool
 may_withdraw_own s h p = may_end_run s h p && nat_le 1 ((s.view h).holds (name_at s p))
 
@@ -223,7 +225,8 @@ may_skip s h b =
     let v = s.view h in
     nat_lt b s.blocks
     && (is_free (s.block b).state
-    && some_below (λ n. is_next_in s v Scope (name_of s b n) && v.runs (name_of s b n) == 0) (size s))
+    && some_below (λ n. is_next_in s v Scope (name_of s b n) && v.runs (name_of s b n) == 0)
+    (size s))
 
 -- the scan goes on in the next block
 abbrev pub after_skip : State → ℕ → ℕ → State

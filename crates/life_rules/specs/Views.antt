@@ -1,4 +1,5 @@
--- What one hand knows of its own doings. A hand is the token by which one thread works on the words.
+-- What one hand knows of its own doings. A hand is the token by which one thread works on the
+-- words.
 use Rattle.std.specs.Prelude.{ℕ, ◌+◌, ◌-◌, Bool, true, false, ◌&&◌, ◌||◌, not, ◌==◌, if◌then◌else◌, List, Option, None, is_some}
 use Rattle.std.specs.List.{list_any}
 use Rattle.common_lemmas.specs.Sums.{one}

@@ -31,7 +31,11 @@ impl Model for NameSet {
 
     ghost Value = { Marks };
 
-    ghost view = { λ set. record { layout = set.layout; bits = set.bits.items; generations = set.generations.items } };
+    ghost view = { λ set. record {
+      layout = set.layout;
+      bits = set.bits.items;
+      generations = set.generations.items;
+    } };
 
     ghost invariant = { λ set. IsKept set.layout set.bits.items set.generations.items set.low set.high };
 }

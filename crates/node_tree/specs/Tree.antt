@@ -40,7 +40,8 @@ source_above tree zero n = TheScope
 source_above tree (suc steps) n =
     option_map_or (λ p. given_by tree p (source_above tree steps p)) (parent_of tree n) TheScope
 
--- that source, none where the ancestor is unstoppable, and the scope's where there is no such ancestor
+-- that source, none where the ancestor is unstoppable, and the scope's where there is no such
+-- ancestor
 abbrev pub nearest : List TreeNode → ℕ → Nearest
 nearest tree n = source_above tree (length tree) n
 

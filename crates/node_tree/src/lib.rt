@@ -1,5 +1,6 @@
-//! The tree of an operation's nodes, checked once, and the stop source that each node hears; and the
-//! small types that plans and running operations share: contexts, lists of nodes, kinds of scopes.
+//! The tree of an operation's nodes, checked once, and the stop source that each node hears; and
+//! the small types that plans and running operations share: contexts, lists of nodes, kinds of
+//! scopes.
 //!
 //! specs/Tree says what a tree is. A `Tree` that was opened keeps the rules, so nothing above tests
 //! them again. It stands on common_lemmas, whose lemmas its proofs cite.

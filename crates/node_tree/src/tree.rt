@@ -31,8 +31,8 @@ impl fmt::Display for TreeFault {
 
 impl Error for TreeFault {}
 
-/// A tree of operations, seen as the list of its nodes: at least one, at most `MOST_NODES`. Each node
-/// but the last, the root, has a parent of greater number.
+/// A tree of operations, seen as the list of its nodes: at least one, at most `MOST_NODES`. Each
+/// node but the last, the root, has a parent of greater number.
 #[derive(Debug, Drop)]
 pub struct Tree {
     nodes: Vec<TreeNode>,
@@ -64,7 +64,8 @@ impl Clone for Tree {
 }
 
 impl Tree {
-    /// The tree of these nodes. It fails with `Shape` where they are no tree, before it takes memory.
+    /// The tree of these nodes. It fails with `Shape` where they are no tree, before it takes
+    /// memory.
     pub fn open(alloc: Global, nodes: Vec<TreeNode>) -> Result<Tree, TreeFault>
         ensures nodes { IfOk result (λ tree. tree ≡ nodes.items) }
         ensures tree { OnOk result (IsTree nodes.items) }

@@ -10,18 +10,20 @@ use Rattle.table_steps.specs.Begins.{CanBegin}
 use Rattle.table_steps.specs.Slots.{has_seen, held_at, owed_at, home_at}
 use Rattle.table_steps.specs.Swaps.{IsSwapped}
 
-module _ {P E O : Type 0} (cargo : Ghosts P E O) (f : Frame O) (m : Seated P E) (x : Name) (item : P) where
-  -- the hand holds the node, and the item shows the node's start and fits, by what the hand has seen of
-  -- requests and was told when it came to hold the node
+module _ {P E O : Type 0} (cargo : Ghosts P E O) (f : Frame O) (m : Seated P E) (x : Name)
+    (item : P) where
+  -- the hand holds the node, and the item shows the node's start and fits, by what the hand has
+  -- seen of requests and was told when it came to hold the node
   pub record FitsHeld : Type 0 where
     pub held : Held E
     pub holds : held_at m.0 x ≡ Some held
     pub start : cargo.start item ≡ held.start
     pub fit : cargo.fits item x.node (has_seen f.tree m.0 x || held.told)
 
-  -- the hand owes the node's start. The start that the item shows goes on with that of the parent, has the
-  -- table's key, and draws the lot with which the node is owed; the root's goes on with nothing, and draws
-  -- nothing. The item fits by what the hand has seen of requests, and is no completion
+  -- the hand owes the node's start. The start that the item shows goes on with that of the parent,
+  -- has the table's key, and draws the lot with which the node is owed; the root's goes on with
+  -- nothing, and draws nothing. The item fits by what the hand has seen of requests, and is no
+  -- completion
   pub record FitsOwed : Type 0 where
     pub owed : Owed E
     pub owes : owed_at m.0 x ≡ Some owed
@@ -47,5 +49,6 @@ module _ {P E O : Type 0} (f : Frame O) (x : Name) where
   IsTakenOut answer m m' = IsSwapped f x None answer m m'
 
 -- where the hand owes the node's start, it can begin it with the item that it put
-abbrev pub BeginsThen : {P E O : Type 0} → Ghosts P E O → Frame O → Name → P → Seated P E → Seated P E → Type 0
+abbrev pub BeginsThen : {P E O : Type 0} → Ghosts P E O → Frame O → Name → P → Seated P E →
+    Seated P E → Type 0
 BeginsThen cargo f x item m m' = FitsOwed cargo f m x item → CanBegin cargo f m' x

@@ -1,5 +1,5 @@
--- What a hand has of one node: the start that it owes, or the node that it holds, and what lies in the
--- homes that it has with it.
+-- What a hand has of one node: the start that it owes, or the node that it holds, and what lies in
+-- the homes that it has with it.
 use Rattle.std.specs.Prelude.{◌≡◌, ℕ, ◌<◌, ◌≤◌, true, false, ◌==◌, if◌then◌else◌, [], length, Option, Some}
 use Rattle.life_rules.specs.declared.event.Name.{Name}
 use Rattle.node_tree.specs.Tree.{is_child}
@@ -24,8 +24,8 @@ abbrev pub OwesReport : {P E : Type 0} → Name → Reported P E → Seated P E 
 OwesReport x entry m = reported_at m.0 x ≡ Some entry
 
 module _ {O : Type 0} (f : Frame O) (x : Name) where
-  -- the table has a place for each node of the tree, the node is one of them, and its children stand
-  -- before it
+  -- the table has a place for each node of the tree, the node is one of them, and its children
+  -- stand before it
   pub record HasPlaces : Type 0 where
     pub wide : length f.tree ≤ f.layout.nodes
     pub node : x.node < f.layout.nodes
@@ -42,7 +42,8 @@ module _ {P E O : Type 0} (f : Frame O) (x : Name) where
     pub home : home_at f.layout m x ≡ Some inside
 
   -- the hand holds the node. This lies in the node's home, and this in those of its children
-  pub record Tends (held : Held E) (inside : Option P) (kid : ℕ → Option P) (m : Seated P E) : Type 0 where
+  pub record Tends (held : Held E) (inside : Option P) (kid : ℕ → Option P)
+      (m : Seated P E) : Type 0 where
     pub holds : held_at m.0 x ≡ Some held
     pub own : home_at f.layout m x ≡ Some inside
     pub kids : (n : ℕ) → is_child f.tree x.node n ≡ true →
@@ -51,4 +52,5 @@ module _ {P E O : Type 0} (f : Frame O) (x : Name) where
 -- what the hand owes besides the node it still owes, and what lies in those homes still lies there
 abbrev pub KeepsOwed : {P E O : Type 0} → Frame O → Name → Seated P E → Seated P E → Type 0
 KeepsOwed {P} {E} f x m m' =
-    (y : Name) (owed : Owed E) (inside : Option P) → AreApart f x y → Owes f y owed inside m → Owes f y owed inside m'
+    (y : Name) (owed : Owed E) (inside : Option P) → AreApart f x y → Owes f y owed inside m →
+    Owes f y owed inside m'

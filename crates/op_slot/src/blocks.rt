@@ -36,14 +36,14 @@ fn block_round(blocks: u32, from: u32, step: u32) -> u32
     }
 }
 
-/// Claims a free block, the first that it finds round from this block on: hands that begin at blocks
-/// of their own don't meet at one. None only where each block, at its own step of this call, wasn't
-/// free, or was moved by another hand between this hand's load and its exchange.
+/// Claims a free block, the first that it finds round from this block on: hands that begin at
+/// blocks of their own don't meet at one. None only where each block, at its own step of this call,
+/// wasn't free, or was moved by another hand between this hand's load and its exchange.
 ///
 /// Step: for each block one load of its word, and where it is free one exchange, free to open.
 /// Needs: a block of the table, or their number, after which block 0 is the next.
-/// Afterwards: the hand owes the root's start, of which it has noted none, with nothing above it and
-/// no lot.
+/// Afterwards: the hand owes the root's start, of which it has noted none, with nothing above it
+/// and no lot.
 pub fn claim_from<P: Cargo>(table: &OpTable<P>, hand: &mut Hand<P>, from: u32) -> Option<Block>
     requires table { IsHandOf table.now hand.old }
     requires from { from ≤ table.now.frame.layout.blocks }

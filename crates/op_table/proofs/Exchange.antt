@@ -11,7 +11,7 @@ use Rattle.table_steps.specs.Views.{aimed}
 use Rattle.table_steps.specs.Claims.{Seated}
 use Rattle.table_steps.specs.Slots.{slot_of}
 use Rattle.table_steps.specs.Swaps.{TurnsTo}
-use Rattle.table_kept.proofs.Swapping.{Swap}
+use Rattle.table_life_kept.proofs.Turn.Swapping.{Swap}
 
 module _ {P E O : Type 0} (board : Frame O) (x : Name) where
   -- the hand of this seat turned to the node's home

@@ -30,7 +30,7 @@ use Rattle.table_kept.proofs.Entries.{count-without}
 use Rattle.table_kept.proofs.Awaiting.{named-child}
 use Rattle.table_kept.proofs.BeginSeats.{or-left}
 use Rattle.table_kept.proofs.Remembering.{exactly-still}
-use Rattle.table_kept.proofs.RememberTold.{named-places}
+use Rattle.table_life_kept.proofs.RememberTold.{named-places}
 use Rattle.op_table.specs.OnlyChild.{CanBeginChild}
 
 -- the first of a list of slots is found

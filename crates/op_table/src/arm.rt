@@ -18,17 +18,17 @@ pub struct Arms<K> {
 }
 
 impl<P, E, K: Subject> Play<Option<P>, View<P, E>> for Arms<K> {
-    ghost then = { λ step m found m'. FindsCallback K.aim.name Never (arms K.aim.name) step.word found step.first m m' };
+    ghost then = { λ step m found m'. FindsCallback K.aim.name Never
+        (arms K.aim.name) step.word found step.first m m' };
 }
 
 impl<P: Cargo> OpTable<P> {
-    /// Registers the node's callback on the node's nearest source. A request may have been made before:
-    /// so a look at that source has to follow.
+    /// Registers the node's callback on the node's nearest source. A request may have been made
+    /// before: so a look at that source has to follow.
     ///
     /// Step: one swap of the node's callback word, never to armed.
-    /// Needs: the hand holds the node, has read that its callback was never registered, and the node
-    /// hears a source.
-    /// Afterwards: the place is armed, and not looked after yet.
+    /// Needs: the hand holds the node, has read that its callback was never registered, and the
+    /// node hears a source. Afterwards: the place is armed, and not looked after yet.
     pub fn arm_step(&self, hand: &mut Hand<P>, name: Name)
         requires table { IsHandOf self.now hand.old }
         requires place { IsPlaceIn self.now name }

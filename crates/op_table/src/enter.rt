@@ -27,17 +27,18 @@ pub struct Enters<K> {
 }
 
 impl<P, E, K: Room> Play<Option<P>, View<P, E>> for Enters<K> {
-    ghost then = { λ step m found m'. MovesScopeAt with_one_more (enters K.most) step.word found (plus_one found) m m' };
+    ghost then = { λ step m found m'. MovesScopeAt with_one_more (enters K.most) step.word found
+        (plus_one found) m m' };
 }
 
 impl<P: Cargo> OpTable<P> {
-    /// Enters the scope, and tells the word that was read. By that word the association is refused, or
-    /// kept; the count is one more in both cases, until it is left.
+    /// Enters the scope, and tells the word that was read. By that word the association is refused,
+    /// or kept; the count is one more in both cases, until it is left.
     ///
     /// Step: one fetch_add of the scope's word, the count and one.
     /// Needs: the hand has no association in the making or being refused.
-    /// Afterwards: the hand has one that is being refused; or one that is made, where the used bit was
-    /// set; else one in the making.
+    /// Afterwards: the hand has one that is being refused; or one that is made, where the used bit
+    /// was set; else one in the making.
     pub fn enter_step(&self, hand: &mut Hand<P>) -> ScopeWord
         requires table { IsHandOf self.now hand.old }
         requires enters { MayEnter (knows hand.old) }

@@ -1,6 +1,6 @@
 //! The running table: operations' words, homes and hands, sound between any two atomic steps.
 //!
-//! It stands on listed_steps, by which it makes its steps and which lists each of them with what it
+//! It stands on listed_words, by which it makes its steps and which lists each of them with what it
 //! read and left, on table_rules, whose `Traced` is its rule, and on the laws of the pure machine.
 //! Many threads work on one table, each by a `Hand` of its own; no step takes memory or a lock, and
 //! none waits.
@@ -13,7 +13,8 @@
 //!
 //! # The life of a block
 //!
-//!     free --claim--> open --release_step--> free at the next generation, or retired after the last
+//!     free --claim--> open --release_step--> free at the next generation, or retired after the
+//!     last
 //!
 //! # The life of a node
 //!

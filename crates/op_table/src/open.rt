@@ -10,7 +10,7 @@ ghost use Rattle.table_steps.specs.Remembers.{OwesAndRunsNone};
 
 use crate::plays::NextHand;
 use crate::table::{Hand, OpTable, SeatOf};
-use listed_steps::StepTable;
+use listed_words::StepTable;
 use name_set::NameSet;
 use node_tree::{ScopeKind, Tree};
 use std::alloc::{AllocError, Global};

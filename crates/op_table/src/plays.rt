@@ -61,7 +61,11 @@ pub trait Subject {
 }
 
 impl Subject for Brand {
-    ghost aim = { record { tree = []; layout = record { blocks = 0; nodes = 0 }; name = record { block = 0; generation = 0; node = 0 } } };
+    ghost aim = { record {
+      tree = [];
+      layout = record { blocks = 0; nodes = 0 };
+      name = record { block = 0; generation = 0; node = 0 };
+    } };
 }
 
 /// A load that is listed, and changes nothing else.
@@ -104,7 +108,8 @@ pub struct Beginnings<K> {
 }
 
 impl<P: Cargo, K: Subject> Play<Option<P>, View<P, P::Entry>> for Beginnings<K> {
-    ghost then = { λ step m found m'. FindsControl K.aim Idle (BeginsAt P.Cargo K.aim) step.word found step.first m m' };
+    ghost then = { λ step m found m'. FindsControl K.aim Idle
+        (BeginsAt P.Cargo K.aim) step.word found step.first m m' };
 }
 
 /// The store by which a node is left at rest.
@@ -113,7 +118,8 @@ pub struct Rests<K> {
 }
 
 impl<P, E, K: Subject> Play<Option<P>, View<P, E>> for Rests<K> {
-    ghost then = { λ step m found m'. FindsControl K.aim (Busy 0) (RestsAt K.aim) step.word found step.first m m' };
+    ghost then = { λ step m found m'. FindsControl K.aim (Busy 0)
+        (RestsAt K.aim) step.word found step.first m m' };
 }
 
 /// What the table was opened over. A call picks it.
@@ -141,7 +147,8 @@ pub struct Finishes<K> {
 }
 
 impl<P: Cargo, K: Subject> Play<Option<P>, View<P, P::Entry>> for Finishes<K> {
-    ghost then = { λ step m found m'. FindsControl K.aim (Busy 0) (FinishesAt P.Cargo K.aim) step.word found step.first m m' };
+    ghost then = { λ step m found m'. FindsControl K.aim (Busy 0)
+        (FinishesAt P.Cargo K.aim) step.word found step.first m m' };
 }
 
 /// The children that an await names. A call picks them.
@@ -160,7 +167,8 @@ pub struct Awaits<K, J> {
 }
 
 impl<P: Cargo, K: Subject, J: Naming> Play<Option<P>, View<P, P::Entry>> for Awaits<K, J> {
-    ghost then = { λ step m found m'. FindsControl K.aim (Busy 0) (AwaitsAt P.Cargo K.aim J.names) step.word found step.first m m' };
+    ghost then = { λ step m found m'. FindsControl K.aim (Busy 0)
+        (AwaitsAt P.Cargo K.aim J.names) step.word found step.first m m' };
 }
 
 /// The load of a child's control word, by the hand that holds its parent.
@@ -241,5 +249,6 @@ pub struct Releases<K, J> {
 }
 
 impl<P: Cargo, K: Subject, J: Site<P::Over>> Play<Option<P>, View<P, P::Entry>> for Releases<K, J> {
-    ghost then = { λ step m found m'. TellsRelease P.Cargo J.frames J.hand K.aim step.word found step.first m m' };
+    ghost then = { λ step m found m'. TellsRelease P.Cargo J.frames J.hand K.aim step.word found step.first m
+        m' };
 }

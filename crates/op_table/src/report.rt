@@ -66,8 +66,8 @@ impl<P: Cargo> OpTable<P> {
     /// Needs: the hand owes the report, and makes no scan of the parent's source.
     /// Afterwards: the hand owes the report no more. After the last it holds the parent with the
     /// start with which it began, and has the item of its home, and the homes of its children, of
-    /// which as many are full as the last await named. That of the node keeps the item with which it
-    /// finished.
+    /// which as many are full as the last await named. That of the node keeps the item with which
+    /// it finished.
     pub fn report(&self, hand: &mut Hand<P>, name: Name) -> Report
         requires table { IsHandOf self.now hand.old }
         requires place { IsPlaceIn self.now name }

@@ -19,7 +19,8 @@ pub struct Asks<K> {
 }
 
 impl<P, E, K: Regard> Play<Option<P>, View<P, E>> for Asks<K> {
-    ghost then = { λ step m found m'. AsksAt K.source step.word found (bit_or found step.first) m m' };
+    ghost then = { λ step m found m'. AsksAt K.source step.word found
+        (bit_or found step.first) m m' };
 }
 
 // The bits that a request sets: requested, and with a failure failed too.
@@ -39,10 +40,10 @@ impl<P: Cargo> OpTable<P> {
     /// Needs: with a failure, that the hand owes the report of a child of the source's node, and
     /// that this child failed. Without, that it passes on a request above the node: it runs the
     /// node's callback, or holds the node, whose children were never awaited, and has seen that
-    /// request. The scope's source hand 0 requests, where the scope is a counting one. A hand that has
-    /// seen the request on a source that can't go away under it may request again: nothing changes.
-    /// Afterwards: the request is seen. One that the hand has seen before, on a source that can't go
-    /// away under it, was found there: the answer says that it was made already.
+    /// request. The scope's source hand 0 requests, where the scope is a counting one. A hand that
+    /// has seen the request on a source that can't go away under it may request again: nothing
+    /// changes. Afterwards: the request is seen. One that the hand has seen before, on a source
+    /// that can't go away under it, was found there: the answer says that it was made already.
     pub fn request_step(&self, hand: &mut Hand<P>, source: SourceRef, failure: bool) -> Bits
         requires table { IsHandOf self.now hand.old }
         requires source { IsSourceIn self.now source }

@@ -16,14 +16,13 @@ impl<P, E> Play<Option<P>, View<P, E>> for Rouses {
 }
 
 impl<P: Cargo> OpTable<P> {
-    /// Wakes the parked node, which is ready in the loop then. False exactly where the word that was read
-    /// said something else: then nothing changed.
+    /// Wakes the parked node, which is ready in the loop then. False exactly where the word that
+    /// was read said something else: then nothing changed.
     ///
-    /// Step: one exchange of the node's control word, parked to ready in the loop. It loses where the
-    /// word changed first. A store would overwrite the word of a node that was taken meanwhile.
-    /// Needs: the hand runs the node's callback, or is hand 0.
-    /// Afterwards: where it won, the word that it left says that the node is ready in the loop. The
-    /// hand knows what it knew.
+    /// Step: one exchange of the node's control word, parked to ready in the loop. It loses where
+    /// the word changed first. A store would overwrite the word of a node that was taken meanwhile.
+    /// Needs: the hand runs the node's callback, or is hand 0. Afterwards: where it won, the word
+    /// that it left says that the node is ready in the loop. The hand knows what it knew.
     pub fn rouse(&self, hand: &mut Hand<P>, name: Name) -> bool
         requires table { IsHandOf self.now hand.old }
         requires place { IsPlaceIn self.now name }

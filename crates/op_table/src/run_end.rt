@@ -19,7 +19,8 @@ pub struct EndsRun<K> {
 }
 
 impl<P, E, K: Subject> Play<Option<P>, View<P, E>> for EndsRun<K> {
-    ghost then = { λ step m found m'. FindsCallback K.aim.name Running (ends_run K.aim.tree K.aim.name) step.word found step.first m m' };
+    ghost then = { λ step m found m'. FindsCallback K.aim.name Running
+        (ends_run K.aim.tree K.aim.name) step.word found step.first m m' };
 }
 
 /// The store by which a callback is removed from inside it.
@@ -28,7 +29,8 @@ pub struct RemovesOwn<K> {
 }
 
 impl<P, E, K: Subject> Play<Option<P>, View<P, E>> for RemovesOwn<K> {
-    ghost then = { λ step m found m'. FindsCallback K.aim.name Running (removes_own K.aim.tree K.aim.name) step.word found step.first m m' };
+    ghost then = { λ step m found m'. FindsCallback K.aim.name Running
+        (removes_own K.aim.tree K.aim.name) step.word found step.first m m' };
 }
 
 impl<P: Cargo> OpTable<P> {
@@ -64,9 +66,9 @@ impl<P: Cargo> OpTable<P> {
     /// Removes the node's callback from inside it, which ends the run.
     ///
     /// Step: one swap of the callback word, running to removed.
-    /// Needs: the hand runs the place and holds the node, and makes no scan of the node's own source.
-    /// Afterwards: the hand no longer runs it, its scan has passed the place, and it has noted that the
-    /// callback was removed.
+    /// Needs: the hand runs the place and holds the node, and makes no scan of the node's own
+    /// source. Afterwards: the hand no longer runs it, its scan has passed the place, and it has
+    /// noted that the callback was removed.
     pub fn withdraw_own_step(&self, hand: &mut Hand<P>, name: Name)
         requires table { IsHandOf self.now hand.old }
         requires place { IsPlaceIn self.now name }

@@ -21,7 +21,8 @@ pub struct SealsScan<K> {
 }
 
 impl<P, E, K: Regard> Play<Option<P>, View<P, E>> for SealsScan<K> {
-    ghost then = { λ step m found m'. SealsScanAt K.source step.word found (bit_or found step.first) m m' };
+    ghost then = { λ step m found m'. SealsScanAt K.source step.word found
+        (bit_or found step.first) m m' };
 }
 
 impl<P: Cargo> OpTable<P> {
@@ -29,8 +30,8 @@ impl<P: Cargo> OpTable<P> {
     ///
     /// Step: one fetch_or of the source's word, which sets the scanned bit.
     /// Needs: the hand scans the source, and its scan has passed all places.
-    /// Afterwards: the hand no longer makes the scan. The word that it found was the source's, and said
-    /// that a stop was requested, and that no scan was sealed yet.
+    /// Afterwards: the hand no longer makes the scan. The word that it found was the source's, and
+    /// said that a stop was requested, and that no scan was sealed yet.
     pub fn seal_scan_step(&self, hand: &mut Hand<P>, source: SourceRef)
         requires table { IsHandOf self.now hand.old }
         requires source { IsSourceIn self.now source }

@@ -1,10 +1,11 @@
-//! The steps of the counting scope (P3149, [exec.scope]), but the entry, the closing and the joining.
+//! The steps of the counting scope (P3149, [exec.scope]), but the entry, the closing and the
+//! joining.
 //!
 //!     in the making --mark_used--> made --leave--> left
 //!                            being refused --leave--> left
 //!
-//! Each bit of the scope's word is set once and never cleared. An exchange seals a scope that joins and
-//! whose count came to 0.
+//! Each bit of the scope's word is set once and never cleared. An exchange seals a scope that joins
+//! and whose count came to 0.
 ghost use Rattle.std.specs.Prelude.{◌≡◌, true, bit_or};
 ghost use Rattle.life_rules.specs.Scopes.{may_seal};
 ghost use Rattle.table_steps.specs.Views.{IsHandOf, Stays, knows};
@@ -25,14 +26,16 @@ const USED: u64 = 1 << 32;
 pub struct Makes;
 
 impl<P, E> Play<Option<P>, View<P, E>> for Makes {
-    ghost then = { λ step m found m'. MovesScopeAt as_used (λ _. makes) step.word found (bit_or found step.first) m m' };
+    ghost then = { λ step m found m'. MovesScopeAt as_used (λ _. makes) step.word found
+        (bit_or found step.first) m m' };
 }
 
 /// The step by which an association is left.
 pub struct Leaves;
 
 impl<P, E> Play<Option<P>, View<P, E>> for Leaves {
-    ghost then = { λ step m found m'. MovesScopeAt with_one_less (λ _. leaves_scope) step.word found (less_one found) m m' };
+    ghost then = { λ step m found m'. MovesScopeAt with_one_less (λ _. leaves_scope) step.word found
+        (less_one found) m m' };
 }
 
 /// The exchange by which the scope is sealed.
@@ -77,8 +80,8 @@ impl<P: Cargo> OpTable<P> {
         let _word = self.table.fetch_or::<Makes>(seat, SCOPE, USED);
     }
 
-    /// Leaves the scope, and tells the word that was read. An association that is being refused goes
-    /// first.
+    /// Leaves the scope, and tells the word that was read. An association that is being refused
+    /// goes first.
     ///
     /// Step: one fetch_sub of the scope's word, the count less one.
     /// Needs: the hand has an association that is made or being refused.
@@ -102,8 +105,8 @@ impl<P: Cargo> OpTable<P> {
         read_scope(word)
     }
 
-    /// Seals the scope, which is joined then. Or tells the word that was read, where that says something
-    /// else than was expected: then nothing changed.
+    /// Seals the scope, which is joined then. Or tells the word that was read, where that says
+    /// something else than was expected: then nothing changed.
     ///
     /// Step: one exchange of the scope's word, which sets the joined bit. It loses where the word
     /// changed first. A store would lose an entry that fell between.

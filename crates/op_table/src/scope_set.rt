@@ -1,7 +1,7 @@
 //! The steps that close the counting scope and start its join (P3149, [exec.scope]).
 //!
-//! Each sets a bit of the scope's word, and lists what it read and what it left. So a hand knows of a bit
-//! that it set: each word of the scope that it reads afterwards has it.
+//! Each sets a bit of the scope's word, and lists what it read and what it left. So a hand knows of
+//! a bit that it set: each word of the scope that it reads afterwards has it.
 ghost use Rattle.std.specs.Prelude.{◌≡◌, bit_or};
 ghost use Rattle.table_steps.specs.Views.{IsHandOf, Stays};
 ghost use Rattle.table_steps.specs.Claims.{with_step};
@@ -23,7 +23,10 @@ const JOINING: u64 = 1 << 34;
 pub struct Sets;
 
 impl<P, E> Play<Option<P>, View<P, E>> for Sets {
-    ghost then = { λ step m found m'. m' ≡ (with_step step.word found (bit_or found step.first) m.0, m.1) };
+    ghost then = { λ step m found m'. m' ≡ (
+      with_step step.word found (bit_or found step.first) m.0,
+      m.1,
+    ) };
 }
 
 impl<P: Cargo> OpTable<P> {

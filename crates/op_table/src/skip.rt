@@ -44,8 +44,8 @@ impl<P: Cargo> OpTable<P> {
     /// False exactly where the word that was read said something else: then nothing changed.
     ///
     /// Step: one load of the block's word.
-    /// Needs: the hand scans the scope's source, and the next place of that scan lies in this block.
-    /// Afterwards: the scan goes on in the next block.
+    /// Needs: the hand scans the scope's source, and the next place of that scan lies in this
+    /// block. Afterwards: the scan goes on in the next block.
     pub fn skip_step(&self, hand: &mut Hand<P>, block: u32) -> bool
         requires table { IsHandOf self.now hand.old }
         requires block { block < self.now.frame.layout.blocks }

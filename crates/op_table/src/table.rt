@@ -1,6 +1,6 @@
 //! The table and its hands.
 use atomic_table::TableRule;
-use listed_steps::StepTable;
+use listed_words::StepTable;
 use name_set::NameSet;
 use std::marker::{Model, PhantomData};
 use table_rules::{Cargo, Frame, View};
@@ -21,7 +21,7 @@ impl<P: Cargo> TableRule<Option<P>, View<P, P::Entry>, Frame<P::Over>> for Ruled
 }
 
 /// What one thread knows and holds of a table. It has no bytes.
-pub(crate) type SeatOf<P> = listed_steps::Hand<Option<P>, View<P, <P as Cargo>::Entry>>;
+pub(crate) type SeatOf<P> = listed_words::Hand<Option<P>, View<P, <P as Cargo>::Entry>>;
 
 /// One of the hands that work on a table. Contracts see its seat: what it knows and holds.
 #[derive(Drop)]
@@ -66,7 +66,12 @@ impl<P: Cargo> Model for OpTable<P> {
 
     ghost Value = { Board P.Over };
 
-    ghost view = { λ t. record { table_id = t.table.table_id; frame = frame_of t.frame t.table.key } };
+    ghost view = { λ t. record {
+      table_id = t.table.table_id;
+      frame = frame_of t.frame t.table.key;
+    } };
 
-    ghost invariant = { λ t. (t.table.key ≡ frame_of t.frame t.table.key) × IsShape t.frame × (t.table.table_id.words ≡ words_in t.frame.layout) × (t.table.table_id.slots ≡ places_in t.frame.layout) };
+    ghost invariant = { λ t. (t.table.key ≡ frame_of t.frame t.table.key) × IsShape t.frame
+        × (t.table.table_id.words ≡ words_in t.frame.layout)
+        × (t.table.table_id.slots ≡ places_in t.frame.layout) };
 }

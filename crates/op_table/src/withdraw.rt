@@ -22,15 +22,16 @@ impl<P, E, K: Subject> Play<Option<P>, View<P, E>> for Withdraws<K> {
 }
 
 impl<P: Cargo> OpTable<P> {
-    /// Removes the node's callback where it is still armed, and tells the phase that was read: after
-    /// Armed it never runs. After Running or Ran nothing changed: another hand runs it, or ran it.
+    /// Removes the node's callback where it is still armed, and tells the phase that was read:
+    /// after Armed it never runs. After Running or Ran nothing changed: another hand runs it, or
+    /// ran it.
     ///
-    /// Step: one exchange of the node's callback word, armed to removed. A store would let a callback
-    /// that another hand runs be taken for one that never ran.
-    /// Needs: the hand holds the node, has read that its callback was registered, and doesn't run it.
-    /// Afterwards: the hand has noted the phase. After Running or Ran it has seen the request on the
-    /// source that the node hears. Hand 0 alone runs callbacks on the scope's source, so it doesn't
-    /// answer Running there.
+    /// Step: one exchange of the node's callback word, armed to removed. A store would let a
+    /// callback that another hand runs be taken for one that never ran. Needs: the hand holds the
+    /// node, has read that its callback was registered, and doesn't run it. Afterwards: the hand
+    /// has noted the phase. After Running or Ran it has seen the request on the source that the
+    /// node hears. Hand 0 alone runs callbacks on the scope's source, so it doesn't answer Running
+    /// there.
     pub fn withdraw_step(&self, hand: &mut Hand<P>, name: Name) -> CallbackPhase
         requires table { IsHandOf self.now hand.old }
         requires place { IsPlaceIn self.now name }

@@ -1,4 +1,5 @@
--- The steps of which a hand has the choice: events of all kinds in a fixed order, those that are steps.
+-- The steps of which a hand has the choice: events of all kinds in a fixed order, those that are
+-- steps.
 use Rattle.std.specs.Prelude.{ℕ, true, false, List, [], ◌∷◌, ◌++◌, filter, Some}
 use Rattle.std.specs.List.{flat_map, range_with_len}
 use Rattle.life_rules.specs.declared.event.Event.{Event}

@@ -34,7 +34,8 @@ is_known s Scope = true
 is_known s (At p) = is_place s p
 
 -- the hand is one of the state's, and these are all its places and sources
-pub record IsListing (s : State) (hand : ℕ) (places : List Place) (sources : List SourceAt) : Type 0 where
+pub record IsListing (s : State) (hand : ℕ) (places : List Place)
+    (sources : List SourceAt) : Type 0 where
   pub hand_is : hand < s.hands
   pub places_are : places ≡ places_of s
   pub sources_are : sources ≡ sources_of s

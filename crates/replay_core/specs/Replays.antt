@@ -27,9 +27,11 @@ Follows s t c old new =
 abbrev pub entries_from : State → List Choice → List Entry
 entries_from s [] = []
 entries_from s (c ∷ cs) =
-    option_map_or (λ event. entry_of c event ∷ entries_from (moved s (move_of (entry_of c event))) cs)
+    option_map_or
+    (λ event. entry_of c event ∷ entries_from (moved s (move_of (entry_of c event))) cs)
     (chosen s c) (entries_from s cs)
 
 -- the trace of a schedule: each choice is an entry, those without a candidate aside
 abbrev pub trace_of : ScheduleValue → TraceValue
-trace_of t = record { opening = t.opening; entries = entries_from (first_state t.opening) t.entries }
+trace_of t = record
+    { opening = t.opening; entries = entries_from (first_state t.opening) t.entries }

@@ -16,11 +16,12 @@ pub enum Verdict {
     Refused(u32),
 }
 
-/// Whether a trace is a list of steps, one after another from the state with which it opens. It fails
-/// only for want of memory.
+/// Whether a trace is a list of steps, one after another from the state with which it opens. It
+/// fails only for want of memory.
 ///
 /// Where it is, each state along it is sound, and all that follows from that holds along it: no
-/// operation completes twice, no callback runs after its removal, no block is given again too early.
+/// operation completes twice, no callback runs after its removal, no block is given again too
+/// early.
 pub fn check_trace(alloc: Global, trace: &Trace) -> Result<Verdict, AllocError>
     ensures verdict { IfOk result (IsVerdict trace.now) }
     ensures sound { (n : ℕ) → result ≡ Ok (Verdict.Taken n) → AreSound trace.now }

@@ -1,11 +1,12 @@
-//! Traces and schedules on the pure machine: a trace is judged, and a schedule is made into a trace.
+//! Traces and schedules on the pure machine: a trace is judged, and a schedule is made into a
+//! trace.
 //!
 //!     text --read_trace--> Trace --check_trace--> Verdict
 //!     text --read_schedule--> Schedule --replay--> Trace --write_trace--> text
 //!
-//! It stands on exec_life, whose steps are exactly those of the rules, and on trace_text, which reads
-//! and writes the texts. So a trace is taken exactly where the rules take each of its entries, and the
-//! trace of a schedule is always taken.
+//! It stands on exec_life, whose steps are exactly those of the rules, and on trace_text, which
+//! reads and writes the texts. So a trace is taken exactly where the rules take each of its
+//! entries, and the trace of a schedule is always taken.
 #![tactic(auto)]
 
 mod candidates;

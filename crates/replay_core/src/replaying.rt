@@ -13,13 +13,13 @@ use life_rules::Event;
 use std::alloc::{AllocError, Global};
 use trace_text::{Choice, Entry, Schedule, Trace};
 
-/// The trace of a schedule: each of its entries takes a step of its hand, of those that the hand may
-/// take, and none where there are none. It fails only for want of memory.
+/// The trace of a schedule: each of its entries takes a step of its hand, of those that the hand
+/// may take, and none where there are none. It fails only for want of memory.
 ///
-/// The steps of a hand are listed kind by kind, as the events are declared, and within a kind by rising
-/// block and then node, the scope last. An await names all children that haven't begun; a rest is in
-/// the loop, the pool or parked; a look comes after an arming; a plain request comes before one for a
-/// failure; a seal expects the present word.
+/// The steps of a hand are listed kind by kind, as the events are declared, and within a kind by
+/// rising block and then node, the scope last. An await names all children that haven't begun; a
+/// rest is in the loop, the pool or parked; a look comes after an arming; a plain request comes
+/// before one for a failure; a seal expects the present word.
 pub fn replay(alloc: Global, schedule: &Schedule) -> Result<Trace, AllocError>
     ensures rule { IfOk result (λ trace. trace ≡ trace_of schedule.now) }
     ensures taken { IfOk result (λ trace. AreTaken trace (length trace.entries)) }

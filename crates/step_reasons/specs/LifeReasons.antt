@@ -1,5 +1,5 @@
--- Why a hand may not take a step of an operation's life: the needs of each step, in their order, and
--- the reason where one doesn't hold.
+-- Why a hand may not take a step of an operation's life: the needs of each step, in their order,
+-- and the reason where one doesn't hold.
 use Rattle.std.specs.Prelude.{ℕ, not, ◌-◌, ◌||◌, nat_le, nat_lt, List, [], ◌∷◌, length, Option, Some, None}
 use Rattle.std.specs.Option.{option_map_or}
 use Rattle.common_lemmas.specs.Lists.{are_different}
@@ -90,4 +90,5 @@ report_reason s h p =
 abbrev pub release_reason : State → ℕ → ℕ → Option Fact
 release_reason s h b =
     unless (nat_lt b s.blocks) (NoBlock b)
-    (unless (nat_le 1 ((s.view h).finished (root_of s b))) (stands s (place_of b (size s - 1))) None)
+    (unless (nat_le 1 ((s.view h).finished (root_of s b)))
+    (stands s (place_of b (size s - 1))) None)

@@ -39,7 +39,8 @@ is_known s (At p) = is_place s p
 abbrev pub scans : State → ℕ → SourceAt → Bool
 scans s h at = is_known s at && is_scanning (s.view h) (source_of s at)
 
--- the node of the next place of the hand's scan in the block, the number of nodes where there is none
+-- the node of the next place of the hand's scan in the block, the number of nodes where there is
+-- none
 abbrev pub next_node : State → ℕ → SourceAt → ℕ → ℕ
 next_node s h at b =
     first_below (λ n. is_next_in s (s.view h) (source_of s at) (name_of s b n)) (size s)

@@ -17,7 +17,8 @@ use Rattle.step_reasons.specs.declared.reading.Part.TheVariants.{Holds, OwesStar
 use Rattle.step_reasons.specs.declared.standing.Standing.{Standing}
 use Rattle.step_reasons.specs.declared.standing.Standing.TheVariants.{InFreeBlock, InRetiredBlock, NotAwaited, StartOwed, Held, Waits, InLoop, InPool, Parked, ReportOwed, Reported, HeldFinished}
 
--- the first of the `count` numbers from i on that passes the test, the one after them where none does
+-- the first of the `count` numbers from i on that passes the test, the one after them where none
+-- does
 unfoldable pub first_from : (ℕ → Bool) → ℕ → ℕ → ℕ
 first_from test i zero = i
 first_from test i (suc count) = if test i then i else first_from test (suc i) count

@@ -3,9 +3,9 @@
 //!     State, hand, Event --reason_of--> Fact, or none where the step may be taken
 //!     State, Fact --is_so--> whether it is so in that state too
 //!
-//! It stands on exec_life, of which it reads what everybody may read. It keeps one promise: a step that
-//! may not be taken has a reason, and no other has one; what the reason says is so in the state, and
-//! in each sound state in which it is so the step may not be taken.
+//! It stands on exec_life, of which it reads what everybody may read. It keeps one promise: a step
+//! that may not be taken has a reason, and no other has one; what the reason says is so in the
+//! state, and in each sound state in which it is so the step may not be taken.
 #![tactic(auto)]
 
 mod callback;

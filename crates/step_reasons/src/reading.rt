@@ -165,7 +165,8 @@ fn is_next_in(state: &State, hand: u32, source: SourceAt, place: Place) -> bool
     state.allows(hand, &Event::Run { source, place })
 }
 
-// The node of the next place of the hand's scan in the block, the number of nodes where there is none.
+// The node of the next place of the hand's scan in the block, the number of nodes where there is
+// none.
 fn next_node(state: &State, hand: u32, source: SourceAt, block: u32) -> u32
     requires hand { hand < (machine state.now).hands }
     requires block { block < (machine state.now).blocks }

@@ -20,8 +20,8 @@ use crate::stop_reasons::{
 use exec_life::State;
 use life_rules::Event;
 
-/// Why the hand may not take the step: the first of its needs that doesn't hold. None where it may. It
-/// takes no memory.
+/// Why the hand may not take the step: the first of its needs that doesn't hold. None where it may.
+/// It takes no memory.
 pub fn reason_of(state: &State, hand: u32, event: &Event) -> Option<Fact>
     ensures { result ≡ reason_of (machine state.now) hand event.now }
 {

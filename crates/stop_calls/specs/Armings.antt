@@ -18,7 +18,8 @@ use Rattle.stop_calls.specs.declared.arming.Armed.TheVariants.{Quiet, Asked}
 -- the source is the scope's, or that of a node of the tree, in this block
 abbrev pub IsSourceAt : List TreeNode → ℕ → SourceRef → Type 0
 IsSourceAt tree block Scope = Unit {0}
-IsSourceAt tree block (Node y) = (y.block ≡ block) × (y.node < length tree) × (has_source tree y.node ≡ true)
+IsSourceAt tree block (Node y) = (y.block ≡ block) × (y.node < length tree)
+    × (has_source tree y.node ≡ true)
 
 abbrev pub is_asked : Armed → Bool
 is_asked Quiet = false
@@ -26,7 +27,8 @@ is_asked Asked = true
 
 -- the callback was registered, and then the source that the node hears was read: the answer is what
 -- it said
-pub record IsArmedSo {P E O : Type 0} (board : Board O) (x : Name) (answer : Armed) (old new : Seat (Option P) (View P E)) : Type 0 where
+pub record IsArmedSo {P E O : Type 0} (board : Board O) (x : Name) (answer : Armed)
+    (old new : Seat (Option P) (View P E)) : Type 0 where
   pub middle : Seat (Option P) (View P E)
   pub armed : IsArmed board x old middle
   pub source : SourceRef

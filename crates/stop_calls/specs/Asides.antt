@@ -10,8 +10,8 @@ pub record IsLonger {A : Type 0} (before after : List A) : Type 0 where
   pub is : after ≡ made ++ before
 
 module _ {P E : Type 0} (m m' : Seated P E) where
-  -- the hand owes, notes and counts what it did, and what lies in its homes still lies there. It may have seen
-  -- more requests, and made more steps. What it holds, runs and scans is left open
+  -- the hand owes, notes and counts what it did, and what lies in its homes still lies there. It
+  -- may have seen more requests, and made more steps. What it holds, runs and scans is left open
   pub record KeepsAccounts : Type 0 where
     pub number : m'.0.number ≡ m.0.number
     pub splits : m'.0.splits ≡ m.0.splits

@@ -1,6 +1,6 @@
--- Which steps the calls list. A hand's list grows by its own steps alone, each listed by the step itself: so what
--- a call lists is what it did, and a body that makes no step, one step more, or one on another word, doesn't do
--- what its call says.
+-- Which steps the calls list. A hand's list grows by its own steps alone, each listed by the step
+-- itself: so what a call lists is what it did, and a body that makes no step, one step more, or one
+-- on another word, doesn't do what its call says.
 use Rattle.std.specs.Prelude.{◌≡◌, ◌⊎◌, ℕ, ◌<◌, ◌≤◌, Bool, true, List, ◌∷◌, ◌++◌, All, Option, Some, None, length}
 use Rattle.node_tree.specs.Tree.{nearest}
 use Rattle.life_rules.specs.declared.event.Name.{Name}
@@ -9,7 +9,7 @@ use Rattle.life_rules.specs.declared.event.SourceRef.TheVariants.{Scope, Node}
 use Rattle.life_rules.specs.States.{source_for}
 use Rattle.table_words.specs.Layouts.{index}
 use Rattle.atomic_table.specs.declared.shared.Seat.{Seat}
-use Rattle.listed_steps.specs.declared.seen.Seen.{Seen}
+use Rattle.listed_words.specs.declared.seen.Seen.{Seen}
 use Rattle.table_rules.specs.declared.view.View.{View}
 use Rattle.table_steps.specs.Views.{Board}
 use Rattle.table_steps.specs.Callbacks.{callback_index}
@@ -63,7 +63,8 @@ module _ {O : Type 0} (board : Board O) (source : SourceRef) (e : Seen) where
   IsOfWalk = IsOfPlace ⊎ IsOfBlock
 
 module _ {P E O : Type 0} (board : Board O) (old new : Seat (Option P) (View P E)) where
-  -- a request is one step on the source's word, and so are a look at the source and the seal of its scan
+  -- a request is one step on the source's word, and so are a look at the source and the seal of its
+  -- scan
   pub record ListsOfSource (source : SourceRef) : Type 0 where
     pub requested : (answer : Request) → IsRequested board source answer old new →
         ListsOne (source_word board source) old.me new.me
@@ -71,16 +72,18 @@ module _ {P E O : Type 0} (board : Board O) (old new : Seat (Option P) (View P E
         ListsOne (source_word board (Node node)) old.me new.me
     pub looked : (answer : Bool) → IsLookedAt board source None answer old new →
         ListsOne (source_word board source) old.me new.me
-    pub sealed : IsScanSealed board source old new → ListsOne (source_word board source) old.me new.me
+    pub sealed : IsScanSealed board source old new →
+        ListsOne (source_word board source) old.me new.me
 
-  -- an arming is one step on the callback's word, and then one on that of the source that the node hears
+  -- an arming is one step on the callback's word, and then one on that of the source that the node
+  -- hears
   pub record ListsArming (x : Name) : Type 0 where
     pub source : SourceRef
     pub nearest_is : source_for x (nearest board.frame.tree x.node) ≡ Some source
     pub lists : ListsTwo (callback_index board x) (source_word board source) old.me new.me
 
-  -- a try to remove a callback is one step on its word, and a removal one or more: under the scope, for hand 0,
-  -- one. The end of a run is one step where the hand runs the callback, and else none
+  -- a try to remove a callback is one step on its word, and a removal one or more: under the scope,
+  -- for hand 0, one. The end of a run is one step where the hand runs the callback, and else none
   pub record ListsOfCallback (x : Name) : Type 0 where
     pub armed : (answer : Armed) → IsArmedSo board x answer old new → ListsArming x
     pub tried : (answer : Withdrawn) → IsTried board x old new answer →
@@ -93,7 +96,8 @@ module _ {P E O : Type 0} (board : Board O) (old new : Seat (Option P) (View P E
         ListsOne (callback_index board x) old.me new.me
     pub was_over : IsOver board x old new → running old.me.0 x ≡ 0 → new.me.0.steps ≡ old.me.0.steps
 
-  -- the newest step is on the callback's word, and those before it in this call are of a scan of the source
+  -- the newest step is on the callback's word, and those before it in this call are of a scan of
+  -- the source
   pub record ListsRun (source : SourceRef) (x : Name) : Type 0 where
     pub newest : Seen
     pub others : List Seen
@@ -101,11 +105,12 @@ module _ {P E O : Type 0} (board : Board O) (old new : Seat (Option P) (View P E
     pub index_is : newest.index ≡ callback_index board x
     pub all_there : All (IsOfWalk board source) others
 
-  -- a scan's next steps on words of its walk alone: last on that of the callback which runs now. Where none was
-  -- found and no step was made, no place was left before
+  -- a scan's next steps on words of its walk alone: last on that of the callback which runs now.
+  -- Where none was found and no step was made, no place was left before
   pub record ListsOfScan (before after : Scan) : Type 0 where
     pub found : (x : Name) → IsFound board before old new after x → ListsRun before.source x
-    pub through : IsThrough board before old new after → ListsOnly (IsOfWalk board before.source) old.me new.me
+    pub through : IsThrough board before old new after →
+        ListsOnly (IsOfWalk board before.source) old.me new.me
     pub none_left : IsThrough board before old new after → new.me.0.steps ≡ old.me.0.steps →
         CanSealScan board.frame old.me.0 before.source
 
@@ -117,7 +122,8 @@ module _ (P E O : Type 0) where
 
   abbrev pub CallbacksListTheirSteps : Type 0
   CallbacksListTheirSteps =
-      (board : Board O) (old new : Seat (Option P) (View P E)) (x : Name) → ListsOfCallback board old new x
+      (board : Board O) (old new : Seat (Option P) (View P E)) (x : Name) →
+      ListsOfCallback board old new x
 
   abbrev pub ScansListTheirSteps : Type 0
   ScansListTheirSteps =

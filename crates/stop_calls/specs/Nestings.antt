@@ -1,5 +1,5 @@
--- How a hand scans a stop source inside other scans: what a scan needs that is under way, and what a callback
--- that runs since a scan came to it.
+-- How a hand scans a stop source inside other scans: what a scan needs that is under way, and what
+-- a callback that runs since a scan came to it.
 use Rattle.std.specs.Prelude.{◌≡◌, ℕ, ◌-◌, ◌*◌, ◌<◌, ◌≤◌, List, [], ◌∷◌, length, Some}
 use Rattle.node_tree.specs.declared.node.TreeNode.{TreeNode}
 use Rattle.node_tree.specs.Tree.{IsTree, nearest}
@@ -29,13 +29,14 @@ AreAbove n = Each (λ s. IsAbove n s.source)
 abbrev pub Hears : List TreeNode → SourceRef → Name → Type 0
 Hears tree source x = source_for x (nearest tree x.node) ≡ Some source
 
--- such scans may be under way while the source is scanned: none while the scope's is, and while a node's is
--- those of nodes above it and of the scope
+-- such scans may be under way while the source is scanned: none while the scope's is, and while a
+-- node's is those of nodes above it and of the scope
 abbrev pub AreOuter : SourceRef → List Scanning → Type 0
 AreOuter Scope scans = scans ≡ []
 AreOuter (Node y) scans = AreAbove y.node scans
 
--- and such callbacks may run, that a scan inside this one may begin: none, or those of nodes that aren't below
+-- and such callbacks may run, that a scan inside this one may begin: none, or those of nodes that
+-- aren't below
 abbrev pub AreAround : SourceRef → List Name → Type 0
 AreAround Scope runs = runs ≡ []
 AreAround (Node y) runs = Each (λ x. y.node ≤ x.node) runs
@@ -61,15 +62,16 @@ scan_at source next = record { source = source; next = next }
 
 -- so many places are left of the scan
 abbrev pub places_left : {O : Type 0} → Board O → Scan → ℕ
-places_left board scan = length board.frame.tree * board.frame.layout.blocks - cursor board.frame.tree scan
+places_left board scan =
+    length board.frame.tree * board.frame.layout.blocks - cursor board.frame.tree scan
 
 -- fewer places are left of the scan
 abbrev pub IsFewer : {O : Type 0} → Board O → Scan → Scan → Type 0
 IsFewer board before after = places_left board after < places_left board before
 
 module _ {P E O : Type 0} (board : Board O) (scan : Scan) (m : Seated P E) where
-  -- the hand makes this scan, innermost, which stands where the next call needs it. The other scans are of
-  -- nodes above or of the scope, and the hand runs no callback of the source
+  -- the hand makes this scan, innermost, which stands where the next call needs it. The other scans
+  -- are of nodes above or of the scope, and the hand runs no callback of the source
   pub record Scans : Type 0 where
     pub tree : IsTree board.frame.tree
     pub is_one : IsSourceIn board scan.source
@@ -80,8 +82,8 @@ module _ {P E O : Type 0} (board : Board O) (scan : Scan) (m : Seated P E) where
     pub stands : Stands board.frame.tree scan m.0
     pub unrun : NoneHears board.frame.tree scan.source m.0.runs
 
-  -- and no callback that it runs is of a node below the source's: from inside a due of this scan one of the
-  -- due's own source may begin
+  -- and no callback that it runs is of a node below the source's: from inside a due of this scan
+  -- one of the due's own source may begin
   pub record Nests : Type 0 where
     pub makes : Scans
     pub around : AreAround scan.source m.0.runs

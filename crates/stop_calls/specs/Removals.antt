@@ -67,9 +67,11 @@ module _ {P E O : Type 0} (board : Board O) (x : Name) where
   abbrev pub Waits : ℕ → Seat (Option P) (View P E) → Seat (Option P) (View P E) → Type 0
   Waits zero old new = new.me ≡ old.me
   Waits (suc count) old new =
-      (middle : Seat (Option P) (View P E)) × Waits count old middle × IsTried board x middle new Running
+      (middle : Seat (Option P) (View P E)) × Waits count old middle
+      × IsTried board x middle new Running
 
-  -- and then one that found none. Hand 0 doesn't wait under the scope, whose callbacks no other hand runs
+  -- and then one that found none. Hand 0 doesn't wait under the scope, whose callbacks no other
+  -- hand runs
   pub record IsSettled (old new : Seat (Option P) (View P E)) (answer : Settled) : Type 0 where
     pub count : ℕ
     pub middle : Seat (Option P) (View P E)

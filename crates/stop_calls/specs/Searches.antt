@@ -47,7 +47,8 @@ module _ (tree : List TreeNode) (blocks : ℕ) (scan : Scan) where
     pub small : place.node < MOST_NODES
     pub hears : hears tree scan.source place.block place.node ≡ true
     pub reached : cursor tree scan ≤ place.block * length tree + place.node
-    pub before : NoneBetween tree scan.source (cursor tree scan) (place.block * length tree + place.node)
+    pub before : NoneBetween tree scan.source (cursor tree scan)
+        (place.block * length tree + place.node)
 
   abbrev pub IsNextPlace : Option Place → Type 0
   IsNextPlace answer = MatchOption answer NoneLeft IsNextFrom
@@ -63,7 +64,8 @@ must_read (Node y) read block = false
 abbrev pub CanEnter : {P E : Type 0} → List TreeNode → SourceRef → View P E → ℕ → Type 0
 CanEnter tree source v block = source ≡ Scope → CanSkip tree v block
 
-module _ {P E O : Type 0} (board : Board O) (source : SourceRef) (block : ℕ) (read read' : Option ℕ) (old new : Seat (Option P) (View P E)) where
+module _ {P E O : Type 0} (board : Board O) (source : SourceRef) (block : ℕ) (read read' : Option ℕ)
+    (old new : Seat (Option P) (View P E)) where
   -- the call may look at the block's places already
   pub record IsEntered : Type 0 where
     pub same : new ≡ old

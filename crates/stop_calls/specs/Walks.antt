@@ -5,7 +5,7 @@ use Rattle.life_rules.specs.declared.event.SourceRef.{SourceRef}
 use Rattle.life_rules.specs.declared.event.SourceRef.TheVariants.{Scope, Node}
 use Rattle.atomic_table.specs.declared.shared.Seat.{Seat}
 use Rattle.table_rules.specs.declared.view.View.{View}
-use Rattle.listed_steps.specs.declared.seen.Seen.{Seen}
+use Rattle.listed_words.specs.declared.seen.Seen.{Seen}
 use Rattle.table_steps.specs.Views.{Board}
 use Rattle.table_steps.specs.Runs.{CanRun, HasPassed, HasRun}
 use Rattle.table_steps.specs.RunEnds.{passes_to, number_of}
@@ -23,13 +23,15 @@ MayTry Scope read block = read ≡ Some block
 MayTry (Node y) read block = Unit {0}
 
 -- the view with its scan of the source going on from there, with these runs and these steps
-abbrev pub scanning_at : {P E : Type 0} → SourceRef → ℕ → List Name → List Seen → View P E → View P E
+abbrev pub scanning_at : {P E : Type 0} → SourceRef → ℕ → List Name → List Seen → View P E →
+    View P E
 scanning_at source next runs steps v =
     record v { runs = runs; scans = passes_to source next v.scans; steps = steps }
 
 -- The steps of one call of a scan. `read` is the block that the call last read as not free, `read'`
 -- the same after the step.
-module _ {P E O : Type 0} (board : Board O) (source : SourceRef) (read read' : Option ℕ) (old new : Seat (Option P) (View P E)) where
+module _ {P E O : Type 0} (board : Board O) (source : SourceRef) (read read' : Option ℕ)
+    (old new : Seat (Option P) (View P E)) where
   -- the scan is of the scope's source, and its next place lies in this block, whose word was read
   pub record ReadsBlock (block : ℕ) (free : Bool) : Type 0 where
     pub scope : source ≡ Scope
@@ -69,7 +71,8 @@ module _ {P E O : Type 0} (board : Board O) (source : SourceRef) where
       × Passes board source before read middle new
 
 -- What a scan's next tells, where it was so before.
-module _ {P E O : Type 0} (board : Board O) (before : Scan) (old new : Seat (Option P) (View P E)) where
+module _ {P E O : Type 0} (board : Board O) (before : Scan)
+    (old new : Seat (Option P) (View P E)) where
   -- after some steps by which places were passed, the next place of the scan was armed and runs
   -- now. The view's scan stands at it, and this one goes on behind it
   pub record IsFound (after : Scan) (x : Name) : Type 0 where

@@ -40,9 +40,9 @@ pub fn stop_requested<P: Cargo>(table: &OpTable<P>, hand: &mut Hand<P>, source: 
     table.look_step(hand, source, None)
 }
 
-/// The source of the node's stop token ([exec.get.stop.token]), on which its callback is registered:
-/// that of the nearest node above that has one, in the same block and generation, and else the
-/// scope's. None where an unstoppable node comes first: then no stop reaches the node.
+/// The source of the node's stop token ([exec.get.stop.token]), on which its callback is
+/// registered: that of the nearest node above that has one, in the same block and generation, and
+/// else the scope's. None where an unstoppable node comes first: then no stop reaches the node.
 ///
 /// Needs: a node of the tree.
 pub fn source_above(tree: &Tree, node: Name) -> Option<SourceRef>
@@ -67,8 +67,8 @@ pub fn source_above(tree: &Tree, node: Name) -> Option<SourceRef>
 /// Step: one swap of the node's callback word, never to armed; then one load of the source's word.
 /// Needs: the hand holds the node, has read that its callback was never registered, and the node
 /// hears a source.
-/// Afterwards: the place is armed, and looked after. A request on that source that the hand had seen,
-/// or was told of when it came to hold a node, still stands.
+/// Afterwards: the place is armed, and looked after. A request on that source that the hand had
+/// seen, or was told of when it came to hold a node, still stands.
 pub fn arm<P: Cargo>(table: &OpTable<P>, hand: &mut Hand<P>, node: Name) -> Armed
     requires table { IsHandOf table.now hand.old }
     requires place { IsPlaceIn table.now node }

@@ -1,10 +1,10 @@
 //! In-place stop sources and stop callbacks ([stopsource.inplace], [stopcallback.inplace]) on a
 //! running table: stops are requested, callbacks registered, run and removed.
 //!
-//! It stands on op_table, whose steps it makes, and on table_laws, from which it follows which steps
-//! each call lists. It keeps one promise: a callback that was removed never runs afterwards, and one
-//! that is registered when a stop is requested is run, or its registration tells of the request. No
-//! call takes memory or a lock, and only `withdraw` waits.
+//! It stands on op_table, whose steps it makes, and on table_laws, from which it follows which
+//! steps each call lists. It keeps one promise: a callback that was removed never runs afterwards,
+//! and one that is registered when a stop is requested is run, or its registration tells of the
+//! request. No call takes memory or a lock, and only `withdraw` waits.
 //!
 //! # A request
 //!

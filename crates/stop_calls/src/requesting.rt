@@ -45,8 +45,8 @@ fn answer(source: SourceRef, read: Bits) -> Request
 /// against a scan that is sealed, and had to be tried again.
 /// Needs: of the scope's source: this is hand 0, and the scope has a source. Of a node's: the hand
 /// runs the node's own callback, or holds the node before its children begin and has seen the
-/// request above it. Again: a hand that has seen the request on a source that can't go away under it.
-/// Afterwards: the request is seen. A repeated one answers Already.
+/// request above it. Again: a hand that has seen the request on a source that can't go away under
+/// it. Afterwards: the request is seen. A repeated one answers Already.
 pub fn request_stop<P: Cargo>(table: &OpTable<P>, hand: &mut Hand<P>, source: SourceRef) -> Request
     requires table { IsHandOf table.now hand.old }
     requires source { IsSourceIn table.now source }

@@ -3,7 +3,8 @@ use Rattle.std.proofs.Common.{◌≡◌, ℕ, ◌<◌, true, false, not, ◌&&�
 use Rattle.std.proofs.lemmas.Bool.{and_parts, and_from, cond-true, cond-false, both_ways, eqb-true, eq-eqb, ltb-true, lt-ltb}
 use Rattle.std.proofs.lemmas.List.{get_or-set_same, get_or-set_other}
 use Rattle.life_rules.specs.declared.words.BlockWord.{BlockWord}
-use Rattle.life_rules.specs.declared.words.BlockState.TheVariants.{Free, Open}
+use Rattle.life_rules.specs.declared.words.BlockState.{BlockState}
+use Rattle.life_rules.specs.declared.words.BlockState.TheVariants.{Free, Open, Retired}
 use Rattle.life_rules.specs.Words.{is_free}
 use Rattle.common_lemmas.proofs.Bool.{either}
 use Rattle.table_words.specs.declared.layout.Layout.{Layout}
@@ -12,7 +13,11 @@ use Rattle.table_words.specs.Blocks.{block_read}
 use Rattle.table_words.specs.Layouts.{Spot, OfBlock, IsSpot, index, words_in}
 use Rattle.table_words.proofs.Spots.{apart, within}
 use Rattle.table_rules.specs.ShownWords.{is_retired, is_there, word_of, block_of, said}
-use Rattle.table_kept.proofs.ClaimingViews.{free-kept}
+
+pub free-kept : (w : BlockState) → is_free w ≡ true → is_retired w ≡ false
+free-kept Free h = refl
+free-kept Open h = refl
+free-kept Retired h = cc
 
 module _ (l : Layout) (words : List ℕ) (wide : length words ≡ words_in l) where
   pub word-here : (x : Spot) → IsSpot l x → (n : ℕ) → word_of l (set words (index l x) n) x ≡ n

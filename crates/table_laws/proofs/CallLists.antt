@@ -13,8 +13,8 @@ use Rattle.life_rules.specs.Scopes.{is_refused}
 use Rattle.life_rules.specs.Words.{is_armed}
 use Rattle.common_lemmas.proofs.Bool.{either}
 use Rattle.atomic_table.specs.declared.shared.Seat.{Seat}
-use Rattle.listed_steps.specs.declared.seen.Seen.{Seen}
-use Rattle.listed_steps.specs.Lists.{entry}
+use Rattle.listed_words.specs.declared.seen.Seen.{Seen}
+use Rattle.listed_words.specs.Lists.{entry}
 use Rattle.table_rules.specs.declared.cargo.Cargo.{Ghosts}
 use Rattle.table_rules.specs.declared.view.View.{View}
 use Rattle.table_steps.specs.declared.report.Report.{Report}

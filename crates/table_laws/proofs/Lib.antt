@@ -6,13 +6,4 @@ mod Misses
 mod Bounds
 pub mod Lasting
 pub mod CallLists
-mod Moves
-mod MovesOn
-mod CallbackMoves
-mod ScopeMoves
-mod WithdrawMoves
-mod BlockMoves
-mod ReleaseMoves
-mod RunMoves
-mod SkipMoves
 mod Noted

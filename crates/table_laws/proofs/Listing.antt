@@ -14,8 +14,8 @@ use Rattle.table_words.specs.Controls.{callback_read, callback_of_code, callback
 use Rattle.table_words.specs.Layouts.{OfCallback, IsSpot, index}
 use Rattle.atomic_table.specs.declared.shared.Seat.{Seat}
 use Rattle.table_rules.specs.declared.view.View.{View}
-use Rattle.listed_steps.specs.declared.seen.Seen.{Seen}
-use Rattle.listed_steps.specs.Lists.{entry}
+use Rattle.listed_words.specs.declared.seen.Seen.{Seen}
+use Rattle.listed_words.specs.Lists.{entry}
 use Rattle.table_rules.specs.Named.{Each}
 use Rattle.table_rules.specs.ShownWords.{word_of}
 use Rattle.table_rules.specs.Grown.{HasRisen}

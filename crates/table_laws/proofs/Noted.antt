@@ -13,7 +13,7 @@ use Rattle.table_words.specs.Blocks.{block_read}
 use Rattle.table_words.specs.Layouts.{OfBlock, index}
 use Rattle.table_words.proofs.Spots.{within}
 use Rattle.atomic_table.specs.Table as table
-use Rattle.listed_steps.specs.declared.seen.Seen.{Seen}
+use Rattle.listed_words.specs.declared.seen.Seen.{Seen}
 use Rattle.table_rules.specs.declared.cargo.Cargo.{Ghosts}
 use Rattle.table_rules.specs.declared.frame.Frame.{Frame}
 use Rattle.table_rules.specs.declared.view.View.{View}

@@ -23,14 +23,16 @@ use Rattle.table_steps.specs.Finishes.{CanEnd}
 use Rattle.table_laws.specs.Laws.{Has}
 
 -- the item lies in the node's home, and no hand has its slot
-abbrev pub LiesAtHome : {P E O : Type 0} → Frame O → table.State (Option P) (View P E) → Name → P → Type 0
+abbrev pub LiesAtHome : {P E O : Type 0} → Frame O → table.State (Option P) (View P E) → Name → P →
+    Type 0
 LiesAtHome f s x item =
     get_elem? s.homes (place_number f.layout x.block x.node) ≡ some (some (Some item))
 
 module _ {P E O : Type 0} (cargo : Ghosts P E O) where
-  -- the node finished with a completion that asks for no more children than are done. It is what the
-  -- node's home keeps, if anything, and what a hand that owes the node's report knows
-  pub record EndedWithAll (f : Frame O) (s : table.State (Option P) (View P E)) (x : Name) : Type 0 where
+  -- the node finished with a completion that asks for no more children than are done. It is what
+  -- the node's home keeps, if anything, and what a hand that owes the node's report knows
+  pub record EndedWithAll (f : Frame O) (s : table.State (Option P) (View P E))
+      (x : Name) : Type 0 where
     pub item : P
     pub ends : cargo.ends item
     pub enough : cargo.least item ≤ done_below (shown f s) x
@@ -44,8 +46,8 @@ module _ {P E O : Type 0} (cargo : Ghosts P E O) where
       (f : Frame O) (s : table.State (Option P) (View P E)) → Running cargo f s → (x : Name) →
       is_done (control_at (shown f s) x) ≡ true → is_root f.tree x.node ≡ false → EndedWithAll f s x
 
-  -- where a hand may finish a node, the item in its home asks for no more children than are done. So
-  -- it is of the root too
+  -- where a hand may finish a node, the item in its home asks for no more children than are done.
+  -- So it is of the root too
   abbrev pub FinishWithAll : Type 0
   FinishWithAll =
       (f : Frame O) (s : table.State (Option P) (View P E)) → Running cargo f s →

@@ -1,5 +1,5 @@
--- What follows after a call, in every table that keeps the rule and in which the hand still lists the step
--- that the call made: whatever steps the hands made since.
+-- What follows after a call, in every table that keeps the rule and in which the hand still lists
+-- the step that the call made: whatever steps the hands made since.
 use Rattle.std.specs.Prelude.{◌≡◌, ℕ, true, ◌||◌, Option, Some, Ok}
 use Rattle.life_rules.specs.declared.event.Name.{Name}
 use Rattle.life_rules.specs.declared.event.SourceRef.{SourceRef}
@@ -25,14 +25,15 @@ use Rattle.table_laws.specs.Listed.{GrewFrom}
 use Rattle.table_laws.specs.Laws.{Has, IsOver}
 
 -- some hand has these steps in its list, and maybe newer ones
-pub record StillLists {P E : Type 0} (steps : Seat (Option P) (View P E)) (s : table.State (Option P) (View P E)) : Type 0 where
+pub record StillLists {P E : Type 0} (steps : Seat (Option P) (View P E))
+    (s : table.State (Option P) (View P E)) : Type 0 where
   pub hand : ℕ
   pub view : View P E
   pub at : Has s hand view
   pub grew : GrewFrom steps.me.0.steps view.steps
 
--- of the armed callback some hand has still to look whether a stop is requested, or has seen after the
--- arming that it is
+-- of the armed callback some hand has still to look whether a stop is requested, or has seen after
+-- the arming that it is
 pub record IsMinded {P E : Type 0} (s : table.State (Option P) (View P E)) (x : Name) : Type 0 where
   pub hand : ℕ
   pub view : View P E
@@ -40,14 +41,17 @@ pub record IsMinded {P E : Type 0} (s : table.State (Option P) (View P E)) (x : 
   pub minds : (has_name view.unlooked x || has_name view.seen_after x) ≡ true
 
 -- no hand has an association but such as is being refused
-pub record IsEmptied {P E O : Type 0} (f : Frame O) (s : table.State (Option P) (View P E)) : Type 0 where
+pub record IsEmptied {P E O : Type 0} (f : Frame O)
+    (s : table.State (Option P) (View P E)) : Type 0 where
   pub joined : (scope_of f.layout s.words).joined ≡ true
   pub made : (h : ℕ) (v : View P E) → Has s h v → v.made ≡ 0
   pub making : (h : ℕ) (v : View P E) → Has s h v → v.making ≡ 0
 
 module _ {P E O : Type 0} (cargo : Ghosts P E O) where
-  -- the node is over, whether its block is open still or was given back, and done as long as it is open
-  pub record IsOverForGood (f : Frame O) (s : table.State (Option P) (View P E)) (x : Name) : Type 0 where
+  -- the node is over, whether its block is open still or was given back, and done as long as it is
+  -- open
+  pub record IsOverForGood (f : Frame O) (s : table.State (Option P) (View P E))
+      (x : Name) : Type 0 where
     pub done : is_live (shown f s) x ≡ true → is_done (control_at (shown f s) x) ≡ true
     pub over : IsOver cargo f s x
 

@@ -39,7 +39,8 @@ Has s h v = get_elem? s.views h ≡ some v
 
 -- the hand runs x's callback once, no other hand runs it, and none lists that it ran or was
 -- removed
-pub record IsOnlyRun {P E O : Type 0} (f : Frame O) (s : table.State (Option P) (View P E)) (h : ℕ) (v : View P E) (x : Name) : Type 0 where
+pub record IsOnlyRun {P E O : Type 0} (f : Frame O) (s : table.State (Option P) (View P E)) (h : ℕ)
+    (v : View P E) (x : Name) : Type 0 where
   pub once : count_by (λ y. y) v.runs x ≡ 1
   pub alone : (j : ℕ) (u : View P E) → Has s j u → j ≢ h → count_by (λ y. y) u.runs x ≡ 0
   pub first : (j : ℕ) (u : View P E) → Has s j u → lists_over f.layout u x ≡ false
@@ -119,6 +120,7 @@ module _ {P E O : Type 0} (cargo : Ghosts P E O) where
   abbrev pub RemovedForGood : Type 0
   RemovedForGood =
       (board : Board O) (x : Name) (old new : Seat (Option P) (View P E)) → IsPlaceIn board x →
-      EndsIt board x old new → (s : table.State (Option P) (View P E)) → Running cargo board.frame s →
+      EndsIt board x old new → (s : table.State (Option P) (View P E)) →
+      Running cargo board.frame s →
       (h : ℕ) (v : View P E) → Has s h v → GrewFrom new.me.0.steps v.steps →
       RunsNoMore board.frame s x

@@ -3,9 +3,4 @@ pub mod Laws
 pub mod Bounds
 pub mod Lasting
 pub mod CallLists
-pub mod Moves
 pub mod Noted
-pub mod CallbackMoves
-pub mod ScopeMoves
-pub mod BlockMoves
-pub mod ScanMoves

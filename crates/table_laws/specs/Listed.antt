@@ -12,7 +12,7 @@ use Rattle.atomic_table.specs.Table as table
 use Rattle.atomic_table.specs.declared.shared.Seat.{Seat}
 use Rattle.table_rules.specs.declared.frame.Frame.{Frame}
 use Rattle.table_rules.specs.declared.view.View.{View}
-use Rattle.listed_steps.specs.declared.seen.Seen.{Seen}
+use Rattle.listed_words.specs.declared.seen.Seen.{Seen}
 use Rattle.table_rules.specs.ShownWords.{word_of}
 use Rattle.table_rules.specs.Scenes.{shown}
 use Rattle.table_steps.specs.Views.{Board}
@@ -29,7 +29,8 @@ is_over Running = false
 is_over Ran = true
 is_over Removed = true
 
--- the step was on the callback word of x, and left it saying at x's generation that the callback is over
+-- the step was on the callback word of x, and left it saying at x's generation that the callback is
+-- over
 abbrev pub says_over : Layout → Name → Seen → Bool
 says_over l x e =
     e.index == index l (OfCallback x.block x.node) && is_over (says_phase x.generation e.left)
@@ -40,7 +41,8 @@ lists_over l v x = list_any (says_over l x) v.steps
 
 -- the callback of x isn't armed and doesn't run, and a run that finds its place armed is of
 -- another generation
-pub record RunsNoMore {P E O : Type 0} (f : Frame O) (s : table.State (Option P) (View P E)) (x : Name) : Type 0 where
+pub record RunsNoMore {P E O : Type 0} (f : Frame O) (s : table.State (Option P) (View P E))
+    (x : Name) : Type 0 where
   pub still : (is_armed (phase_at (shown f s) x) || is_running (phase_at (shown f s) x)) ≡ false
   pub other : says_armed (word_of f.layout s.words (OfCallback x.block x.node)) ≡ true →
       node_named x.block x.node (word_of f.layout s.words (OfCallback x.block x.node)) ≢ x

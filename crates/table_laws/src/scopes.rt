@@ -11,8 +11,9 @@ pub fn joined_scopes_are_empty<P: Cargo>()
     ensures sealed { SealedIsEmpty P.Cargo }
 {}
 
-/// No bit of the scope's word is ever cleared: each that a step of a hand read or left there is set as
-/// long as the hand lists the step. So a scope in which an association was made is never unused again.
+/// No bit of the scope's word is ever cleared: each that a step of a hand read or left there is set
+/// as long as the hand lists the step. So a scope in which an association was made is never unused
+/// again.
 pub fn scope_bits_stay<P: Cargo>()
     ensures stay { BitsStay P.Cargo }
     ensures used { MadeIsUsed P.Cargo }

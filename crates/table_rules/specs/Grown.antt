@@ -11,7 +11,7 @@ use Rattle.table_words.specs.Controls.{control_read, source_read}
 use Rattle.table_words.specs.ScopeNumbers.{scope_read}
 use Rattle.table_words.specs.Layouts.{Spot, TheScope, TheScopeSource, OfBlock, OfControl, OfCallback, OfSource, IsSpot, index}
 use Rattle.table_rules.specs.declared.view.View.{View}
-use Rattle.listed_steps.specs.declared.seen.Seen.{Seen}
+use Rattle.listed_words.specs.declared.seen.Seen.{Seen}
 use Rattle.table_rules.specs.Named.{Each}
 use Rattle.table_rules.specs.ShownWords.{word_of}
 
@@ -31,9 +31,11 @@ pub record HasBitsOfSource (old new : Bits) : Type 0 where
 -- the scope's word, which stands first, has each bit that these steps read or left there
 abbrev pub KeepsBits : List Seen → ScopeWord → Type 0
 KeepsBits steps now =
-    Each (λ e. e.index ≡ 0 → HasBitsOf (scope_read e.read) now × HasBitsOf (scope_read e.left) now) steps
+    Each (λ e. e.index ≡ 0 → HasBitsOf (scope_read e.read) now
+    × HasBitsOf (scope_read e.left) now) steps
 
--- the control word is of no earlier generation, and a node that is done stays so within its generation
+-- the control word is of no earlier generation, and a node that is done stays so within its
+-- generation
 pub record IsLaterControl (old new : ℕ) : Type 0 where
   pub stamp : stamp_of old ≤ stamp_of new
   pub done : stamp_of old ≡ stamp_of new → control_read old ≡ Done → control_read new ≡ Done
@@ -43,8 +45,8 @@ pub record IsLaterSource (old new : ℕ) : Type 0 where
   pub stamp : stamp_of old ≤ stamp_of new
   pub bits : stamp_of old ≡ stamp_of new → HasBitsOfSource (source_read old) (source_read new)
 
--- the second word may stand there after the first: the scope and its source lose no bit, those of places
--- are later, and those of blocks and callbacks are no smaller
+-- the second word may stand there after the first: the scope and its source lose no bit, those of
+-- places are later, and those of blocks and callbacks are no smaller
 abbrev pub IsLater : Spot → ℕ → ℕ → Type 0
 IsLater TheScope old new = HasBitsOf (scope_read old) (scope_read new)
 IsLater TheScopeSource old new = HasBitsOfSource (source_read old) (source_read new)

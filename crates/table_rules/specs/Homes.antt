@@ -34,16 +34,17 @@ module _ {P E : Type 0} (s : Scene P E) where
   abbrev pub home_of : Name → Home P
   home_of x = s.home x.block x.node
 
-  -- how often a hand has the slot of x's home: it owes x's start, holds x or its parent, or holds the
-  -- finished root
+  -- how often a hand has the slot of x's home: it owes x's start, holds x or its parent, or holds
+  -- the finished root
   abbrev pub seats_of : Name → ℕ
   seats_of x =
       stand s.state (λ v. v.starts) x + stand s.state (λ v. v.holds) x
       + stand s.state (λ v. v.finished) x
-      + option_map_or (λ p. stand s.state (λ v. v.holds) (beside x p)) (parent_of s.state.tree x.node) 0
+      + option_map_or (λ p. stand s.state (λ v. v.holds) (beside x p))
+      (parent_of s.state.tree x.node) 0
 
-  -- what the children of x that its last await named count for together: those under way, those whose
-  -- start is owed, and those that are done with a full home
+  -- what the children of x that its last await named count for together: those under way, those
+  -- whose start is owed, and those that are done with a full home
   abbrev pub named_below : Name → ℕ
   named_below x =
       total (λ n.

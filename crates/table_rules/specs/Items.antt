@@ -25,10 +25,12 @@ module _ {P E O : Type 0} (cargo : Ghosts P E O) (s : Scene P E) where
         cargo.fits item x.node (nearest_is_requested s.state x)
     -- the home of a node that isn't done keeps no completion
     pub goes_on : (x : Name) (item : P) → is_live s.state x ≡ true →
-        s.home x.block x.node ≡ Full item → is_done (control_at s.state x) ≡ false → ¬ cargo.ends item
+        s.home x.block x.node ≡ Full item → is_done (control_at s.state x) ≡ false →
+        ¬ cargo.ends item
     -- and that of a node that rests keeps what may rest there
     pub rests : (x : Name) (item : P) → is_live s.state x ≡ true →
-        s.home x.block x.node ≡ Full item → is_resting (control_at s.state x) ≡ true → cargo.rests item x.node
+        s.home x.block x.node ≡ Full item → is_resting (control_at s.state x) ≡ true →
+        cargo.rests item x.node
     -- its last await named as many children as the item asks for
     pub bound : (x : Name) (item : P) → is_live s.state x ≡ true →
         s.home x.block x.node ≡ Full item → cargo.least item ≤ s.past.named x
@@ -43,7 +45,8 @@ module _ {P E O : Type 0} (cargo : Ghosts P E O) (s : Scene P E) where
         s.past.delivered x ≡ Some item
     -- which asks for no more children than the node's last await named
     pub enough : (x : Name) (item : P) → is_done (control_at s.state x) ≡ true →
-        is_root s.state.tree x.node ≡ false → s.past.delivered x ≡ Some item → cargo.least item ≤ s.past.named x
+        is_root s.state.tree x.node ≡ false → s.past.delivered x ≡ Some item →
+        cargo.least item ≤ s.past.named x
     -- where a stop is requested of a node's children and not above the node, a child failed
     pub failures : (x : Name) → (bits_at s.state (Node x)).requested ≡ true →
         nearest_is_requested s.state x ≡ false → HasFailedChild x

@@ -30,18 +30,21 @@ pub record IsFrame {O : Type 0} (f : Frame O) : Type 0 where
   pub most_nodes : length f.tree ≤ MOST_NODES
 
 -- the table has a word and a home for each place, and no more seats than hands
-pub record IsSized {P E O : Type 0} (f : Frame O) (s : table.State (Option P) (View P E)) : Type 0 where
+pub record IsSized {P E O : Type 0} (f : Frame O)
+    (s : table.State (Option P) (View P E)) : Type 0 where
   pub words : length s.words ≡ words_in f.layout
   pub homes : length s.homes ≡ places_in f.layout
   pub seats : length s.views ≤ f.hands
 
 -- what is said of generations, and of what never goes back
-pub record AreStamped {P E O : Type 0} (f : Frame O) (s : table.State (Option P) (View P E)) : Type 0 where
+pub record AreStamped {P E O : Type 0} (f : Frame O)
+    (s : table.State (Option P) (View P E)) : Type 0 where
   -- no word of a place was written at a later generation than its block's
   pub control : (b n : ℕ) → b < f.layout.blocks → n < f.layout.nodes →
       stamp_of (word_of f.layout s.words (OfControl b n)) ≤ (block_of f.layout s.words b).generation
   pub callback : (b n : ℕ) → b < f.layout.blocks → n < f.layout.nodes →
-      stamp_of (word_of f.layout s.words (OfCallback b n)) ≤ (block_of f.layout s.words b).generation
+      stamp_of (word_of f.layout s.words (OfCallback b n)) ≤
+      (block_of f.layout s.words b).generation
   pub source : (b n : ℕ) → b < f.layout.blocks → n < f.layout.nodes →
       stamp_of (word_of f.layout s.words (OfSource b n)) ≤ (block_of f.layout s.words b).generation
   -- a control word that says nothing any more is of a node that was done, or hadn't begun
@@ -64,7 +67,8 @@ pub record AreStamped {P E O : Type 0} (f : Frame O) (s : table.State (Option P)
 
 -- what is said of the scene: the pure machine's sentences, and those on homes, starts, items, lots,
 -- views and counts
-pub record Stands {P E O : Type 0} (cargo : Ghosts P E O) (over : O) (s : Scene P E) (hands : List (View P E)) : Type 0 where
+pub record Stands {P E O : Type 0} (cargo : Ghosts P E O) (over : O) (s : Scene P E)
+    (hands : List (View P E)) : Type 0 where
   pub sound : Sound s.state
   pub homes : HomesStand s
   pub starts : StartsStand cargo over s
@@ -73,7 +77,8 @@ pub record Stands {P E O : Type 0} (cargo : Ghosts P E O) (over : O) (s : Scene 
   pub views : ViewsStand s hands
   pub counts : AreCounted s.state hands
 
-pub record Running {P E O : Type 0} (cargo : Ghosts P E O) (f : Frame O) (s : table.State (Option P) (View P E)) : Type 0 where
+pub record Running {P E O : Type 0} (cargo : Ghosts P E O) (f : Frame O)
+    (s : table.State (Option P) (View P E)) : Type 0 where
   pub frame : IsFrame f
   pub sized : IsSized f s
   pub stamped : AreStamped f s

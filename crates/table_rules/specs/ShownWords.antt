@@ -49,7 +49,8 @@ said_at block first read w = if is_said block w then read w else first
 -- what the place's word says, in a table that has the place
 abbrev pub said : {A : Type 0} → Layout → List ℕ → A → (ℕ → A) → (ℕ → ℕ → Spot) → ℕ → ℕ → A
 said l words first read spot b n =
-    if is_there l b n then said_at (block_of l words b) first read (word_of l words (spot b n)) else first
+    if is_there l b n then said_at (block_of l words b) first read (word_of l words (spot b n))
+    else first
 
 abbrev pub control_of : Layout → List ℕ → ℕ → ℕ → ControlWord
 control_of l words = said l words Idle control_read OfControl

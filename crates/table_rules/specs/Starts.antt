@@ -8,7 +8,8 @@ use Rattle.life_rules.specs.States.{is_live, control_at}
 use Rattle.table_rules.specs.declared.cargo.Cargo.{Ghosts}
 use Rattle.table_rules.specs.Scenes.{Full, Scene}
 
-pub record StartsStand {P E O : Type 0} (cargo : Ghosts P E O) (over : O) (s : Scene P E) : Type 0 where
+pub record StartsStand {P E O : Type 0} (cargo : Ghosts P E O) (over : O)
+    (s : Scene P E) : Type 0 where
   -- a full home shows the start with which its node began
   pub shows : (x : Name) (item : P) → is_live s.state x ≡ true → s.home x.block x.node ≡ Full item →
       cargo.start item ≡ s.past.start x

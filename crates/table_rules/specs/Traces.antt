@@ -1,9 +1,10 @@
--- Where the words of a table come from: what stands in a word was left there by a step that some hand listed.
+-- Where the words of a table come from: what stands in a word was left there by a step that some
+-- hand listed.
 use Rattle.std.specs.Prelude.{◌≡◌, ◌⊎◌, ℕ, ◌<◌, ◌≤◌, List, ◌++◌, length, Option, slice_index}
 use mathlib.Core.Option.{some}
 use lib.ListN.{get_elem?}
 use Rattle.atomic_table.specs.Table as table
-use Rattle.listed_steps.specs.declared.seen.Seen.{Seen}
+use Rattle.listed_words.specs.declared.seen.Seen.{Seen}
 use Rattle.table_rules.specs.declared.cargo.Cargo.{Ghosts}
 use Rattle.table_rules.specs.declared.frame.Frame.{Frame}
 use Rattle.table_rules.specs.declared.view.View.{View}
@@ -39,9 +40,10 @@ pub record SomeCarries {P E : Type 0} (views : List (View P E)) (Q : Seen → Ty
 abbrev pub IsMadeBySome : {P E : Type 0} → List (View P E) → Seen → Type 0
 IsMadeBySome views e = SomeHas views (λ d. d ≡ e)
 
--- the rule of a table: what holds between any two steps, and that no word or home came to be what it is
--- but by a listed step. A table is opened with words that are 0 and with empty homes
-pub record Traced {P E O : Type 0} (cargo : Ghosts P E O) (f : Frame O) (s : table.State (Option P) (View P E)) : Type 0 where
+-- the rule of a table: what holds between any two steps, and that no word or home came to be what
+-- it is but by a listed step. A table is opened with words that are 0 and with empty homes
+pub record Traced {P E O : Type 0} (cargo : Ghosts P E O) (f : Frame O)
+    (s : table.State (Option P) (View P E)) : Type 0 where
   pub runs : Running cargo f s
   -- a word is as it was at first, or some hand lists a step that left it so
   pub words : (i : ℕ) → i < length s.words →
@@ -49,4 +51,5 @@ pub record Traced {P E O : Type 0} (cargo : Ghosts P E O) (f : Frame O) (s : tab
   -- a home is empty as at first, or some hand has made a step
   pub homes : (i : ℕ) → (home_in (get_elem? s.homes i) ≡ Empty) ⊎ SomeHas s.views (λ _. Unit {0})
   -- a step of a hand that was joined to another was made by it
-  pub joined : (h : ℕ) (v : View P E) → get_elem? s.views h ≡ some v → Each (IsMadeBySome s.views) v.joined
+  pub joined : (h : ℕ) (v : View P E) → get_elem? s.views h ≡ some v →
+      Each (IsMadeBySome s.views) v.joined

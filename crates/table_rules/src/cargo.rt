@@ -41,5 +41,6 @@ pub trait Cargo: Send + Drop {
 
     /// An item that saw no request, and that failed, failed without a request. The parent of a node
     /// has the greater number.
-    ghost blames: { (item : Self) (node parent : ℕ) → node < parent → fits item node false → fits item parent true → fits item parent false };
+    ghost blames: { (item : Self) (node parent : ℕ) → node < parent → fits item node false →
+        fits item parent true → fits item parent false };
 }

@@ -1,6 +1,6 @@
 //! What one hand knows. No value of these types is made; contracts read the lists.
 use life_rules::{CallbackPhase, Name, SourceRef};
-use listed_steps::{Lists, Seen};
+use listed_words::{Lists, Seen};
 use std::collections::LinkedList;
 
 /// A node that the hand holds.

@@ -19,7 +19,8 @@ use Rattle.table_steps.specs.Sheds.{shed}
 use Rattle.table_steps.specs.Rests.{lets_go, CanLeave}
 
 -- the list, and before it these children of the node, owed with this start above them and this lot
-abbrev pub owes_each : {E : Type 0} → Name → List E → List ℤ → List ℕ → List (Owed E) → List (Owed E)
+abbrev pub owes_each : {E : Type 0} → Name → List E → List ℤ → List ℕ → List (Owed E) →
+    List (Owed E)
 owes_each x start lot [] owed = owed
 owes_each x start lot (n ∷ ns) owed =
     record { name = beside x n; above = start; lot = lot } ∷ owes_each x start lot ns owed
@@ -35,12 +36,14 @@ is_named nodes n = list_any (λ m. m == n) nodes
 abbrev pub is_unnamed : List TreeNode → Layout → Name → List ℕ → ℕ → Bool
 is_unnamed tree l x nodes slot =
     slot_of l x == slot
-    || list_any (λ n. not (is_named nodes n) && place_number l x.block n == slot) (kids_of tree x.node)
+    || list_any (λ n. not (is_named nodes n) && place_number l x.block n == slot)
+    (kids_of tree x.node)
 
--- the hand holds the node with an item in its home that shows the node's start, is no completion, fits by
--- what the hand has seen of requests and was told, and asks for no more children than are named. It names
--- different children, at least one, that it knows haven't begun
-pub record CanAwait {P E O : Type 0} (cargo : Ghosts P E O) (f : Frame O) (m : Seated P E) (x : Name) (nodes : List ℕ) : Type 0 where
+-- the hand holds the node with an item in its home that shows the node's start, is no completion,
+-- fits by what the hand has seen of requests and was told, and asks for no more children than are
+-- named. It names different children, at least one, that it knows haven't begun
+pub record CanAwait {P E O : Type 0} (cargo : Ghosts P E O) (f : Frame O) (m : Seated P E)
+    (x : Name) (nodes : List ℕ) : Type 0 where
   pub leave : CanLeave f m x
   pub item : P
   pub home : home_at f.layout m x ≡ Some (Some item)
@@ -52,9 +55,10 @@ pub record CanAwait {P E O : Type 0} (cargo : Ghosts P E O) (f : Frame O) (m : S
   pub different : are_different nodes ≡ true
   pub idle : list_all (λ n. is_child f.tree x.node n && knows_idle leave.held n) nodes ≡ true
 
--- the store: the hand gave back the home of the node, with the item, and those of the children that aren't
--- named
-pub record AwaitsAt {P E O : Type 0} (cargo : Ghosts P E O) (aim : Aim) (nodes : List ℕ) (i read left : ℕ) (m m' : Seated P E) : Type 0 where
+-- the store: the hand gave back the home of the node, with the item, and those of the children that
+-- aren't named
+pub record AwaitsAt {P E O : Type 0} (cargo : Ghosts P E O) (aim : Aim) (nodes : List ℕ)
+    (i read left : ℕ) (m m' : Seated P E) : Type 0 where
   pub item : P
   pub home : home_at aim.layout m aim.name ≡ Some (Some item)
   pub me_is : m' ≡ (
@@ -62,7 +66,7 @@ pub record AwaitsAt {P E O : Type 0} (cargo : Ghosts P E O) (aim : Aim) (nodes :
     shed (is_unnamed aim.tree aim.layout aim.name nodes) m.1,
   )
   pub seated : IsSeated aim.tree aim.layout m'
-  -- before it the hand owed none of these children's starts, and all that it owed in the block was of the
-  -- node's generation
+  -- before it the hand owed none of these children's starts, and all that it owed in the block was
+  -- of the node's generation
   pub unowed : (n : ℕ) → is_named nodes n ≡ true → owing m.0 (beside aim.name n) ≡ 0
   pub beside_it : AreOfItsBlock m.0 aim.name

@@ -7,8 +7,8 @@ use Rattle.life_rules.specs.declared.words.CallbackPhase.TheVariants.{Never}
 use Rattle.life_rules.specs.Words.{clear}
 use Rattle.node_tree.specs.Tree.{is_root, has_source}
 use Rattle.table_words.specs.Layouts.{OfSource, index}
-use Rattle.listed_steps.specs.declared.seen.Seen.{Seen}
-use Rattle.listed_steps.specs.Lists.{entry}
+use Rattle.listed_words.specs.declared.seen.Seen.{Seen}
+use Rattle.listed_words.specs.Lists.{entry}
 use Rattle.table_rules.specs.declared.cargo.Cargo.{Ghosts}
 use Rattle.table_rules.specs.declared.frame.Frame.{Frame}
 use Rattle.table_rules.specs.declared.view.View.{View}
@@ -27,9 +27,9 @@ abbrev pub notes_start : {E : Type 0} → Bool → Name → List E → List (Roo
 notes_start true x start noted = record { name = x; start = start } ∷ noted
 notes_start false x start noted = noted
 
--- the entry of a node that was begun: its callback was never registered, and no child of it has begun.
--- Told is whether a stop was requested on the node's nearest source at that step, and on the source that
--- its children hear
+-- the entry of a node that was begun: its callback was never registered, and no child of it has
+-- begun. Told is whether a stop was requested on the node's nearest source at that step, and on the
+-- source that its children hear
 abbrev pub begun_as : {E : Type 0} → List TreeNode → Name → List E → Bool → Bool → Held E
 begun_as tree x start told told_children =
     record {
@@ -43,8 +43,10 @@ begun_as tree x start told told_children =
       idle = kids_of tree x.node;
     }
 
--- the hand owes the start no more, and holds the node with it; where it is the root, it notes the start
-abbrev pub begins : {P E : Type 0} → List TreeNode → Name → List E → Bool → Bool → View P E → View P E
+-- the hand owes the start no more, and holds the node with it; where it is the root, it notes the
+-- start
+abbrev pub begins : {P E : Type 0} → List TreeNode → Name → List E → Bool → Bool → View P E →
+    View P E
 begins tree x start told told_children v =
     record v {
       owed = without (λ e. e.name) v.owed x;
@@ -52,10 +54,11 @@ begins tree x start told told_children v =
       noted = notes_start (is_root tree x.node) x start v.noted;
     }
 
--- the hand owes the node's start, and has an item in its home, which is no completion. The start that the
--- item shows goes on with that of the parent, has the table's key, and draws the lot with which the node is
--- owed
-pub record CanBegin {P E O : Type 0} (cargo : Ghosts P E O) (f : Frame O) (m : Seated P E) (x : Name) : Type 0 where
+-- the hand owes the node's start, and has an item in its home, which is no completion. The start
+-- that the item shows goes on with that of the parent, has the table's key, and draws the lot with
+-- which the node is owed
+pub record CanBegin {P E O : Type 0} (cargo : Ghosts P E O) (f : Frame O) (m : Seated P E)
+    (x : Name) : Type 0 where
   pub owed : Owed E
   pub owes : owed_at m.0 x ≡ Some owed
   pub item : P
@@ -72,8 +75,8 @@ module _ {P E O : Type 0} (cargo : Ghosts P E O) where
   start_shown (Some None) = []
   start_shown (Some (Some item)) = cargo.start item
 
-  -- the node's store: the hand holds the node with the start that the item in its home shows, and has
-  -- the empty homes of its children
+  -- the node's store: the hand holds the node with the start that the item in its home shows, and
+  -- has the empty homes of its children
   pub record BeginsAt (aim : Aim) (i read left : ℕ) (m m' : Seated P E) : Type 0 where
     pub told : Bool
     pub told_children : Bool
@@ -98,7 +101,8 @@ pub record Renews {P E : Type 0} (x : Name) (i read left : ℕ) (m m' : Seated P
 abbrev pub source_index : Aim → ℕ
 source_index aim = index aim.layout (OfSource aim.name.block aim.name.node)
 
--- the renewal found the source clear, or of an earlier generation, and left it clear, at the node's generation
+-- the renewal found the source clear, or of an earlier generation, and left it clear, at the node's
+-- generation
 pub record RenewsSource {P E : Type 0} (aim : Aim) (m m' : Seated P E) : Type 0 where
   pub read : ℕ
   pub left : ℕ
@@ -125,7 +129,8 @@ abbrev pub HasRenewed : {P E : Type 0} → Aim → Seated P E → Type 0
 HasRenewed aim m = has_source aim.tree aim.name.node ≡ true → RenewedLast aim m
 
 -- a begin: the renewal, where the node has a source, and the store of its control word
-pub record Begins {P E O : Type 0} (cargo : Ghosts P E O) (aim : Aim) (m m' : Seated P E) : Type 0 where
+pub record Begins {P E O : Type 0} (cargo : Ghosts P E O) (aim : Aim)
+    (m m' : Seated P E) : Type 0 where
   pub middle : Seated P E
   pub renewed : IsRenewed aim m middle
   pub began : LeavesControl aim Idle (Busy 0) (BeginsAt cargo aim) middle m'

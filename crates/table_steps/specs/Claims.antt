@@ -7,7 +7,7 @@ use Rattle.life_rules.specs.Words.{is_free}
 use Rattle.table_words.specs.Blocks.{block_read}
 use Rattle.table_words.specs.Layouts.{OfBlock, index, place_number}
 use Rattle.atomic_table.specs.Table.{Me, Step}
-use Rattle.listed_steps.specs.Lists.{entry}
+use Rattle.listed_words.specs.Lists.{entry}
 use Rattle.table_rules.specs.declared.view.View.{View}
 use Rattle.atomic_table.specs.declared.shared.Seat.{Seat}
 use Rattle.table_steps.specs.declared.block.Block.{Block}
@@ -27,7 +27,8 @@ abbrev pub exchanged : {S : Type 0} → Step S → ℕ → ℕ
 exchanged step found = either (found == step.first) step.second found
 
 module _ {P E : Type 0} where
-  -- the view lists a step on the word of this index, which read the one number there, and left the other
+  -- the view lists a step on the word of this index, which read the one number there, and left the
+  -- other
   abbrev pub with_step : ℕ → ℕ → ℕ → View P E → View P E
   with_step index read left v = record v { steps = entry index read left ∷ v.steps }
 
@@ -42,21 +43,29 @@ module _ {P E : Type 0} where
     pub joined_are : m'.0.joined ≡ m.0.joined
     pub hands_are : m'.0.hands ≡ m.0.hands
 
-  -- the hand claimed one block more, and owes the start of its root, with nothing above it and no lot
+  -- the hand claimed one block more, and owes the start of its root, with nothing above it and no
+  -- lot
   abbrev pub owes_root : Name → View P E → View P E
   owes_root x v =
-      record v { owed = record { name = x; above = []; lot = [] } ∷ v.owed; claimed = v.claimed + 1 }
+      record v {
+        owed = record { name = x; above = []; lot = [] } ∷ v.owed;
+        claimed = v.claimed + 1;
+      }
 
   -- a load lists itself, and changes nothing else
   abbrev pub looks : Step (Option P) → Seated P E → ℕ → Seated P E → Type 0
   looks step m found m' = m' ≡ (logged step.word found m.0, m.1)
 
-  -- the exchange found what was expected: the hand owed no start in the block, and has noted none of the root.
-  -- It owes the root's now, and has its home. Or it found another word, and changed nothing
+  -- the exchange found what was expected: the hand owed no start in the block, and has noted none
+  -- of the root. It owes the root's now, and has its home. Or it found another word, and changed
+  -- nothing
   abbrev pub claims : Aim → Step (Option P) → Seated P E → ℕ → Seated P E → Type 0
   claims aim step m found m' =
       (found ≡ step.first →
-      (m' ≡ (with_step step.word found step.second (owes_root aim.name m.0), (slot_of aim.layout aim.name, None) ∷ m.1))
+      (m' ≡ (
+        with_step step.word found step.second (owes_root aim.name m.0),
+        (slot_of aim.layout aim.name, None) ∷ m.1,
+      ))
       × (IsSeated aim.tree aim.layout m → IsSeated aim.tree aim.layout m')
       × OwesNoneThere m.0 aim.name × IsUnnoted m.0 aim.name)
       × (found ≢ step.first → m' ≡ (logged step.word found m.0, m.1))
@@ -80,7 +89,8 @@ word_index board block = index board.frame.layout (OfBlock block)
 
 module _ {P E O : Type 0} (board : Board O) (block : ℕ) where
   -- the exchange of this word, which was read as free, won, and left the block open
-  pub record ClaimedFrom (word : ℕ) (b : Block) (old new : Seat (Option P) (View P E)) : Type 0 where
+  pub record ClaimedFrom (word : ℕ) (b : Block)
+      (old new : Seat (Option P) (View P E)) : Type 0 where
     pub block_is : b.index ≡ block
     pub generation_is : b.generation ≡ (block_read word).generation
     pub left : ℕ
@@ -88,7 +98,8 @@ module _ {P E O : Type 0} (board : Board O) (block : ℕ) where
     -- the hand has noted no start of the block's new root
     pub unnoted : IsUnnoted old.me.0 (root_name board block b.generation)
     pub me_is : new.me ≡ (
-      with_step (word_index board block) word left (owes_root (root_name board block b.generation) old.me.0),
+      with_step (word_index board block) word left
+          (owes_root (root_name board block b.generation) old.me.0),
       (place_number board.frame.layout block (length board.frame.tree - 1), None) ∷ old.me.1,
     )
 
@@ -108,7 +119,9 @@ module _ {P E O : Type 0} (board : Board O) (block : ℕ) where
     -- the hand has noted no start of the block's new root
     pub unnoted : IsUnnoted old.me.0 (root_name board block b.generation)
     pub me_is : new.me ≡ (
-      with_step (word_index board block) word left (owes_root (root_name board block b.generation) (logged (word_index board block) word old.me.0)),
+      with_step (word_index board block) word left
+          (owes_root (root_name board block b.generation)
+          (logged (word_index board block) word old.me.0)),
       (place_number board.frame.layout block (length board.frame.tree - 1), None) ∷ old.me.1,
     )
 
@@ -124,16 +137,21 @@ module _ {P E O : Type 0} (board : Board O) (block : ℕ) where
     pub free : is_free (block_read word).state ≡ true
     pub other : ℕ
     pub differs : other ≢ word
-    pub me_is : new.me ≡ (logged (word_index board block) other (logged (word_index board block) word old.me.0), old.me.1)
+    pub me_is : new.me ≡ (
+      logged (word_index board block) other (logged (word_index board block) word old.me.0),
+      old.me.1,
+    )
 
   abbrev pub Missed : Seat (Option P) (View P E) → Seat (Option P) (View P E) → Type 0
   Missed old new = WasTaken old new ⊎ WasMoved old new
 
   -- what a claim answers
-  abbrev pub IsAnswer : Option Block → Seat (Option P) (View P E) → Seat (Option P) (View P E) → Type 0
+  abbrev pub IsAnswer : Option Block → Seat (Option P) (View P E) → Seat (Option P) (View P E) →
+      Type 0
   IsAnswer answer old new = MatchOption answer (Missed old new) (λ b. Claimed b old new)
 
   -- what it answers from the word that was read as free
-  abbrev pub IsAnswerFrom : ℕ → Option Block → Seat (Option P) (View P E) → Seat (Option P) (View P E) → Type 0
+  abbrev pub IsAnswerFrom : ℕ → Option Block → Seat (Option P) (View P E) →
+      Seat (Option P) (View P E) → Type 0
   IsAnswerFrom word answer old new =
       MatchOption answer (MissedFrom word old new) (λ b. ClaimedFrom word b old new)

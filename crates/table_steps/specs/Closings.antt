@@ -8,7 +8,7 @@ use Rattle.life_rules.specs.declared.scope.ScopeState.{ScopeState}
 use Rattle.life_rules.specs.declared.scope.ScopeState.TheVariants.{Unused, Open, OpenAndJoining, Closed, ClosedAndJoining, UnusedAndClosed, Joined}
 use Rattle.life_rules.specs.Scopes.{scope_state}
 use Rattle.table_words.specs.ScopeNumbers.{scope_read}
-use Rattle.listed_steps.specs.declared.seen.Seen.{Seen}
+use Rattle.listed_words.specs.declared.seen.Seen.{Seen}
 use Rattle.table_words.specs.declared.layout.Layout.{Layout}
 use Rattle.atomic_table.specs.declared.shared.Seat.{Seat}
 use Rattle.atomic_table.specs.Table as table
@@ -37,7 +37,8 @@ pub record HasNothing {P E : Type 0} (v : View P E) : Type 0 where
   pub refused : v.refused ≡ 0
 
 -- all hands of the table came back, and none of them has anything
-pub record AreAllBack {P E O : Type 0} (board : Board O) (hands : List (Seat (Option P) (View P E))) : Type 0 where
+pub record AreAllBack {P E O : Type 0} (board : Board O)
+    (hands : List (Seat (Option P) (View P E))) : Type 0 where
   pub length_is : length hands ≡ board.frame.hands
   pub each : Each (λ hand. IsHandOf board hand × HasNothing (knows hand)) hands
 
@@ -68,7 +69,9 @@ abbrev pub spent : {P E : Type 0} → View P E → View P E
 spent w = record w { claimed = 0; released = 0; hands = 0 }
 
 -- of all hands these are left, and this one counts for the others
-pub record IsGathering {P E O : Type 0} (board : Board O) (all left : List (Seat (Option P) (View P E))) (hand : Seat (Option P) (View P E)) : Type 0 where
+pub record IsGathering {P E O : Type 0} (board : Board O)
+    (all left : List (Seat (Option P) (View P E)))
+    (hand : Seat (Option P) (View P E)) : Type 0 where
   pub table_is : hand.table_id ≡ board.table_id
   pub itself : 1 ≤ (knows hand).hands
   pub claimed : (knows hand).claimed + claimed_by left ≡ claimed_by all
@@ -78,8 +81,10 @@ pub record IsGathering {P E O : Type 0} (board : Board O) (all left : List (Seat
   pub each : Each (λ other. IsHandOf board other × HasNothing (knows other)) left
 
 -- as many blocks are open still as these hands claimed and didn't give back
-abbrev pub IsCountedBy : {P E O : Type 0} → Board O → List (Seat (Option P) (View P E)) → Remains → Type 0
-IsCountedBy board hands c = c.free + c.retired + claimed_by hands ≡ board.frame.layout.blocks + released_by hands
+abbrev pub IsCountedBy : {P E O : Type 0} → Board O → List (Seat (Option P) (View P E)) → Remains →
+    Type 0
+IsCountedBy board hands c = c.free + c.retired + claimed_by hands ≡ board.frame.layout.blocks
+    + released_by hands
 
 -- of the first blocks so many pass the test
 abbrev pub blocks_before : ℕ → (BlockState → Bool) → Layout → List ℕ → ℕ
@@ -91,13 +96,16 @@ pub record TellsOf (l : Layout) (words : List ℕ) (count : ℕ) (c : Remains) :
   pub free_is : c.free ≡ blocks_before count is_free l words
   pub retired_is : c.retired ≡ blocks_before count is_retired l words
 
--- the table's last state kept the rule, its words are as these hands left them, and this is what they tell
-pub record IsClosing {P E O : Type 0} (cargo : Ghosts P E O) (f : Frame O) (hands : List (Seat (Option P) (View P E))) (c : Remains) : Type 0 where
+-- the table's last state kept the rule, its words are as these hands left them, and this is what
+-- they tell
+pub record IsClosing {P E O : Type 0} (cargo : Ghosts P E O) (f : Frame O)
+    (hands : List (Seat (Option P) (View P E))) (c : Remains) : Type 0 where
   pub last : table.State (Option P) (View P E)
   pub runs : Running cargo f last
   -- a word is 0 as at first, or a step of one of these hands left it so
   pub left : (i : ℕ) → i < length last.words →
-      (slice_index last.words i ≡ 0) ⊎ AnyOf (LeavesThere i (slice_index last.words i)) (steps_of hands)
+      (slice_index last.words i ≡ 0)
+      ⊎ AnyOf (LeavesThere i (slice_index last.words i)) (steps_of hands)
   -- and no step of theirs read or left a later word
   pub risen : Each (HasRisen f.layout last.words) (steps_of hands)
   pub tells : TellsOf f.layout last.words f.layout.blocks c
@@ -117,10 +125,12 @@ may_end ClosedAndJoining = false
 may_end UnusedAndClosed = true
 may_end Joined = true
 
--- by these steps the scope may end: one of them left it joined, or none left it otherwise than unused
+-- by these steps the scope may end: one of them left it joined, or none left it otherwise than
+-- unused
 abbrev pub IsSettled : List Seen → Type 0
 IsSettled steps =
-    AnyOf (LeavesScope Joined) steps ⊎ Each (λ e. e.index ≡ 0 → may_end (scope_state (scope_read e.left)) ≡ true) steps
+    AnyOf (LeavesScope Joined) steps
+    ⊎ Each (λ e. e.index ≡ 0 → may_end (scope_state (scope_read e.left)) ≡ true) steps
 
 -- the state in which these steps left the scope
 pub record IsScopeLeft (steps : List Seen) (state : ScopeState) : Type 0 where
@@ -130,7 +140,8 @@ pub record IsScopeLeft (steps : List Seen) (state : ScopeState) : Type 0 where
   pub joined : AnyOf (LeavesScope Joined) steps → state ≡ Joined
   pub settled : IsSettled steps → may_end state ≡ true
 
--- a table as it was closed: with what it was opened, with what its hands came back, and what its words told
+-- a table as it was closed: with what it was opened, with what its hands came back, and what its
+-- words told
 pub record ClosedTable (P E O : Type 0) : Type 0 where
   pub board : Board O
   pub hands : List (Seat (Option P) (View P E))

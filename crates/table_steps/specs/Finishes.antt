@@ -29,15 +29,16 @@ abbrev pub is_of_kids : List TreeNode → Layout → Name → ℕ → Bool
 is_of_kids tree l x slot = list_any (λ n. place_number l x.block n == slot) (kids_of tree x.node)
 
 module _ {P E O : Type 0} (cargo : Ghosts P E O) (f : Frame O) (m : Seated P E) (x : Name) where
-  -- the hand holds the node, and has read that its callback never was, ran or was removed. An item in the
-  -- node's home asks for no more children than its last await named
+  -- the hand holds the node, and has read that its callback never was, ran or was removed. An item
+  -- in the node's home asks for no more children than its last await named
   pub record CanEnd : Type 0 where
     pub leave : CanLeave f m x
     pub phase : MatchOption leave.held.phase ⊥ (λ phase. is_settled phase ≡ true)
-    pub bound : (item : P) → home_at f.layout m x ≡ Some (Some item) → cargo.least item ≤ leave.held.named
+    pub bound : (item : P) → home_at f.layout m x ≡ Some (Some item) →
+        cargo.least item ≤ leave.held.named
 
-  -- in the home lies a completion that shows the node's start, and fits by what the hand has seen of
-  -- requests and was told when it came to hold the node
+  -- in the home lies a completion that shows the node's start, and fits by what the hand has seen
+  -- of requests and was told when it came to hold the node
   pub record Completes (end : CanEnd) : Type 0 where
     pub item : P
     pub home : home_at f.layout m x ≡ Some (Some item)
@@ -58,9 +59,10 @@ owes_report x start item v =
 abbrev pub has_root : {P E : Type 0} → Name → View P E → View P E
 has_root x v = record (lets_go x v) { finished = x ∷ v.finished }
 
--- the store below the root: the hand gave back the home of the node, which keeps the completion, and those
--- of its children
-pub record FinishedAt {P E O : Type 0} (cargo : Ghosts P E O) (aim : Aim) (i read left : ℕ) (m m' : Seated P E) : Type 0 where
+-- the store below the root: the hand gave back the home of the node, which keeps the completion,
+-- and those of its children
+pub record FinishedAt {P E O : Type 0} (cargo : Ghosts P E O) (aim : Aim) (i read left : ℕ)
+    (m m' : Seated P E) : Type 0 where
   pub item : P
   pub home : home_at aim.layout m aim.name ≡ Some (Some item)
   pub me_is : m' ≡ (
@@ -71,10 +73,14 @@ pub record FinishedAt {P E O : Type 0} (cargo : Ghosts P E O) (aim : Aim) (i rea
 
 -- and at the root: it gave back those of its children, and keeps the root's
 pub record RootedAt {P E : Type 0} (aim : Aim) (i read left : ℕ) (m m' : Seated P E) : Type 0 where
-  pub me_is : m' ≡ (with_step i read left (has_root aim.name m.0), shed (is_of_kids aim.tree aim.layout aim.name) m.1)
+  pub me_is : m' ≡ (
+    with_step i read left (has_root aim.name m.0),
+    shed (is_of_kids aim.tree aim.layout aim.name) m.1,
+  )
   pub seated : IsSeated aim.tree aim.layout m'
 
-abbrev pub FinishesAt : {P E O : Type 0} → Ghosts P E O → Aim → ℕ → ℕ → ℕ → Seated P E → Seated P E → Type 0
+abbrev pub FinishesAt : {P E O : Type 0} → Ghosts P E O → Aim → ℕ → ℕ → ℕ → Seated P E →
+    Seated P E → Type 0
 FinishesAt cargo aim i read left m m' =
     (is_root aim.tree aim.name.node ≡ false → FinishedAt cargo aim i read left m m')
     × (is_root aim.tree aim.name.node ≡ true → RootedAt aim i read left m m')

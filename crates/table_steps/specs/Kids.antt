@@ -12,6 +12,7 @@ children_below tree p (suc n) =
     if is_child tree p n then n ∷ children_below tree p n else children_below tree p n
 
 -- the homes of these nodes of a block, empty, as a hand carries them
-abbrev pub empty_slots : {P : Type 0} → Layout → ℕ → List ℕ → List (ℕ × Option P) → List (ℕ × Option P)
+abbrev pub empty_slots : {P : Type 0} → Layout → ℕ → List ℕ → List (ℕ × Option P) →
+    List (ℕ × Option P)
 empty_slots l b [] rest = rest
 empty_slots l b (n ∷ ns) rest = (place_number l b n, None) ∷ empty_slots l b ns rest

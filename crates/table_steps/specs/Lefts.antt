@@ -36,9 +36,10 @@ pub record SaysSource (x : Name) (bits : Bits) (word : ℕ) : Type 0 where
   pub stamp_is : stamp_of word ≡ x.generation
   pub reads : source_read word ≡ bits
 
--- the word that was found said this at the name's generation, and was written no later: one of an earlier
--- generation says what such a word says at first
-pub record FoundAs {A : Type 0} (first : A) (read : ℕ → A) (x : Name) (said : A) (word : ℕ) : Type 0 where
+-- the word that was found said this at the name's generation, and was written no later: one of an
+-- earlier generation says what such a word says at first
+pub record FoundAs {A : Type 0} (first : A) (read : ℕ → A) (x : Name) (said : A)
+    (word : ℕ) : Type 0 where
   pub no_later : stamp_of word ≤ x.generation
   pub reads : says_at first read x.generation word ≡ said
 
@@ -51,14 +52,18 @@ FoundCallback x phase word = FoundAs Never callback_read x phase word
 abbrev pub FoundSource : Name → Bits → ℕ → Type 0
 FoundSource x bits word = FoundAs clear source_read x bits word
 
--- what a step on the node's control word tells: the word that it found said this. What else it did is told of
--- the word's index, the word that it read and the one that it left
-pub record FindsControl {P E : Type 0} (aim : Aim) (before : ControlWord) (told : ℕ → ℕ → ℕ → Seated P E → Seated P E → Type 0) (i read left : ℕ) (m m' : Seated P E) : Type 0 where
+-- what a step on the node's control word tells: the word that it found said this. What else it did
+-- is told of the word's index, the word that it read and the one that it left
+pub record FindsControl {P E : Type 0} (aim : Aim) (before : ControlWord)
+    (told : ℕ → ℕ → ℕ → Seated P E → Seated P E → Type 0) (i read left : ℕ)
+    (m m' : Seated P E) : Type 0 where
   pub found : FoundControl aim.name before read
   pub did : told i read left m m'
 
--- a step on the node's control word found the one said, and left the other. What else it did is told as there
-pub record LeavesControl {P E : Type 0} (aim : Aim) (before after : ControlWord) (told : ℕ → ℕ → ℕ → Seated P E → Seated P E → Type 0) (m m' : Seated P E) : Type 0 where
+-- a step on the node's control word found the one said, and left the other. What else it did is
+-- told as there
+pub record LeavesControl {P E : Type 0} (aim : Aim) (before after : ControlWord)
+    (told : ℕ → ℕ → ℕ → Seated P E → Seated P E → Type 0) (m m' : Seated P E) : Type 0 where
   pub read : ℕ
   pub left : ℕ
   pub found : FoundControl aim.name before read

@@ -36,13 +36,16 @@ is_ready_in Loop control = is_ready_loop control
 is_ready_in Pool control = is_ready_pool control
 
 -- a load of the node's control word read this word, and is listed
-abbrev pub IsRead : {P E O : Type 0} → Board O → ℕ → ℕ → ℕ → Seat (Option P) (View P E) → Seat (Option P) (View P E) → Type 0
+abbrev pub IsRead : {P E O : Type 0} → Board O → ℕ → ℕ → ℕ → Seat (Option P) (View P E) →
+    Seat (Option P) (View P E) → Type 0
 IsRead board block node word old new =
     new.me ≡ (logged (index board.frame.layout (OfControl block node)) word old.me.0, old.me.1)
 
 -- the name is answered exactly where the word that was read passes the test, and the load is listed
-pub record IsReadAs {P E O : Type 0} (board : Board O) (block node : ℕ) (test : ControlWord → Bool) (answer : Option Name) (old new : Seat (Option P) (View P E)) : Type 0 where
+pub record IsReadAs {P E O : Type 0} (board : Board O) (block node : ℕ) (test : ControlWord → Bool)
+    (answer : Option Name) (old new : Seat (Option P) (View P E)) : Type 0 where
   pub word : ℕ
   pub answer_is : answer
-      ≡ (if test (control_read word) then Some (record { block = block; generation = stamp_of word; node = node }) else None)
+      ≡ (if test (control_read word)
+      then Some (record { block = block; generation = stamp_of word; node = node }) else None)
   pub me_is : IsRead board block node word old new

@@ -20,9 +20,10 @@ use Rattle.table_steps.specs.Views.{knows}
 abbrev pub untouched : ScopeWord
 untouched = record { used = false; closed = false; joining = false; joined = false; count = 0 }
 
--- all blocks are free at generation 0, nothing began, no stop is requested, the scope is unused, and all
--- homes are empty
-pub record IsAsOpened {P E O : Type 0} (f : Frame O) (s : table.State (Option P) (View P E)) : Type 0 where
+-- all blocks are free at generation 0, nothing began, no stop is requested, the scope is unused,
+-- and all homes are empty
+pub record IsAsOpened {P E O : Type 0} (f : Frame O)
+    (s : table.State (Option P) (View P E)) : Type 0 where
   pub block : (b : ℕ) → block_of f.layout s.words b ≡ record { generation = 0; state = Free }
   pub control : (b n : ℕ) → control_of f.layout s.words b n ≡ Idle
   pub callback : (b n : ℕ) → callback_of f.layout s.words b n ≡ Never
@@ -32,6 +33,8 @@ pub record IsAsOpened {P E O : Type 0} (f : Frame O) (s : table.State (Option P)
   pub home : (i : ℕ) → home_in (get_elem? s.homes i) ≡ Empty
 
 -- while the table's hands know no more than these, it is as it was opened
-abbrev pub StaysAsOpened : {P E O : Type 0} → Ghosts P E O → Frame O → List (Seat (Option P) (View P E)) → Type 0
+abbrev pub StaysAsOpened : {P E O : Type 0} → Ghosts P E O → Frame O →
+    List (Seat (Option P) (View P E)) → Type 0
 StaysAsOpened {P} {E} cargo f hands =
-    (s : table.State (Option P) (View P E)) → Traced cargo f s → s.views ≡ map knows hands → IsAsOpened f s
+    (s : table.State (Option P) (View P E)) → Traced cargo f s → s.views ≡ map knows hands →
+    IsAsOpened f s

@@ -41,7 +41,8 @@ above_it tree x = option_map_or (λ p. beside x p) (parent_of tree x.node) x
 abbrev pub says_begun : ℕ → ℕ → Bool
 says_begun generation word = stamp_of word == generation && not (is_idle (control_read word))
 
--- what the word says at this generation: one that was written at another says nothing, which reads as the first
+-- what the word says at this generation: one that was written at another says nothing, which reads
+-- as the first
 abbrev pub says_at : {A : Type 0} → A → (ℕ → A) → ℕ → ℕ → A
 says_at first read generation word = if stamp_of word == generation then read word else first
 
@@ -51,8 +52,10 @@ says_phase generation word = says_at Never callback_read generation word
 
 -- what a load of the child's word tells the hand that holds its parent x
 abbrev pub reads_child : {P E : Type 0} → Name → Name → ℕ → ℕ → Seated P E → Seated P E
-reads_child x child i word m =
-    (logged i word (if says_begun child.generation word then m.0 else notes_idle x child.node m.0), m.1)
+reads_child x child i word m = (
+  logged i word (if says_begun child.generation word then m.0 else notes_idle x child.node m.0),
+  m.1,
+)
 
 -- the hand holds x, and knows that this child of it hasn't begun
 pub record KnowsIdle {P E : Type 0} (x : Name) (n : ℕ) (m : Seated P E) : Type 0 where
@@ -71,7 +74,8 @@ abbrev pub reads_phase : {P E : Type 0} → Name → ℕ → ℕ → Seated P E 
 reads_phase x i word m = (logged i word (notes_phase x (says_phase x.generation word) m.0), m.1)
 
 -- the hand holds the child's parent
-pub record HoldsAbove {P E : Type 0} (tree : List TreeNode) (v : View P E) (child : Name) : Type 0 where
+pub record HoldsAbove {P E : Type 0} (tree : List TreeNode) (v : View P E)
+    (child : Name) : Type 0 where
   pub parent : ℕ
   pub parent_is : parent_of tree child.node ≡ Some parent
   pub held : Held E
@@ -86,13 +90,15 @@ pub record Holds {P E : Type 0} (v : View P E) (x : Name) : Type 0 where
 abbrev pub IsBegunAs : {P E O : Type 0} → Frame O → Name → Bool → Seated P E → Seated P E → Type 0
 IsBegunAs f child answer m m' =
     (word : ℕ) × (answer ≡ says_begun child.generation word)
-    × (m' ≡ reads_child (above_it f.tree child) child (index f.layout (OfControl child.block child.node)) word m)
+    × (m' ≡ reads_child (above_it f.tree child) child
+    (index f.layout (OfControl child.block child.node)) word m)
 
 -- a child that the hand had read as not begun still hasn't
 abbrev pub IsIdleStill : {P E O : Type 0} → Frame O → Name → Bool → Seated P E → Type 0
 IsIdleStill f child answer m = KnowsIdle (above_it f.tree child) child.node m → answer ≡ false
 
-abbrev pub IsPhaseAs : {P E O : Type 0} → Frame O → Name → CallbackPhase → Seated P E → Seated P E → Type 0
+abbrev pub IsPhaseAs : {P E O : Type 0} → Frame O → Name → CallbackPhase → Seated P E → Seated P E →
+    Type 0
 IsPhaseAs f x answer m m' =
     (word : ℕ) × (answer ≡ says_phase x.generation word)
     × (m' ≡ reads_phase x (index f.layout (OfCallback x.block x.node)) word m)

@@ -22,8 +22,8 @@ use Rattle.table_steps.specs.Claims.{with_step, Seated}
 use Rattle.table_steps.specs.Slots.{Aim, slot_of, IsSeated, home_at}
 use Rattle.table_steps.specs.Sheds.{shed}
 
--- the hand gave back one block more: it has the finished root no more, and forgets the start that it
--- noted of it
+-- the hand gave back one block more: it has the finished root no more, and forgets the start that
+-- it noted of it
 abbrev pub releases : {P E : Type 0} → Name → View P E → View P E
 releases root v =
     record v {
@@ -41,8 +41,12 @@ pub record CanRelease {P E : Type 0} (l : Layout) (m : Seated P E) (root : Name)
   pub home : home_at l m root ≡ Some None
 
 -- the store: the hand gave the root's home back
-pub record ReleasesAt {P E : Type 0} (aim : Aim) (i read left : ℕ) (m m' : Seated P E) : Type 0 where
-  pub me_is : m' ≡ (with_step i read left (releases aim.name m.0), shed (is_own_slot aim.layout aim.name) m.1)
+pub record ReleasesAt {P E : Type 0} (aim : Aim) (i read left : ℕ)
+    (m m' : Seated P E) : Type 0 where
+  pub me_is : m' ≡ (
+    with_step i read left (releases aim.name m.0),
+    shed (is_own_slot aim.layout aim.name) m.1,
+  )
   pub seated : IsSeated aim.tree aim.layout m'
 
 -- the word of an open block of this generation
@@ -54,7 +58,8 @@ abbrev pub word_after : ℕ → BlockWord
 word_after generation = next_word (open_at generation)
 
 -- the store found the block's word saying that it is open, and left it saying this
-pub record LeavesBlock {P E : Type 0} (aim : Aim) (now : BlockWord) (m m' : Seated P E) : Type 0 where
+pub record LeavesBlock {P E : Type 0} (aim : Aim) (now : BlockWord)
+    (m m' : Seated P E) : Type 0 where
   pub read : ℕ
   pub left : ℕ
   pub found : block_read read ≡ open_at aim.name.generation
@@ -64,16 +69,19 @@ pub record LeavesBlock {P E : Type 0} (aim : Aim) (now : BlockWord) (m m' : Seat
 -- what the hand needs, by the block
 abbrev pub CanReleaseBlock : {P E O : Type 0} → Frame O → ℕ → ℕ → Seated P E → Type 0
 CanReleaseBlock f block generation m =
-    CanRelease f.layout m (record { block = block; generation = generation; node = length f.tree - 1 })
+    CanRelease f.layout m
+    (record { block = block; generation = generation; node = length f.tree - 1 })
 
 -- each home of the block is at home, and nothing lies in it
 abbrev pub AreHomesEmpty : {P E : Type 0} → Layout → ℕ → table.State (Option P) (View P E) → Type 0
-AreHomesEmpty l block s = (n : ℕ) → n < l.nodes → get_elem? s.homes (place_number l block n) ≡ some (some None)
+AreHomesEmpty l block s = (n : ℕ) → n < l.nodes →
+    get_elem? s.homes (place_number l block n) ≡ some (some None)
 
 module _ {P E O : Type 0} (cargo : Ghosts P E O) where
-  -- the table as the newest step of the hand with this number left it: the rule holds, the block's word
-  -- reads so, and all its homes are empty
-  pub record LeftEmpty (f : Frame O) (hand block : ℕ) (now : BlockWord) (m' : Seated P E) : Type 0 where
+  -- the table as the newest step of the hand with this number left it: the rule holds, the block's
+  -- word reads so, and all its homes are empty
+  pub record LeftEmpty (f : Frame O) (hand block : ℕ) (now : BlockWord)
+      (m' : Seated P E) : Type 0 where
     pub left : table.State (Option P) (View P E)
     pub runs : Running cargo f left
     pub view : get_elem? left.views hand ≡ some m'.0
@@ -81,13 +89,16 @@ module _ {P E O : Type 0} (cargo : Ghosts P E O) where
     pub empty : AreHomesEmpty f.layout block left
 
   -- what the store tells its hand, in each of these tables
-  pub record TellsRelease (frames : List (Frame O)) (hand : ℕ) (aim : Aim) (i read left : ℕ) (m m' : Seated P E) : Type 0 where
+  pub record TellsRelease (frames : List (Frame O)) (hand : ℕ) (aim : Aim) (i read left : ℕ)
+      (m m' : Seated P E) : Type 0 where
     pub found : block_read read ≡ open_at aim.name.generation
     pub did : ReleasesAt aim i read left m m'
-    pub empty : Each (λ f. LeftEmpty f hand aim.name.block (word_after aim.name.generation) m') frames
+    pub empty : Each
+        (λ f. LeftEmpty f hand aim.name.block (word_after aim.name.generation) m') frames
 
   -- they stay so: whenever the rule holds and the block isn't open, all its homes are empty
   abbrev pub StayEmpty : Frame O → ℕ → Type 0
   StayEmpty f block =
-      (s : table.State (Option P) (View P E)) → Running cargo f s → is_open (block_of f.layout s.words block).state ≡ false →
+      (s : table.State (Option P) (View P E)) → Running cargo f s →
+      is_open (block_of f.layout s.words block).state ≡ false →
       AreHomesEmpty f.layout block s

@@ -26,12 +26,14 @@ pub record HasExactly (table : TableId) (count : Name → ℕ) (set : Marks) : T
   pub names : (x : Name) → count x ≡ one (has set x)
 
 -- one set has exactly the names whose start the view owes, the other those whose callback it runs
-pub record Remembers {P E : Type 0} (seat : Seat (Option P) (View P E)) (starts callbacks : Marks) : Type 0 where
+pub record Remembers {P E : Type 0} (seat : Seat (Option P) (View P E))
+    (starts callbacks : Marks) : Type 0 where
   pub owed : HasExactly seat.table_id (owing seat.me.0) starts
   pub runs : HasExactly seat.table_id (running seat.me.0) callbacks
 
 -- the seat is one of this table's, owes no start and runs no callback
-pub record OwesAndRunsNone {P E O : Type 0} (board : Board O) (seat : Seat (Option P) (View P E)) : Type 0 where
+pub record OwesAndRunsNone {P E O : Type 0} (board : Board O)
+    (seat : Seat (Option P) (View P E)) : Type 0 where
   pub table_is : seat.table_id ≡ board.table_id
   pub owed : (knows seat).owed ≡ []
   pub runs : (knows seat).runs ≡ []
@@ -54,6 +56,7 @@ pub record IsAdding (x : Name) (children left : List ℕ) (old now : Marks) : Ty
       ≡ (list_any (λ n. same (beside x n) y) children || has old y)
 
 -- of these seats the first became hands, and these are left, which owe and run nothing
-pub record IsHanding {P E O : Type 0} (board : Board O) (seats hands left : List (Seat (Option P) (View P E))) : Type 0 where
+pub record IsHanding {P E O : Type 0} (board : Board O)
+    (seats hands left : List (Seat (Option P) (View P E))) : Type 0 where
   pub in_order : hands ++ left ≡ seats
   pub each : Each (OwesAndRunsNone board) left

@@ -25,22 +25,24 @@ use Rattle.table_steps.specs.Slots.{has_seen, held_at, reported_at}
 use Rattle.table_steps.specs.Sights.{spot_of, KeepsAlive, StillAsked}
 
 -- the hand owes the report of a child of x, and the child failed
-pub record OwesFailed {P E O : Type 0} (cargo : Ghosts P E O) (tree : List TreeNode) (v : View P E) (x : Name) : Type 0 where
+pub record OwesFailed {P E O : Type 0} (cargo : Ghosts P E O) (tree : List TreeNode) (v : View P E)
+    (x : Name) : Type 0 where
   pub child : ℕ
   pub is_below : is_child tree x.node child ≡ true
   pub entry : Reported P E
   pub owes : reported_at v (beside x child) ≡ Some entry
   pub failed : cargo.fits entry.item x.node true
 
--- the hand holds x, no child of which was ever awaited, and has seen the request on the source that x hears
+-- the hand holds x, no child of which was ever awaited, and has seen the request on the source that
+-- x hears
 pub record HoldsAsked {P E : Type 0} (tree : List TreeNode) (v : View P E) (x : Name) : Type 0 where
   pub held : Held E
   pub holds : held_at v x ≡ Some held
   pub before : held.named ≡ 0
   pub seen : has_seen tree v x ≡ true
 
--- the hand may pass the request on the source that x hears on to x's own: it runs x's callback, or holds x
--- before its children begin
+-- the hand may pass the request on the source that x hears on to x's own: it runs x's callback, or
+-- holds x before its children begin
 abbrev pub MayForward : {P E : Type 0} → List TreeNode → View P E → Name → Type 0
 MayForward tree v x = (1 ≤ count_by (λ y. y) v.runs x) ⊎ HoldsAsked tree v x
 
@@ -49,13 +51,15 @@ pub record MayAskScope {P E O : Type 0} (f : Frame O) (v : View P E) : Type 0 wh
   pub counting : is_counting f.kind ≡ true
   pub number : v.number ≡ 0
 
--- the hand has seen a request on the source, which can't go away under it: another one changes nothing
+-- the hand has seen a request on the source, which can't go away under it: another one changes
+-- nothing
 abbrev pub HasAsked : {P E : Type 0} → View P E → SourceRef → Type 0
 HasAsked v source = (has_source_ref v.seen source ≡ true) × KeepsAlive v source
 
--- a stop is requested of the scope by hand 0; of a node because a child failed, or to pass a request on; and
--- again by a hand that has seen the request
-abbrev pub MayRequest : {P E O : Type 0} → Ghosts P E O → Frame O → View P E → SourceRef → Bool → Type 0
+-- a stop is requested of the scope by hand 0; of a node because a child failed, or to pass a
+-- request on; and again by a hand that has seen the request
+abbrev pub MayRequest : {P E O : Type 0} → Ghosts P E O → Frame O → View P E → SourceRef → Bool →
+    Type 0
 MayRequest cargo f v Scope true = ⊥
 MayRequest cargo f v Scope false = MayAskScope f v ⊎ HasAsked v Scope
 MayRequest cargo f v (Node x) true = OwesFailed cargo f.tree v x
@@ -85,18 +89,21 @@ bits_asked failure bits = record bits { requested = true; failed = bits.failed |
 
 -- what the word that was read tells the hand
 abbrev pub asks_at : {P E : Type 0} → SourceRef → ℕ → ℕ → ℕ → Seated P E → Seated P E
-asks_at source i read left m = (with_step i read left (asks source (not (source_read read).requested) m.0), m.1)
+asks_at source i read left m =
+    (with_step i read left (asks source (not (source_read read).requested) m.0), m.1)
 
 -- what the step tells: that, and that a request that the hand has seen there still stood
-pub record AsksAt {P E : Type 0} (source : SourceRef) (i read left : ℕ) (m m' : Seated P E) : Type 0 where
+pub record AsksAt {P E : Type 0} (source : SourceRef) (i read left : ℕ)
+    (m m' : Seated P E) : Type 0 where
   pub me_is : m' ≡ asks_at source i read left m
   pub is_of : IsWordOf source read
   pub stands : StillAsked m.0 source (source_read read).requested
 
--- the answer is the bits of the word that was read, and the word that was left has those of the request too.
--- Where there was no request, the hand has begun a scan. A request that the hand has seen before, on a source
--- that can't go away under it, was found there
-pub record IsAsked {P E O : Type 0} (board : Board O) (source : SourceRef) (failure : Bool) (answer : Bits) (old new : Seat (Option P) (View P E)) : Type 0 where
+-- the answer is the bits of the word that was read, and the word that was left has those of the
+-- request too. Where there was no request, the hand has begun a scan. A request that the hand has
+-- seen before, on a source that can't go away under it, was found there
+pub record IsAsked {P E O : Type 0} (board : Board O) (source : SourceRef) (failure : Bool)
+    (answer : Bits) (old new : Seat (Option P) (View P E)) : Type 0 where
   pub word : ℕ
   pub is_of : IsWordOf source word
   pub answer_is : answer ≡ source_read word
@@ -105,6 +112,7 @@ pub record IsAsked {P E O : Type 0} (board : Board O) (source : SourceRef) (fail
   pub left_is : source_read left ≡ bits_asked failure answer
   pub stands : StillAsked old.me.0 source answer.requested
   pub me_is : new.me ≡ (
-    with_step (index board.frame.layout (spot_of source)) word left (asks source (not answer.requested) old.me.0),
+    with_step (index board.frame.layout (spot_of source)) word left
+        (asks source (not answer.requested) old.me.0),
     old.me.1,
   )

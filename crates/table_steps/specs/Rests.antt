@@ -18,17 +18,20 @@ use Rattle.table_steps.specs.Sheds.{shed}
 abbrev pub lets_go : {P E : Type 0} → Name → View P E → View P E
 lets_go x v = record v { held = without (λ e. e.name) v.held x }
 
--- the hand holds the node, makes no scan of its source, and has the homes of its children, all empty
+-- the hand holds the node, makes no scan of its source, and has the homes of its children, all
+-- empty
 pub record CanLeave {P E O : Type 0} (f : Frame O) (m : Seated P E) (x : Name) : Type 0 where
   pub held : Held E
   pub holds : held_at m.0 x ≡ Some held
   pub unscanned : scan_in m.0.scans (Node x) ≡ None
-  pub kids : (n : ℕ) → is_child f.tree x.node n ≡ true → kept (place_number f.layout x.block n) m.1 ≡ Some None
+  pub kids : (n : ℕ) → is_child f.tree x.node n ≡ true →
+      kept (place_number f.layout x.block n) m.1 ≡ Some None
 
--- it has an item in the node's home that shows the node's start, is no completion, fits by what the hand
--- has seen of requests and was told when it came to hold the node, asks for no more children than the
--- node's last await named, and may rest there
-pub record CanRest {P E O : Type 0} (cargo : Ghosts P E O) (f : Frame O) (m : Seated P E) (x : Name) : Type 0 where
+-- it has an item in the node's home that shows the node's start, is no completion, fits by what the
+-- hand has seen of requests and was told when it came to hold the node, asks for no more children
+-- than the node's last await named, and may rest there
+pub record CanRest {P E O : Type 0} (cargo : Ghosts P E O) (f : Frame O) (m : Seated P E)
+    (x : Name) : Type 0 where
   pub leave : CanLeave f m x
   pub item : P
   pub home : home_at f.layout m x ≡ Some (Some item)

@@ -21,9 +21,10 @@ MayRouse v x = (nat_le 1 (count_by (λ y. y) v.runs x) || v.number == 0) ≡ tru
 abbrev pub rouses : {P E : Type 0} → Step (Option P) → Seated P E → ℕ → Seated P E → Type 0
 rouses step m found m' = m' ≡ (with_step step.word found (exchanged step found) m.0, m.1)
 
--- true exactly where the word that was read said that the node is parked, at its generation: then the word
--- says that it is ready in the loop, and else it stayed. The hand knows what it knew
-pub record IsRoused {P E O : Type 0} (board : Board O) (x : Name) (answer : Bool) (old new : Seat (Option P) (View P E)) : Type 0 where
+-- true exactly where the word that was read said that the node is parked, at its generation: then
+-- the word says that it is ready in the loop, and else it stayed. The hand knows what it knew
+pub record IsRoused {P E O : Type 0} (board : Board O) (x : Name) (answer : Bool)
+    (old new : Seat (Option P) (View P E)) : Type 0 where
   pub word : ℕ
   pub left : ℕ
   pub answer_is : answer ≡ (word == rest_word x Parked)

@@ -1,4 +1,5 @@
--- What a hand needs to end a callback's run, also by a removal from inside it, and what that does to it.
+-- What a hand needs to end a callback's run, also by a removal from inside it, and what that does
+-- to it.
 use Rattle.std.specs.Prelude.{◌≡◌, ℕ, ◌+◌, ◌*◌, ◌≤◌, if◌then◌else◌, List, [], ◌∷◌, length, Option, Some, None}
 use Rattle.std.specs.Option.{option_map_or}
 use Rattle.node_tree.specs.declared.node.TreeNode.{TreeNode}
@@ -55,8 +56,11 @@ ends_run tree x v =
 abbrev pub removes_own : {P E : Type 0} → List TreeNode → Name → View P E → View P E
 removes_own tree x v = ends_run tree x (notes_phase x Removed v)
 
-abbrev pub IsRunEnded : {P E O : Type 0} → Board O → Name → Seat (Option P) (View P E) → Seat (Option P) (View P E) → Type 0
+abbrev pub IsRunEnded : {P E O : Type 0} → Board O → Name → Seat (Option P) (View P E) →
+    Seat (Option P) (View P E) → Type 0
 IsRunEnded board x old new = LeftCallback board x Running Ran (ends_run board.frame.tree x) old new
 
-abbrev pub IsOwnWithdrawn : {P E O : Type 0} → Board O → Name → Seat (Option P) (View P E) → Seat (Option P) (View P E) → Type 0
-IsOwnWithdrawn board x old new = LeftCallback board x Running Removed (removes_own board.frame.tree x) old new
+abbrev pub IsOwnWithdrawn : {P E O : Type 0} → Board O → Name → Seat (Option P) (View P E) →
+    Seat (Option P) (View P E) → Type 0
+IsOwnWithdrawn board x old new = LeftCallback board x Running Removed
+    (removes_own board.frame.tree x) old new

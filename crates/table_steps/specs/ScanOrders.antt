@@ -24,7 +24,8 @@ hears tree (Node y) block node = block == y.block && is_the_node y.node (nearest
 abbrev pub none_hears : List TreeNode → SourceRef → ℕ → ℕ → Bool
 none_hears tree source i zero = true
 none_hears tree source i (suc count) =
-    not (hears tree source (i / length tree) (i % length tree)) && none_hears tree source (suc i) count
+    not (hears tree source (i / length tree) (i % length tree))
+    && none_hears tree source (suc i) count
 
 -- the place is the first from number i on that hears the source
 abbrev pub is_next_place : List TreeNode → SourceRef → ℕ → ℕ → ℕ → Bool

@@ -17,7 +17,8 @@ use Rattle.table_steps.specs.Sights.{spot_of}
 use Rattle.table_steps.specs.ScanOrders.{none_hears}
 
 -- the hand scans the source, and no place of it is left
-pub record CanSealScan {P E O : Type 0} (f : Frame O) (v : View P E) (source : SourceRef) : Type 0 where
+pub record CanSealScan {P E O : Type 0} (f : Frame O) (v : View P E)
+    (source : SourceRef) : Type 0 where
   pub from : ℕ
   pub scans : scan_in v.scans source ≡ Some from
   pub past : none_hears f.tree source from (length f.tree * f.layout.blocks - from) ≡ true
@@ -39,15 +40,21 @@ pub record SaysUnscanned (source : SourceRef) (word : ℕ) : Type 0 where
   pub unscanned : (source_read word).scanned ≡ false
 
 -- what the step tells, beside the word that it found
-pub record SealsScanAt {P E : Type 0} (source : SourceRef) (i read left : ℕ) (m m' : Seated P E) : Type 0 where
+pub record SealsScanAt {P E : Type 0} (source : SourceRef) (i read left : ℕ)
+    (m m' : Seated P E) : Type 0 where
   pub found : SaysUnscanned source read
   pub me_is : m' ≡ (with_step i read left (seals_scan source m.0), m.1)
 
--- the source's word was read as requested and not yet scanned, and left as scanned, and the scan is sealed
-pub record IsScanSealed {P E O : Type 0} (board : Board O) (source : SourceRef) (old new : Seat (Option P) (View P E)) : Type 0 where
+-- the source's word was read as requested and not yet scanned, and left as scanned, and the scan is
+-- sealed
+pub record IsScanSealed {P E O : Type 0} (board : Board O) (source : SourceRef)
+    (old new : Seat (Option P) (View P E)) : Type 0 where
   pub read : ℕ
   pub left : ℕ
   pub found : SaysUnscanned source read
   pub stamp_is : stamp_of left ≡ stamp_of read
   pub left_is : source_read left ≡ record (source_read read) { scanned = true }
-  pub me_is : new.me ≡ (with_step (index board.frame.layout (spot_of source)) read left (seals_scan source old.me.0), old.me.1)
+  pub me_is : new.me ≡ (
+    with_step (index board.frame.layout (spot_of source)) read left (seals_scan source old.me.0),
+    old.me.1,
+  )

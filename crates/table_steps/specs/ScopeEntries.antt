@@ -12,12 +12,14 @@ module _ {P E : Type 0} where
   abbrev pub MayEnter : View P E → Type 0
   MayEnter v = v.making + v.refused ≡ 0
 
-  -- by the word that was read, an association is being refused; or it is made, where the scope was used
-  -- before; else it is in the making
+  -- by the word that was read, an association is being refused; or it is made, where the scope was
+  -- used before; else it is in the making
   abbrev pub enters : ℕ → ScopeWord → View P E → View P E
   enters most word v =
       if is_refused word most then record v { refused = v.refused + 1 } else (
       if word.used then record v { made = v.made + 1 } else record v { making = v.making + 1 })
 
-abbrev pub IsEntered : {P E O : Type 0} → Board O → ScopeWord → Seat (Option P) (View P E) → Seat (Option P) (View P E) → Type 0
-IsEntered board answer old new = MovesScope with_one_more (enters board.frame.most answer) answer old new
+abbrev pub IsEntered : {P E O : Type 0} → Board O → ScopeWord → Seat (Option P) (View P E) →
+    Seat (Option P) (View P E) → Type 0
+IsEntered board answer old new = MovesScope with_one_more
+    (enters board.frame.most answer) answer old new

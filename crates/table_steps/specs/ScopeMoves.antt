@@ -1,4 +1,5 @@
--- What a hand needs for the steps of the counting scope (P3149, [exec.scope]), and what they tell it.
+-- What a hand needs for the steps of the counting scope (P3149, [exec.scope]), and what they tell
+-- it.
 use Rattle.std.specs.Prelude.{◌≡◌, ◌≢◌, ℕ, ◌+◌, ◌-◌, ◌^◌, ◌<◌, ◌≤◌, true, nat_le, if◌then◌else◌, Option, Result, MatchResult}
 use Rattle.life_rules.specs.declared.scope.ScopeWord.{ScopeWord}
 use Rattle.table_words.specs.ScopeNumbers.{scope_read, scope_written}
@@ -42,7 +43,8 @@ module _ {P E : Type 0} where
   -- an association is left: one that is being refused goes first
   abbrev pub leaves_scope : View P E → View P E
   leaves_scope v =
-      if nat_le 1 v.refused then record v { refused = v.refused - 1 } else record v { made = v.made - 1 }
+      if nat_le 1 v.refused then record v { refused = v.refused - 1 }
+      else record v { made = v.made - 1 }
 
   -- the step read this of the scope's word, is listed, and changed nothing
   pub record ReadsScope (answer : ScopeWord) (old new : Seat (Option P) (View P E)) : Type 0 where
@@ -50,14 +52,17 @@ module _ {P E : Type 0} where
     pub answer_is : answer ≡ scope_read word
     pub me_is : new.me ≡ (logged 0 word old.me.0, old.me.1)
 
-  -- what a step tells that read this of the scope's word and left that: the word is so changed, and so is
-  -- what the hand knows
-  pub record MovesScopeAt (leaves : ScopeWord → ScopeWord) (change : ScopeWord → View P E → View P E) (i read left : ℕ) (m m' : Seated P E) : Type 0 where
+  -- what a step tells that read this of the scope's word and left that: the word is so changed, and
+  -- so is what the hand knows
+  pub record MovesScopeAt (leaves : ScopeWord → ScopeWord) (change : ScopeWord → View P E →
+      View P E) (i read left : ℕ) (m m' : Seated P E) : Type 0 where
     pub me_is : m' ≡ (with_step i read left (change (scope_read read) m.0), m.1)
     pub left_is : scope_read left ≡ leaves (scope_read read)
 
-  -- the step read this of the scope's word, left the word so changed, and changed so what the hand knows
-  pub record MovesScope (leaves : ScopeWord → ScopeWord) (change : View P E → View P E) (answer : ScopeWord) (old new : Seat (Option P) (View P E)) : Type 0 where
+  -- the step read this of the scope's word, left the word so changed, and changed so what the hand
+  -- knows
+  pub record MovesScope (leaves : ScopeWord → ScopeWord) (change : View P E → View P E)
+      (answer : ScopeWord) (old new : Seat (Option P) (View P E)) : Type 0 where
     pub read : ℕ
     pub answer_is : answer ≡ scope_read read
     pub left : ℕ
@@ -68,20 +73,22 @@ module _ {P E : Type 0} where
   abbrev pub IsMade : Seat (Option P) (View P E) → Seat (Option P) (View P E) → Type 0
   IsMade old new = (answer : ScopeWord) × MovesScope as_used makes answer old new
 
-  -- the exchange found this word, which has no bits but its four and the count, and each that the hand's
-  -- earlier steps read or left
+  -- the exchange found this word, which has no bits but its four and the count, and each that the
+  -- hand's earlier steps read or left
   pub record SealsAt (i found left : ℕ) (m m' : Seated P E) : Type 0 where
     pub me_is : m' ≡ (with_step i found left m.0, m.1)
     pub narrow : found < 2 ^ 36
     pub bits : KeepsBits m.0.steps (scope_read found)
 
-  -- the word that was read was the one that says what was expected, and was left saying that the scope is
-  -- joined; or it says something else, which is told, and stayed
-  pub record IsSealedAs (expected : ScopeWord) (answer : Result (Unit {0}) ScopeWord) (old new : Seat (Option P) (View P E)) : Type 0 where
+  -- the word that was read was the one that says what was expected, and was left saying that the
+  -- scope is joined; or it says something else, which is told, and stayed
+  pub record IsSealedAs (expected : ScopeWord) (answer : Result (Unit {0}) ScopeWord)
+      (old new : Seat (Option P) (View P E)) : Type 0 where
     pub word : ℕ
     pub left : ℕ
     pub me_is : new.me ≡ (with_step 0 word left old.me.0, old.me.1)
-    pub cause : MatchResult answer (λ _. (word ≡ scope_written expected) × (scope_read left ≡ as_joined expected))
+    pub cause : MatchResult answer (λ _. (word ≡ scope_written expected)
+        × (scope_read left ≡ as_joined expected))
         (λ read. (read ≢ expected) × (read ≡ scope_read word) × (left ≡ word))
     -- it has each bit that the hand's earlier steps read or left
     pub bits : KeepsBits old.me.0.steps (scope_read word)

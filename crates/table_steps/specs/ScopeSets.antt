@@ -14,5 +14,6 @@ abbrev pub joining : ScopeWord → ScopeWord
 joining w = record w { joining = true }
 
 -- the step read this word, which is answered, and left it with the bit set
-abbrev pub SetsScope : {P E : Type 0} → (ScopeWord → ScopeWord) → ScopeWord → Seat (Option P) (View P E) → Seat (Option P) (View P E) → Type 0
+abbrev pub SetsScope : {P E : Type 0} → (ScopeWord → ScopeWord) → ScopeWord →
+    Seat (Option P) (View P E) → Seat (Option P) (View P E) → Type 0
 SetsScope sets answer old new = MovesScope sets (λ v. v) answer old new

@@ -26,7 +26,8 @@ abbrev pub spot_of : SourceRef → Spot
 spot_of Scope = TheScopeSource
 spot_of (Node x) = OfSource x.block x.node
 
--- the word says that a stop is requested on the source: the scope's always, a node's at its generation
+-- the word says that a stop is requested on the source: the scope's always, a node's at its
+-- generation
 abbrev pub says_requested : SourceRef → ℕ → Bool
 says_requested Scope word = (source_read word).requested
 says_requested (Node x) word = stamp_of word == x.generation && (source_read word).requested
@@ -41,12 +42,15 @@ pub record IsSourceIn {O : Type 0} (board : Board O) (source : SourceRef) : Type
   pub spot : IsSpot board.frame.layout (spot_of source)
   pub is_one : has_one board.frame.tree source
 
--- the hand armed the place and hasn't looked after it yet, and its callback is registered on this source
-pub record IsUnlooked {P E : Type 0} (tree : List TreeNode) (v : View P E) (source : SourceRef) (x : Name) : Type 0 where
+-- the hand armed the place and hasn't looked after it yet, and its callback is registered on this
+-- source
+pub record IsUnlooked {P E : Type 0} (tree : List TreeNode) (v : View P E) (source : SourceRef)
+    (x : Name) : Type 0 where
   pub unlooked : has_name v.unlooked x ≡ true
   pub nearest_is : source_for x (nearest tree x.node) ≡ Some source
 
-abbrev pub MayLookAfter : {P E : Type 0} → List TreeNode → View P E → SourceRef → Option Name → Type 0
+abbrev pub MayLookAfter : {P E : Type 0} → List TreeNode → View P E → SourceRef → Option Name →
+    Type 0
 MayLookAfter tree v source after = MatchOption after (Unit {0}) (IsUnlooked tree v source)
 
 -- the list without x
@@ -85,27 +89,31 @@ module _ {P E : Type 0} where
     m.1,
   )
 
--- the hand has a part in the operation of x, which can't end before: it holds a node of it, owes the start or
--- the report of one, runs the callback of one, or has finished its root
+-- the hand has a part in the operation of x, which can't end before: it holds a node of it, owes
+-- the start or the report of one, runs the callback of one, or has finished its root
 pub data HasPartIn {P E : Type 0} (v : View P E) (x : Name) : Type 0 where
   ByNode : (node : ℕ) (held : Held E) → held_at v (beside x node) ≡ Some held → HasPartIn v x
   ByStart : (node : ℕ) (owed : Owed E) → owed_at v (beside x node) ≡ Some owed → HasPartIn v x
-  ByReport : (node : ℕ) (reported : Reported P E) → reported_at v (beside x node) ≡ Some reported → HasPartIn v x
+  ByReport : (node : ℕ) (reported : Reported P E) → reported_at v (beside x node) ≡ Some reported →
+      HasPartIn v x
   ByRun : (node : ℕ) → 1 ≤ count_by (λ y. y) v.runs (beside x node) → HasPartIn v x
   ByRoot : (node : ℕ) → 1 ≤ count_by (λ y. y) v.finished (beside x node) → HasPartIn v x
 
--- the source can't go away under the hand: it is the scope's, or of an operation in which the hand has a part
+-- the source can't go away under the hand: it is the scope's, or of an operation in which the hand
+-- has a part
 abbrev pub KeepsAlive : {P E : Type 0} → View P E → SourceRef → Type 0
 KeepsAlive v Scope = Unit {0}
 KeepsAlive v (Node x) = HasPartIn v x
 
 -- a request that the hand has seen there still stands
 abbrev pub StillAsked : {P E : Type 0} → View P E → SourceRef → Bool → Type 0
-StillAsked v source answer = has_source_ref v.seen source ≡ true → KeepsAlive v source → answer ≡ true
+StillAsked v source answer = has_source_ref v.seen source ≡ true → KeepsAlive v source →
+    answer ≡ true
 
--- a request that the hand was told of when it came to hold x still stands: on the source that x hears, and on
--- the one that its children hear
-pub record StillTold {E : Type 0} (tree : List TreeNode) (source : SourceRef) (answer : Bool) (x : Name) (e : Held E) : Type 0 where
+-- a request that the hand was told of when it came to hold x still stands: on the source that x
+-- hears, and on the one that its children hear
+pub record StillTold {E : Type 0} (tree : List TreeNode) (source : SourceRef) (answer : Bool)
+    (x : Name) (e : Held E) : Type 0 where
   pub told : source_for x (nearest tree x.node) ≡ Some source → e.told ≡ true → answer ≡ true
   pub told_children : source_for x (given_by tree x.node (nearest tree x.node)) ≡ Some source →
       e.told_children ≡ true → answer ≡ true
@@ -116,13 +124,15 @@ AgreesWithTold {P} {E} tree v source answer =
     (x : Name) (e : Held E) → held_at v x ≡ Some e → StillTold tree source answer x e
 
 -- what the load tells: that, and that a request that was seen, or told of, still stands
-abbrev pub LooksAt : {P E : Type 0} → List TreeNode → SourceRef → Option Name → ℕ → ℕ → Seated P E → Seated P E → Type 0
+abbrev pub LooksAt : {P E : Type 0} → List TreeNode → SourceRef → Option Name → ℕ → ℕ → Seated P E →
+    Seated P E → Type 0
 LooksAt tree source after i word m m' =
     (m' ≡ looks_at source after i word m) × StillAsked m.0 source (says_requested source word)
     × AgreesWithTold tree m.0 source (says_requested source word)
 
 -- the answer is what the word that was read says, and the hand has noted it
-abbrev pub IsLookedAt : {P E O : Type 0} → Board O → SourceRef → Option Name → Bool → Seat (Option P) (View P E) → Seat (Option P) (View P E) → Type 0
+abbrev pub IsLookedAt : {P E O : Type 0} → Board O → SourceRef → Option Name → Bool →
+    Seat (Option P) (View P E) → Seat (Option P) (View P E) → Type 0
 IsLookedAt board source after answer old new =
     (word : ℕ) × (answer ≡ says_requested source word)
     × (new.me ≡ looks_at source after (index board.frame.layout (spot_of source)) word old.me)

@@ -30,11 +30,13 @@ says_free word = is_free (block_read word).state
 
 -- what the word that was read tells the hand
 abbrev pub skips_at : {P E : Type 0} → List TreeNode → ℕ → ℕ → ℕ → Seated P E → Seated P E
-skips_at tree block i word m = (logged i word (if says_free word then skips tree block m.0 else m.0), m.1)
+skips_at tree block i word m =
+    (logged i word (if says_free word then skips tree block m.0 else m.0), m.1)
 
--- true exactly where the word that was read says that the block is free: then the scan has passed all its
--- places
-pub record IsSkipped {P E O : Type 0} (board : Board O) (block : ℕ) (answer : Bool) (old new : Seat (Option P) (View P E)) : Type 0 where
+-- true exactly where the word that was read says that the block is free: then the scan has passed
+-- all its places
+pub record IsSkipped {P E O : Type 0} (board : Board O) (block : ℕ) (answer : Bool)
+    (old new : Seat (Option P) (View P E)) : Type 0 where
   pub word : ℕ
   pub answer_is : answer ≡ says_free word
   pub me_is : new.me ≡ skips_at board.frame.tree block (word_index board block) word old.me

@@ -35,13 +35,13 @@ abbrev pub kept : {A : Type 0} → ℕ → List (ℕ × A) → Option A
 kept slot [] = None
 kept slot (c ∷ cs) = if c.0 == slot then Some c.1 else kept slot cs
 
--- what the view has of the node x: the entry with which it holds it, with which it owes its start or its
--- report, and the start that it noted of a root
+-- what the view has of the node x: the entry with which it holds it, with which it owes its start
+-- or its report, and the start that it noted of a root
 abbrev pub held_at : {P E : Type 0} → View P E → Name → Option (Held E)
 held_at v x = find_by (λ e. e.name) v.held x
 
--- a hand that holds a node with this entry knows that the node's child hasn't begun: it has read so, or the
--- node has named none yet
+-- a hand that holds a node with this entry knows that the node's child hasn't begun: it has read
+-- so, or the node has named none yet
 abbrev pub knows_idle : {E : Type 0} → Held E → ℕ → Bool
 knows_idle held n = held.named == 0 || list_any (λ q. q == n) held.idle
 
@@ -55,7 +55,8 @@ abbrev pub noted_at : {P E : Type 0} → View P E → Name → Option (Rooted E)
 noted_at v x = find_by (λ e. e.name) v.noted x
 
 -- what lies in the node's home: none where the hand hasn't the home
-abbrev pub home_at : {P E : Type 0} → Layout → View P E × List (ℕ × Option P) → Name → Option (Option P)
+abbrev pub home_at : {P E : Type 0} → Layout → View P E × List (ℕ × Option P) → Name →
+    Option (Option P)
 home_at l m x = kept (slot_of l x) m.1
 
 -- the slot is that of the node, or of one of its children
@@ -63,8 +64,8 @@ abbrev pub is_of_family : List TreeNode → Layout → Name → ℕ → Bool
 is_of_family tree l x slot =
     slot_of l x == slot || list_any (λ n. place_number l x.block n == slot) (kids_of tree x.node)
 
--- the view gives its hand the slot: that of a node whose start it owes, of a node that it holds, of a
--- child of such a node, or of a finished root
+-- the view gives its hand the slot: that of a node whose start it owes, of a node that it holds, of
+-- a child of such a node, or of a finished root
 abbrev pub has_slot : {P E : Type 0} → List TreeNode → Layout → View P E → ℕ → Bool
 has_slot tree l v slot =
     list_any (λ e. slot_of l e.name == slot) v.owed
@@ -77,7 +78,8 @@ AreApart [] = Unit {0}
 AreApart (c ∷ cs) = Each (λ d. d.0 ≢ c.0) cs × AreApart cs
 
 -- the hand stands for itself alone, and carries each slot once, and only such as its view gives it
-pub record IsSeated {P E : Type 0} (tree : List TreeNode) (l : Layout) (m : View P E × List (ℕ × Option P)) : Type 0 where
+pub record IsSeated {P E : Type 0} (tree : List TreeNode) (l : Layout)
+    (m : View P E × List (ℕ × Option P)) : Type 0 where
   pub apart : AreApart m.1
   pub given : Each (λ c. has_slot tree l m.0 c.0 ≡ true) m.1
   pub itself : m.0.hands ≡ 1

@@ -27,30 +27,38 @@ module _ {P E O : Type 0} (board : Board O) (x : Name) (old new : Seat (Option P
 
   -- the node was idle, and is held, by the word that was written
   abbrev pub Held : Ghosts P E O → Type 0
-  Held cargo = LeavesControl (aim_at board x) Idle (Busy 0) (BeginsAt cargo (aim_at board x)) old.me new.me
+  Held cargo = LeavesControl (aim_at board x) Idle (Busy 0)
+      (BeginsAt cargo (aim_at board x)) old.me new.me
 
   abbrev pub Begun : Ghosts P E O → Type 0
   Begun cargo = Begins cargo (aim_at board x) old.me new.me
 
   -- the node was held, and rests there
   abbrev pub Rested : Resting → Type 0
-  Rested to = LeavesControl (aim_at board x) (Busy 0) (resting_at to) (RestsAt (aim_at board x)) old.me new.me
+  Rested to = LeavesControl (aim_at board x) (Busy 0) (resting_at to)
+      (RestsAt (aim_at board x)) old.me new.me
 
   -- the node was held, and is done
   abbrev pub Finished : Ghosts P E O → Type 0
-  Finished cargo = LeavesControl (aim_at board x) (Busy 0) Done (FinishesAt cargo (aim_at board x)) old.me new.me
+  Finished cargo = LeavesControl (aim_at board x) (Busy 0) Done
+      (FinishesAt cargo (aim_at board x)) old.me new.me
 
   -- the node was held, and waits for as many children as are named
   abbrev pub Awaited : Ghosts P E O → List ℕ → Type 0
   Awaited cargo nodes =
-      LeavesControl (aim_at board x) (Busy 0) (Busy (length nodes)) (AwaitsAt cargo (aim_at board x) nodes) old.me new.me
+      LeavesControl (aim_at board x) (Busy 0) (Busy (length nodes))
+      (AwaitsAt cargo (aim_at board x) nodes) old.me new.me
 
--- the block's root was given back: the block is free at the next generation, or retired after the last
-abbrev pub Released : {P E O : Type 0} → Board O → ℕ → ℕ → Seat (Option P) (View P E) → Seat (Option P) (View P E) → Type 0
+-- the block's root was given back: the block is free at the next generation, or retired after the
+-- last
+abbrev pub Released : {P E O : Type 0} → Board O → ℕ → ℕ → Seat (Option P) (View P E) →
+    Seat (Option P) (View P E) → Type 0
 Released board block generation old new =
-    LeavesBlock (aim_at board (root_name board block generation)) (word_after generation) old.me new.me
+    LeavesBlock (aim_at board (root_name board block generation))
+    (word_after generation) old.me new.me
 
 -- in the table that the step left all homes of the block are empty
-abbrev pub LeftAllEmpty : {P E O : Type 0} → Board O → ℕ → ℕ → Seat (Option P) (View P E) → Ghosts P E O → Type 0
+abbrev pub LeftAllEmpty : {P E O : Type 0} → Board O → ℕ → ℕ → Seat (Option P) (View P E) →
+    Ghosts P E O → Type 0
 LeftAllEmpty board block generation new cargo =
     LeftEmpty cargo board.frame new.id block (word_after generation) new.me

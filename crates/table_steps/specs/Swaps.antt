@@ -14,7 +14,8 @@ pub record HasHome {P E : Type 0} (l : Layout) (m : Seated P E) (x : Name) : Typ
   pub inside : Option P
   pub home : home_at l m x ≡ Some inside
 
--- the load by which the hand turns to the node's home: it carries that first, and all others as before
+-- the load by which the hand turns to the node's home: it carries that first, and all others as
+-- before
 pub record TurnsTo {P E : Type 0} (aim : Aim) (i word : ℕ) (m m' : Seated P E) : Type 0 where
   pub inside : Option P
   pub home : home_at aim.layout m aim.name ≡ Some inside
@@ -24,8 +25,10 @@ pub record TurnsTo {P E : Type 0} (aim : Aim) (i word : ℕ) (m m' : Seated P E)
   )
   pub seated : IsSeated aim.tree aim.layout m'
 
--- the old lay in the node's home, and the new lies in it now. All other homes of the hand are as before
-pub record IsSwapped {P E O : Type 0} (f : Frame O) (x : Name) (new old : Option P) (m m' : Seated P E) : Type 0 where
+-- the old lay in the node's home, and the new lies in it now. All other homes of the hand are as
+-- before
+pub record IsSwapped {P E O : Type 0} (f : Frame O) (x : Name) (new old : Option P)
+    (m m' : Seated P E) : Type 0 where
   pub word : ℕ
   pub home : home_at f.layout m x ≡ Some old
   pub me_is : m' ≡ (

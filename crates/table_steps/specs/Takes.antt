@@ -21,8 +21,8 @@ use Rattle.table_steps.specs.Kids.{empty_slots}
 use Rattle.table_steps.specs.Slots.{Aim, slot_of, kids_of, IsSeated, noted_at}
 use Rattle.table_steps.specs.Hearings.{HearsAs}
 
--- the hand holds the node, with the start with which it began. Named is how many children its last await
--- named, told as at a begin
+-- the hand holds the node, with the start with which it began. Named is how many children its last
+-- await named, told as at a begin
 abbrev pub takes_node : {P E : Type 0} → Name → List E → ℕ → Bool → Bool → View P E → View P E
 takes_node x start named told told_children v =
     record v {
@@ -38,9 +38,10 @@ takes_node x start named told told_children v =
       } ∷ v.held;
     }
 
--- the exchange won: the hand holds the node, and has the item that lay in its home, and the empty homes of
--- its children
-pub record TakenAt {P E : Type 0} {O : Type 0} (cargo : Ghosts P E O) (aim : Aim) (overs : List O) (i read left : ℕ) (m m' : Seated P E) : Type 0 where
+-- the exchange won: the hand holds the node, and has the item that lay in its home, and the empty
+-- homes of its children
+pub record TakenAt {P E : Type 0} {O : Type 0} (cargo : Ghosts P E O) (aim : Aim) (overs : List O)
+    (i read left : ℕ) (m m' : Seated P E) : Type 0 where
   pub start : List E
   pub named : ℕ
   pub told : Bool
@@ -48,16 +49,18 @@ pub record TakenAt {P E : Type 0} {O : Type 0} (cargo : Ghosts P E O) (aim : Aim
   pub item : P
   pub me_is : m' ≡ (
     with_step i read left (takes_node aim.name start named told told_children m.0),
-    (slot_of aim.layout aim.name, Some item) ∷ empty_slots aim.layout aim.name.block (kids_of aim.tree aim.name.node) m.1,
+    (slot_of aim.layout aim.name, Some item) ∷ empty_slots aim.layout aim.name.block
+        (kids_of aim.tree aim.name.node) m.1,
   )
-  -- the item shows the node's start, fits, is no completion, and asks for no more children than were named,
-  -- which were no more than the node has
+  -- the item shows the node's start, fits, is no completion, and asks for no more children than
+  -- were named, which were no more than the node has
   pub shows : cargo.start item ≡ start
   pub fit : cargo.fits item aim.name.node told
   pub goes_on : ¬ cargo.ends item
   pub bound : cargo.least item ≤ named
   pub most : named ≤ length (kids_of aim.tree aim.name.node)
-  -- the start has the key of what the table was opened over, and is the one that the hand noted of a root
+  -- the start has the key of what the table was opened over, and is the one that the hand noted of
+  -- a root
   pub key : Each (λ over. cargo.key start ≡ over) overs
   pub noted : (e : Rooted E) → noted_at m.0 aim.name ≡ Some e → start ≡ e.start
   -- what the two bits say of the sources
@@ -66,9 +69,10 @@ pub record TakenAt {P E : Type 0} {O : Type 0} (cargo : Ghosts P E O) (aim : Aim
   -- the item is one that may rest there
   pub rests : cargo.rests item aim.name.node
 
--- the exchange of the word that says that the node rests there, at its generation, won; or it found another
--- word, and changed nothing
-abbrev pub TakesAt : {P E O : Type 0} → Ghosts P E O → Aim → List O → Step (Option P) → Seated P E → ℕ → Seated P E → Type 0
+-- the exchange of the word that says that the node rests there, at its generation, won; or it found
+-- another word, and changed nothing
+abbrev pub TakesAt : {P E O : Type 0} → Ghosts P E O → Aim → List O → Step (Option P) → Seated P E →
+    ℕ → Seated P E → Type 0
 TakesAt cargo aim overs step m found m' =
     (found ≡ step.first → TakenAt cargo aim overs step.word found step.second m m')
     × (found ≢ step.first → m' ≡ (logged step.word found m.0, m.1))
@@ -86,17 +90,20 @@ MayServe from v = may_be_taken (resting_at from) v.number ≡ true
 abbrev pub rest_word : Name → Resting → ℕ
 rest_word x from = control_written x.generation (resting_at from)
 
--- true where the word said that the node rests there, at its generation: then the hand has it, and the word
--- says that it is held. False where it was another: then nothing changed
-abbrev pub IsTaken : {P E O : Type 0} → Ghosts P E O → Frame O → Name → Resting → Bool → Seated P E → Seated P E → Type 0
+-- true where the word said that the node rests there, at its generation: then the hand has it, and
+-- the word says that it is held. False where it was another: then nothing changed
+abbrev pub IsTaken : {P E O : Type 0} → Ghosts P E O → Frame O → Name → Resting → Bool →
+    Seated P E → Seated P E → Type 0
 IsTaken cargo f x from answer m m' =
     (answer ≡ true →
     (left : ℕ) × SaysControl x (Busy 0) left
     × TakenAt cargo (record { tree = f.tree; layout = f.layout; name = x }) (f.over.value ∷ [])
     (index f.layout (OfControl x.block x.node)) (rest_word x from) left m m')
     × (answer ≡ false →
-    (found : ℕ) × (found ≢ rest_word x from) × (m' ≡ (logged (index f.layout (OfControl x.block x.node)) found m.0, m.1)))
+    (found : ℕ) × (found ≢ rest_word x from)
+    × (m' ≡ (logged (index f.layout (OfControl x.block x.node)) found m.0, m.1)))
 
 -- and so of a node that is ready in the context
-abbrev pub IsTakenOn : {P E O : Type 0} → Ghosts P E O → Frame O → Name → Context → Bool → Seated P E → Seated P E → Type 0
+abbrev pub IsTakenOn : {P E O : Type 0} → Ghosts P E O → Frame O → Name → Context → Bool →
+    Seated P E → Seated P E → Type 0
 IsTakenOn cargo f x on answer m m' = IsTaken cargo f x (resting_in on) answer m m'

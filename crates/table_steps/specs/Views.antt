@@ -21,7 +21,8 @@ abbrev pub knows : {P E : Type 0} → Seat (Option P) (View P E) → View P E
 knows hand = hand.me.0
 
 -- the hand is one of this table's, and carries the homes that its view gives it, each once
-pub record IsHandOf {P E O : Type 0} (board : Board O) (hand : Seat (Option P) (View P E)) : Type 0 where
+pub record IsHandOf {P E O : Type 0} (board : Board O)
+    (hand : Seat (Option P) (View P E)) : Type 0 where
   pub table_is : hand.table_id ≡ board.table_id
   pub seated : IsSeated board.frame.tree board.frame.layout hand.me
 
@@ -39,16 +40,19 @@ abbrev pub aim_at : {O : Type 0} → Board O → Name → Aim
 aim_at board x = aimed board.frame x
 
 -- it is the same hand, after a call
-abbrev pub IsSameHand : {P E : Type 0} → Seat (Option P) (View P E) → Seat (Option P) (View P E) → Type 0
+abbrev pub IsSameHand : {P E : Type 0} → Seat (Option P) (View P E) → Seat (Option P) (View P E) →
+    Type 0
 IsSameHand old new = (new.table_id ≡ old.table_id) × (new.id ≡ old.id)
 
 -- after a call it is the same hand, and one of this table's still
-pub record Stays {P E O : Type 0} (board : Board O) (old new : Seat (Option P) (View P E)) : Type 0 where
+pub record Stays {P E O : Type 0} (board : Board O)
+    (old new : Seat (Option P) (View P E)) : Type 0 where
   pub same : IsSameHand old new
   pub hand : IsHandOf board new
 
 -- the table was opened with these
-pub record IsOpenedOver {O : Type 0} (board : Board O) (tree : List TreeNode) (over : O) (blocks hands : ℕ) (kind : ScopeKind) (most : ℕ) : Type 0 where
+pub record IsOpenedOver {O : Type 0} (board : Board O) (tree : List TreeNode) (over : O)
+    (blocks hands : ℕ) (kind : ScopeKind) (most : ℕ) : Type 0 where
   pub tree_is : board.frame.tree ≡ tree
   pub over_is : board.frame.over.value ≡ over
   pub blocks_are : board.frame.layout.blocks ≡ blocks
@@ -57,7 +61,8 @@ pub record IsOpenedOver {O : Type 0} (board : Board O) (tree : List TreeNode) (o
   pub most_is : board.frame.most ≡ most
 
 -- the table of the pair was opened with these
-abbrev pub OpensWith : {O H : Type 0} → List TreeNode → O → ℕ → ℕ → ScopeKind → ℕ → Board O × H → Type 0
+abbrev pub OpensWith : {O H : Type 0} → List TreeNode → O → ℕ → ℕ → ScopeKind → ℕ → Board O × H →
+    Type 0
 OpensWith tree over blocks hands kind most =
     λ opened. IsOpenedOver opened.0 tree over blocks hands kind most
 
@@ -98,7 +103,8 @@ abbrev pub fresh_after : {P E : Type 0} → View P E → View P E
 fresh_after v = fresh (v.splits + 1)
 
 -- these are so many hands of the table, in the order of their numbers, which have done nothing
-pub record AreFreshHands {P E O : Type 0} (board : Board O) (count : ℕ) (all : List (Seat (Option P) (View P E))) : Type 0 where
+pub record AreFreshHands {P E O : Type 0} (board : Board O) (count : ℕ)
+    (all : List (Seat (Option P) (View P E))) : Type 0 where
   pub length_is : length all ≡ count
   pub each : (h : ℕ) (hand : Seat (Option P) (View P E)) → get_elem? all h ≡ some hand →
       IsHandOf board hand × (hand.me.1 ≡ []) × (knows hand ≡ fresh_with h (knows hand).splits)

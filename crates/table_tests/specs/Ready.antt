@@ -21,7 +21,8 @@ pub record IsUse (board : Board ℕ) (blocks : ℕ) : Type 0 where
   pub kind : is_counting board.frame.kind ≡ true
 
 -- the hand with this number is one of the table's, and has done nothing
-pub record IsReady (board : Board ℕ) (number : ℕ) (hand : Seat (Option Item) (View Item Entry)) : Type 0 where
+pub record IsReady (board : Board ℕ) (number : ℕ)
+    (hand : Seat (Option Item) (View Item Entry)) : Type 0 where
   pub table : IsHandOf board hand
   pub member : MayAssociate board hand
   pub number_is : hand.me.0.number ≡ number

@@ -2,6 +2,7 @@
 
 mod crowd;
 mod failures;
+mod names;
 mod opening;
 mod operations;
 mod pairs;
@@ -9,6 +10,7 @@ mod refusals;
 mod states;
 mod stops;
 mod table;
+mod words;
 
 // What went otherwise than it should. Unlike a `Fail` a thread may drop it.
 #[derive(Clone, Copy, Debug)]

@@ -8,8 +8,8 @@ use Rattle.node_tree.specs.Tree.{has_source}
 use Rattle.common_lemmas.proofs.Bool.{either}
 use Rattle.atomic_table.specs.declared.shared.Seat.{Seat}
 use Rattle.table_rules.specs.declared.view.View.{View}
-use Rattle.listed_steps.specs.declared.seen.Seen.{Seen}
-use Rattle.listed_steps.specs.Lists.{entry}
+use Rattle.listed_words.specs.declared.seen.Seen.{Seen}
+use Rattle.listed_words.specs.Lists.{entry}
 use Rattle.table_steps.specs.Views.{Board, aimed}
 use Rattle.table_steps.specs.Awaits.{AwaitsAt}
 use Rattle.table_steps.specs.Begins.{IsRenewed, Begins}

@@ -44,8 +44,8 @@ module _ (board : Board ℕ) (root : Name) where
     pub finished : Finished board root middle new cargo
 
 module _ (board : Board ℕ) where
-  -- the hand requested a stop of the scope, and ran so many callbacks of the scan that this gave: all that it
-  -- came to
+  -- the hand requested a stop of the scope, and ran so many callbacks of the scan that this gave:
+  -- all that it came to
   pub record AskedAndRan (count : ℕ) (old new : Worker) : Type 0 where
     pub scan : Scan
     pub asked : Worker
@@ -61,7 +61,8 @@ module _ (board : Board ℕ) where
 module _ (board : Board ℕ) (root : Name) where
   -- the scan came to a place; inside its run the root's callback was tried to be removed, with this
   -- answer, and then the run ended
-  pub record TriedInside (before after : Scan) (answer : Withdrawn) (old new : Worker) : Type 0 where
+  pub record TriedInside (before after : Scan) (answer : Withdrawn)
+      (old new : Worker) : Type 0 where
     pub place : Name
     pub running : Worker
     pub found : IsFound board before old running after place
@@ -74,8 +75,8 @@ module _ (board : Board ℕ) (root : Name) where
   RemovesNext before after (Some answer) old new = TriedInside before after answer old new
   RemovesNext before after None old new = IsThrough board before old new after
 
-  -- the hand requested a stop of the scope, the first place of its scan brought this, and it ran so many
-  -- callbacks more, all that the scan came to
+  -- the hand requested a stop of the scope, the first place of its scan brought this, and it ran so
+  -- many callbacks more, all that the scan came to
   pub record RemovedInside (answer : Option Withdrawn) (count : ℕ) (old new : Worker) : Type 0 where
     pub scan : Scan
     pub asked : Worker

@@ -7,8 +7,8 @@ use Rattle.life_rules.specs.Views.{beside}
 use Rattle.life_rules.specs.Words.{pending}
 use Rattle.table_words.specs.Controls.{control_read}
 use Rattle.atomic_table.specs.declared.shared.Seat.{Seat}
-use Rattle.listed_steps.specs.declared.seen.Seen.{Seen}
-use Rattle.listed_steps.specs.Lists.{entry}
+use Rattle.listed_words.specs.declared.seen.Seen.{Seen}
+use Rattle.listed_words.specs.Lists.{entry}
 use Rattle.table_rules.specs.declared.frame.Frame.{Frame}
 use Rattle.table_rules.specs.declared.view.View.{View}
 use Rattle.table_steps.specs.Views.{Board}
@@ -43,15 +43,16 @@ module _ (f : Frame ℕ) (x : Name) (m : Seated Item Entry) where
     pub newest : AreNewest (on_control f x read left ∷ []) m.0
     pub rests : SaysControl x ReadyPool left
 
-  -- right after a step that left the node done, the hand found that its parent hadn't one child pending, and
-  -- left one less
+  -- right after a step that left the node done, the hand found that its parent hadn't one child
+  -- pending, and left one less
   pub record IsNotLast : Type 0 where
     pub read : ℕ
     pub left : ℕ
     pub done : SaysControl x IsDone left
     pub found : ℕ
     pub fewer : ℕ
-    pub newest : AreNewest (on_control f (above_it f.tree x) found fewer ∷ on_control f x read left ∷ []) m.0
+    pub newest : AreNewest
+        (on_control f (above_it f.tree x) found fewer ∷ on_control f x read left ∷ []) m.0
     pub counts : CountsDown (above_it f.tree x) found fewer
     pub others : pending (control_read found) ≢ 1
 
@@ -64,14 +65,16 @@ module _ (f : Frame ℕ) (x : Name) (m : Seated Item Entry) where
     pub rested : SaysControl x ReadyPool left
     pub other : found ≢ rest_word x Pool
 
-  -- the hand took the node where it rested in the pool, and turned twice to its home, in which lies an item
-  -- with no value
+  -- the hand took the node where it rested in the pool, and turned twice to its home, in which lies
+  -- an item with no value
   pub record HasNoValue : Type 0 where
     pub out : ℕ
     pub back : ℕ
     pub taken : ℕ
     pub says : SaysControl x (Busy 0) taken
-    pub newest : AreNewest (on_control f x back back ∷ on_control f x out out ∷ on_control f x (rest_word x Pool) taken ∷ []) m.0
+    pub newest : AreNewest
+        (on_control f x back back ∷ on_control f x out out ∷ on_control f x
+        (rest_word x Pool) taken ∷ []) m.0
     pub held : Holds m.0 x
     pub item : Item
     pub home : kept (slot_of f.layout x) m.1 ≡ Some (Some item)
@@ -91,8 +94,10 @@ module _ (board : Board ℕ) (m m' : Seated Item Entry) where
   abbrev pub StopsIn : Name → Fault → Type 0
   StopsIn x fault = (n : ℕ) × (n < 4) × StopsAt (beside x n) fault
 
--- the hand stopped at a node of an operation whose root's block was free, and whose root it began for this number
-pub record StopsFor (board : Board ℕ) (number : ℕ) (m m' : Seated Item Entry) (fault : Fault) : Type 0 where
+-- the hand stopped at a node of an operation whose root's block was free, and whose root it began
+-- for this number
+pub record StopsFor (board : Board ℕ) (number : ℕ) (m m' : Seated Item Entry)
+    (fault : Fault) : Type 0 where
   pub root : Name
   pub is_root : IsRoot board root
   pub free : WasFree board m m' root
@@ -102,5 +107,7 @@ pub record StopsFor (board : Board ℕ) (number : ℕ) (m m' : Seated Item Entry
   pub stops : StopsIn board m m' root fault
 
 -- why an operation for this number isn't completed: each block was missed, or it stopped at a node
-abbrev pub IsEndCause : Board ℕ → ℕ → Seat (Option Item) (View Item Entry) → Seat (Option Item) (View Item Entry) → Fault → Type 0
-IsEndCause board number old new fault = HasNoBlock board old new fault ⊎ StopsFor board number old.me new.me fault
+abbrev pub IsEndCause : Board ℕ → ℕ → Seat (Option Item) (View Item Entry) →
+    Seat (Option Item) (View Item Entry) → Fault → Type 0
+IsEndCause board number old new fault = HasNoBlock board old new fault
+    ⊎ StopsFor board number old.me new.me fault

@@ -19,7 +19,8 @@ use Rattle.table_use.specs.Uses.{HoldsNode}
 use Rattle.table_use.specs.Scans.{Scans}
 
 -- the hand holds the root, which goes on, and has read its callback so
-pub record HoldsRoot (f : Frame ℕ) (x : Name) (phase : CallbackPhase) (m : Seated Item Entry) : Type 0 where
+pub record HoldsRoot (f : Frame ℕ) (x : Name) (phase : CallbackPhase)
+    (m : Seated Item Entry) : Type 0 where
   pub env : Env
   pub has : HoldsNode f x env m
   pub phase_is : has.held.phase ≡ Some phase

@@ -28,7 +28,8 @@ pub record IsInside (place : Name) (m : Seated Item Entry) : Type 0 where
   pub scans : m.0.scans ≡ scan_at (Node (beside place 3)) from ∷ []
 
 -- the hand runs nothing, and makes this scan of the root's source alone
-pub record IsOuter (board : Board ℕ) (root : Name) (scan : Scan) (m : Seated Item Entry) : Type 0 where
+pub record IsOuter (board : Board ℕ) (root : Name) (scan : Scan)
+    (m : Seated Item Entry) : Type 0 where
   pub makes : Scans board scan m
   pub source : scan.source ≡ Node root
   pub runs : m.0.runs ≡ []

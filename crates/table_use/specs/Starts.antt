@@ -62,8 +62,8 @@ IsParent (suc zero) parent = parent ≡ 2
 IsParent (suc (suc zero)) parent = parent ≡ 3
 IsParent (suc (suc (suc node))) parent = ⊥
 
--- an item fits its own node, and a value in it is right; one of a failure also fits the parent, which says that
--- it failed. None rests on a request
+-- an item fits its own node, and a value in it is right; one of a failure also fits the parent,
+-- which says that it failed. None rests on a request
 abbrev pub FitsAt : Item → ℕ → Type 0
 FitsAt (Going env) node = env.node ≡ node
 FitsAt (Kept env value) node = (env.node ≡ node) × (value ≡ answer_of env)

@@ -5,8 +5,8 @@ use Rattle.life_rules.specs.declared.words.ControlWord.TheVariants.{Done as IsDo
 use Rattle.life_rules.specs.declared.event.Name.{Name}
 use Rattle.life_rules.specs.Views.{beside}
 use Rattle.table_words.specs.Layouts.{OfControl, index}
-use Rattle.listed_steps.specs.declared.seen.Seen.{Seen}
-use Rattle.listed_steps.specs.Lists.{entry}
+use Rattle.listed_words.specs.declared.seen.Seen.{Seen}
+use Rattle.listed_words.specs.Lists.{entry}
 use Rattle.table_rules.specs.declared.frame.Frame.{Frame}
 use Rattle.table_rules.specs.declared.view.Held.{Held}
 use Rattle.table_rules.specs.declared.view.Reported.{Reported}
@@ -26,7 +26,8 @@ use Rattle.table_use.specs.declared.cargo.Item.{Item}
 use Rattle.table_use.specs.declared.cargo.Item.TheVariants.{Going, Failed}
 use Rattle.table_use.specs.Starts.{path, above_of, done_at}
 
--- a leaf and a branch below a root, and a twig below the branch. The root and the branch have stop sources
+-- a leaf and a branch below a root, and a twig below the branch. The root and the branch have stop
+-- sources
 abbrev pub use_tree : List TreeNode
 use_tree =
     record { parent = Some 3; source = false; unstoppable = false }
@@ -97,8 +98,9 @@ module _ (f : Frame ℕ) (x : Name) where
     pub steps_are : m.0.steps ≡ entry (control_at f x) read left ∷ earlier
     pub done : SaysControl x IsDone left
 
-  -- the hand holds the node, which has this start, after the report of this child, which ended so. What the
-  -- table says of the item in the node's home and of those of other children is enough to go on
+  -- the hand holds the node, which has this start, after the report of this child, which ended so.
+  -- What the table says of the item in the node's home and of those of other children is enough to
+  -- go on
   pub record HoldsLast (env : Env) (n : ℕ) (ended : Item) (m : Seated Item Entry) : Type 0 where
     pub is : IsEnv env
     pub held : Held Entry
@@ -132,11 +134,13 @@ abbrev pub IsNotedNumber : Name → Seated Item Entry → ℕ → Type 0
 IsNotedNumber x m number = (env : Env) → HasNoted x env m → number ≡ env.number
 
 -- the hand's newest step gave this block back, and left all its homes empty
-abbrev pub LeftBlockEmpty : Board ℕ → Block → Seat (Option Item) (View Item Entry) → Ghosts Item Entry ℕ → Type 0
+abbrev pub LeftBlockEmpty : Board ℕ → Block → Seat (Option Item) (View Item Entry) →
+    Ghosts Item Entry ℕ → Type 0
 LeftBlockEmpty board b hand cargo = LeftAllEmpty board b.index b.generation hand cargo
 
 -- the hand's newest step gave a block of the table back, and left all its homes empty
-abbrev pub HasEmptied : Board ℕ → Seat (Option Item) (View Item Entry) → Ghosts Item Entry ℕ → Type 0
+abbrev pub HasEmptied : Board ℕ → Seat (Option Item) (View Item Entry) → Ghosts Item Entry ℕ →
+    Type 0
 HasEmptied board hand cargo =
     (b : Block) × (b.index < board.frame.layout.blocks) × LeftBlockEmpty board b hand cargo
 

@@ -62,7 +62,7 @@ spot_at-place l b n before hn less =
 spot_at-index : (l : Layout) (x : Spot) → IsSpot l x → spot_at l (index l x) ≡ x
 spot_at-index l TheScope is = refl
 spot_at-index l TheScopeSource is = refl
-spot_at-index l (OfBlock b) is = spot_at-word l b 0 (omega arith)
+spot_at-index l (OfBlock b) is = spot_at-word l b 15 (omega arith)
 spot_at-index l (OfControl b n) is = ap (λ k. spot_at l (word_of_block l b k)) (omega arith) ∙ spot_at-place l b n 0 is.1 (omega arith)
 spot_at-index l (OfCallback b n) is = ap (λ k. spot_at l (word_of_block l b k)) (omega arith) ∙ spot_at-place l b n 1 is.1 (omega arith)
 spot_at-index l (OfSource b n) is = ap (λ k. spot_at l (word_of_block l b k)) (omega arith) ∙ spot_at-place l b n 2 is.1 (omega arith)
@@ -74,7 +74,7 @@ apart l x y is_x is_y same =
 pub within : (l : Layout) (x : Spot) → IsSpot l x → index l x < words_in l
 within l TheScope is = omega arith
 within l TheScopeSource is = omega arith
-within l (OfBlock b) is = word-within l b 0 (omega arith) is
+within l (OfBlock b) is = word-within l b 15 (omega arith) is
 within l (OfControl b n) is = let n_is = is.1 in word-within l b (16 + 4 * n) (omega (arith, n_is)) is.0
 within l (OfCallback b n) is = let n_is = is.1 in word-within l b (17 + 4 * n) (omega (arith, n_is)) is.0
 within l (OfSource b n) is = let n_is = is.1 in word-within l b (18 + 4 * n) (omega (arith, n_is)) is.0

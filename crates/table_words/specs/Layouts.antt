@@ -1,7 +1,8 @@
--- Where the words of a table lie: the scope's two, and then those of each block together: its own, and
--- four of each place, for control, for callback and for source, and one that is left free, so that a place's
--- words follow from its number. Behind the word of each block, and behind each of the scope's, 15 are left
--- free, so that hands on two blocks share no cache line. Homes are numbered as places are.
+-- Where the words of a table lie: the scope's two, and then those of each block together: its own,
+-- and four of each place, for control, for callback and for source, and one that is left free, so
+-- that a place's words follow from its number. Before the word of each block, and behind each of
+-- the scope's, 15 are left free, so that hands on two blocks share no cache line. Homes are
+-- numbered as places are.
 use Rattle.std.specs.Prelude.{ℕ, ◌+◌, ◌*◌, ◌<◌}
 use Rattle.table_words.specs.declared.layout.Layout.{Layout}
 
@@ -27,7 +28,8 @@ IsSpot l (OfSource b n) = (b < l.blocks) × (n < l.nodes)
 abbrev pub places_in : Layout → ℕ
 places_in l = l.blocks * l.nodes
 
--- how many words lie from one block's to the next one's: its own, 15 free ones, and four of each place
+-- how many words lie from one block's to the next one's: 15 free ones, its own, and four of each
+-- place
 abbrev pub block_words : Layout → ℕ
 block_words l = 4 * l.nodes + 16
 
@@ -46,7 +48,7 @@ word_of_block l b before = 32 + (b * block_words l + before)
 abbrev pub index : Layout → Spot → ℕ
 index l TheScope = 0
 index l TheScopeSource = 16
-index l (OfBlock b) = word_of_block l b 0
+index l (OfBlock b) = word_of_block l b 15
 index l (OfControl b n) = word_of_block l b (16 + 4 * n)
 index l (OfCallback b n) = word_of_block l b (17 + 4 * n)
 index l (OfSource b n) = word_of_block l b (18 + 4 * n)

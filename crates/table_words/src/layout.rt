@@ -19,7 +19,7 @@ pub const SCOPE: usize = 0;
 /// The index of the word of the scope's source.
 pub const SCOPE_SOURCE: usize = 16;
 
-/// How many words each block has before those of its places: its own and 15 free ones, so that
+/// How many words each block has before those of its places: 15 free ones and its own, so that
 /// hands on two blocks share no cache line.
 const HEAD: usize = 16;
 
@@ -85,7 +85,7 @@ impl Layout {
         ensures value { result ≡ index self.now (OfBlock block) }
         ensures within { result < words_in self.now }
     {
-        FIRST_BLOCK + HEAD * block as usize + 4 * self.nodes as usize * block as usize
+        FIRST_BLOCK + (HEAD - 1) + HEAD * block as usize + 4 * self.nodes as usize * block as usize
     }
 
     /// The index of a place's control word.

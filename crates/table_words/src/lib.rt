@@ -9,7 +9,8 @@
 //! | word | bits 32 to 63 | bits 0 to 31 |
 //! |---|---|---|
 //! | block | generation | 0 free, 1 open, 2 retired |
-//! | control | generation | 0 idle, 1 done, 2 ready in the loop, 3 ready in the pool, 4 parked, 5 + p busy with p pending |
+//! | control | generation | 0 idle, 1 done, 2 ready in the loop, 3 ready in the pool, 4 parked, 5 +
+//! p busy with p pending |
 //! | callback | generation | 0 never, 1 armed, 2 running, 3 ran, 4 removed |
 //! | source | generation | bit 0 requested, bit 1 failed, bit 2 scanned |
 //! | scope source | 0 | as a source |

@@ -1,4 +1,5 @@
--- How a text is read, line by line. The answer is what the text says, or the first line that goes wrong.
+-- How a text is read, line by line. The answer is what the text says, or the first line that goes
+-- wrong.
 use Rattle.std.specs.Prelude.{◌≡◌, ℕ, zero, suc, ◌+◌, ⊤, Bool, true, not, ◌&&◌, ◌==◌, nat_lt, nat_le, if◌then◌else◌, List, [], ◌∷◌, ◌++◌, length, Option, Some, None, Result, Ok, Err, MatchResult}
 use Rattle.std.proofs.Common.{Vec, Global}
 use Rattle.std.specs.List.{find, range_with_len}
@@ -59,17 +60,21 @@ abbrev pub is_within : Header → Bool
 is_within h =
     (nat_le 1 h.nodes && nat_le h.nodes NODES)
     && ((nat_le 1 h.blocks && nat_le h.blocks BLOCKS)
-    && ((nat_le 1 h.hands && nat_le h.hands HANDS) && (nat_le 1 h.most && nat_le h.most ASSOCIATIONS)))
+    && ((nat_le 1 h.hands && nat_le h.hands HANDS)
+    && (nat_le 1 h.most && nat_le h.most ASSOCIATIONS)))
 
 abbrev pub header_of : List ℕ → Option Header
 header_of line = said header_text is_within (header_in line) line
 
 -- the entries on these lines, the first of which has the number base, after those so far
-abbrev pub entries_of : {X : Type 0} → (List ℕ → Option X) → ℕ → List (List ℕ) → List ℕ → List X → Result (List X) ℕ
-entries_of one base [] rest so_far = if length rest == 0 then Ok so_far else Err (base + length so_far)
+abbrev pub entries_of : {X : Type 0} → (List ℕ → Option X) → ℕ → List (List ℕ) → List ℕ → List X →
+    Result (List X) ℕ
+entries_of one base [] rest so_far = if length rest == 0 then Ok so_far
+    else Err (base + length so_far)
 entries_of one base (line ∷ lines) rest so_far =
     if length so_far == ENTRIES then Err (base + length so_far)
-    else option_map_or (λ x. entries_of one base lines rest (so_far ++ x ∷ [])) (one line) (Err (base + length so_far))
+    else option_map_or (λ x. entries_of one base lines rest (so_far ++ x ∷ [])) (one line)
+    (Err (base + length so_far))
 
 pub record Nodes : Type 0 where
   pub nodes : List TreeNode
@@ -80,7 +85,8 @@ abbrev pub nodes_of : ℕ → ℕ → List (List ℕ) → List TreeNode → Resu
 nodes_of total zero lines so_far = Ok (record { nodes = so_far; later = lines })
 nodes_of total (suc left) [] so_far = Err (2 + length so_far)
 nodes_of total (suc left) (line ∷ lines) so_far =
-    option_map_or (λ x. nodes_of total left lines (so_far ++ x ∷ [])) (node_of total line) (Err (2 + length so_far))
+    option_map_or (λ x. nodes_of total left lines (so_far ++ x ∷ [])) (node_of total line)
+    (Err (2 + length so_far))
 
 -- the first node that breaks a rule of trees
 abbrev pub first_fault : List TreeNode → Option ℕ
@@ -91,26 +97,37 @@ pub record Opened : Type 0 where
   pub later : List (List ℕ)
 
 abbrev pub setup_of : Header → List TreeNode → Setup
-setup_of h nodes = record { nodes = nodes; blocks = h.blocks; hands = h.hands; kind = h.kind; most = h.most }
+setup_of h nodes = record {
+  nodes = nodes;
+  blocks = h.blocks;
+  hands = h.hands;
+  kind = h.kind;
+  most = h.most;
+}
 
 abbrev pub tree_of : Header → Result Nodes ℕ → Result Opened ℕ
 tree_of h (Err n) = Err n
 tree_of h (Ok s) =
-    option_map_or (λ n. Err (n + 2)) (first_fault s.nodes) (Ok (record { setup = setup_of h s.nodes; later = s.later }))
+    option_map_or (λ n. Err (n + 2)) (first_fault s.nodes)
+    (Ok (record { setup = setup_of h s.nodes; later = s.later }))
 
 -- what the lines open with
 abbrev pub opening_of : List (List ℕ) → Result Opened ℕ
 opening_of [] = Err 1
-opening_of (line ∷ lines) = option_map_or (λ h. tree_of h (nodes_of h.nodes h.nodes lines [])) (header_of line) (Err 1)
+opening_of (line ∷ lines) = option_map_or (λ h. tree_of h (nodes_of h.nodes h.nodes lines []))
+    (header_of line) (Err 1)
 
 -- an opening with these entries
-abbrev pub with_entries : {X V : Type 0} → (Setup → List X → V) → Setup → Result (List X) ℕ → Result V ℕ
+abbrev pub with_entries : {X V : Type 0} → (Setup → List X → V) → Setup → Result (List X) ℕ →
+    Result V ℕ
 with_entries make o (Ok entries) = Ok (make o entries)
 with_entries make o (Err n) = Err n
 
-abbrev pub whole_of : {X V : Type 0} → (Setup → List ℕ → Option X) → (Setup → List X → V) → List ℕ → Result Opened ℕ → Result V ℕ
+abbrev pub whole_of : {X V : Type 0} → (Setup → List ℕ → Option X) → (Setup → List X → V) → List ℕ →
+    Result Opened ℕ → Result V ℕ
 whole_of one make rest (Err n) = Err n
-whole_of one make rest (Ok p) = with_entries make p.setup (entries_of (one p.setup) (length p.setup.nodes + 2) p.later rest [])
+whole_of one make rest (Ok p) = with_entries make p.setup
+    (entries_of (one p.setup) (length p.setup.nodes + 2) p.later rest [])
 
 abbrev pub trace_with : Setup → List Entry → TraceValue
 trace_with o entries = record { opening = o; entries = entries }
@@ -120,10 +137,12 @@ schedule_with o entries = record { opening = o; entries = entries }
 
 -- the trace, or schedule, that a text is of
 unfoldable pub trace_in : List ℕ → Result TraceValue ℕ
-trace_in bytes = whole_of entry_of trace_with (lines_in bytes).rest (opening_of (lines_in bytes).ended)
+trace_in bytes = whole_of entry_of trace_with (lines_in bytes).rest
+    (opening_of (lines_in bytes).ended)
 
 unfoldable pub schedule_in : List ℕ → Result ScheduleValue ℕ
-schedule_in bytes = whole_of choice_of schedule_with (lines_in bytes).rest (opening_of (lines_in bytes).ended)
+schedule_in bytes = whole_of choice_of schedule_with (lines_in bytes).rest
+    (opening_of (lines_in bytes).ended)
 
 -- the fault is what the reading answers; want of memory may come everywhere
 abbrev pub IsFaultOf : {A : Type 0} → Result A ℕ → TraceFault → Type 0
@@ -133,16 +152,19 @@ IsFaultOf read NoMemory = ⊤
 
 -- the nodes on the first lines of a text were read, and the bytes behind them are left
 pub record NodesRead (total : ℕ) (old new : List ℕ) (nodes : List TreeNode) : Type 0 where
-  pub read : nodes_of total total (lines_in old).ended [] ≡ Ok (record { nodes = nodes; later = (lines_in new).ended })
+  pub read : nodes_of total total (lines_in old).ended [] ≡ Ok
+      (record { nodes = nodes; later = (lines_in new).ended })
   pub left : (lines_in new).rest ≡ (lines_in old).rest
 
 abbrev pub ReadsNodes : Result (Vec TreeNode Global) TraceFault → ℕ → List ℕ → List ℕ → Type 0
 ReadsNodes result total old new =
-    MatchResult result (λ v. NodesRead total old new v.items) (IsFaultOf (nodes_of total total (lines_in old).ended []))
+    MatchResult result (λ v. NodesRead total old new v.items)
+    (IsFaultOf (nodes_of total total (lines_in old).ended []))
 
 -- the opening at the front of a text was read, and the bytes behind it are left
 pub record OpeningRead (old new : List ℕ) (o : Setup) : Type 0 where
-  pub read : opening_of (lines_in old).ended ≡ Ok (record { setup = o; later = (lines_in new).ended })
+  pub read : opening_of (lines_in old).ended ≡ Ok
+      (record { setup = o; later = (lines_in new).ended })
   pub left : (lines_in new).rest ≡ (lines_in old).rest
 
 abbrev pub ReadsOpening : Result Setup TraceFault → List ℕ → List ℕ → Type 0

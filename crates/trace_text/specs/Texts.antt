@@ -70,7 +70,8 @@ scope_text w =
 abbrev pub event_text : Event → List ℕ
 event_text (Claim block) = codes "claim " ++ decimal block
 event_text (Begin place) = codes "begin " ++ place_text place
-event_text (Await place children) = codes "await " ++ apart (place_text place) (children_text children)
+event_text (Await place children) = codes "await "
+    ++ apart (place_text place) (children_text children)
 event_text (Rest place to) = codes "rest " ++ apart (place_text place) (resting_text to)
 event_text (Take place) = codes "take " ++ place_text place
 event_text (Finish place) = codes "finish " ++ place_text place
@@ -78,7 +79,8 @@ event_text (Report place) = codes "report " ++ place_text place
 event_text (Release block) = codes "release " ++ decimal block
 event_text (Arm place) = codes "arm " ++ place_text place
 event_text (Look source after) = codes "look " ++ (source_text source ++ after_text after)
-event_text (Request source failure) = codes "request " ++ apart (source_text source) (cause_text failure)
+event_text (Request source failure) = codes "request "
+    ++ apart (source_text source) (cause_text failure)
 event_text (Run source place) = codes "run " ++ apart (source_text source) (place_text place)
 event_text (EndRun place) = codes "end_run " ++ place_text place
 event_text (Withdraw place) = codes "withdraw " ++ place_text place
@@ -129,7 +131,8 @@ lines text xs = flat_map (λ x. text x ++ line_feed ∷ []) xs
 -- the first line, and a line for each node
 abbrev pub setup_text : Setup → List ℕ
 setup_text o =
-    numbers_text (length o.nodes) o.blocks o.hands o.kind o.most ++ line_feed ∷ lines node_text o.nodes
+    numbers_text (length o.nodes) o.blocks o.hands o.kind o.most
+    ++ line_feed ∷ lines node_text o.nodes
 
 abbrev pub trace_text : TraceValue → List ℕ
 trace_text t = setup_text t.opening ++ lines entry_text t.entries

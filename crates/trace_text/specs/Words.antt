@@ -1,5 +1,5 @@
--- What the words of a line say. Each is read so that what `Texts` writes of it is read back; whether
--- it was written so is seen when the line is written again.
+-- What the words of a line say. Each is read so that what `Texts` writes of it is read back;
+-- whether it was written so is seen when the line is written again.
 use Rattle.std.specs.Prelude.{ℕ, ◌+◌, ◌-◌, ◌*◌, ◌^◌, Bool, true, false, ◌&&◌, ◌==◌, nat_lt, if◌then◌else◌, List, [], ◌∷◌, codes, Option, Some, None}
 use Rattle.std.specs.Char.{is_ascii_digit}
 use Rattle.std.specs.List.{slice_split}
@@ -44,14 +44,16 @@ abbrev pub both : {A B C : Type 0} → (A → B → C) → Option A → Option B
 both f a b = option_and_then (λ x. option_map (f x) b) a
 
 -- what two halves say together
-abbrev pub in_halves : {A B C : Type 0} → (A → B → C) → (List ℕ → Option A) → (List ℕ → Option B) → ℕ → List ℕ → Option C
+abbrev pub in_halves : {A B C : Type 0} → (A → B → C) → (List ℕ → Option A) → (List ℕ → Option B) →
+    ℕ → List ℕ → Option C
 in_halves f first second c bytes =
     option_and_then (λ h. both f (first h.front) (second h.rest)) (cut_at c bytes)
 
 -- a number, and one digit more
 abbrev pub with_digit : ℕ → ℕ → Option ℕ
 with_digit n b =
-    if is_ascii_digit b && nat_lt (n * 10 + (b - 48)) (2 ^ 32) then Some (n * 10 + (b - 48)) else None
+    if is_ascii_digit b && nat_lt (n * 10 + (b - 48)) (2 ^ 32) then Some (n * 10 + (b - 48))
+    else None
 
 abbrev pub number_from : ℕ → List ℕ → Option ℕ
 number_from n [] = Some n
@@ -68,7 +70,8 @@ unfoldable pub place_in : List ℕ → Option Place
 place_in bytes = in_halves place_at number_in number_in dot bytes
 
 unfoldable pub source_in : List ℕ → Option SourceAt
-source_in bytes = if bytes_eq bytes (codes "scope") then Some Scope else option_map At (place_in bytes)
+source_in bytes = if bytes_eq bytes (codes "scope") then Some Scope
+    else option_map At (place_in bytes)
 
 -- numbers, one after another
 abbrev pub numbers_in : List (List ℕ) → Option (List ℕ)
@@ -102,7 +105,13 @@ kind_in bytes =
 
 -- the word of a scope: four bits and the count, with blanks between them
 abbrev pub counted : Bool → ℕ → ScopeWord
-counted joined count = record { used = false; closed = false; joining = false; joined = joined; count = count }
+counted joined count = record {
+  used = false;
+  closed = false;
+  joining = false;
+  joined = joined;
+  count = count;
+}
 
 abbrev pub with_joining : Bool → ScopeWord → ScopeWord
 with_joining joining w = record w { joining = joining }
@@ -171,7 +180,8 @@ plain_in word rest =
 
 unfoldable pub other_in : List ℕ → List ℕ → Option Event
 other_in word rest =
-    if bytes_eq word (codes "await") then in_halves Await place_in children_in blank rest else plain_in word rest
+    if bytes_eq word (codes "await") then in_halves Await place_in children_in blank rest
+    else plain_in word rest
 
 -- the event of this kind
 unfoldable pub kind_event_in : List ℕ → List ℕ → Option Event
@@ -205,10 +215,15 @@ choice_in line = in_halves choice_at number_in number_in blank line
 
 -- the parent of a node, none for a dash
 unfoldable pub parent_in : List ℕ → Option (Option ℕ)
-parent_in bytes = if bytes_eq bytes (codes "-") then Some None else option_map Some (number_in bytes)
+parent_in bytes = if bytes_eq bytes (codes "-") then Some None
+    else option_map Some (number_in bytes)
 
 abbrev pub node_at : Option ℕ → Bool → Bool → TreeNode
-node_at parent source unstoppable = record { parent = parent; source = source; unstoppable = unstoppable }
+node_at parent source unstoppable = record {
+  parent = parent;
+  source = source;
+  unstoppable = unstoppable;
+}
 
 -- a node without its parent
 unfoldable pub marked_in : List ℕ → Option TreeNode

@@ -8,9 +8,9 @@ use std::fmt;
 pub enum TraceFault {
     /// The text has more than `FILE_BYTES` bytes.
     TooLong,
-    /// This line, from 1, is the first that is missing, has no line feed at its end, isn't of the form,
-    /// names a hand, a block, a node or a child that isn't there, is an entry too many, or is that of the
-    /// first node that breaks a rule of trees.
+    /// This line, from 1, is the first that is missing, has no line feed at its end, isn't of the
+    /// form, names a hand, a block, a node or a child that isn't there, is an entry too many, or is
+    /// that of the first node that breaks a rule of trees.
     Line(u32),
     /// There was no memory to read it.
     NoMemory,

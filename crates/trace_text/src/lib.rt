@@ -3,9 +3,9 @@
 //!     text --read_trace--> Trace --write_trace--> text
 //!     text --read_schedule--> Schedule
 //!
-//! It stands on life_rules and node_tree, whose events and trees a text names. What is read is exactly
-//! what the text says, and a text that is none of a trace or a schedule is refused at its first line
-//! that goes wrong.
+//! It stands on life_rules and node_tree, whose events and trees a text names. What is read is
+//! exactly what the text says, and a text that is none of a trace or a schedule is refused at its
+//! first line that goes wrong.
 #![tactic(auto)]
 
 mod cut;

@@ -1,4 +1,5 @@
-//! What stands on the lines behind an opening: the entries of a trace, or the choices of a schedule.
+//! What stands on the lines behind an opening: the entries of a trace, or the choices of a
+//! schedule.
 ghost use Rattle.std.specs.Prelude.{◌≡◌, ℕ, List, Option, IfOk};
 ghost use Rattle.trace_text.specs.Reading.{entry_of, choice_of};
 ghost use Rattle.trace_text.specs.Setups.{Setup};

@@ -6,8 +6,8 @@ use node_tree::{ScopeKind, Tree};
 use std::alloc::AllocError;
 use std::marker::Model;
 
-/// What a trace or a schedule opens with: the tree of each operation, how many blocks and hands there
-/// are, and the scope's kind and its greatest number of associations.
+/// What a trace or a schedule opens with: the tree of each operation, how many blocks and hands
+/// there are, and the scope's kind and its greatest number of associations.
 #[derive(Debug, Drop)]
 pub struct Opening {
     tree: Tree,

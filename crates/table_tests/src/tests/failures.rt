@@ -16,8 +16,8 @@ fn place(block: u32, node: u32) -> Name {
     }
 }
 
-// What happens to an operation of this block: the failure is the first that is told, and comes to the
-// branch and, from inside the branch's callback, to the twig.
+// What happens to an operation of this block: the failure is the first that is told, and comes to
+// the branch and, from inside the branch's callback, to the twig.
 fn expected(block: u32) -> Heard {
     Heard {
         root: place(block, 3),

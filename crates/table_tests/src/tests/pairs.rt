@@ -60,8 +60,8 @@ fn holds_once<R: Wait>(rt: &R, table: &Table, mut hand: Worker) -> Result<Settle
     settled
 }
 
-// Both at once on a table of their own. Whether the callback ran once where the removal found that it
-// ran, and else not.
+// Both at once on a table of their own. Whether the callback ran once where the removal found that
+// it ran, and else not.
 pub(super) fn counts_each_run<R: Threads + Wait + Sync>(
     rt: &R,
     alloc: Global,

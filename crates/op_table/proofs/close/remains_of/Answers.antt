@@ -6,7 +6,7 @@ use Rattle.life_rules.specs.Words.{is_free}
 use Rattle.common_lemmas.specs.Sums.{one}
 use Rattle.life_rules.specs.Scopes.{scope_state}
 use Rattle.table_rules.specs.ShownWords.{is_retired}
-use Rattle.table_kept.proofs.Closings.{before-most, tells-none, tells-next}
+use Rattle.table_hands_kept.proofs.Closings.{before-most, tells-none, tells-next}
 use Rattle.op_table.proofs.close.remains_of.Goals as goal
 
 pub loop-block-init : goal.loop-block-init

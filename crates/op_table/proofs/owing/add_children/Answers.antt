@@ -1,4 +1,4 @@
-use Rattle.table_kept.proofs.Adding.{adds-place, adds-one}
+use Rattle.table_life_kept.proofs.Await.Adding.{adds-place, adds-one}
 use Rattle.op_table.proofs.owing.add_children.Goals as goal
 
 pub insert-requires-clause-place : goal.insert-requires-clause-place

@@ -1,9 +1,9 @@
 use Rattle.std.proofs.Common.{arith, sym, ap, ◌∙◌, subst}
 use Rattle.table_words.specs.Layouts.{OfCallback, index}
 use Rattle.table_steps.specs.Slots.{IsSeated}
-use Rattle.table_kept.proofs.Hands.{hand-seated, hand-logged}
-use Rattle.table_kept.proofs.RunAllowed.{runs-at, run-seated, met-seated}
-use Rattle.table_kept.proofs.RunTold.{met-armed, met-unarmed, won, lost, tried}
+use Rattle.table_hands_kept.proofs.Hands.{hand-seated, hand-logged}
+use Rattle.table_stop_kept.proofs.Run.Allowed.{runs-at, run-seated, met-seated}
+use Rattle.table_stop_kept.proofs.Run.Told.{met-armed, met-unarmed, won, lost, tried}
 use Rattle.table_steps.specs.Runs.{node_named, run_index}
 use Rattle.op_table.proofs.table.OpTable.+run_from.Goals as goal
 

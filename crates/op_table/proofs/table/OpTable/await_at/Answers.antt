@@ -1,8 +1,8 @@
 use Rattle.std.proofs.Common.{◌≡◌, ◌≤◌, length, arith, sym, ap, ◌∙◌}
 use Rattle.table_words.specs.Layouts.{OfControl, index}
-use Rattle.table_kept.proofs.Hands.{hand-aimed}
-use Rattle.table_kept.proofs.AwaitSize.{named-most}
-use Rattle.table_kept.proofs.AwaitAllowed.{awaits-at, awaits-told}
+use Rattle.table_hands_kept.proofs.Hands.{hand-aimed}
+use Rattle.table_life_kept.proofs.Await.Size.{named-most}
+use Rattle.table_life_kept.proofs.Await.Allowed.{awaits-at, awaits-told}
 use Rattle.op_table.proofs.table.OpTable.await_at.Goals as goal
 
 pub store-requires : goal.store-requires

@@ -1,7 +1,7 @@
 use Rattle.std.proofs.Common.{◌≡◌, length, sym, ap, ◌∙◌, subst}
 use Rattle.table_steps.specs.Awaits.{CanAwait}
 use Rattle.table_kept.proofs.Remembering.{IsLaid, places-here, of-its_block}
-use Rattle.table_kept.proofs.RememberTold.{remembers-awaited, named-places}
+use Rattle.table_life_kept.proofs.RememberTold.{remembers-awaited, named-places}
 use Rattle.op_table.proofs.table.OpTable.await_children.Goals as goal
 
 pub add_children-requires-clause-places : goal.add_children-requires-clause-places

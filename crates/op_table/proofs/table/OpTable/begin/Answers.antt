@@ -1,9 +1,9 @@
 use Rattle.std.proofs.Common.{sym, ◌∙◌, subst}
 use Rattle.table_steps.specs.Views.{aim_at}
 use Rattle.table_steps.specs.Begins.{CanBegin, Begins}
-use Rattle.table_kept.proofs.BeginTold.{can-renewed, has-renewed, begun-goes-on}
+use Rattle.table_life_kept.proofs.Begin.Told.{can-renewed, has-renewed, begun-goes-on}
 use Rattle.table_kept.proofs.Remembering.{has-owed}
-use Rattle.table_kept.proofs.RememberTold.{remembers-begun}
+use Rattle.table_life_kept.proofs.RememberTold.{remembers-begun}
 use Rattle.op_table.proofs.table.OpTable.begin.Goals as goal
 
 pub begin_at-requires-clause-needs : goal.begin_at-requires-clause-needs

@@ -1,6 +1,6 @@
 use Rattle.std.proofs.Common.{arith, sym, ap, ◌∙◌}
 use Rattle.table_words.specs.Layouts.{OfControl, index}
-use Rattle.table_kept.proofs.BeginTold.{begins-at, begins-told}
+use Rattle.table_life_kept.proofs.Begin.Told.{begins-at, begins-told}
 use Rattle.op_table.proofs.table.OpTable.begin_at.Goals as goal
 
 pub store-requires : goal.store-requires

@@ -1,7 +1,7 @@
 use Rattle.std.proofs.Common.{◌≡◌, length, refl, sym, ◌∙◌, subst}
 use Rattle.life_rules.specs.Views.{beside}
 use Rattle.table_steps.specs.Views.{aim_at}
-use Rattle.table_kept.proofs.BeginTold.{can-renewed, has-renewed, begun-goes-on}
+use Rattle.table_life_kept.proofs.Begin.Told.{can-renewed, has-renewed, begun-goes-on}
 use Rattle.op_table.specs.OnlyChild.{CanBeginChild, BeginsChild}
 use Rattle.op_table.proofs.OnlyChild.{child-place, still-empty, then-begins, remembers-child}
 use Rattle.op_table.proofs.table.OpTable.begin_child.Goals as goal

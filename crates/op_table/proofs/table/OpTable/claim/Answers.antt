@@ -1,7 +1,7 @@
 use Rattle.std.proofs.Common.{sym, ap, ◌∙◌, subst}
 use Rattle.table_steps.specs.Owing.{OwesNoneThere}
 use Rattle.table_kept.proofs.Remembering.{IsLaid, place-here, none-of_block}
-use Rattle.table_kept.proofs.RememberTold.{remembers-claimed}
+use Rattle.table_life_kept.proofs.RememberTold.{remembers-claimed}
 use Rattle.op_table.proofs.table.OpTable.claim.Goals as goal
 
 pub insert-requires-clause-place : goal.insert-requires-clause-place

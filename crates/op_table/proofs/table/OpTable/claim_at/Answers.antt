@@ -3,8 +3,8 @@ use Rattle.life_rules.specs.declared.words.BlockState.TheVariants.{Open, Retired
 use Rattle.life_rules.specs.Words.{is_free}
 use Rattle.table_words.specs.Layouts.{OfBlock, index}
 use Rattle.table_kept.proofs.Loads.{looks_allowed}
-use Rattle.table_kept.proofs.Hands.{hand-logged}
-use Rattle.table_kept.proofs.ClaimTold.{told, seen_at}
+use Rattle.table_hands_kept.proofs.Hands.{hand-logged}
+use Rattle.table_life_kept.proofs.Claim.Told.{told, seen_at}
 use Rattle.op_table.proofs.table.OpTable.claim_at.Goals as goal
 
 pub load-found-requires : goal.load-found-requires

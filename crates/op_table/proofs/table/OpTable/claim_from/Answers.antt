@@ -4,9 +4,9 @@ use Rattle.table_words.specs.Blocks.{block_read}
 use Rattle.table_steps.specs.Owing.{OwesNoneThere}
 use Rattle.table_steps.specs.Claims.{logged, root_name}
 use Rattle.table_words.specs.Layouts.{OfBlock, index}
-use Rattle.table_kept.proofs.Hands.{hand-aimed, hand-logged}
-use Rattle.table_kept.proofs.ClaimAllowed.{claims_at}
-use Rattle.table_kept.proofs.ClaimTold.{won}
+use Rattle.table_hands_kept.proofs.Hands.{hand-aimed, hand-logged}
+use Rattle.table_life_kept.proofs.Claim.Allowed.{claims_at}
+use Rattle.table_life_kept.proofs.Claim.Told.{won}
 use Rattle.op_table.proofs.table.OpTable.claim_from.Goals as goal
 
 pub compare_exchange-was-requires : goal.compare_exchange-was-requires

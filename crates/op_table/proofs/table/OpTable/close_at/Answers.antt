@@ -2,8 +2,8 @@ use Rattle.std.proofs.Common.{◌^◌, arith, sym, ap, ◌∙◌}
 use Rattle.std.specs.Prelude.{bit_or}
 use Rattle.table_steps.specs.ScopeSets.{closing}
 use Rattle.table_kept.proofs.Masks.{reads-closed}
-use Rattle.table_kept.proofs.Hands.{hand-listed}
-use Rattle.table_kept.proofs.ScopeLeft.{sets-closed}
+use Rattle.table_hands_kept.proofs.Hands.{hand-listed}
+use Rattle.table_scope_kept.proofs.ScopeLeft.{sets-closed}
 use Rattle.op_table.proofs.table.OpTable.close_at.Goals as goal
 
 pub fetch_or-word-requires : goal.fetch_or-word-requires

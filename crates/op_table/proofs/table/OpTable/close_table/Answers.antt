@@ -4,7 +4,7 @@ use Rattle.atomic_table.specs.declared.shared.Seat.{Seat}
 use Rattle.table_rules.specs.declared.view.View.{View}
 use Rattle.table_steps.specs.Views.{Board, knows}
 use Rattle.table_steps.specs.Closings.{IsClosing, IsClosedSo}
-use Rattle.table_kept.proofs.Closings.{IsLast, closes, told-within, counted-by, stands-for-all, closing-of, scope-left}
+use Rattle.table_hands_kept.proofs.Closings.{IsLast, closes, told-within, counted-by, stands-for-all, closing-of, scope-left}
 use Rattle.op_table.proofs.table.OpTable.close_table.Given as given
 use Rattle.op_table.proofs.table.OpTable.close_table.Goals as goal
 

@@ -1,6 +1,6 @@
 use Rattle.std.proofs.Common.{sym, ap, subst}
 use Rattle.table_steps.specs.RunEnds.{CanEndRun}
-use Rattle.table_kept.proofs.RememberRuns.{has-run, remembers-ended}
+use Rattle.table_stop_kept.proofs.Run.Remembered.{has-run, remembers-ended}
 use Rattle.op_table.proofs.table.OpTable.end_run_step.Goals as goal
 
 pub remove-requires : goal.remove-requires

@@ -6,8 +6,8 @@ use Rattle.table_steps.specs.Claims.{with_step}
 use Rattle.table_steps.specs.Lefts.{plus_one}
 use Rattle.table_steps.specs.ScopeMoves.{with_one_more}
 use Rattle.table_steps.specs.ScopeEntries.{enters}
-use Rattle.table_kept.proofs.Hands.{hand-seated}
-use Rattle.table_kept.proofs.EnterRuns.{enters-at, entered-seated}
+use Rattle.table_hands_kept.proofs.Hands.{hand-seated}
+use Rattle.table_scope_kept.proofs.EnterRuns.{enters-at, entered-seated}
 use Rattle.op_table.proofs.table.OpTable.enter_at.Goals as goal
 
 pub fetch_add-word-requires : goal.fetch_add-word-requires

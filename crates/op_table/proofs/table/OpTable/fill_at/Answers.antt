@@ -3,8 +3,8 @@ use Rattle.std.proofs.lemmas.Bool.{true≢false}
 use Rattle.std.specs.Prelude.{Some, None, is_some, unwrap_or}
 use Rattle.table_words.specs.Layouts.{OfControl, index}
 use Rattle.table_steps.specs.Views.{aim_at}
-use Rattle.table_kept.proofs.Hands.{hand-seated}
-use Rattle.table_kept.proofs.Swapping.{turned-first, swapped-told, swapped-seated}
+use Rattle.table_hands_kept.proofs.Hands.{hand-seated}
+use Rattle.table_life_kept.proofs.Turn.Swapping.{turned-first, swapped-told, swapped-seated}
 use Rattle.op_table.proofs.Exchange.{exchange}
 use Rattle.op_table.proofs.table.OpTable.fill_at.Goals as goal
 

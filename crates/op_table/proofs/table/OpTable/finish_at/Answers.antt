@@ -1,7 +1,7 @@
 use Rattle.std.proofs.Common.{arith, sym, ap, ◌∙◌}
 use Rattle.table_words.specs.Layouts.{OfControl, index}
-use Rattle.table_kept.proofs.Hands.{hand-aimed}
-use Rattle.table_kept.proofs.FinishAllowed.{finishes-at, finishes-told, finished-seated}
+use Rattle.table_hands_kept.proofs.Hands.{hand-aimed}
+use Rattle.table_life_kept.proofs.Finish.Allowed.{finishes-at, finishes-told, finished-seated}
 use Rattle.op_table.proofs.table.OpTable.finish_at.Goals as goal
 
 pub store-requires : goal.store-requires

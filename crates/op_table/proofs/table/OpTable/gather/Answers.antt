@@ -1,7 +1,7 @@
 use Rattle.std.proofs.Common.{◌≡◌, [], sym, ap, ◌∙◌, subst, arith}
 use Rattle.table_steps.specs.Views.{knows}
 use Rattle.table_steps.specs.Closings.{gathered, IsGathering}
-use Rattle.table_kept.proofs.Gathering.{gathers-first, gathers-next, next-free}
+use Rattle.table_hands_kept.proofs.Gathering.{gathers-first, gathers-next, next-free}
 use Rattle.op_table.proofs.table.OpTable.gather.Goals as goal
 
 pub unreachable-requires : goal.unreachable-requires

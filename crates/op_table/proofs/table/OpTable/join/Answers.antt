@@ -2,7 +2,7 @@ use Rattle.std.proofs.Common.{arith, sym, ap, ◌∙◌, subst}
 use Rattle.atomic_table.specs.Table.{Joins}
 use Rattle.table_rules.specs.Traces.{Traced}
 use Rattle.table_steps.specs.Closings.{gathered, spent}
-use Rattle.table_kept.proofs.TracedHands.{traced-joins}
+use Rattle.table_hands_kept.proofs.TracedHands.{traced-joins}
 use Rattle.op_table.proofs.table.OpTable.join.Goals as goal
 
 pub join-requires-clause-table : goal.join-requires-clause-table

@@ -2,8 +2,8 @@ use Rattle.std.proofs.Common.{arith, sym, ap, ◌∙◌, subst}
 use Rattle.table_steps.specs.Slots.{IsSeated}
 use Rattle.table_steps.specs.Lefts.{less_one}
 use Rattle.table_steps.specs.ScopeMoves.{with_one_less}
-use Rattle.table_kept.proofs.Hands.{hand-seated}
-use Rattle.table_kept.proofs.ScopeAllowed.{leaves_allowed, left-seated}
+use Rattle.table_hands_kept.proofs.Hands.{hand-seated}
+use Rattle.table_scope_kept.proofs.ScopeAllowed.{leaves_allowed, left-seated}
 use Rattle.op_table.proofs.table.OpTable.leave_at.Goals as goal
 
 pub fetch_sub-word-requires : goal.fetch_sub-word-requires

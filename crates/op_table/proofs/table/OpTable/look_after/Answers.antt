@@ -2,8 +2,8 @@ use Rattle.std.proofs.Common.{arith, sym, ap, ◌∙◌, subst}
 use Rattle.table_words.specs.Layouts.{index}
 use Rattle.table_steps.specs.Slots.{IsSeated}
 use Rattle.table_steps.specs.Sights.{spot_of, says_requested, looks_at, StillAsked, AgreesWithTold}
-use Rattle.table_kept.proofs.Hands.{hand-seated}
-use Rattle.table_kept.proofs.LookRuns.{look-at, look-seated}
+use Rattle.table_hands_kept.proofs.Hands.{hand-seated}
+use Rattle.table_stop_kept.proofs.Look.Runs.{look-at, look-seated}
 use Rattle.op_table.proofs.table.OpTable.look_after.Goals as goal
 
 pub load-word-requires : goal.load-word-requires

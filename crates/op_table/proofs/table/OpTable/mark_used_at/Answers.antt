@@ -2,8 +2,8 @@ use Rattle.std.proofs.Common.{◌^◌, arith, refl, sym, ap, ◌∙◌, subst}
 use Rattle.std.specs.Prelude.{bit_or}
 use Rattle.table_words.specs.ScopeNumbers.{scope_read}
 use Rattle.table_steps.specs.Slots.{IsSeated}
-use Rattle.table_kept.proofs.Hands.{hand-seated}
-use Rattle.table_kept.proofs.ScopeAllowed.{makes_allowed, made-seated}
+use Rattle.table_hands_kept.proofs.Hands.{hand-seated}
+use Rattle.table_scope_kept.proofs.ScopeAllowed.{makes_allowed, made-seated}
 use Rattle.op_table.proofs.table.OpTable.mark_used_at.Goals as goal
 
 pub fetch_or-word-requires : goal.fetch_or-word-requires

@@ -1,9 +1,9 @@
 use Rattle.std.proofs.Common.{◌≤◌, sym, ◌∙◌, subst}
 use Rattle.node_tree.specs.Tree.{IsTree}
 use Rattle.node_tree.specs.declared.node.TheConstants.{MOST_NODES}
-use Rattle.table_kept.proofs.Opening.{framed, opens_with}
-use Rattle.table_kept.proofs.PoppedHands.{have-none}
-use Rattle.table_kept.proofs.AsOpened.{stays-as-opened}
+use Rattle.table_hands_kept.proofs.Opening.{framed, opens_with}
+use Rattle.table_hands_kept.proofs.PoppedHands.{have-none}
+use Rattle.table_hands_kept.proofs.AsOpened.{stays-as-opened}
 use Rattle.table_steps.specs.Openings.{StaysAsOpened}
 use Rattle.op_table.proofs.table.OpTable.open.Goals as goal
 

@@ -3,8 +3,8 @@ use Rattle.life_rules.specs.declared.event.Name.{Name}
 use Rattle.table_words.specs.Layouts.{OfControl, index}
 use Rattle.table_steps.specs.Slots.{IsSeated}
 use Rattle.table_steps.specs.Readings.{above_it, says_begun, reads_child, KnowsIdle}
-use Rattle.table_kept.proofs.Hands.{hand-seated}
-use Rattle.table_kept.proofs.ReadAllowed.{child-at, child-seated}
+use Rattle.table_hands_kept.proofs.Hands.{hand-seated}
+use Rattle.table_stop_kept.proofs.ReadAllowed.{child-at, child-seated}
 use Rattle.op_table.proofs.table.OpTable.read_child.Goals as goal
 
 pub load-word-requires : goal.load-word-requires

@@ -2,8 +2,8 @@ use Rattle.std.proofs.Common.{arith, sym, ap, ◌∙◌, subst}
 use Rattle.table_words.specs.Layouts.{OfCallback, index}
 use Rattle.table_steps.specs.Slots.{IsSeated}
 use Rattle.table_steps.specs.Readings.{reads_phase}
-use Rattle.table_kept.proofs.Hands.{hand-seated}
-use Rattle.table_kept.proofs.ReadAllowed.{phase-at, phase-seated}
+use Rattle.table_hands_kept.proofs.Hands.{hand-seated}
+use Rattle.table_stop_kept.proofs.ReadAllowed.{phase-at, phase-seated}
 use Rattle.op_table.proofs.table.OpTable.read_phase.Goals as goal
 
 pub load-word-requires : goal.load-word-requires

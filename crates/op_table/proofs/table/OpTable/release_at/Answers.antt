@@ -1,8 +1,8 @@
 use Rattle.std.proofs.Common.{arith, sym, ap, ◌∙◌}
 use Rattle.table_steps.specs.Claims.{root_name}
 use Rattle.table_words.specs.Layouts.{OfBlock, index}
-use Rattle.table_kept.proofs.Hands.{hand-aimed}
-use Rattle.table_kept.proofs.ReleaseAllowed.{releases-at, releases-told, empties-told, stay-empty}
+use Rattle.table_hands_kept.proofs.Hands.{hand-aimed}
+use Rattle.table_life_kept.proofs.Release.Allowed.{releases-at, releases-told, empties-told, stay-empty}
 use Rattle.op_table.proofs.table.OpTable.release_at.Goals as goal
 
 pub store-requires : goal.store-requires

@@ -1,6 +1,6 @@
 use Rattle.std.proofs.Common.{arith, sym, ap, ◌∙◌}
 use Rattle.table_words.specs.Layouts.{OfSource, index}
-use Rattle.table_kept.proofs.BeginTold.{renews-at}
+use Rattle.table_life_kept.proofs.Begin.Told.{renews-at}
 use Rattle.op_table.proofs.table.OpTable.renew.Goals as goal
 
 pub store-requires : goal.store-requires

@@ -1,8 +1,8 @@
 use Rattle.std.proofs.Common.{arith, sym, ap, ◌∙◌}
 use Rattle.table_words.specs.Layouts.{OfControl, index}
 use Rattle.table_steps.specs.Readings.{above_it}
-use Rattle.table_kept.proofs.Hands.{hand-aimed}
-use Rattle.table_kept.proofs.ReportTold.{reports-above, reports-told, reports-seated}
+use Rattle.table_hands_kept.proofs.Hands.{hand-aimed}
+use Rattle.table_life_kept.proofs.Report.Told.{reports-above, reports-told, reports-seated}
 use Rattle.op_table.proofs.table.OpTable.report_to.Goals as goal
 
 pub fetch_sub-word-requires : goal.fetch_sub-word-requires

@@ -8,9 +8,9 @@ use Rattle.table_steps.specs.Slots.{IsSeated}
 use Rattle.table_steps.specs.Claims.{with_step}
 use Rattle.table_steps.specs.Sights.{spot_of, StillAsked}
 use Rattle.table_steps.specs.Requests.{mask, asks, asks_at, IsWordOf}
-use Rattle.table_kept.proofs.Hands.{hand-seated}
-use Rattle.table_kept.proofs.RequestRuns.{mask-stamp, mask-read}
-use Rattle.table_kept.proofs.RequestAllowed.{asks-at, asked-seated}
+use Rattle.table_hands_kept.proofs.Hands.{hand-seated}
+use Rattle.table_stop_kept.proofs.Request.Runs.{mask-stamp, mask-read}
+use Rattle.table_stop_kept.proofs.Request.Allowed.{asks-at, asked-seated}
 use Rattle.op_table.proofs.table.OpTable.request_at.Goals as goal
 
 pub fetch_or-word-requires : goal.fetch_or-word-requires

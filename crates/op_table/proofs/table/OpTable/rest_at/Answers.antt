@@ -1,8 +1,8 @@
 use Rattle.std.proofs.Common.{arith, sym, ap, ◌∙◌}
 use Rattle.life_rules.specs.Words.{pending}
 use Rattle.table_words.specs.Layouts.{OfControl, index}
-use Rattle.table_kept.proofs.Hands.{hand-aimed}
-use Rattle.table_kept.proofs.RestTold.{rest-pending, rests-at, rests-told}
+use Rattle.table_hands_kept.proofs.Hands.{hand-aimed}
+use Rattle.table_life_kept.proofs.Rest.Told.{rest-pending, rests-at, rests-told}
 use Rattle.op_table.proofs.table.OpTable.rest_at.Goals as goal
 
 pub control_number-rests-requires : goal.control_number-rests-requires

@@ -4,8 +4,8 @@ use Rattle.life_rules.specs.declared.words.ControlWord.TheVariants.{ReadyLoop}
 use Rattle.table_words.specs.Layouts.{OfControl, index}
 use Rattle.table_steps.specs.Claims.{with_step}
 use Rattle.table_steps.specs.Lefts.{SaysControl}
-use Rattle.table_kept.proofs.Hands.{hand-listed}
-use Rattle.table_kept.proofs.RouseAllowed.{rouses-at}
+use Rattle.table_hands_kept.proofs.Hands.{hand-listed}
+use Rattle.table_life_kept.proofs.Rouse.Allowed.{rouses-at}
 use Rattle.op_table.proofs.table.OpTable.rouse_at.Goals as goal
 
 pub compare_exchange-was-requires : goal.compare_exchange-was-requires

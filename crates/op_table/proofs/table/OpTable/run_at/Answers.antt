@@ -2,9 +2,9 @@ use Rattle.std.proofs.Common.{[], arith, sym, ap, ◌∙◌, subst}
 use Rattle.table_words.specs.Layouts.{OfCallback, index}
 use Rattle.table_steps.specs.Slots.{IsSeated}
 use Rattle.table_steps.specs.Runs.{run_index}
-use Rattle.table_kept.proofs.Hands.{hand-seated, hand-logged}
-use Rattle.table_kept.proofs.RunAllowed.{meets-at, met-seated}
-use Rattle.table_kept.proofs.RunTold.{newest-logged, met-armed, met-unarmed, from-armed}
+use Rattle.table_hands_kept.proofs.Hands.{hand-seated, hand-logged}
+use Rattle.table_stop_kept.proofs.Run.Allowed.{meets-at, met-seated}
+use Rattle.table_stop_kept.proofs.Run.Told.{newest-logged, met-armed, met-unarmed, from-armed}
 use Rattle.op_table.proofs.table.OpTable.run_at.Goals as goal
 
 pub load-word-requires : goal.load-word-requires

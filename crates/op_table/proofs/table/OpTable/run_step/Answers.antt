@@ -1,8 +1,8 @@
 use Rattle.std.proofs.Common.{sym, ap, ◌∙◌, subst}
 use Rattle.table_steps.specs.Runs.{CanRun}
 use Rattle.table_kept.proofs.Remembering.{IsLaid, place-here}
-use Rattle.table_kept.proofs.RememberRuns.{run-of_block, remembers-run}
-use Rattle.table_kept.proofs.RunTold.{unrun-named}
+use Rattle.table_stop_kept.proofs.Run.Remembered.{run-of_block, remembers-run}
+use Rattle.table_stop_kept.proofs.Run.Told.{unrun-named}
 use Rattle.op_table.proofs.table.OpTable.run_step.Goals as goal
 
 pub insert-requires-clause-place : goal.insert-requires-clause-place

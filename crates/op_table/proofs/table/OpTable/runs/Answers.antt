@@ -2,7 +2,7 @@ use Rattle.std.proofs.Common.{ap, ◌∙◌, subst}
 use Rattle.std.specs.Prelude.{nat_le}
 use Rattle.table_steps.specs.Remembers.{running}
 use Rattle.table_kept.proofs.Remembering.{IsLaid, place-here}
-use Rattle.table_kept.proofs.RememberRuns.{tells-run}
+use Rattle.table_stop_kept.proofs.Run.Remembered.{tells-run}
 use Rattle.op_table.proofs.table.OpTable.runs.Goals as goal
 
 pub contains-requires : goal.contains-requires

@@ -1,5 +1,5 @@
 use Rattle.std.proofs.Common.{arith, sym, ap, ◌∙◌}
-use Rattle.table_kept.proofs.Hands.{hand-logged}
+use Rattle.table_hands_kept.proofs.Hands.{hand-logged}
 use Rattle.table_kept.proofs.Loads.{looks_allowed}
 use Rattle.op_table.proofs.table.OpTable.scope_at.Goals as goal
 

@@ -1,8 +1,8 @@
 use Rattle.std.proofs.Common.{◌==◌, arith, sym, ap, ◌∙◌}
 use prog.Atomic.{either}
-use Rattle.table_kept.proofs.Hands.{hand-listed}
+use Rattle.table_hands_kept.proofs.Hands.{hand-listed}
 use Rattle.table_kept.proofs.Masks.{written-narrow, seal-left}
-use Rattle.table_kept.proofs.ScopeAllowed.{seals_allowed}
+use Rattle.table_scope_kept.proofs.ScopeAllowed.{seals_allowed}
 use Rattle.op_table.proofs.table.OpTable.seal_at.Goals as goal
 
 pub compare_exchange-word-requires : goal.compare_exchange-word-requires

@@ -5,8 +5,8 @@ use Rattle.table_steps.specs.Slots.{IsSeated}
 use Rattle.table_steps.specs.Claims.{with_step}
 use Rattle.table_steps.specs.Sights.{spot_of}
 use Rattle.table_steps.specs.ScanSeals.{seals_scan, SaysUnscanned}
-use Rattle.table_kept.proofs.Hands.{hand-seated}
-use Rattle.table_kept.proofs.ScanSealRuns.{seals-at, seal-seated, left-scanned}
+use Rattle.table_hands_kept.proofs.Hands.{hand-seated}
+use Rattle.table_stop_kept.proofs.Scan.Seal.{seals-at, seal-seated, left-scanned}
 use Rattle.op_table.proofs.table.OpTable.seal_scan_at.Goals as goal
 
 pub fetch_or-word-requires : goal.fetch_or-word-requires

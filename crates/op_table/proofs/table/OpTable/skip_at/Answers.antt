@@ -2,8 +2,8 @@ use Rattle.std.proofs.Common.{arith, sym, ap, ◌∙◌, subst}
 use Rattle.table_words.specs.Layouts.{OfBlock, index}
 use Rattle.table_steps.specs.Slots.{Aim, IsSeated}
 use Rattle.table_steps.specs.Skips.{skips_at}
-use Rattle.table_kept.proofs.Hands.{hand-seated}
-use Rattle.table_kept.proofs.SkipRuns.{skips-at, skip-seated}
+use Rattle.table_hands_kept.proofs.Hands.{hand-seated}
+use Rattle.table_stop_kept.proofs.Scan.Skip.{skips-at, skip-seated}
 use Rattle.op_table.proofs.table.OpTable.skip_at.Goals as goal
 
 pub load-word-requires : goal.load-word-requires

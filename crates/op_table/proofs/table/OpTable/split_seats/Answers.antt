@@ -1,8 +1,8 @@
 use Rattle.std.proofs.Common.{◌+◌, arith, refl, sym, ap, ◌∙◌, subst}
 use Rattle.atomic_table.proofs.Lists.{at_index}
 use Rattle.table_steps.specs.Views.{AreFreshHands}
-use Rattle.table_kept.proofs.TracedHands.{traced-splits}
-use Rattle.table_kept.proofs.FreshHands.{one_more}
+use Rattle.table_hands_kept.proofs.TracedHands.{traced-splits}
+use Rattle.table_hands_kept.proofs.FreshHands.{one_more}
 use Rattle.op_table.proofs.table.OpTable.split_seats.Goals as goal
 
 pub split-next-requires-clause-table : goal.split-next-requires-clause-table

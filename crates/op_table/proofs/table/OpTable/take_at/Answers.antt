@@ -2,8 +2,8 @@ use Rattle.std.proofs.Common.{arith, refl, sym, ap, ◌∙◌}
 use Rattle.life_rules.specs.Words.{pending}
 use Rattle.table_words.specs.Controls.{control_written}
 use Rattle.table_words.specs.Layouts.{OfControl, index}
-use Rattle.table_kept.proofs.Hands.{hand-aimed}
-use Rattle.table_kept.proofs.RestTold.{rest-pending, takes-at, takes-told, taken-seated}
+use Rattle.table_hands_kept.proofs.Hands.{hand-aimed}
+use Rattle.table_life_kept.proofs.Rest.Told.{rest-pending, takes-at, takes-told, taken-seated}
 use Rattle.op_table.proofs.table.OpTable.take_at.Goals as goal
 
 pub control_number-rests-requires : goal.control_number-rests-requires

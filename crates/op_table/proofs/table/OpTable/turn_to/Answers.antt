@@ -2,7 +2,7 @@ use Rattle.std.proofs.Common.{ℕ, arith, sym, ap, ◌∙◌, subst}
 use Rattle.table_words.specs.Layouts.{OfControl, index}
 use Rattle.table_steps.specs.Slots.{Aim, slot_of}
 use Rattle.table_steps.specs.Swaps.{TurnsTo}
-use Rattle.table_kept.proofs.Turning.{turns-at}
+use Rattle.table_life_kept.proofs.Turn.Allowed.{turns-at}
 use Rattle.op_table.proofs.table.OpTable.turn_to.Goals as goal
 
 pub load-requires : goal.load-requires

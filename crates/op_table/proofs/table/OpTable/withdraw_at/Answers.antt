@@ -6,8 +6,8 @@ use Rattle.table_steps.specs.Claims.{with_step}
 use Rattle.table_steps.specs.Readings.{says_phase}
 use Rattle.table_steps.specs.Hearings.{UnderScope}
 use Rattle.table_steps.specs.Callbacks.{is_registered, withdraws, left_by}
-use Rattle.table_kept.proofs.Hands.{hand-seated}
-use Rattle.table_kept.proofs.WithdrawAllowed.{withdraws-at, withdrawn-seated}
+use Rattle.table_hands_kept.proofs.Hands.{hand-seated}
+use Rattle.table_stop_kept.proofs.Withdraw.Allowed.{withdraws-at, withdrawn-seated}
 use Rattle.op_table.proofs.table.OpTable.withdraw_at.Goals as goal
 
 pub compare_exchange-was-requires : goal.compare_exchange-was-requires

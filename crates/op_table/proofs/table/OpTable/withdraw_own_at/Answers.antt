@@ -5,8 +5,8 @@ use Rattle.table_steps.specs.Slots.{Aim, IsSeated}
 use Rattle.table_steps.specs.Claims.{with_step}
 use Rattle.table_steps.specs.Lefts.{FoundCallback}
 use Rattle.table_steps.specs.RunEnds.{removes_own}
-use Rattle.table_kept.proofs.Hands.{hand-seated}
-use Rattle.table_kept.proofs.RunEndAllowed.{removes-at, removed-seated}
+use Rattle.table_hands_kept.proofs.Hands.{hand-seated}
+use Rattle.table_stop_kept.proofs.EndRun.Allowed.{removes-at, removed-seated}
 use Rattle.op_table.proofs.table.OpTable.withdraw_own_at.Goals as goal
 
 pub store-requires : goal.store-requires

@@ -1,0 +1,10 @@
+pub mod Opening
+pub mod Splitting
+pub mod FreshHands
+pub mod AsOpened
+pub mod PoppedHands
+pub mod Hands
+pub mod Joining
+pub mod TracedHands
+pub mod Gathering
+pub mod Closings

@@ -1,9 +1,0 @@
-use Rattle.table_laws.proofs.BlockMoves.{claims-by_move}
-use Rattle.table_laws.proofs.ReleaseMoves.{releases-by_move}
-use Rattle.table_laws.proofs.stepping.block_steps_are_moves.Goals as goal
-
-pub returns : goal.returns
-returns g c = record {
-  claims = claims-by_move g.P.Cargo;
-  releases = releases-by_move g.P.Cargo;
-}

@@ -1,0 +1,3 @@
+-- A node's control word is written.
+pub mod Moves
+pub mod Runs

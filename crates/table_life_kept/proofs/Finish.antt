@@ -1,0 +1,5 @@
+-- A node is finished.
+pub mod Ends
+pub mod Runs
+pub mod Root
+pub mod Allowed

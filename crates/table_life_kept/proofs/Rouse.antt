@@ -1,0 +1,3 @@
+-- A parked node is woken.
+pub mod Runs
+pub mod Allowed

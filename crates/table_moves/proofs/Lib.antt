@@ -1,0 +1,16 @@
+mod Moves
+mod LeaveMoves
+mod MovesOn
+mod CallbackMoves
+mod ScopeMoves
+mod WithdrawMoves
+mod BlockMoves
+mod ReleaseMoves
+mod RunMoves
+mod SkipMoves
+mod SourceWords
+mod SourceMoves
+mod RequestNeeds
+mod RequestMoves
+mod LookViews
+mod LookMoves

@@ -1,9 +1,0 @@
-use Rattle.table_run.specs.Moves.{Clears}
-use Rattle.table_run.proofs.running.TableRun.clear.Given as goal
-
-abbrev pub invariant-loop : goal.invariant-loop
-invariant-loop g l = record {
-  next : (goal.iterator-loop g).can_next l.iterator';
-  finite : (goal.iterator-loop g).is_finite l.iterator';
-  clears : Clears l.fn.self l.self;
-}

@@ -1,0 +1,5 @@
+pub mod ScopeRuns
+pub mod ScopeKinds
+pub mod ScopeAllowed
+pub mod EnterRuns
+pub mod ScopeLeft

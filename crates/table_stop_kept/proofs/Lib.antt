@@ -1,0 +1,15 @@
+pub mod Run
+pub mod PartsLive
+pub mod Noting
+pub mod ReadAllowed
+pub mod Look
+pub mod HeldNotes
+pub mod ArmRuns
+pub mod Learning
+pub mod ScopeCallbacks
+pub mod Withdraw
+pub mod Scan
+pub mod EndRun
+pub mod Source
+pub mod Request
+pub mod ArmedWords

@@ -1,0 +1,3 @@
+-- A source's word is written.
+pub mod Spots
+pub mod Runs

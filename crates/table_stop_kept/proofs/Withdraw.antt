@@ -1,0 +1,3 @@
+-- A callback is removed.
+pub mod Runs
+pub mod Allowed
