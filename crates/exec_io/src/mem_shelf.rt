@@ -12,8 +12,8 @@ use crate::{Shelf, ShelfFault};
 use std::alloc::Global;
 use std::marker::Model;
 
-/// A shelf of texts in memory, some of whose calls fail. It tells which names it was asked for, until
-/// it finds no memory for one.
+/// A shelf of texts in memory, some of whose calls fail. It tells which names it was asked for,
+/// until it finds no memory for one.
 #[derive(Drop)]
 pub struct MemShelf {
     names: Vec<String>,

@@ -8,9 +8,9 @@ use crate::Failed;
 
 /// A sink for bytes, which may keep some back until it is told to hand them on.
 pub trait Sink {
-    /// The bytes written and how many of them it hasn't handed on, where the sink tells them (it may
-    /// stop telling), and how often a call has failed. That count never falls, and stands still at
-    /// its type's end.
+    /// The bytes written and how many of them it hasn't handed on, where the sink tells them (it
+    /// may stop telling), and how often a call has failed. That count never falls, and stands still
+    /// at its type's end.
     ghost told: { Self → SinkView };
 
     /// Writes a front of `piece`: `Ok(n)` appended its first `n` bytes, and `n` isn't 0. A sink

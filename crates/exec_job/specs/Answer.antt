@@ -25,7 +25,8 @@ parsed None = Err (codes "not-a-number")
 
 -- a text, where it isn't too long
 abbrev pub text_answer : List ℕ → Answer
-text_answer bytes = if nat_le (length bytes) TEXT_BYTES then Ok (Text bytes ∷ []) else Err (codes "too-long")
+text_answer bytes = if nat_le (length bytes) TEXT_BYTES then Ok (Text bytes ∷ [])
+    else Err (codes "too-long")
 
 -- how an operation ends that applies a job
 abbrev pub ending : Answer → Completion

@@ -39,7 +39,8 @@ on_one give values = Ok values
 
 -- the row of the numbers 0 to x - 1
 abbrev pub iota : ℤ → Answer
-iota (pos x) = if nat_le x NUMBERS then Ok (Row (map pos (range_with_len 0 x)) ∷ []) else Err (codes "out-of-range")
+iota (pos x) = if nat_le x NUMBERS then Ok (Row (map pos (range_with_len 0 x)) ∷ [])
+    else Err (codes "out-of-range")
 iota (negsuc x) = Err (codes "out-of-range")
 
 -- the bytes of a text

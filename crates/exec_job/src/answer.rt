@@ -1,5 +1,5 @@
 //! Jobs on data.
-ghost use Rattle.std.specs.Prelude.{◌≡◌, ◌≢◌, ◌≤◌, ◌∷◌, [], length, Ok, IsTrue, IsFalse, IsOk, IfOk};
+ghost use Rattle.std.specs.Prelude.{◌≡◌, ◌≢◌, ◌≤◌, ◌∷◌, [], length, Ok, Err, IsTrue, IsFalse, IsOk, IfOk};
 ghost use Rattle.exec_value.specs.declared.limits.TheConstants.{DATA};
 ghost use Rattle.exec_value.specs.Place.{IsInPlace};
 ghost use Rattle.exec_value.specs.Number.{int_of};
@@ -73,8 +73,16 @@ fn int_ending(alloc: Global, answer: Result<i64, JobFault>) -> Completion
 {
     match answer {
         Ok(number) => one(alloc, Datum::Int(number)),
-        Err(fault) => Completion::Error(Txt::short(alloc, fault.name())),
+        Err(fault) => fault_ending(alloc, fault),
     }
+}
+
+/// The error of an operation on numbers. It takes no memory.
+#[inline(never)]
+pub fn fault_ending(alloc: Global, fault: JobFault) -> Completion
+    ensures { result ≡ ending (int_answer (Err fault)) }
+{
+    Completion::Error(Txt::short(alloc, fault.name()))
 }
 
 /// An equal datum. One that stands in place wants no memory.

@@ -7,8 +7,8 @@ ghost use Rattle.exec_job.specs.declared.job.Job.{Job};
 use crate::fault::JobFault;
 use crate::job::Job;
 
-/// An element job as a type of its own. A loop that is generic over it is compiled for each of them,
-/// and so asks for no number which job it is.
+/// An element job as a type of its own. A loop that is generic over it is compiled for each of
+/// them, and so asks for no number which job it is.
 pub trait Element {
     /// The job that it is.
     ghost job: { Self → Job };

@@ -14,7 +14,7 @@ mod numbers;
 mod operands;
 mod texts;
 
-pub use answer::apply;
+pub use answer::{apply, fault_ending};
 pub use element::{
     Added, Bounded, Divided, Element, Indexed, Multiplied, Negated, Subtracted, apply_at,
 };

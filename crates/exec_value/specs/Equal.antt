@@ -18,11 +18,19 @@ rows = pointwise_decides signed_Decides
 
 -- it tells whether they are equal
 pub Decides-datum_eq : (x y : Datum) → Decides (datum_eq x y) (x ≡ y)
-Decides-datum_eq (Int m) (Int n) = let d = signed_Decides m n in (λ e. ap (λ z. Int z) (d.0 e), λ e. d.1 cc)
-Decides-datum_eq (Text a) (Text b) = let d = bytes_decides a b in (λ e. ap (λ l. Text l) (d.0 e), λ e. d.1 cc)
+Decides-datum_eq (Int m) (Int n) = let d = signed_Decides m n in (
+  λ e. ap (λ z. Int z) (d.0 e),
+  λ e. d.1 cc,
+)
+Decides-datum_eq (Text a) (Text b) = let d = bytes_decides a b in (
+  λ e. ap (λ l. Text l) (d.0 e),
+  λ e. d.1 cc,
+)
 Decides-datum_eq (Row a) (Row b) = let d = rows a b in (λ e. ap (λ l. Row l) (d.0 e), λ e. d.1 cc)
-Decides-datum_eq (SomeInt m) (SomeInt n) = let d = signed_Decides m n in (λ e. ap (λ z. SomeInt z) (d.0 e), λ e. d.1 cc)
-Decides-datum_eq (SomeText a) (SomeText b) = let d = bytes_decides a b in (λ e. ap (λ l. SomeText l) (d.0 e), λ e. d.1 cc)
+Decides-datum_eq (SomeInt m) (SomeInt n) = let d = signed_Decides m n in
+    (λ e. ap (λ z. SomeInt z) (d.0 e), λ e. d.1 cc)
+Decides-datum_eq (SomeText a) (SomeText b) = let d = bytes_decides a b in
+    (λ e. ap (λ l. SomeText l) (d.0 e), λ e. d.1 cc)
 Decides-datum_eq Nothing Nothing = (λ e. refl, λ e. refl)
 Decides-datum_eq x y = (λ e. cc, λ e. cc)
 

@@ -10,3 +10,4 @@ pub mod Record
 pub mod Short
 pub mod Sum
 pub mod Text
+pub mod Rows

@@ -14,12 +14,14 @@ without_minus bytes = if starts_with_minus bytes then drop 1 bytes else bytes
 
 -- one digit or more, after a minus sign that may stand first
 abbrev pub is_numeral : List ℕ → Bool
-is_numeral bytes = nat_lt 0 (length (without_minus bytes)) && list_all is_ascii_digit (without_minus bytes)
+is_numeral bytes = nat_lt 0 (length (without_minus bytes))
+    && list_all is_ascii_digit (without_minus bytes)
 
 -- the number of an int record: of a numeral, where it is one of the type i64
 unfoldable pub int_of : List ℕ → Option ℤ
 int_of bytes =
-    if is_numeral bytes && is_i64 (signed_digits_value 10 bytes) then Some (signed_digits_value 10 bytes) else None
+    if is_numeral bytes && is_i64 (signed_digits_value 10 bytes)
+    then Some (signed_digits_value 10 bytes) else None
 
 -- what digits show, where each byte is one
 abbrev pub size_of : List ℕ → Option ℕ

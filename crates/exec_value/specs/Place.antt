@@ -4,7 +4,8 @@ use Rattle.exec_value.specs.declared.limits.TheConstants.{INLINE_BYTES, INLINE_D
 use Rattle.exec_value.specs.declared.data.Datum.{Datum}
 use Rattle.exec_value.specs.declared.data.Datum.TheVariants.{Int, Text, Row, SomeInt, SomeText, Nothing}
 
--- a datum stands in place where it is no row and its text is short
+-- a datum stands in place where it is no row and its text is short; that a row of one number does
+-- too, no copy rests on
 abbrev pub IsInPlace : Datum → Type 0
 IsInPlace (Int n) = ⊤
 IsInPlace (Text bytes) = length bytes ≤ INLINE_BYTES

@@ -15,7 +15,8 @@ use Rattle.exec_value.specs.declared.data.Datum.TheVariants.{Int, Text, Row}
 abbrev pub bracketed : List ℕ → Option (List ℕ)
 bracketed line =
     let last : ℕ = length line - 1 in
-    if nat_le 2 (length line) && slice_index line 0 == open_bracket && slice_index line last == close_bracket
+    if nat_le 2 (length line) && slice_index line 0 == open_bracket
+    && slice_index line last == close_bracket
     then Some (slice_range line 1 last) else None
 
 -- the parts between commas, of which the empty list has none
@@ -26,7 +27,8 @@ comma_parts (b ∷ bs) = slice_split (λ byte. byte == comma) (b ∷ bs)
 -- the numbers of the parts, where each part is an int record
 abbrev pub ints_of : List (List ℕ) → Option (List ℤ)
 ints_of [] = Some []
-ints_of (part ∷ parts) = option_and_then (λ n. option_map (λ rest. n ∷ rest) (ints_of parts)) (int_of part)
+ints_of (part ∷ parts) = option_and_then (λ n. option_map (λ rest. n ∷ rest) (ints_of parts))
+    (int_of part)
 
 -- a list of numbers that is no longer than a row may be
 abbrev pub within_row : List ℤ → Option (List ℤ)

@@ -1,7 +1,7 @@
 //! Data, and the lists of them that values are.
 ghost use Rattle.std.specs.Prelude.{◌≡◌, ◌<◌, ◌≤◌, [], ◌∷◌, ◌++◌, List, length, IsOk, IfOk, IfErr, OnOk, OnErr};
 ghost use Rattle.exec_value.specs.declared.limits.TheConstants.{DATA};
-ghost use Rattle.exec_value.specs.Items.{listed, AreManyIfSeveral};
+ghost use Rattle.exec_value.specs.Items.{listed, AreManyIfSeveral, one_int};
 ghost use Rattle.exec_value.specs.Place.{AreInPlace};
 
 use crate::kinds::Kind;
@@ -128,6 +128,28 @@ impl Data {
         returned
     }
 
+    /// The number, where the list is one int.
+    #[inline(always)]
+    pub fn one_int(&self) -> Option<i64>
+        ensures { result ≡ one_int self.now }
+    {
+        match &self.items {
+            Items::One(Datum::Int(number)) => Some(*number),
+            _ => None,
+        }
+    }
+
+    /// The list becomes one int. It takes no memory.
+    #[inline(always)]
+    pub fn set_int(&mut self, number: i64)
+        ensures { self.new ≡ Datum.Int number ∷ [] }
+    {
+        match &mut self.items {
+            Items::One(Datum::Int(held)) => *held = number,
+            items => drop(mem::replace(items, Items::One(Datum::Int(number)))),
+        }
+    }
+
     /// The data.
     pub fn as_slice(&self) -> &[Datum]
         ensures data { result.now ≡ self.now }
@@ -207,7 +229,20 @@ impl Eq for Data {
 }
 
 /// An equal list of data. A copy of one datum that stands in place wants no memory.
+#[inline(always)]
 pub fn copy_data(alloc: Global, values: &Data) -> Result<Data, AllocError>
+    ensures ok { IfOk result (λ copy. copy ≡ values.now) }
+    ensures in_place { AreInPlace values.now → IsOk result }
+{
+    match values.one_int() {
+        Some(number) => Ok(Data::one(alloc, Datum::Int(number))),
+        None => copy_items(alloc, values),
+    }
+}
+
+/// The same for data that aren't one int, out of the caller's way.
+#[inline(never)]
+fn copy_items(alloc: Global, values: &Data) -> Result<Data, AllocError>
     ensures ok { IfOk result (λ copy. copy ≡ values.now) }
     ensures in_place { AreInPlace values.now → IsOk result }
 {

@@ -23,4 +23,5 @@ six_counts summary =
 
 -- with the sum: the whole line
 abbrev pub text_of : Summary → List ℕ
-text_of summary = six_counts summary ++ codes " sum " ++ signed_decimal summary.sum ++ line_feed ∷ []
+text_of summary = six_counts summary ++ codes " sum " ++ signed_decimal summary.sum
+    ++ line_feed ∷ []

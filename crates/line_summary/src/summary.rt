@@ -104,13 +104,6 @@ impl Summary {
         self.no_memory
     }
 
-    /// How many of them are bad records.
-    pub fn bad(&self) -> u32
-        ensures { result ≡ self.now.bad }
-    {
-        self.bad
-    }
-
     /// The exact sum of the numbers of the values.
     pub fn sum(&self) -> i128
         ensures { result ≡ self.now.sum }

@@ -8,12 +8,34 @@ ghost use Rattle.plan_rules.specs.Images.{some_of, as_optional, as_error};
 ghost use Rattle.node_images.specs.Makes.{Makes};
 
 use crate::channel::{put, take_error, take_stopped, take_value};
-use exec_job::{Job, apply};
+use exec_job::{Job, apply, apply_at, fault_ending};
 use exec_value::{Completion, Data, Datum, Txt};
 use std::alloc::{AllocError, Global};
 
-/// A value becomes what the job makes of it ([exec.then]).
+/// A value becomes what the job makes of it ([exec.then]). An element job changes its number where
+/// it lies.
+#[inline(always)]
 pub fn then(alloc: Global, job: &Job, done: &mut Completion) -> Result<(), AllocError>
+    requires { IfSome (value_data done.old) (TakesData job.now) }
+    ensures { Makes (then_of job.now done.old) done.new result }
+{
+    if !job.is_element() {
+        return then_moved(alloc, job, done);
+    }
+    if let Completion::Value(values) = done {
+        if let Some(number) = values.one_int() {
+            match apply_at(job, 0, number) {
+                Ok(made) => values.set_int(made),
+                Err(fault) => put(done, fault_ending(alloc, fault)),
+            }
+        }
+    }
+    Ok(())
+}
+
+/// The same for a job that is no element job: the data are taken out for it.
+#[inline(never)]
+fn then_moved(alloc: Global, job: &Job, done: &mut Completion) -> Result<(), AllocError>
     requires { IfSome (value_data done.old) (TakesData job.now) }
     ensures { Makes (then_of job.now done.old) done.new result }
 {

@@ -44,8 +44,8 @@ fn each(alloc: Global, job: &Job, numbers: &[i64]) -> Result<Completion, AllocEr
     Ok(Completion::Value(Data::one(alloc, row)))
 }
 
-/// The name of an element's error: the fault's, `@` and the element's index. One of at most 22 bytes
-/// wants no memory.
+/// The name of an element's error: the fault's, `@` and the element's index. One of at most 22
+/// bytes wants no memory.
 pub fn error_at(alloc: Global, fault: JobFault, index: u32) -> Result<Txt, AllocError>
     ensures exact { IfOk result (λ name. name ≡ error_at (name_of fault) index) }
     ensures in_place { length (error_at (name_of fault) index) ≤ INLINE_BYTES → IsOk result }

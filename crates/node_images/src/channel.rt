@@ -1,5 +1,5 @@
-//! The data that a completion has on one of its channels ([exec.recv]), taken out of it. A completion
-//! that has none there stays as it is.
+//! The data that a completion has on one of its channels ([exec.recv]), taken out of it. A
+//! completion that has none there stays as it is.
 ghost use Rattle.std.specs.Prelude.{◌≡◌, IfNone};
 ghost use Rattle.plan_rules.specs.Images.{error_data, stopped_data, value_data};
 

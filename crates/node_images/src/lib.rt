@@ -1,9 +1,10 @@
 //! What a node makes of the completion of its child, or completes with where it has none.
 //!
-//! It stands on `exec_value` and `exec_job`, whose completions and jobs these are, and on `plan_rules`,
-//! which says what each node makes. Each call puts what it makes in the place that it is given, where
-//! its child's completion stood: no completion is moved on the way up. Plain evaluation and the
-//! operations of the running table are made of these calls, so a node makes the same in both.
+//! It stands on `exec_value` and `exec_job`, whose completions and jobs these are, and on
+//! `plan_rules`, which says what each node makes. Each call puts what it makes in the place that it
+//! is given, where its child's completion stood: no completion is moved on the way up. Plain
+//! evaluation and the operations of the running table are made of these calls, so a node makes the
+//! same in both.
 //!
 //! What a call wants memory for is told by `Makes`: never for what stands in place.
 #![tactic(auto)]

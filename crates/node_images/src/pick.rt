@@ -12,8 +12,8 @@ use exec_value::{Completion, Data, Datum, copy_data};
 use plan_rules::NodeId;
 use std::alloc::{AllocError, Global};
 
-/// The body that the pick names for these values. The pick's answer is put in the let's place, where
-/// it stays if it names none.
+/// The body that the pick names for these values. The pick's answer is put in the let's place,
+/// where it stays if it names none.
 pub fn pick_body(
     alloc: Global,
     pick: &Job,

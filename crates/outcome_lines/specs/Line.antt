@@ -21,7 +21,8 @@ is_plain byte = not (is_ascii_control byte || byte == quote || byte == backslash
 
 -- how a line shows any other: a control by its number, a quote and a backslash behind a backslash
 abbrev pub escape_of : ℕ → List ℕ
-escape_of byte = if is_ascii_control byte then codes "\\u00" ++ hex_digits byte else backslash ∷ byte ∷ []
+escape_of byte = if is_ascii_control byte then codes "\\u00" ++ hex_digits byte
+    else backslash ∷ byte ∷ []
 
 -- a byte of a text as a line shows it
 abbrev pub escaped : ℕ → List ℕ

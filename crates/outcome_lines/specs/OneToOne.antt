@@ -33,4 +33,5 @@ IsNamed BadRecord = ⊤
 -- on such outcomes the text is one to one
 abbrev pub TextNamesOutcomes : Type 0
 TextNamesOutcomes =
-    (number : ℕ) (xs ys : List Outcome) → All IsNamed xs → All IsNamed ys → text_from number xs ≡ text_from number ys → xs ≡ ys
+    (number : ℕ) (xs ys : List Outcome) → All IsNamed xs → All IsNamed ys →
+    text_from number xs ≡ text_from number ys → xs ≡ ys

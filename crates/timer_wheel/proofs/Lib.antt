@@ -3,3 +3,4 @@ pub mod LinkLaws
 pub mod RingLaws
 pub mod SettlingLaws
 pub mod RunLaws
+pub mod WheelLaws

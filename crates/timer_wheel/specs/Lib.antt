@@ -3,3 +3,5 @@ pub mod Commands
 pub mod Buckets
 pub mod Links
 pub mod Settling
+pub mod Delays
+pub mod Wheels

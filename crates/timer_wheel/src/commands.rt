@@ -34,8 +34,8 @@ pub enum Reply {
 }
 
 /// Makes these calls in order, and answers their replies in that order. Whatever the calls are,
-/// what they answer and leave is what a plain list of pairs would. It fails only for want of memory,
-/// and then has made none of them.
+/// what they answer and leave is what a plain list of pairs would. It fails only for want of
+/// memory, and then has made none of them.
 pub fn run(alloc: Global, wheel: &mut Wheel, commands: &[Command]) -> Result<Vec<Reply>, AllocError>
     requires commands { All (IsCommandFor (places wheel.old)) commands.now }
     requires turns { wheel.old.turn + count_by is_advance commands.now ≤ LAST_TURN }

@@ -15,7 +15,7 @@ returns-in_err-read_numbers-in-Some-clause-bad c =
 pub returns-in_ok-from_vec-in-Some-clause-ok : goal.returns-in_ok-from_vec-in-Some-clause-ok
 unfolding row_of
 returns-in_ok-from_vec-in-Some-clause-ok c =
-    rw (← c.in-Some.ensures, c.in_ok-from_vec-in-Some.ensures) c.in_ok-read_numbers-in-Some.ensures.ok
+    rw (← c.in-Some.ensures, c.in_ok-from_vec-in-Some.ensures.ok) c.in_ok-read_numbers-in-Some.ensures.ok
 
 pub returns-in-None-clause-bad : goal.returns-in-None-clause-bad
 unfolding row_of

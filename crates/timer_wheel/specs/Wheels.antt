@@ -2,8 +2,8 @@
 use Rattle.std.specs.Prelude.{◌≡◌, List, Option, map}
 use Rattle.std.specs.Option.{option_map}
 use Rattle.timer_wheel.specs.Pairs.{Pairs}
-use Rattle.loop_delays.specs.declared.waiting.Waiting.{Waiting}
-use Rattle.loop_delays.specs.Delays.{turn_due}
+use Rattle.timer_wheel.specs.declared.waiting.Waiting.{Waiting}
+use Rattle.timer_wheel.specs.Delays.{turn_due}
 
 -- the wheel has a pair for each delay, with the delay's due turn
 abbrev pub IsOnWheel : Pairs → List (Option Waiting) → Type 0

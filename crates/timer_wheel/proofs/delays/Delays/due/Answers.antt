@@ -1,5 +1,5 @@
-use Rattle.loop_delays.proofs.WheelLaws.{on-removed, none-due}
-use Rattle.loop_delays.proofs.delays.Delays.due.Goals as goal
+use Rattle.timer_wheel.proofs.WheelLaws.{on-removed, none-due}
+use Rattle.timer_wheel.proofs.delays.Delays.due.Goals as goal
 
 pub returns-in_err-place-clause-none : goal.returns-in_err-place-clause-none
 returns-in_err-place-clause-none c =

@@ -1,7 +1,7 @@
 use Rattle.std.proofs.Common.{ap, sym, ◌∙◌}
 use Rattle.timer_wheel.specs.Pairs.{Pairs}
-use Rattle.loop_delays.proofs.WheelLaws.{removed-is, added-is, on-added, same-places, seen-is}
-use Rattle.loop_delays.proofs.delays.Delays.saw_parked.Goals as goal
+use Rattle.timer_wheel.proofs.WheelLaws.{removed-is, added-is, on-added, same-places, seen-is}
+use Rattle.timer_wheel.proofs.delays.Delays.saw_parked.Goals as goal
 
 pub invariant_of-self : goal.invariant_of-self
 invariant_of-self c =

@@ -1,12 +1,13 @@
 //! The list of parked delays.
 ghost use Rattle.std.specs.Prelude.{◌≡◌, ◌+◌, ◌<◌, ◌≤◌, not, IfOk, IfSome, IfNone, OnSome};
 ghost use Rattle.timer_wheel.specs.declared.limits.TheConstants.{MOST_PLACES, MOST_TURNS};
-ghost use Rattle.loop_delays.specs.Delays.{places, count_of, is_known, opened, seen_parked, last_turn, at_next_turn, forgotten, IsDue, NoneIsDue};
+ghost use Rattle.timer_wheel.specs.Delays.{places, count_of, is_known, opened, seen_parked, last_turn, at_next_turn, forgotten, IsDue, NoneIsDue};
 
+use crate::limits::{LAST_TURN, MOST_PLACES, MOST_TURNS};
 use crate::waiting::{DueDelay, Waiting};
+use crate::wheel::Wheel;
 use std::alloc::{AllocError, Global};
 use std::marker::Model;
-use timer_wheel::{LAST_TURN, MOST_PLACES, MOST_TURNS, Wheel};
 
 /// The number of turns, and the delays that were seen parked, one for each place at most.
 ///
@@ -21,8 +22,8 @@ pub struct Delays {
 }
 
 impl Model for Delays {
-    ghost use Rattle.loop_delays.specs.Delays.{DelayList};
-    ghost use Rattle.loop_delays.specs.Wheels.{IsOnWheel};
+    ghost use Rattle.timer_wheel.specs.Delays.{DelayList};
+    ghost use Rattle.timer_wheel.specs.Wheels.{IsOnWheel};
 
     ghost Value = { DelayList };
 

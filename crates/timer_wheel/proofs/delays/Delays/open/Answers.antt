@@ -1,6 +1,6 @@
 use Rattle.std.proofs.Common.{◌≡◌, None, replicate, rules}
-use Rattle.loop_delays.proofs.WheelLaws.{on-opened}
-use Rattle.loop_delays.proofs.delays.Delays.open.Goals as goal
+use Rattle.timer_wheel.proofs.WheelLaws.{on-opened}
+use Rattle.timer_wheel.proofs.delays.Delays.open.Goals as goal
 
 pub invariant_of-result : goal.invariant_of-result
 invariant_of-result c =

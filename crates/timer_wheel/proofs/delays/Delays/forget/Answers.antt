@@ -1,5 +1,5 @@
-use Rattle.loop_delays.proofs.WheelLaws.{removed-is, on-removed}
-use Rattle.loop_delays.proofs.delays.Delays.forget.Goals as goal
+use Rattle.timer_wheel.proofs.WheelLaws.{removed-is, on-removed}
+use Rattle.timer_wheel.proofs.delays.Delays.forget.Goals as goal
 
 pub invariant_of-self : goal.invariant_of-self
 invariant_of-self c =

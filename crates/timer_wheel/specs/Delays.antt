@@ -1,6 +1,6 @@
 -- Delays: the parked delays that a loop has seen, and what each call makes of them.
 use Rattle.std.specs.Prelude.{◌≡◌, ℕ, ◌+◌, ◌^◌, ◌<◌, ◌≤◌, ◌==◌, Bool, false, List, count_by, Option, Some, None, length, replicate, is_some, nat_lt, slice_set, slice_index_or, if◌then◌else◌}
-use Rattle.loop_delays.specs.declared.waiting.Waiting.{Waiting}
+use Rattle.timer_wheel.specs.declared.waiting.Waiting.{Waiting}
 
 -- the present turn, and for each place the delay that was seen parked there
 pub record DelayList : Type 0 where

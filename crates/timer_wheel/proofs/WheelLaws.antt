@@ -8,9 +8,9 @@ use Rattle.std.proofs.lemmas.List.Sums.{sum_by-set}
 use Rattle.std.proofs.lemmas.Option.{same_Some, none-some}
 use Rattle.timer_wheel.specs.Pairs.{Pairs, due_turn, is_there, added, removed}
 use Rattle.timer_wheel.specs.Pairs as pairs
-use Rattle.loop_delays.specs.declared.waiting.Waiting.{Waiting}
-use Rattle.loop_delays.specs.Delays.{DelayList, count_of, delay_at, turn_due, is_known, seen_parked, forgotten, IsDue, NoneIsDue}
-use Rattle.loop_delays.specs.Wheels.{IsOnWheel}
+use Rattle.timer_wheel.specs.declared.waiting.Waiting.{Waiting}
+use Rattle.timer_wheel.specs.Delays.{DelayList, count_of, delay_at, turn_due, is_known, seen_parked, forgotten, IsDue, NoneIsDue}
+use Rattle.timer_wheel.specs.Wheels.{IsOnWheel}
 
 -- a place in the list that has a delay is one of the places
 within-from : (waiting : List (Option Waiting)) (delays : DelayList) (place : ℕ) (one : Waiting) →
