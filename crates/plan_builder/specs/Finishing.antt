@@ -8,7 +8,8 @@ use Rattle.plan_shape.specs.Finish.{finish_fault}
 use Rattle.plan_shape.specs.Blueprint.{Blueprint, IsPlan}
 
 -- the plan of these nodes with these settings, or why there is none
-pub record Finishes (nodes : List Node) (root : ℕ) (settings : Settings) (result : Result Blueprint BuildFault) : Type 0 where
+pub record Finishes (nodes : List Node) (root : ℕ) (settings : Settings)
+    (result : Result Blueprint BuildFault) : Type 0 where
   pub answer : Answers (finish_fault nodes root settings) result
   pub plan : IfOk result (λ plan. plan ≡ record { nodes = nodes; settings = settings })
   pub plan_is : IfOk result IsPlan

@@ -37,7 +37,8 @@ pub record Adopts (old new : List Position) (children : List ℕ) (parent : ℕ)
       get_or new n d ≡ adopted children parent n (get_or old n d)
 
 -- the same, and behind them the positions of so many parts and then of the parent
-pub record Gains (old new : List Position) (children : List ℕ) (parent parts depth : ℕ) : Type 0 where
+pub record Gains (old new : List Position) (children : List ℕ)
+    (parent parts depth : ℕ) : Type 0 where
   pub as_long : length new ≡ length old + parts + 1
   pub before : (n : ℕ) (d : Position) → n < length old →
       get_or new n d ≡ adopted children parent n (get_or old n d)

@@ -119,11 +119,11 @@ impl PlanBuilder {
     }
 
     /// The plan of the builder's nodes under this root. `UsedChild` exactly where the root is no
-    /// node without parent, `TooManyNodes` where the version is 1 and there are more than 256, parts
-    /// counted, `Loose` where another node has no parent, `Version` where the version is 1 and a
-    /// node is `unstoppable` or `ahead`, and `Misplaced` where an `ahead` stands below a `when_all`,
-    /// an `unstoppable` or another `ahead`. The first of these is answered, with the least such
-    /// node.
+    /// node without parent, `TooManyNodes` where the version is 1 and there are more than 256,
+    /// parts counted, `Loose` where another node has no parent, `Version` where the version is 1
+    /// and a node is `unstoppable` or `ahead`, and `Misplaced` where an `ahead` stands below a
+    /// `when_all`, an `unstoppable` or another `ahead`. The first of these is answered, with the
+    /// least such node.
     pub fn finish(self, root: NodeId, settings: Settings) -> Result<Plan, BuildFault>
         requires { AreSettings settings }
         ensures { Finishes self root settings result }

@@ -45,8 +45,8 @@ fn append_node(nodes: &mut Vec<Node>, node: Node, number: NodeId, parts: u32)
     append(nodes, node);
 }
 
-// The answer to a node that is refused, which is dropped by a call: at the end of a scope each of its
-// kinds is dropped in place.
+// The answer to a node that is refused, which is dropped by a call: at the end of a scope each of
+// its kinds is dropped in place.
 fn refused(node: Node, fault: BuildFault) -> Built
     ensures { result ≡ Err fault }
 {

@@ -42,4 +42,5 @@ KindsKept =
     (nodes : List Node) (input : Kind) → IsBuilt nodes → KindsMatch nodes input →
     (n : ℕ) (a : Shape) → Reaches nodes input n a →
     (values : List Datum) → AreArguments (slice_get nodes n) a values →
-    (r : ℕ) (q : StopState) (c : Completion) → Allowed nodes n values r q c → Fits (sig_of nodes n a) c
+    (r : ℕ) (q : StopState) (c : Completion) → Allowed nodes n values r q c →
+    Fits (sig_of nodes n a) c

@@ -11,8 +11,8 @@ use Rattle.plan_kinds.specs.Runs.{run_by, bodies_of}
 use Rattle.plan_kinds.specs.Values.{no_node, body_arguments, value_case, match_case}
 use Rattle.plan_kinds.specs.Flags.{error_case, stop_case}
 
--- the signature of a node by the shape of its arguments, and by the signatures of its children and of
--- its bodies; where its kinds don't match it is never a value
+-- the signature of a node by the shape of its arguments, and by the signatures of its children and
+-- of its bodies; where its kinds don't match it is never a value
 abbrev pub sig_by : List Node → Node → Shape → List Sig → List Sig → Sig
 sig_by nodes node a own behind = record {
   value = if match_case node own behind then value_case node a own behind else None;
@@ -33,7 +33,8 @@ abbrev pub own_sigs : Signatures → Node → Shape → List Sig
 own_sigs below node a = sigs_at below (run_by node) a
 
 abbrev pub body_sigs : Signatures → Node → Shape → List Sig
-body_sigs below node a = sigs_at below (bodies_of node) (body_arguments node (own_sigs below node a))
+body_sigs below node a = sigs_at below (bodies_of node)
+    (body_arguments node (own_sigs below node a))
 
 -- the signature of a node by those of the nodes before it
 abbrev pub sig_case : List Node → Node → Signatures → Shape → Sig
@@ -45,7 +46,8 @@ sig_of nodes n a = by_node (λ _. no_node) (sig_case nodes) nodes n a
 
 -- the kinds of a node match under arguments of this shape, and those of node n
 abbrev pub matches : List Node → Node → Shape → Bool
-matches nodes node a = match_case node (own_sigs (sig_of nodes) node a) (body_sigs (sig_of nodes) node a)
+matches nodes node a = match_case node (own_sigs (sig_of nodes) node a)
+    (body_sigs (sig_of nodes) node a)
 
 abbrev pub kinds_match : List Node → ℕ → Shape → Bool
 kinds_match nodes n a = option_map_or (λ node. matches nodes node a) (slice_get nodes n) true

@@ -53,4 +53,5 @@ own_name node = []
 -- each error name that the plan says stands in place, so that a copy of it wants no memory
 abbrev pub HasShortNames : Blueprint → Type 0
 HasShortNames plan =
-    (n : ℕ) (node : Node) → slice_get plan.nodes n ≡ Some node → length (own_name node) ≤ INLINE_BYTES
+    (n : ℕ) (node : Node) → slice_get plan.nodes n ≡ Some node →
+    length (own_name node) ≤ INLINE_BYTES

@@ -14,8 +14,8 @@ pub fn signed_by_case()
     ensures { SignedByCase }
 {}
 
-/// Kinds are kept: where those of a plan match, a node that runs with arguments of the shape that it
-/// runs under completes as its signature says, whatever the stop state.
+/// Kinds are kept: where those of a plan match, a node that runs with arguments of the shape that
+/// it runs under completes as its signature says, whatever the stop state.
 pub fn kinds_kept()
     ensures { KindsKept }
 {}

@@ -25,7 +25,8 @@ SettledByCase =
     (nodes : List Node) → IsOrdered nodes →
     (n : ℕ) (node : Node) → slice_get nodes n ≡ Some node →
     (a : List Datum) (r : ℕ) (asked : Bool) →
-    settle_of nodes n a r asked ≡ settle_case nodes r node (λ k b s. settle_of nodes k b r s) a asked
+    settle_of nodes n a r asked ≡ settle_case nodes r node
+    (λ k b s. settle_of nodes k b r s) a asked
 
 -- a node is calm by its case, as its children are calm
 abbrev pub CalmByCase : Type 0
@@ -40,7 +41,8 @@ MayCovers =
     (nodes : List Node) (n : ℕ) (a : List Datum) (r : ℕ) (q : StopState) (c : Completion) →
     Allowed nodes n a r q c → Allowed nodes n a r May c
 
--- the settled completion is allowed: where a stop was asked before the start, and where none ever is
+-- the settled completion is allowed: where a stop was asked before the start, and where none ever
+-- is
 abbrev pub SettledIsAllowed : Type 0
 SettledIsAllowed =
     (nodes : List Node) (n : ℕ) (a : List Datum) (r : ℕ) (asked : Bool) →

@@ -1,7 +1,7 @@
 //! The laws of what senders may complete with, and of plain evaluation.
 //!
-//! It stands on `plan_rules`, which has the definitions. It has no code: each function's contract is
-//! a law over the definitions alone, for every list of nodes, arguments, record and stop state.
+//! It stands on `plan_rules`, which has the definitions. It has no code: each function's contract
+//! is a law over the definitions alone, for every list of nodes, arguments, record and stop state.
 #![tactic(auto)]
 
 mod cases;

@@ -15,7 +15,8 @@ use Rattle.plan_parts.specs.Scalars.{txt_of}
 
 -- one number more in a row; what is no number has the wrong form
 abbrev pub with_number : Reading (List ℤ) → Option ℤ → Reading (List ℤ)
-with_number (Good ns) (Some n) = if nat_lt (length ns) NUMBERS then Good (ns ++ n ∷ []) else Bad LIMIT_FAULT
+with_number (Good ns) (Some n) = if nat_lt (length ns) NUMBERS then Good (ns ++ n ∷ [])
+    else Bad LIMIT_FAULT
 with_number (Bad faults) (Some n) = Bad faults
 with_number found None = blamed FORM_FAULT found
 
@@ -60,4 +61,5 @@ constants_of ds = constants_from (Good []) ds
 
 -- the constants at a key
 abbrev pub constants_at : List ℕ → Data → Reading (List Datum)
-constants_at key d = option_map_or constants_of (option_and_then as_array (get key d)) (Bad FORM_FAULT)
+constants_at key d = option_map_or constants_of (option_and_then as_array (get key d))
+    (Bad FORM_FAULT)

@@ -59,10 +59,12 @@ abbrev pub job_parts : JobWord → Data → Reading Job
 job_parts (Plain plain) d = Good (plain_job plain)
 job_parts (Arithmetic arithmetic) d =
     mapped (arithmetic_job arithmetic) (number_at (codes "n") d)
-job_parts Within d = mapped within_job (paired (number_at (codes "lo") d) (number_at (codes "hi") d))
+job_parts Within d = mapped within_job
+    (paired (number_at (codes "lo") d) (number_at (codes "hi") d))
 job_parts Fail d = mapped job.Fail (name_at (codes "error") d)
 job_parts Append d =
-    option_map_or (λ text. mapped job.Append (txt_of text)) (text_at (codes "text") d) (Bad FORM_FAULT)
+    option_map_or (λ text. mapped job.Append (txt_of text)) (text_at (codes "text") d)
+    (Bad FORM_FAULT)
 job_parts Give d = mapped job.Give (constants_at (codes "values") d)
 job_parts At d = mapped job.At (count_at (codes "i") 0 MOST_PLACE d)
 job_parts ValueOr d = option_map_or default_of (get (codes "else") d) (Bad FORM_FAULT)
@@ -74,7 +76,8 @@ known_job word d = with_keys (job_keys word) d (job_parts word d)
 -- a job: it needs a name that is a string; of one whose name isn't known nothing else is read
 abbrev pub job_of : Data → Reading Job
 job_of d =
-    option_map_or (λ name. option_map_or (λ word. known_job word d) (job_named name) (Bad NAME_FAULT))
+    option_map_or
+    (λ name. option_map_or (λ word. known_job word d) (job_named name) (Bad NAME_FAULT))
     (text_at (codes "job") d) (Bad FORM_FAULT)
 
 -- the same at a key

@@ -1,5 +1,5 @@
 -- What is read of a part of a plan file: a value, or what is wrong with it.
-use Rattle.std.specs.Prelude.{⊤, Bool, ◌||◌, Option, Some, None}
+use Rattle.std.specs.Prelude.{◌≡◌, ⊤, Bool, ◌||◌, Option, Some, None}
 use Rattle.plan_parts.specs.declared.reading.Faults.{Faults}
 use Rattle.plan_parts.specs.declared.reading.Reading.{Reading}
 use Rattle.plan_parts.specs.declared.reading.Reading.TheVariants.{Good, Bad}
@@ -32,6 +32,12 @@ known None = Bad NAME_FAULT
 abbrev pub mapped : {A B : Type 0} → (A → B) → Reading A → Reading B
 mapped f (Good a) = Good (f a)
 mapped f (Bad faults) = Bad faults
+
+-- a call made the value of the one that was read, and what is wrong stays wrong
+abbrev pub IsMapped : {A B : Type 0} → (A → B → Type 0) → Reading A → Reading B → Type 0
+IsMapped made (Good a) (Good b) = made a b
+IsMapped made (Good a) (Bad faults) = ⊥
+IsMapped made (Bad faults) reading = reading ≡ Bad faults
 
 -- both values, or what is wrong with the two
 abbrev pub paired : {A B : Type 0} → Reading A → Reading B → Reading (A × B)

@@ -1,5 +1,5 @@
-//! Constants: numbers, texts and rows of numbers. What isn't handed on is dropped by a call: at the end
-//! of a scope each kind of data would be dropped in that place.
+//! Constants: numbers, texts and rows of numbers. What isn't handed on is dropped by a call: at the
+//! end of a scope each kind of data would be dropped in that place.
 ghost use Rattle.std.specs.Prelude.{◌≡◌, ◌≤◌, All, IfOk, Some, vec_len};
 ghost use Rattle.serde_json.specs.View.{view, items_view};
 ghost use Rattle.exec_value.specs.Kinds.{IsConstant};

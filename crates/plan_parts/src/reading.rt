@@ -1,6 +1,6 @@
 //! What is read of a part of a plan file: a value, or what is wrong with it.
 ghost use Rattle.std.specs.Prelude.{◌≡◌, ◌||◌};
-ghost use Rattle.plan_parts.specs.Reading.{any_fault, blamed, both, known, paired};
+ghost use Rattle.plan_parts.specs.Reading.{any_fault, blamed, both, known, paired, IfGood, IsMapped};
 
 /// What is wrong with a part of a plan file. One part may have several faults.
 #[derive(Clone, Copy, Debug, PartialEq, Eq)]
@@ -93,6 +93,17 @@ impl<A: Drop> Reading<A> {
         match found {
             Some(value) => Reading::Good(value),
             None => Reading::Bad(NAME_FAULT),
+        }
+    }
+
+    /// What is made of the value, where one was read. What is wrong stays wrong.
+    pub fn map<B, F: FnOnce(A) -> B>(self, f: F) -> Reading<B>
+        requires { IfGood self (F.pre f) }
+        ensures { IsMapped (F.post f) self result }
+    {
+        match self {
+            Reading::Good(value) => Reading::Good(f(value)),
+            Reading::Bad(faults) => Reading::Bad(faults),
         }
     }
 

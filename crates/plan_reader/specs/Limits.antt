@@ -14,16 +14,16 @@ use Rattle.plan_shape.specs.Finish.{is_misplaced, is_too_large}
 use Rattle.plan_shape.specs.Least.{least}
 use Rattle.plan_shape.specs.Refusals.{fault_if}
 
--- the limit that a node passes beside these, if it passes one: its number of children or bodies, the
--- number of nodes with it and its parts, or its depth
+-- the limit that a node passes beside these, if it passes one: its number of children or bodies,
+-- the number of nodes with it and its parts, or its depth
 abbrev pub node_limit : List Node → Node → Option BuildFault
 node_limit nodes node =
     option_or (fault_if (not (has_lawful_count node)) TooManyChildren)
     (option_or (fault_if (nat_lt MOST_PLAN_NODES (length nodes + part_count node + 1)) TooManyNodes)
     (fault_if (nat_lt MOST_DEPTH (depth_over (depth_of nodes) (named_by node))) TooDeep))
 
--- the limit that a plan of these nodes passes, if it passes one: the number of nodes of its version, or
--- an `ahead` stands where none may
+-- the limit that a plan of these nodes passes, if it passes one: the number of nodes of its
+-- version, or an `ahead` stands where none may
 abbrev pub plan_limit : List Node → Settings → Option BuildFault
 plan_limit nodes settings =
     option_or (fault_if (is_too_large settings nodes) TooManyNodes)

@@ -33,14 +33,16 @@ abbrev pub context_named : List ℕ → Option Context
 context_named = named ((codes "loop", context.Loop) ∷ (codes "pool", context.Pool) ∷ [])
 
 abbrev pub context_at : Data → Reading Context
-context_at d = option_map_or (λ name. known (context_named name)) (text_at (codes "on") d) (Bad FORM_FAULT)
+context_at d = option_map_or (λ name. known (context_named name)) (text_at (codes "on") d)
+    (Bad FORM_FAULT)
 
 -- the queries by their names, and the query at the key `query`
 abbrev pub query_named : List ℕ → Option Query
 query_named = named ((codes "stop", query.Stop) ∷ (codes "record", query.Record) ∷ [])
 
 abbrev pub query_at : Data → Reading Query
-query_at d = option_map_or (λ name. known (query_named name)) (text_at (codes "query") d) (Bad FORM_FAULT)
+query_at d = option_map_or (λ name. known (query_named name)) (text_at (codes "query") d)
+    (Bad FORM_FAULT)
 
 -- the kinds that may be missing by their names, and the kind at the key `of`
 abbrev pub of_named : List ℕ → Reading Kind
@@ -63,7 +65,8 @@ leaf_node ReadEnv d = mapped node.ReadEnv (query_at d)
 abbrev pub adaptor_node : AdaptorWord → Data → ℕ → Reading Node
 adaptor_node Then d child = mapped (λ job. node.Then child job) (job_at (codes "job") d)
 adaptor_node UponError d child = mapped (λ job. node.UponError child job) (job_at (codes "job") d)
-adaptor_node UponStopped d child = mapped (λ job. node.UponStopped child job) (job_at (codes "job") d)
+adaptor_node UponStopped d child = mapped (λ job. node.UponStopped child job)
+    (job_at (codes "job") d)
 adaptor_node StartsOn d child = mapped (λ on. node.StartsOn on child) (context_at d)
 adaptor_node ContinuesOn d child = mapped (λ on. node.ContinuesOn child on) (context_at d)
 adaptor_node StoppedAsOptional d child = mapped (λ of. node.StoppedAsOptional child of) (of_at d)

@@ -1,5 +1,5 @@
--- What bytes are: a plan, or bytes that are refused for one of seven causes. Of these facts exactly one
--- holds of any bytes.
+-- What bytes are: a plan, or bytes that are refused for one of seven causes. Of these facts exactly
+-- one holds of any bytes.
 use Rattle.std.specs.Prelude.{◌≡◌, ◌≤◌, ⊤, ℕ, true, IsTrue, IsFalse, List, length, Ok, Err}
 use Rattle.plan_rules.specs.Exclusion.{exclude_each_other}
 use Rattle.plan_shape.specs.Blueprint.{Blueprint}
@@ -23,7 +23,8 @@ pub record IsAccepted (found : Found) (plan : Blueprint) : Type 0 where
   pub matches : Matches found
   pub rules : IsFalse (exclude_each_other plan.settings)
 
--- a plan that was read is refused: its kinds don't match, or they do and its settings exclude each other
+-- a plan that was read is refused: its kinds don't match, or they do and its settings exclude each
+-- other
 abbrev pub IsRefused : Found → PlanFault → Type 0
 IsRefused found Kinds = Matches found → ⊥
 IsRefused found Excluded = Matches found × IsTrue (exclude_each_other found.plan.settings)

@@ -39,7 +39,8 @@ is_first_version d = is_one (number_at (codes "version") d)
 
 -- the version: the number 1 or 2
 abbrev pub version_of : ℤ → Reading ℕ
-version_of n = if int_eq n (pos 1) then Good 1 else (if int_eq n (pos 2) then Good 2 else Bad NAME_FAULT)
+version_of n = if int_eq n (pos 1) then Good 1
+    else (if int_eq n (pos 2) then Good 2 else Bad NAME_FAULT)
 
 abbrev pub version_read : Reading ℤ → Reading ℕ
 version_read (Good n) = version_of n
@@ -48,7 +49,8 @@ version_read (Bad faults) = Bad faults
 -- the kind of the records
 abbrev pub input_of : List ℕ → Reading Kind
 input_of name =
-    known (named ((codes "int", kind.Int) ∷ (codes "text", kind.Text) ∷ (codes "row", kind.Row) ∷ []) name)
+    known (named ((codes "int", kind.Int) ∷ (codes "text", kind.Text) ∷
+    (codes "row", kind.Row) ∷ []) name)
 
 abbrev pub input_at : Data → Reading Kind
 input_at d = option_map_or input_of (text_at (codes "input") d) (Bad FORM_FAULT)
@@ -75,7 +77,8 @@ on_error_of name = known (named ((codes "go", false) ∷ (codes "stop", true) �
 
 abbrev pub on_error_at : Data → Reading Bool
 on_error_at d =
-    option_map_or (λ s. option_map_or on_error_of (as_str s) (Bad FORM_FAULT)) (get (codes "on_error") d)
+    option_map_or (λ s. option_map_or on_error_of (as_str s) (Bad FORM_FAULT))
+    (get (codes "on_error") d)
     (Good false)
 
 -- the settings, of which each is read
@@ -109,7 +112,8 @@ first_fault faults = if faults.form then Form else (if faults.name then UnknownN
 
 -- nodes make a plan, the last of them its root, unless they pass a limit
 abbrev pub found_unless : Option BuildFault → Settings → Walked → Result Found PlanFault
-found_unless None settings w = Ok (record { plan = record { nodes = w.nodes; settings = settings }; elements = w.elements })
+found_unless None settings w = Ok
+    (record { plan = record { nodes = w.nodes; settings = settings }; elements = w.elements })
 found_unless (Some fault) settings w = Err Limit
 
 -- the nodes and the settings that were read

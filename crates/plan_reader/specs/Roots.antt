@@ -1,5 +1,5 @@
--- Which nodes of a walk have no parent. A walk gives a parent to each node that it made before, once, so
--- that a builder of plans refuses its calls for their limits alone.
+-- Which nodes of a walk have no parent. A walk gives a parent to each node that it made before,
+-- once, so that a builder of plans refuses its calls for their limits alone.
 use Rattle.std.specs.Prelude.{◌≡◌, ◌<◌, ℕ, Bool, true, false, List, None}
 use Rattle.plan_rules.specs.declared.node.Node.{Node}
 use Rattle.plan_rules.specs.declared.settings.Settings.{Settings}
@@ -30,4 +30,5 @@ AreRoots w named = any_fault w.faults ≡ false → used_child w.nodes named ≡
 -- nothing but a limit stands against a plan of these nodes under the last of them
 abbrev pub HasOneRoot : Walked → Settings → Type 0
 HasOneRoot w settings =
-    any_fault w.faults ≡ false → finish_fault w.nodes (last w) settings ≡ plan_limit w.nodes settings
+    any_fault w.faults ≡ false →
+    finish_fault w.nodes (last w) settings ≡ plan_limit w.nodes settings

@@ -24,8 +24,8 @@ use Rattle.plan_reader.specs.declared.node_word.Let.{Let as LetWord}
 use Rattle.plan_reader.specs.declared.node_word.NodeWord.{NodeWord}
 use Rattle.plan_reader.specs.declared.node_word.NodeWord.TheVariants.{Leaf, Adaptor, Let, Bulk, WhenAll, Ahead}
 
--- where a walk stands. `is_first` says that the plan is of version 1, and `elements` that the job of
--- each bulk so far is an element job.
+-- where a walk stands. `is_first` says that the plan is of version 1, and `elements` that the job
+-- of each bulk so far is an element job.
 pub record Walked : Type 0 where
   pub nodes : List Node
   pub elements : Bool
@@ -122,12 +122,14 @@ ahead_over first w = make (node.Ahead first (last w)) w
 unfoldable pub parts : Below → NodeWord → Data → Walked → Walked
 parts below (Leaf leaf) d w = take (leaf_node leaf d) w
 parts below (Adaptor adaptor) d w =
-    over_child (λ child v. take (adaptor_node adaptor d child) v) (child_at below (codes "child") d w)
+    over_child (λ child v. take (adaptor_node adaptor d child) v)
+    (child_at below (codes "child") d w)
 parts below (Let binding) d w =
     over_child (λ child v. let_over binding d child (list_at below (codes "bodies") d v))
     (child_at below (codes "child") d w)
 parts below Bulk d w =
-    over_child (λ child v. take_bulk child (job_at (codes "job") d) v) (child_at below (codes "child") d w)
+    over_child (λ child v. take_bulk child (job_at (codes "job") d) v)
+    (child_at below (codes "child") d w)
 parts below WhenAll d w = all_over (list_at below (codes "children") d w)
 parts below Ahead d w =
     over_child (λ first v. ahead_over first (child_at below (codes "second") d v))

@@ -1,4 +1,5 @@
-//! How a walk goes down a plan file: a node, the parts of it by its name, and the nodes at its keys.
+//! How a walk goes down a plan file: a node, the parts of it by its name, and the nodes at its
+//! keys.
 ghost use Rattle.std.specs.Prelude.{◌≡◌, IfOk, OnOk};
 ghost use Rattle.serde_json.specs.View.{view, items_view};
 ghost use Rattle.plan_reader.specs.Roots.{IsTidy};

@@ -2,17 +2,17 @@
 //!
 //! ```text
 //! bytes --read_json--> JSON --settings_of--> settings -.
-//!                        |                             +--joined--> nodes and settings --judged--> plan
-//!                        `--walked_of--> nodes, faults-'
+//!                        |                             +--joined--> nodes and settings --judged-->
+//!                        plan `--walked_of--> nodes, faults-'
 //! ```
 //!
-//! `read_plan` is exactly the definition of a plan file in specs/, for every byte string: the whole file
-//! is walked whatever was found wrong before, and of the refusals that hold the first is answered.
-//! `Limit` comes for a limit or a misplaced `ahead` and for nothing else, and no bound on the nesting
-//! stands beside that of JSON (`levels_suffice`). Want of memory is told as such.
+//! `read_plan` is exactly the definition of a plan file in specs/, for every byte string: the whole
+//! file is walked whatever was found wrong before, and of the refusals that hold the first is
+//! answered. `Limit` comes for a limit or a misplaced `ahead` and for nothing else, and no bound on
+//! the nesting stands beside that of JSON (`levels_suffice`). Want of memory is told as such.
 //!
-//! It stands on `plan_parts`, which reads the small parts of a file, on `plan_builder`, which numbers
-//! the nodes, and on `sig_check`, which checks their kinds.
+//! It stands on `plan_parts`, which reads the small parts of a file, on `plan_builder`, which
+//! numbers the nodes, and on `sig_check`, which checks their kinds.
 #![tactic(auto)]
 
 mod descent;

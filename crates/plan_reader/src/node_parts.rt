@@ -25,27 +25,12 @@ pub fn leaf_node(alloc: Global, leaf: Leaf, value: &Value) -> Result<Reading<Nod
 {
     match leaf {
         Leaf::Input => Ok(Reading::Good(Node::Input)),
-        Leaf::Just => match constants_at(alloc, value, "values")? {
-            Reading::Good(values) => Ok(Reading::Good(Node::Just(values))),
-            Reading::Bad(faults) => Ok(Reading::Bad(faults)),
-        },
-        Leaf::JustError => match name_at(alloc, value, "error")? {
-            Reading::Good(error) => Ok(Reading::Good(Node::JustError(error))),
-            Reading::Bad(faults) => Ok(Reading::Bad(faults)),
-        },
+        Leaf::Just => Ok(constants_at(alloc, value, "values")?.map(Node::Just)),
+        Leaf::JustError => Ok(name_at(alloc, value, "error")?.map(Node::JustError)),
         Leaf::JustStopped => Ok(Reading::Good(Node::JustStopped)),
-        Leaf::Schedule => match context_at(value) {
-            Reading::Good(on) => Ok(Reading::Good(Node::Schedule(on))),
-            Reading::Bad(faults) => Ok(Reading::Bad(faults)),
-        },
-        Leaf::Delay => match count_at(value, "turns", 0, MOST_TURNS) {
-            Reading::Good(turns) => Ok(Reading::Good(Node::Delay(turns))),
-            Reading::Bad(faults) => Ok(Reading::Bad(faults)),
-        },
-        Leaf::ReadEnv => match query_at(value) {
-            Reading::Good(query) => Ok(Reading::Good(Node::ReadEnv(query))),
-            Reading::Bad(faults) => Ok(Reading::Bad(faults)),
-        },
+        Leaf::Schedule => Ok(context_at(value).map(Node::Schedule)),
+        Leaf::Delay => Ok(count_at(value, "turns", 0, MOST_TURNS).map(Node::Delay)),
+        Leaf::ReadEnv => Ok(query_at(value).map(Node::ReadEnv)),
     }
 }
 
@@ -61,34 +46,24 @@ pub fn adaptor_node(
     ensures conditions { IfOk result (λ reading. IfGood reading MeetsConditions) }
 {
     match adaptor {
-        Adaptor::Then => match job_at(alloc, value, "job")? {
-            Reading::Good(job) => Ok(Reading::Good(Node::Then { child, job })),
-            Reading::Bad(faults) => Ok(Reading::Bad(faults)),
-        },
-        Adaptor::UponError => match job_at(alloc, value, "job")? {
-            Reading::Good(job) => Ok(Reading::Good(Node::UponError { child, job })),
-            Reading::Bad(faults) => Ok(Reading::Bad(faults)),
-        },
-        Adaptor::UponStopped => match job_at(alloc, value, "job")? {
-            Reading::Good(job) => Ok(Reading::Good(Node::UponStopped { child, job })),
-            Reading::Bad(faults) => Ok(Reading::Bad(faults)),
-        },
-        Adaptor::StartsOn => match context_at(value) {
-            Reading::Good(on) => Ok(Reading::Good(Node::StartsOn { on, child })),
-            Reading::Bad(faults) => Ok(Reading::Bad(faults)),
-        },
-        Adaptor::ContinuesOn => match context_at(value) {
-            Reading::Good(on) => Ok(Reading::Good(Node::ContinuesOn { child, on })),
-            Reading::Bad(faults) => Ok(Reading::Bad(faults)),
-        },
-        Adaptor::StoppedAsOptional => match of_at(value) {
-            Reading::Good(of) => Ok(Reading::Good(Node::StoppedAsOptional { child, of })),
-            Reading::Bad(faults) => Ok(Reading::Bad(faults)),
-        },
-        Adaptor::StoppedAsError => match name_at(alloc, value, "error")? {
-            Reading::Good(error) => Ok(Reading::Good(Node::StoppedAsError { child, error })),
-            Reading::Bad(faults) => Ok(Reading::Bad(faults)),
-        },
+        Adaptor::Then => Ok(job_at(alloc, value, "job")?.map(|job| Node::Then { child, job })),
+        Adaptor::UponError => Ok(job_at(alloc, value, "job")?.map(|job| Node::UponError {
+            child,
+            job,
+        })),
+        Adaptor::UponStopped => Ok(job_at(alloc, value, "job")?.map(|job| Node::UponStopped {
+            child,
+            job,
+        })),
+        Adaptor::StartsOn => Ok(context_at(value).map(|on| Node::StartsOn { on, child })),
+        Adaptor::ContinuesOn => Ok(context_at(value).map(|on| Node::ContinuesOn { child, on })),
+        Adaptor::StoppedAsOptional => Ok(of_at(value).map(|of| Node::StoppedAsOptional {
+            child,
+            of,
+        })),
+        Adaptor::StoppedAsError => Ok(name_at(alloc, value, "error")?.map(
+            |error| Node::StoppedAsError { child, error },
+        )),
         Adaptor::Unstoppable => Ok(Reading::Good(Node::Unstoppable { child })),
     }
 }
@@ -105,26 +80,24 @@ pub fn let_node(
         (λ reading. reading ≡ let_node binding (view value.now) child bodies) }
     ensures conditions { IfOk result (λ reading. IfGood reading MeetsConditions) }
 {
-    match job_at(alloc, value, "pick")? {
-        Reading::Good(pick) => match binding {
-            Let::Value => Ok(Reading::Good(Node::LetValue {
-                child,
-                pick,
-                bodies,
-            })),
-            Let::Error => Ok(Reading::Good(Node::LetError {
-                child,
-                pick,
-                bodies,
-            })),
-            Let::Stopped => Ok(Reading::Good(Node::LetStopped {
-                child,
-                pick,
-                bodies,
-            })),
+    let made = job_at(alloc, value, "pick")?.map(|pick| match binding {
+        Let::Value => Node::LetValue {
+            child,
+            pick,
+            bodies,
         },
-        Reading::Bad(faults) => Ok(Reading::Bad(faults)),
-    }
+        Let::Error => Node::LetError {
+            child,
+            pick,
+            bodies,
+        },
+        Let::Stopped => Node::LetStopped {
+            child,
+            pick,
+            bodies,
+        },
+    });
+    Ok(made)
 }
 
 /// The context at the key `on`.

@@ -15,8 +15,8 @@ use plan_rules::Settings;
 use serde_json::Value;
 use std::alloc::{AllocError, Global};
 
-/// How many levels deep the nodes of a plan file may stand in each other. `serde_json` reads no text
-/// that nests deeper.
+/// How many levels deep the nodes of a plan file may stand in each other. `serde_json` reads no
+/// text that nests deeper.
 pub const MOST_LEVELS: u32 = 127;
 
 /// The plan that a JSON value is.

@@ -44,16 +44,20 @@ body_at bodies (pos k) = slice_index bodies (min k (length bodies - 1))
 body_at bodies (negsuc k) = slice_index bodies 0
 
 -- the pick's number names a body, which runs; where the pick gives something else, that is it
-abbrev pub PickedBy : Result (List Datum) (List ℕ) → List ℕ → (ℕ → Completion → Type 0) → Completion → Type 0
+abbrev pub PickedBy : Result (List Datum) (List ℕ) → List ℕ → (ℕ → Completion → Type 0) →
+    Completion → Type 0
 PickedBy (Ok (Int k ∷ [])) bodies Body c = Body (body_at bodies k) c
 PickedBy answer bodies Body c = c ≡ ending answer
 
 -- a child's completion on the let's channel runs the picked body, and others pass
-abbrev pub LetOf : Option (List Datum) → Job → List ℕ → (ℕ → List Datum → Completion → Type 0) → Completion → Completion → Type 0
+abbrev pub LetOf : Option (List Datum) → Job → List ℕ → (ℕ → List Datum → Completion → Type 0) →
+    Completion → Completion → Type 0
 LetOf None pick bodies Body d c = c ≡ d
-LetOf (Some values) pick bodies Body d c = PickedBy (apply_of pick values) bodies (λ n. Body n values) c
+LetOf (Some values) pick bodies Body d c = PickedBy (apply_of pick values) bodies
+    (λ n. Body n values) c
 
-abbrev pub Lets : (Completion → Option (List Datum)) → Job → List ℕ → (ℕ → List Datum → Completion → Type 0) → (Completion → Type 0) → Completion → Type 0
+abbrev pub Lets : (Completion → Option (List Datum)) → Job → List ℕ →
+    (ℕ → List Datum → Completion → Type 0) → (Completion → Type 0) → Completion → Type 0
 Lets channel pick bodies Body Child c =
     (d : Completion) × Child d × LetOf (channel d) pick bodies Body d c
 
@@ -89,8 +93,8 @@ FailsWith Stopped ends count c =
     ⊎ (((i : ℕ) (e : List ℕ) → i < count → ends i ≡ Error e → ⊥) × (c ≡ Stopped))
 FailsWith _ ends count c = ⊥
 
--- child j fails first, as it may under the node's own stop state; each other child may have seen the
--- request that this makes
+-- child j fails first, as it may under the node's own stop state; each other child may have seen
+-- the request that this makes
 abbrev pub Fails : (StopState → ℕ → Completion → Type 0) → StopState → ℕ → Completion → Type 0
 Fails Child q count c =
     (j : ℕ) × (ends : Ends) × (j < count) × Child q j (ends j) × IsFailure (ends j)

@@ -40,16 +40,19 @@ picked_of answer bodies body = ending answer
 
 -- a let's child completes with d: where it has data for the let, the picked body runs on them, and
 -- else d passes
-abbrev pub let_of : Option (List Datum) → Job → List ℕ → (ℕ → List Datum → Completion) → Completion → Completion
+abbrev pub let_of : Option (List Datum) → Job → List ℕ → (ℕ → List Datum → Completion) →
+    Completion → Completion
 let_of None pick bodies body d = d
-let_of (Some values) pick bodies body d = picked_of (apply_of pick values) bodies (λ n. body n values)
+let_of (Some values) pick bodies body d = picked_of (apply_of pick values) bodies
+    (λ n. body n values)
 
 -- the same, where the channel's data are read from d
-abbrev pub lets_of : (Completion → Option (List Datum)) → Job → List ℕ → (ℕ → List Datum → Completion) → Completion → Completion
+abbrev pub lets_of : (Completion → Option (List Datum)) → Job → List ℕ →
+    (ℕ → List Datum → Completion) → Completion → Completion
 lets_of channel pick bodies body d = let_of (channel d) pick bodies body d
 
--- a child's completion, in order, before those of the children after it: all values are joined, else
--- the first error, else stopped
+-- a child's completion, in order, before those of the children after it: all values are joined,
+-- else the first error, else stopped
 abbrev pub and_then : Completion → Completion → Completion
 and_then (Value front) (Value values) = Value (front ++ values)
 and_then (Value front) c = c
@@ -82,7 +85,8 @@ settle_case nodes r (Delay turns) below a asked = unless_asked asked (Value [])
 settle_case nodes r (ReadEnv query) below a asked = shown_of query r asked
 settle_case nodes r (Then child job) below a asked = then_of job (below child a asked)
 settle_case nodes r (UponError child job) below a asked = upon_error_of job (below child a asked)
-settle_case nodes r (UponStopped child job) below a asked = upon_stopped_of job (below child a asked)
+settle_case nodes r (UponStopped child job) below a asked = upon_stopped_of job
+    (below child a asked)
 settle_case nodes r (LetValue child pick bodies) below a asked =
     lets_of value_data pick bodies (λ n b. below n b asked) (below child a asked)
 settle_case nodes r (LetError child pick bodies) below a asked =

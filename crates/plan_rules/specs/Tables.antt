@@ -19,4 +19,5 @@ case_of dull case (Some node) below = case node below
 
 -- the meaning of a node of this list, by a case for each kind of node
 abbrev pub by_node {ℓ} : {A : Type ℓ} → A → (Node → (ℕ → A) → A) → List Node → ℕ → A
-by_node dull case nodes n = table dull (λ m below. case_of dull case (slice_get nodes m) below) (length nodes) n
+by_node dull case nodes n = table dull (λ m below. case_of dull case (slice_get nodes m) below)
+    (length nodes) n

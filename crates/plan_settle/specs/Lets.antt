@@ -15,8 +15,8 @@ IsLet (LetError child pick bodies) = ⊤
 IsLet (LetStopped child pick bodies) = ⊤
 IsLet node = ⊥
 
--- data that were taken from the let's channel pick a body, which settles under them; where there were
--- none, the child's completion passes
+-- data that were taken from the let's channel pick a body, which settles under them; where there
+-- were none, the child's completion passes
 abbrev pub settled_let : Evaluation → Job → List ℕ → Option (List Datum) → Completion → Completion
 settled_let run pick bodies taken done =
     let_of taken pick bodies (λ n values. settled_by run n values) done

@@ -17,8 +17,8 @@ use Rattle.plan_kinds.specs.Small.{IsSmall}
 abbrev pub NodeIs : Evaluation → ℕ → Node → Type 0
 NodeIs run n node = slice_get run.plan.now.nodes n ≡ Some node
 
--- some node of the plan runs so that it settles, for the record of this number, to an error whose name
--- doesn't stand in place: a node's own name, which is copied then
+-- some node of the plan runs so that it settles, for the record of this number, to an error whose
+-- name doesn't stand in place: a node's own name, which is copied then
 pub record SettlesLong (plan : Blueprint) (number : ℕ) : Type 0 where
   pub node : ℕ
   pub args : List Datum

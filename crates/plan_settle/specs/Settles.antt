@@ -11,7 +11,8 @@ use Rattle.plan_settle.specs.Runs.{SettlesLong}
 
 -- an evaluation puts this completion in its place; a small plan answers want of memory only where a
 -- node of it settles to an error with a long name
-pub record Settles (run : Evaluation) (c made : Completion) (result : Result (Unit {0}) AllocError) :
+pub record Settles (run : Evaluation) (c made : Completion)
+    (result : Result (Unit {0}) AllocError) :
     Type 0 where
   pub exact : OnOk result (made ≡ c)
   pub small : IsSmall run.plan.now → OnErr result (SettlesLong run.plan.now run.number)

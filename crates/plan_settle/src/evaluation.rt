@@ -1,5 +1,5 @@
-//! How a node is evaluated, by its kind: each call puts the node's completion in the place that it is
-//! given, where no completion is moved on the way up.
+//! How a node is evaluated, by its kind: each call puts the node's completion in the place that it
+//! is given, where no completion is moved on the way up.
 ghost use Rattle.std.specs.Prelude.{◌≡◌, IfSome, false};
 ghost use Rattle.plan_rules.specs.Settle.{let_of, unless_asked};
 ghost use Rattle.plan_rules.specs.declared.node.Node.{Node};
@@ -195,8 +195,8 @@ impl Evaluation<'_> {
         }
     }
 
-    /// What the let of this number completes with, where these data were taken from its channel. Where
-    /// there were none, its child's completion passes.
+    /// What the let of this number completes with, where these data were taken from its channel.
+    /// Where there were none, its child's completion passes.
     #[cycle(settle)]
     fn settle_body(
         &self,

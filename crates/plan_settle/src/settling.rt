@@ -16,8 +16,8 @@ use std::alloc::{AllocError, Global};
 /// is ever requested: by plain evaluation on one thread, the children of a `when_all` in order.
 ///
 /// It is one of the completions that the plan allows, and the only one where the record is calm.
-/// The only error is want of memory. A small plan answers it only where a node completes by an error
-/// whose name doesn't stand in place, which is the name that a node of the plan says.
+/// The only error is want of memory. A small plan answers it only where a node completes by an
+/// error whose name doesn't stand in place, which is the name that a node of the plan says.
 pub fn settle(
     alloc: Global,
     plan: &Plan,

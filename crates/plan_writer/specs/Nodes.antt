@@ -16,8 +16,8 @@ use Rattle.plan_writer.specs.declared.below.Below.TheVariants as below
 use Rattle.plan_writer.specs.Values.{constants_data, named}
 use Rattle.plan_writer.specs.Jobs.{job_data}
 
--- the names of the contexts, the queries, and the kinds; a maybe kind is called as the kind that may
--- be missing
+-- the names of the contexts, the queries, and the kinds; a maybe kind is called as the kind that
+-- may be missing
 abbrev pub context_name : Context → List ℕ
 context_name Loop = codes "loop"
 context_name Pool = codes "pool"
@@ -48,15 +48,21 @@ own_members (JustError error) = node_with (codes "just_error") (codes "error") (
 own_members JustStopped = plain_node (codes "just_stopped")
 own_members (Schedule on) = node_with (codes "schedule") (codes "on") (string (context_name on))
 own_members (Delay turns) = node_with (codes "delay") (codes "turns") (number (unsigned turns))
-own_members (ReadEnv query) = node_with (codes "read_env") (codes "query") (string (query_name query))
+own_members (ReadEnv query) = node_with (codes "read_env") (codes "query")
+    (string (query_name query))
 own_members (Then child job) = node_with (codes "then") (codes "job") (job_data job)
 own_members (UponError child job) = node_with (codes "upon_error") (codes "job") (job_data job)
 own_members (UponStopped child job) = node_with (codes "upon_stopped") (codes "job") (job_data job)
-own_members (LetValue child pick bodies) = node_with (codes "let_value") (codes "pick") (job_data pick)
-own_members (LetError child pick bodies) = node_with (codes "let_error") (codes "pick") (job_data pick)
-own_members (LetStopped child pick bodies) = node_with (codes "let_stopped") (codes "pick") (job_data pick)
-own_members (StartsOn on child) = node_with (codes "starts_on") (codes "on") (string (context_name on))
-own_members (ContinuesOn child on) = node_with (codes "continues_on") (codes "on") (string (context_name on))
+own_members (LetValue child pick bodies) = node_with (codes "let_value") (codes "pick")
+    (job_data pick)
+own_members (LetError child pick bodies) = node_with (codes "let_error") (codes "pick")
+    (job_data pick)
+own_members (LetStopped child pick bodies) = node_with (codes "let_stopped") (codes "pick")
+    (job_data pick)
+own_members (StartsOn on child) = node_with (codes "starts_on") (codes "on")
+    (string (context_name on))
+own_members (ContinuesOn child on) = node_with (codes "continues_on") (codes "on")
+    (string (context_name on))
 own_members (StoppedAsOptional child of) =
     node_with (codes "stopped_as_optional") (codes "of") (string (kind_name of))
 own_members (StoppedAsError child error) =
@@ -117,7 +123,8 @@ with_children value (below.Pair first second) list ms =
 
 -- a node's object, by the values of the nodes below it
 abbrev pub node_object : Node → (ℕ → Data) → Data
-node_object node value = object (with_children value (below_of node) (listed node) (own_members node))
+node_object node value = object
+    (with_children value (below_of node) (listed node) (own_members node))
 
 -- node n as a JSON value
 abbrev pub node_data : List Node → ℕ → Data

@@ -10,8 +10,8 @@ use Rattle.plan_shape.specs.Conditions.{MeetsConditions}
 abbrev pub IsWritten : List Node → ℕ → Type 0
 IsWritten nodes n = (node : Node) × (slice_get nodes n ≡ Some node) × MeetsConditions node
 
--- the order of a file: a node's children, each with all that stands below it, and then the node; the
--- parts of a bulk are its last children
+-- the order of a file: a node's children, each with all that stands below it, and then the node;
+-- the parts of a bulk are its last children
 abbrev pub file_order : List Node → ℕ → List ℕ
 file_order nodes n =
     table [] (λ m order. flat_map order (children_at nodes m) ++ m ∷ []) (length nodes) n

@@ -19,8 +19,8 @@ walked_to plan count = record {
   is_first = plan.settings.version == 1;
 }
 
--- a node's object has no fractions and isn't too deep, and a walk over it makes the nodes that stand
--- below the node and then the node, behind those that stand before them
+-- a node's object has no fractions and isn't too deep, and a walk over it makes the nodes that
+-- stand below the node and then the node, behind those that stand before them
 pub record IsReadBack (plan : Blueprint) (n : ℕ) : Type 0 where
   pub whole_numbers : has_float (node_data plan.nodes n) ≡ false
   pub shallow : depth (node_data plan.nodes n) ≤ 2 * depth_of plan.nodes n + 2

@@ -21,9 +21,9 @@ use std::alloc::{AllocError, Global};
 /// bytes.
 ///
 /// A plan that a file can say is read back from its text, where that isn't too long. Such a plan's
-/// kinds match, its settings don't exclude each other, and its nodes are numbered as a reader numbers
-/// them: the children of a node in their order, each with all that stands below it, then a bulk's
-/// parts, and then the node.
+/// kinds match, its settings don't exclude each other, and its nodes are numbered as a reader
+/// numbers them: the children of a node in their order, each with all that stands below it, then a
+/// bulk's parts, and then the node.
 pub fn write_plan(alloc: Global, plan: &Plan) -> Result<Vec<u8>, AllocError>
     ensures text { IfOk result (λ bytes. bytes.items ≡ plan_text plan.now) }
     ensures read_back { IfOk result (λ bytes. IsFilePlan plan.now

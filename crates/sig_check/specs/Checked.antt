@@ -8,7 +8,8 @@ use Rattle.plan_shape.specs.Blueprint.{Blueprint}
 use Rattle.sig_check.specs.declared.fault.SigFault.{SigFault}
 use Rattle.sig_check.specs.declared.fault.SigFault.TheVariants.{Kinds, NoMemory}
 
--- the signatures of a plan's nodes by their numbers, each under the arguments that the node runs under
+-- the signatures of a plan's nodes by their numbers, each under the arguments that the node runs
+-- under
 pub record AreSignatures (plan : Blueprint) (sigs : List Sig) : Type 0 where
   pub size : length sigs ≡ length plan.nodes
   pub each : (n : ℕ) (a : Shape) → Reaches plan.nodes plan.settings.input n a →

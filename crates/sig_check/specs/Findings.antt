@@ -21,9 +21,10 @@ finding_of nodes n a = record { sig = sig_of nodes n a; matches = kinds_match no
 abbrev pub IsFound : List (Option Finding) → ℕ → Type 0
 IsFound findings n = (finding : Finding) × (slice_get findings n ≡ Some (Some finding))
 
--- there is a place for each node, and what was found of a node holds under the arguments that it runs
--- under
-pub record AreRight (nodes : List Node) (input : Kind) (findings : List (Option Finding)) : Type 0 where
+-- there is a place for each node, and what was found of a node holds under the arguments that it
+-- runs under
+pub record AreRight (nodes : List Node) (input : Kind)
+    (findings : List (Option Finding)) : Type 0 where
   pub size : length findings ≡ length nodes
   pub each : (n : ℕ) (finding : Finding) → slice_get findings n ≡ Some (Some finding) →
       (a : Shape) → Reaches nodes input n a → finding ≡ finding_of nodes n a
@@ -44,7 +45,8 @@ pub record Finds (nodes : List Node) (input : Kind) (old : List (Option Finding)
 -- right things are found of all parts of bulks
 pub record FindsParts (plan : Blueprint) (findings : List (Option Finding)) : Type 0 where
   pub right : AreRight plan.nodes plan.settings.input findings
-  pub found : (n bulk part : ℕ) → slice_get plan.nodes n ≡ Some (Part bulk part) → IsFound findings n
+  pub found : (n bulk part : ℕ) → slice_get plan.nodes n ≡ Some (Part bulk part) →
+      IsFound findings n
 
 -- right things are found of all nodes of a plan
 pub record FindsAll (plan : Blueprint) (findings : List (Option Finding)) : Type 0 where

@@ -6,7 +6,7 @@ use plan_rules::{Node, NodeId};
 use std::alloc::{AllocError, Global};
 
 /// The children, which a node runs under its own arguments.
-pub(crate) fn run_by(alloc: Global, node: &Node) -> Result<Vec<NodeId>, AllocError>
+pub fn run_by(alloc: Global, node: &Node) -> Result<Vec<NodeId>, AllocError>
     ensures { IfOk result (λ children. children.items ≡ run_by node.now) }
 {
     match node {
@@ -33,7 +33,7 @@ fn just(alloc: Global, child: NodeId) -> Result<Vec<NodeId>, AllocError>
 }
 
 /// The bodies of a let, which run under arguments of their own.
-pub(crate) fn bodies_of(node: &Node) -> &[NodeId]
+pub fn bodies_of(node: &Node) -> &[NodeId]
     ensures { result.now ≡ bodies_of node.now }
 {
     match node {
