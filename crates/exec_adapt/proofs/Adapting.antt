@@ -13,16 +13,16 @@ use Rattle.plan_kinds.specs.Small.{IsSmall, own_name}
 use Rattle.common_lemmas.specs.Sums.{one}
 use Rattle.table_steps.specs.Views.{Board}
 use Rattle.table_steps.specs.Claims.{Seated}
-use Rattle.exec_start.specs.declared.entry.Entry.{Entry}
-use Rattle.exec_start.specs.declared.item.Item.{Item}
-use Rattle.exec_start.specs.declared.item.Item.TheVariants.{Rest, Done}
-use Rattle.exec_start.specs.Below.{run_below, asked_below}
-use Rattle.exec_start.specs.Bounds.{least_of, least_at_rest}
-use Rattle.exec_start.specs.Entries.{plan_of, asked_of}
-use Rattle.exec_start.specs.Fits.{IsItemOf}
-use Rattle.exec_start.specs.Items.{parcel_in, saw_in}
-use Rattle.exec_start.specs.Parcels.{Delivery, IsDelivery, MayDeliver}
-use Rattle.exec_start.specs.Starts.{IsStart}
+use Rattle.home_items.specs.declared.entry.Entry.{Entry}
+use Rattle.home_items.specs.declared.item.Item.{Item}
+use Rattle.home_items.specs.declared.item.Item.TheVariants.{Rest, Done}
+use Rattle.home_items.specs.Below.{run_below, asked_below}
+use Rattle.home_items.specs.Bounds.{least_of, least_at_rest}
+use Rattle.home_items.specs.Entries.{plan_of, asked_of}
+use Rattle.home_items.specs.Fits.{IsItemOf}
+use Rattle.home_items.specs.Items.{parcel_in, saw_in}
+use Rattle.home_items.specs.Parcels.{Delivery, IsDelivery, MayDeliver}
+use Rattle.home_items.specs.Starts.{IsStart}
 use Rattle.exec_recv.specs.Over.{IsOver}
 use Rattle.start_laws.specs.Nodes.{IsStartOf, plain_children, JobTakes}
 use Rattle.start_laws.proofs.Bounding.{few-begun}
@@ -31,18 +31,18 @@ use Rattle.start_laws.proofs.Knowing.{from-plain}
 use Rattle.start_laws.proofs.Operands.{jobs-take}
 use Rattle.start_laws.proofs.Pairs.{none-some, below-plain}
 use Rattle.start_laws.proofs.Rooms.{room-there}
-use Rattle.node_steps.specs.declared.taken.AtHome.{AtHome}
-use Rattle.node_steps.specs.declared.taken.AtHome.TheVariants.{Start as Unbegun, Rest as Rested}
-use Rattle.node_steps.specs.declared.taken.TakenOut.{TakenOut}
-use Rattle.node_steps.specs.Completes.{MayComplete}
-use Rattle.node_steps.specs.Heard.{MaySee}
-use Rattle.node_steps.specs.Leaves.{MayLeave}
-use Rattle.node_steps.specs.Midway.{Ready}
-use Rattle.node_steps.specs.Starts.{RunsBelow, asked_for_child, MayRun}
-use Rattle.node_steps.specs.TakenOut.{item_at, start_at, least_known, IsFoundBelow, TakesOut}
-use Rattle.node_steps.proofs.Frames.{emptying-less}
-use Rattle.node_steps.proofs.Places.{source-none, start-of}
-use Rattle.node_steps.proofs.Telling.{found-done, kept-from, from-keeps}
+use Rattle.step_parts.specs.declared.taken.AtHome.{AtHome}
+use Rattle.step_parts.specs.declared.taken.AtHome.TheVariants.{Start as Unbegun, Rest as Rested}
+use Rattle.step_parts.specs.declared.taken.TakenOut.{TakenOut}
+use Rattle.step_parts.specs.Completes.{MayComplete}
+use Rattle.step_parts.specs.Heard.{MaySee}
+use Rattle.step_parts.specs.Leaves.{MayLeave}
+use Rattle.step_parts.specs.Midway.{Ready}
+use Rattle.step_parts.specs.Starts.{RunsBelow, asked_for_child, MayRun}
+use Rattle.step_parts.specs.TakenOut.{item_at, start_at, least_known, IsFoundBelow, TakesOut}
+use Rattle.step_parts.proofs.Frames.{emptying-less}
+use Rattle.step_parts.proofs.Places.{source-none, start-of}
+use Rattle.step_parts.proofs.Telling.{found-done, kept-from, from-keeps}
 use Rattle.exec_adapt.specs.Ends.{MayPass, MayName}
 use Rattle.exec_adapt.specs.Images.{names_error, adapted_to, StandsButForName}
 use Rattle.exec_adapt.specs.Kinds.{IsAdaptor, adapted}

@@ -13,13 +13,13 @@ use Rattle.plan_shape.specs.Blueprint.{Blueprint}
 use Rattle.table_steps.specs.Views.{Board, IsPlaceIn}
 use Rattle.table_steps.specs.Claims.{Seated}
 use Rattle.op_slot.specs.Tends.{put_at}
-use Rattle.exec_start.specs.declared.entry.Entry.{Entry}
-use Rattle.exec_start.specs.declared.item.Item.{Item}
-use Rattle.exec_start.specs.Parcels.{Delivery}
+use Rattle.home_items.specs.declared.entry.Entry.{Entry}
+use Rattle.home_items.specs.declared.item.Item.{Item}
+use Rattle.home_items.specs.Parcels.{Delivery}
 use Rattle.exec_recv.specs.Over.{IsOver}
-use Rattle.node_steps.specs.Midway.{Emptying, Ready}
-use Rattle.node_steps.specs.TakenOut.{TakesBelow, IsEmptying}
-use Rattle.node_steps.proofs.Frames.{others-on, emptying-none}
+use Rattle.step_parts.specs.Midway.{Emptying, Ready}
+use Rattle.step_parts.specs.TakenOut.{TakesBelow, IsEmptying}
+use Rattle.step_parts.proofs.Frames.{others-on, emptying-none}
 use Rattle.exec_adapt.specs.Tops.{spawned_by, Empties}
 use Rattle.exec_adapt.proofs.TopPlaces.{top-child, child-top}
 

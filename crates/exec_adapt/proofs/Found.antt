@@ -7,14 +7,14 @@ use Rattle.life_rules.specs.declared.event.Name.{Name}
 use Rattle.plan_shape.specs.Blueprint.{Blueprint}
 use Rattle.table_steps.specs.Views.{Board}
 use Rattle.table_steps.specs.Claims.{Seated}
-use Rattle.exec_start.specs.declared.entry.Entry.{Entry}
-use Rattle.exec_start.specs.declared.item.Item.{Item}
-use Rattle.exec_start.specs.declared.item.Item.TheVariants.{Done}
-use Rattle.exec_start.specs.Items.{parcel_in}
-use Rattle.exec_start.specs.Parcels.{Delivery}
+use Rattle.home_items.specs.declared.entry.Entry.{Entry}
+use Rattle.home_items.specs.declared.item.Item.{Item}
+use Rattle.home_items.specs.declared.item.Item.TheVariants.{Done}
+use Rattle.home_items.specs.Items.{parcel_in}
+use Rattle.home_items.specs.Parcels.{Delivery}
 use Rattle.exec_recv.specs.Steppable.{CanStep}
-use Rattle.node_steps.specs.declared.taken.TakenOut.{TakenOut}
-use Rattle.node_steps.specs.TakenOut.{item_at, newest_in, TakesOut}
+use Rattle.step_parts.specs.declared.taken.TakenOut.{TakenOut}
+use Rattle.step_parts.specs.TakenOut.{item_at, newest_in, TakesOut}
 use Rattle.exec_adapt.specs.Openings.{newest, parcel_at}
 use Rattle.exec_adapt.specs.Tops.{TakesTop}
 

@@ -15,13 +15,13 @@ use Rattle.plan_kinds.specs.Small.{IsSmall}
 use Rattle.node_tree.specs.Tree.{is_root}
 use Rattle.table_steps.specs.Views.{Board}
 use Rattle.table_steps.specs.Claims.{Seated}
-use Rattle.exec_start.specs.declared.entry.Entry.{Entry}
-use Rattle.exec_start.specs.declared.item.Item.{Item}
-use Rattle.exec_start.specs.declared.item.Item.TheVariants.{Rest, Done}
-use Rattle.exec_start.specs.Bounds.{least_of}
-use Rattle.exec_start.specs.Entries.{plan_of, asked_of}
-use Rattle.exec_start.specs.Parcels.{Delivery, MayDeliver}
-use Rattle.exec_start.specs.Starts.{IsStart}
+use Rattle.home_items.specs.declared.entry.Entry.{Entry}
+use Rattle.home_items.specs.declared.item.Item.{Item}
+use Rattle.home_items.specs.declared.item.Item.TheVariants.{Rest, Done}
+use Rattle.home_items.specs.Bounds.{least_of}
+use Rattle.home_items.specs.Entries.{plan_of, asked_of}
+use Rattle.home_items.specs.Parcels.{Delivery, MayDeliver}
+use Rattle.home_items.specs.Starts.{IsStart}
 use Rattle.exec_recv.specs.Over.{IsOver}
 use Rattle.node_images.specs.Makes.{CompletesInPlace}
 use Rattle.start_laws.specs.Leaves.{leaf_of}
@@ -29,14 +29,14 @@ use Rattle.start_laws.specs.RoomLaws.{IsLongError}
 use Rattle.start_laws.proofs.Bounding.{few-begun}
 use Rattle.start_laws.proofs.LeafCases.{leaves-allowed}
 use Rattle.start_laws.proofs.Rooms.{room-there}
-use Rattle.node_steps.specs.declared.taken.TakenOut.{TakenOut}
-use Rattle.node_steps.specs.Completes.{MayComplete}
-use Rattle.node_steps.specs.Heard.{MaySee}
-use Rattle.node_steps.specs.Midway.{Ready, KeepsReady}
-use Rattle.node_steps.specs.TakenOut.{start_at, least_known, TakesOut}
-use Rattle.node_steps.proofs.Frames.{emptying-less}
-use Rattle.node_steps.proofs.Places.{start-of}
-use Rattle.node_steps.proofs.Wanted.{bare-leaves}
+use Rattle.step_parts.specs.declared.taken.TakenOut.{TakenOut}
+use Rattle.step_parts.specs.Completes.{MayComplete}
+use Rattle.step_parts.specs.Heard.{MaySee}
+use Rattle.step_parts.specs.Midway.{Ready, KeepsReady}
+use Rattle.step_parts.specs.TakenOut.{start_at, least_known, TakesOut}
+use Rattle.step_parts.proofs.Frames.{emptying-less}
+use Rattle.step_parts.proofs.Places.{start-of}
+use Rattle.step_parts.proofs.Wanted.{bare-leaves}
 use Rattle.exec_adapt.specs.Ends.{MakesLeaf, MayName}
 use Rattle.exec_adapt.specs.Kinds.{IsFactory, is_error}
 use Rattle.exec_adapt.proofs.Places.{factory-leaf, factory-plain}

@@ -2,6 +2,7 @@ pub mod Making
 pub mod Places
 pub mod Adapting
 pub mod Leafing
+pub mod Looks
 pub mod TopPlaces
 pub mod Emptied
 pub mod TopTaken

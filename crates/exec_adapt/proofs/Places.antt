@@ -14,8 +14,8 @@ use Rattle.exec_recv.specs.Over.{IsOver}
 use Rattle.start_laws.specs.Nodes.{plain_children, AwaitsOne, MakesImage, MayHaveSeen}
 use Rattle.start_laws.specs.Leaves.{IsLeaf}
 use Rattle.exec_value.specs.declared.outcome.Completion.{Completion}
-use Rattle.node_steps.specs.TakenOut.{IsOnlyChild}
-use Rattle.node_steps.proofs.Only.{only-named}
+use Rattle.step_parts.specs.TakenOut.{IsOnlyChild}
+use Rattle.step_parts.proofs.Only.{only-named}
 use Rattle.exec_adapt.specs.Kinds.{IsFactory, IsAdaptor, adapted, CanAdvance}
 
 -- an adaptor has one child, which runs with its arguments, and no source

@@ -13,34 +13,34 @@ use Rattle.plan_kinds.specs.Small.{IsSmall}
 use Rattle.table_steps.specs.Views.{Board, IsPlaceIn}
 use Rattle.table_steps.specs.Claims.{Seated}
 use Rattle.table_steps.specs.Readings.{KnowsIdle, IsIdleStill}
-use Rattle.exec_start.specs.declared.entry.Entry.{Entry}
-use Rattle.exec_start.specs.declared.item.Item.{Item}
-use Rattle.exec_start.specs.declared.item.Item.TheVariants.{Rest}
-use Rattle.exec_start.specs.Below.{run_below, asked_below}
-use Rattle.exec_start.specs.Bounds.{least_of, least_at_rest}
-use Rattle.exec_start.specs.Entries.{plan_of, asked_of, child_of}
-use Rattle.exec_start.specs.Fits.{IsItemOf, KeepsParcel}
-use Rattle.exec_start.specs.Items.{parcel_in, saw_in}
-use Rattle.exec_start.specs.Parcels.{Delivery, IsDelivery}
-use Rattle.exec_start.specs.Starts.{IsReceiverStart, IsStart}
-use Rattle.exec_start.proofs.Collecting.{receiver-none}
-use Rattle.exec_start.proofs.KindsBelow.{option-in}
+use Rattle.home_items.specs.declared.entry.Entry.{Entry}
+use Rattle.home_items.specs.declared.item.Item.{Item}
+use Rattle.home_items.specs.declared.item.Item.TheVariants.{Rest}
+use Rattle.home_items.specs.Below.{run_below, asked_below}
+use Rattle.home_items.specs.Bounds.{least_of, least_at_rest}
+use Rattle.home_items.specs.Entries.{plan_of, asked_of, child_of}
+use Rattle.home_items.specs.Fits.{IsItemOf, KeepsParcel}
+use Rattle.home_items.specs.Items.{parcel_in, saw_in}
+use Rattle.home_items.specs.Parcels.{Delivery, IsDelivery}
+use Rattle.home_items.specs.Starts.{IsReceiverStart, IsStart}
+use Rattle.home_items.proofs.Collecting.{receiver-none}
+use Rattle.home_items.proofs.KindsBelow.{option-in}
 use Rattle.exec_recv.specs.Over.{IsOver}
 use Rattle.start_laws.proofs.Bounding.{few-begun}
 use Rattle.start_laws.proofs.Knowing.{from-top}
 use Rattle.start_laws.proofs.Pairs.{none-some}
-use Rattle.node_steps.specs.declared.taken.AtHome.{AtHome}
-use Rattle.node_steps.specs.declared.taken.AtHome.TheVariants.{Start as Unbegun, Rest as Rested}
-use Rattle.node_steps.specs.declared.taken.TakenOut.{TakenOut}
-use Rattle.node_steps.specs.Heard.{MaySee}
-use Rattle.node_steps.specs.Leaves.{MayLeave}
-use Rattle.node_steps.specs.Midway.{Ready, KeepsReady}
-use Rattle.node_steps.specs.Starts.{RunsBelow, asked_for_child, MayRun}
-use Rattle.node_steps.specs.TakenOut.{item_at, start_at, least_known, IsFoundBelow}
-use Rattle.node_steps.proofs.Frames.{emptying-less}
-use Rattle.node_steps.proofs.Reading.{above-is, begun-idle}
-use Rattle.node_steps.proofs.Started.{run-stands, run-still}
-use Rattle.node_steps.proofs.Telling.{found-done, kept-from, from-keeps}
+use Rattle.step_parts.specs.declared.taken.AtHome.{AtHome}
+use Rattle.step_parts.specs.declared.taken.AtHome.TheVariants.{Start as Unbegun, Rest as Rested}
+use Rattle.step_parts.specs.declared.taken.TakenOut.{TakenOut}
+use Rattle.step_parts.specs.Heard.{MaySee}
+use Rattle.step_parts.specs.Leaves.{MayLeave}
+use Rattle.step_parts.specs.Midway.{Ready, KeepsReady}
+use Rattle.step_parts.specs.Starts.{RunsBelow, asked_for_child, MayRun}
+use Rattle.step_parts.specs.TakenOut.{item_at, start_at, least_known, IsFoundBelow}
+use Rattle.step_parts.proofs.Frames.{emptying-less}
+use Rattle.step_parts.proofs.Reading.{above-is, begun-idle}
+use Rattle.step_parts.proofs.Started.{run-stands, run-still}
+use Rattle.step_parts.proofs.Telling.{found-done, kept-from, from-keeps}
 use Rattle.exec_adapt.specs.Ends.{MayPass}
 use Rattle.exec_adapt.specs.Openings.{newest, parcel_at}
 use Rattle.exec_adapt.specs.Tops.{TakesTop}

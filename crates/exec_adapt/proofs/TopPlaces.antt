@@ -19,12 +19,12 @@ use Rattle.plan_kinds.specs.Small.{IsSmall}
 use Rattle.plan_kinds.specs.TreeLaws.{ShowsPlan, IsTop}
 use Rattle.plan_kinds.proofs.Trees.{trees-show}
 use Rattle.table_steps.specs.Views.{Board, IsPlaceIn}
-use Rattle.exec_start.specs.declared.entry.Entry.{Entry}
-use Rattle.exec_start.specs.Entries.{plan_of, node_of, child_of}
-use Rattle.exec_start.specs.Starts.{IsReceiverStart, IsStart}
+use Rattle.home_items.specs.declared.entry.Entry.{Entry}
+use Rattle.home_items.specs.Entries.{plan_of, node_of, child_of}
+use Rattle.home_items.specs.Starts.{IsReceiverStart, IsStart}
 use Rattle.exec_recv.specs.Over.{IsOver}
 use Rattle.start_laws.proofs.Knowing.{places-tell}
-use Rattle.node_steps.specs.TakenOut.{IsOnlyChild}
+use Rattle.step_parts.specs.TakenOut.{IsOnlyChild}
 
 -- the plan has no `ahead`: its root alone stands below the receiver node
 abbrev pub SpawnsNone : Blueprint → Type 0

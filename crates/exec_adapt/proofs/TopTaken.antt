@@ -15,21 +15,21 @@ use Rattle.table_steps.specs.Slots.{held_at}
 use Rattle.table_steps.specs.Views.{Board, IsPlaceIn}
 use Rattle.table_steps.specs.Claims.{Seated}
 use Rattle.op_slot.specs.Tends.{put_at}
-use Rattle.exec_start.specs.declared.entry.Entry.{Entry}
-use Rattle.exec_start.specs.declared.item.Item.{Item}
-use Rattle.exec_start.specs.declared.item.Item.TheVariants.{Done}
-use Rattle.exec_start.specs.Bounds.{least_of}
-use Rattle.exec_start.specs.Entries.{child_of}
-use Rattle.exec_start.specs.Fits.{MayRest}
-use Rattle.exec_start.specs.Parcels.{Delivery}
-use Rattle.exec_start.specs.Starts.{IsStart}
+use Rattle.home_items.specs.declared.entry.Entry.{Entry}
+use Rattle.home_items.specs.declared.item.Item.{Item}
+use Rattle.home_items.specs.declared.item.Item.TheVariants.{Done}
+use Rattle.home_items.specs.Bounds.{least_of}
+use Rattle.home_items.specs.Entries.{child_of}
+use Rattle.home_items.specs.Fits.{MayRest}
+use Rattle.home_items.specs.Parcels.{Delivery}
+use Rattle.home_items.specs.Starts.{IsStart}
 use Rattle.exec_recv.specs.Over.{IsOver}
 use Rattle.exec_recv.specs.Steppable.{CanStep}
-use Rattle.node_steps.specs.declared.taken.AtHome.{AtHome}
-use Rattle.node_steps.specs.Heard.{has_heard}
-use Rattle.node_steps.specs.Midway.{Emptying, Ready, KeepsOthers}
-use Rattle.node_steps.specs.TakenOut.{item_at, start_at, least_known, IsFoundBelow, IsOnlyChild, HasJustBegun, TakesOwn, TakesBelow}
-use Rattle.node_steps.proofs.Frames.{others-here, others-on, emptying-none, named-so}
+use Rattle.step_parts.specs.declared.taken.AtHome.{AtHome}
+use Rattle.step_parts.specs.Heard.{has_heard}
+use Rattle.step_parts.specs.Midway.{Emptying, Ready, KeepsOthers}
+use Rattle.step_parts.specs.TakenOut.{item_at, start_at, least_known, IsFoundBelow, IsOnlyChild, HasJustBegun, TakesOwn, TakesBelow}
+use Rattle.step_parts.proofs.Frames.{others-here, others-on, emptying-none, named-so}
 use Rattle.exec_adapt.specs.Tops.{Empties, TakesTop}
 use Rattle.exec_adapt.proofs.Emptied.{empties-all}
 use Rattle.exec_adapt.proofs.TopPlaces.{SpawnsNone, last-node, tree-size, top-child, only-root, top-start, names-some, names-top}

@@ -1,5 +1,5 @@
 -- What the step of a factory, that of an adaptor and that of the receiver node do ([exec.recv]).
-use Rattle.std.specs.Prelude.{◌≡◌, ◌⊎◌, ℕ, Bool, true, false, List, Option, Some, None, MatchOption}
+use Rattle.std.specs.Prelude.{◌≡◌, ◌⊎◌, ℕ, Bool, true, false, ◌||◌, List, Option, Some, None, MatchOption}
 use Rattle.exec_value.specs.declared.outcome.Completion.{Completion}
 use Rattle.exec_value.specs.declared.outcome.Completion.TheVariants.{NoMemory}
 use Rattle.life_rules.specs.declared.event.Name.{Name}
@@ -12,26 +12,27 @@ use Rattle.table_steps.specs.Views.{Board}
 use Rattle.table_steps.specs.Claims.{Seated}
 use Rattle.table_steps.specs.Readings.{IsBegunAs}
 use Rattle.node_images.specs.Makes.{CompletesInPlace}
-use Rattle.exec_start.specs.declared.entry.Entry.{Entry}
-use Rattle.exec_start.specs.declared.item.Item.{Item}
-use Rattle.exec_start.specs.Entries.{child_of}
-use Rattle.exec_start.specs.Items.{start_in}
-use Rattle.exec_start.specs.Parcels.{Delivery}
+use Rattle.home_items.specs.declared.entry.Entry.{Entry}
+use Rattle.home_items.specs.declared.item.Item.{Item}
+use Rattle.home_items.specs.Entries.{asked_of, child_of}
+use Rattle.home_items.specs.Items.{start_in}
+use Rattle.home_items.specs.Parcels.{Delivery}
 use Rattle.exec_recv.specs.declared.next.Next.{Next}
 use Rattle.exec_recv.specs.Steppable.{CanStep}
 use Rattle.start_laws.specs.Leaves.{leaf_of}
-use Rattle.node_steps.specs.Completes.{CompletesWith}
-use Rattle.node_steps.specs.Leaves.{IsLeftIn}
-use Rattle.node_steps.specs.Midway.{KeepsOthers}
-use Rattle.node_steps.specs.Starts.{StartsOne, StartsTop}
-use Rattle.node_steps.specs.TakenOut.{newest_in}
-use Rattle.node_steps.specs.Wants.{IsLeftBare}
+use Rattle.step_parts.specs.Completes.{CompletesWith}
+use Rattle.step_parts.specs.Heard.{Looked}
+use Rattle.step_parts.specs.Leaves.{IsLeftIn}
+use Rattle.step_parts.specs.Midway.{KeepsOthers}
+use Rattle.step_parts.specs.Starts.{StartsOne, StartsTop}
+use Rattle.step_parts.specs.TakenOut.{newest_in}
+use Rattle.step_parts.specs.Wants.{IsLeftBare}
 use Rattle.exec_adapt.specs.Images.{adapted_to}
-use Rattle.exec_adapt.specs.Kinds.{adapted}
+use Rattle.exec_adapt.specs.Kinds.{adapted, asks_for_stop}
 
 module _ (board : Board Blueprint) (x : Name) where
-  -- There was no memory for this completion, which doesn't stand in place: x delivered that, or was left
-  -- ready in the loop, with this parcel of its child, where it has one.
+  -- There was no memory for this completion, which doesn't stand in place: x delivered that, or was
+  -- left ready in the loop, with this parcel of its child, where it has one.
   pub record Wants (kept : Option Delivery) (done : Completion) (next : Next)
       (m' : Seated Item Entry) : Type 0 where
     pub large : CompletesInPlace done → ⊥
@@ -41,10 +42,19 @@ module _ (board : Board Blueprint) (x : Name) where
   abbrev pub EndsWith : Option Delivery → Completion → Next → Seated Item Entry → Type 0
   EndsWith kept done next m' = CompletesWith board x done next m' ⊎ Wants kept done next m'
 
-  -- A factory completes with what its start tells, and what it found of requests.
+  -- A node that asks whether a stop was requested looked at the source that it hears, and this is
+  -- what it read. Others see no request.
+  pub record LooksFor (node : Node) (saw : Bool) (m m' : Seated Item Entry) : Type 0 where
+    pub asks : asks_for_stop node ≡ true → Looked board x saw m m'
+    pub asks_not : asks_for_stop node ≡ false → saw ≡ false
+
+  -- A factory completes with what its start tells, and what it saw of requests.
   pub record MakesOwn (node : Node) (next : Next) (m m' : Seated Item Entry) : Type 0 where
+    pub saw : Bool
+    pub looks : LooksFor node saw m m'
     pub ends : (can : CanStep board x m) →
-        (found : Bool) × EndsWith None (leaf_of node found (start_in can.item)) next m'
+        let start = start_in can.item in
+        EndsWith None (leaf_of node (asked_of start || saw) start) next m'
 
   -- An adaptor starts its child, and completes with what it makes of the child's completion.
   pub record Adapts (node : Node) (child : ℕ) (next : Next) (m m' : Seated Item Entry) :
@@ -55,8 +65,8 @@ module _ (board : Board Blueprint) (x : Name) where
         newest_in (can.kid child) can.item ≡ Some parcel →
         EndsWith (Some parcel) (adapted_to node parcel.completion) next m'
 
-  -- the child's word was read: where it said that the child has begun, the receiver node was left with
-  -- its start alone, and else the child was started
+  -- the child's word was read: where it said that the child has begun, the receiver node was left
+  -- with its start alone, and else the child was started
   pub record ReadsTop (start : List Entry) (n : ℕ) (next : Next) (m m' : Seated Item Entry) :
       Type 0 where
     pub begun : Bool
@@ -72,8 +82,8 @@ module _ (board : Board Blueprint) (x : Name) where
     pub keeps : KeepsOthers board x m middle
     pub reads : ReadsTop start n next middle m'
 
-  -- The receiver node starts its child, and is left ready in the loop with the parcel with which the
-  -- child completes, which is collected there.
+  -- The receiver node starts its child, and is left ready in the loop with the parcel with which
+  -- the child completes, which is collected there.
   pub record Receives (child : ℕ) (next : Next) (m m' : Seated Item Entry) : Type 0 where
     pub begins : (can : CanStep board x m) → newest_in (can.kid child) can.item ≡ None →
         StartsRoot child next m m'
@@ -81,8 +91,8 @@ module _ (board : Board Blueprint) (x : Name) where
         newest_in (can.kid child) can.item ≡ Some parcel →
         IsLeftIn board x Loop (Some parcel) next m'
 
--- So it is with the child that the start of x names, which is one of those that an operation runs: the
--- plan's root, or where the plan has an `ahead` the first child of one.
+-- So it is with the child that the start of x names, which is one of those that an operation runs:
+-- the plan's root, or where the plan has an `ahead` the first child of one.
 pub record ReceivesTop (plan : Blueprint) (board : Board Blueprint) (x : Name) (next : Next)
     (m m' : Seated Item Entry) : Type 0 where
   pub child : ℕ

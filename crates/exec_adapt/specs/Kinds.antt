@@ -1,6 +1,7 @@
 -- Which nodes this crate steps.
 use Rattle.std.specs.Prelude.{⊤, ℕ, Bool, true, false, Option, Some, None}
 use Rattle.plan_rules.specs.declared.node.Node.{Node}
+use Rattle.plan_rules.specs.declared.node.Query.TheVariants.{Stop}
 use Rattle.plan_rules.specs.declared.node.Node.TheVariants.{Input, Just, JustError, JustStopped, ReadEnv, Then, UponError, UponStopped, StoppedAsOptional, StoppedAsError}
 
 -- the node completes by itself: as the plan says, or with what its environment answers
@@ -11,6 +12,11 @@ IsFactory (JustError name) = ⊤
 IsFactory JustStopped = ⊤
 IsFactory (ReadEnv query) = ⊤
 IsFactory node = ⊥
+
+-- it asks whether a stop was requested
+abbrev pub asks_for_stop : Node → Bool
+asks_for_stop (ReadEnv Stop) = true
+asks_for_stop node = false
 
 -- it is the error of a name
 abbrev pub is_error : Node → Bool

@@ -9,27 +9,27 @@ use Rattle.plan_shape.specs.Blueprint.{Blueprint}
 use Rattle.table_steps.specs.Slots.{held_at}
 use Rattle.table_steps.specs.Views.{Board}
 use Rattle.table_steps.specs.Claims.{Seated}
-use Rattle.exec_start.specs.declared.entry.Entry.{Entry}
-use Rattle.exec_start.specs.declared.item.Item.{Item}
-use Rattle.exec_start.specs.declared.item.Item.TheVariants.{Done}
-use Rattle.exec_start.specs.Entries.{child_of}
-use Rattle.exec_start.specs.Fits.{IsItemOf, MayRest}
-use Rattle.exec_start.specs.Items.{parcel_in, saw_in}
-use Rattle.exec_start.specs.Parcels.{IsDelivery}
-use Rattle.exec_start.specs.Starts.{IsStart}
+use Rattle.home_items.specs.declared.entry.Entry.{Entry}
+use Rattle.home_items.specs.declared.item.Item.{Item}
+use Rattle.home_items.specs.declared.item.Item.TheVariants.{Done}
+use Rattle.home_items.specs.Entries.{child_of}
+use Rattle.home_items.specs.Fits.{IsItemOf, MayRest}
+use Rattle.home_items.specs.Items.{parcel_in, saw_in}
+use Rattle.home_items.specs.Parcels.{IsDelivery}
+use Rattle.home_items.specs.Starts.{IsStart}
 use Rattle.exec_recv.specs.Steppable.{CanStep}
-use Rattle.node_steps.specs.declared.taken.TakenOut.{TakenOut}
-use Rattle.node_steps.specs.Heard.{has_heard, MaySee}
-use Rattle.node_steps.specs.Midway.{Emptying, Ready, KeepsOthers}
-use Rattle.node_steps.specs.TakenOut.{item_at, start_at, least_known, IsFoundBelow, IsOnlyChild, HasJustBegun}
+use Rattle.step_parts.specs.declared.taken.TakenOut.{TakenOut}
+use Rattle.step_parts.specs.Heard.{has_heard, MaySee}
+use Rattle.step_parts.specs.Midway.{Emptying, Ready, KeepsOthers}
+use Rattle.step_parts.specs.TakenOut.{item_at, start_at, least_known, IsFoundBelow, IsOnlyChild, HasJustBegun}
 
 -- the first child of an `ahead`
 abbrev pub spawned_by : Node → Option ℕ
 spawned_by (Ahead first second) = Some first
 spawned_by node = None
 
--- This is left in the homes of the receiver node's children, once the plan's root was emptied, and of
--- the first so many nodes each that an `ahead` spawns.
+-- This is left in the homes of the receiver node's children, once the plan's root was emptied, and
+-- of the first so many nodes each that an `ahead` spawns.
 pub record LeavesTops (plan : Blueprint) (count : ℕ) (board : Board Blueprint) (x : Name)
     (start : List Entry) (least : ℕ) (m : Seated Item Entry) : Type 0 where
   pub left : ℕ → Option Item
@@ -47,9 +47,9 @@ pub record Empties (plan : Blueprint) (count : ℕ) (board : Board Blueprint) (x
   pub left : (start : List Entry) (least : ℕ) (kid : ℕ → Option Item) →
       Emptying board x start least kid m → LeavesTops plan count board x start least m'
 
--- The hand took what lay in the home of the receiver node x, and in that of the child that its start
--- names: the homes of all its children are empty. Where the child is its only one, and no parcel was
--- there, x was just begun, or may rest with what lay in its own.
+-- The hand took what lay in the home of the receiver node x, and in that of the child that its
+-- start names: the homes of all its children are empty. Where the child is its only one, and no
+-- parcel was there, x was just begun, or may rest with what lay in its own.
 pub record TakesTop (plan : Blueprint) (board : Board Blueprint) (x : Name) (child : ℕ)
     (taken : TakenOut) (m m' : Seated Item Entry) : Type 0 where
   pub names : child_of (start_at taken.own) ≡ Some child

@@ -19,14 +19,14 @@ use crate::images::{make_image, names_error, own_name, runs_job};
 use crate::opening::at_hand;
 use exec_recv::Point;
 use life_rules::Name;
-use node_steps::{
-    Env, Gate, Item, Next, Parcel, complete, deliver_no_memory, start_unbegun_child, take_out,
-};
 use op_slot::{Hand, OpTable};
 use plan_rules::{Node, NodeId};
 use plan_shape::Plan;
 use std::alloc::{AllocError, Global};
 use std::sync::Wait;
+use step_parts::{
+    Env, Gate, Item, Next, Parcel, complete, deliver_no_memory, start_unbegun_child, take_out,
+};
 
 // Delivers what the node makes of its child's completion, where that is no error that the plan
 // names.

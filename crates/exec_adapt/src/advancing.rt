@@ -14,12 +14,12 @@ use crate::adaptors::step_adaptor;
 use crate::factories::step_factory;
 use crate::receiver::step_receiver;
 use life_rules::Name;
-use node_steps::{Gate, Item, Next};
 use op_slot::{Hand, OpTable};
 use plan_rules::{Node, NodeId};
 use plan_shape::Plan;
 use std::alloc::Global;
 use std::sync::Wait;
+use step_parts::{Gate, Item, Next};
 
 // The one child of a node that makes an image of what its child completes with.
 fn adapted(node: &Node) -> Option<NodeId>
@@ -46,8 +46,8 @@ fn adapted(node: &Node) -> Option<NodeId>
 /// it holds none in its place. Each start that the hand owes can begin. A factory has completed
 /// with what it makes. An adaptor has started its child, or, where that had completed, completed
 /// with what it makes of that. The receiver node has started the child that its start names, or
-/// keeps what that completed with, ready in the loop. Or there was no memory, for what doesn't stand
-/// in place.
+/// keeps what that completed with, ready in the loop. Or there was no memory, for what doesn't
+/// stand in place.
 pub fn advance<G: Gate, R: Wait + Sync>(
     rt: &R,
     alloc: Global,

@@ -11,12 +11,12 @@ ghost use Rattle.exec_adapt.specs.Ends.{MayName};
 use exec_value::{Completion, Txt};
 use life_rules::Name;
 use node_images::put_error;
-use node_steps::{Env, Gate, Item, Next, Parcel, complete, leave_at_rest};
 use node_tree::Context;
 use op_slot::{Hand, OpTable};
 use plan_shape::Plan;
 use std::alloc::AllocError;
 use std::sync::Wait;
+use step_parts::{Env, Gate, Item, Next, Parcel, complete, leave_at_rest};
 
 /// Delivers the error of this name. Where there is no memory for the name, the node goes on later,
 /// in the loop, with what it keeps of its child.

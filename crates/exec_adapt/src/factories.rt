@@ -9,12 +9,12 @@ ghost use Rattle.exec_recv.specs.Beginnings.{AllCanStart};
 ghost use Rattle.exec_recv.specs.Steppable.{CanStep};
 ghost use Rattle.exec_recv.specs.Nexts.{IsStepped};
 ghost use Rattle.node_images.specs.Makes.{Makes};
-ghost use Rattle.node_steps.specs.Heard.{MaySee};
-ghost use Rattle.node_steps.specs.Midway.{IsReady, KeepsReady};
+ghost use Rattle.step_parts.specs.Heard.{MaySee};
+ghost use Rattle.step_parts.specs.Midway.{IsReady, KeepsReady};
 ghost use Rattle.start_laws.specs.Leaves.{leaf_of};
-ghost use Rattle.exec_adapt.specs.Kinds.{IsFactory, is_error};
-ghost use Rattle.exec_start.specs.Entries.{asked_of};
-ghost use Rattle.exec_adapt.specs.Adapts.{EndsWith, MakesOwn};
+ghost use Rattle.exec_adapt.specs.Kinds.{IsFactory, asks_for_stop, is_error};
+ghost use Rattle.home_items.specs.Entries.{asked_of};
+ghost use Rattle.exec_adapt.specs.Adapts.{EndsWith, LooksFor, MakesOwn};
 ghost use Rattle.exec_adapt.specs.Ends.{MakesLeaf};
 
 use crate::errors::deliver_error;
@@ -22,12 +22,25 @@ use crate::opening::at_hand;
 use exec_value::Completion;
 use life_rules::Name;
 use node_images::{put_error, put_shown, put_stopped, put_value};
-use node_steps::{Env, Gate, Item, Next, Parcel, complete, deliver_no_memory, hear, take_out};
 use op_slot::{Hand, OpTable};
 use plan_rules::{Node, Query};
 use plan_shape::Plan;
 use std::alloc::{AllocError, Global};
 use std::sync::Wait;
+use step_parts::{Env, Gate, Item, Next, Parcel, complete, deliver_no_memory, hear, take_out};
+
+// The node asks whether a stop was requested.
+fn asks_for_stop(node: &Node) -> bool
+    ensures { result ≡ asks_for_stop node.now }
+{
+    match node {
+        Node::ReadEnv(query) => match query {
+            Query::Stop => true,
+            Query::Record => false,
+        },
+        _ => false,
+    }
+}
 
 // Whether the node has found a request: one that asks for it looks at the source that it hears.
 fn finds_request(table: &OpTable<Item>, hand: &mut Hand<Item>, name: Name, node: &Node) -> bool
@@ -36,11 +49,12 @@ fn finds_request(table: &OpTable<Item>, hand: &mut Hand<Item>, name: Name, node:
     ensures stays { Stays table.now hand.old hand.new }
     ensures keeps { KeepsReady table.now name hand.old.me hand.new.me }
     ensures sees { MaySee table.now name result hand.new.me }
+    ensures looks { LooksFor table.now name node.now result hand.old.me hand.new.me }
 {
-    match node {
-        Node::ReadEnv(Query::Stop) => hear(table, hand, name),
-        _ => false,
+    if !asks_for_stop(node) {
+        return false;
     }
+    hear(table, hand, name)
 }
 
 // What the node completes with.

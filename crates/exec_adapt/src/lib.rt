@@ -1,7 +1,7 @@
 //! The steps of factories, of adaptors with one child, and of the receiver node ([exec.factories],
 //! [exec.adapt]).
 //!
-//! It stands on node_steps, of whose calls each step is made, on node_images, which makes what a
+//! It stands on step_parts, of whose calls each step is made, on node_images, which makes what a
 //! node completes with, and on the laws of start_laws. It keeps one promise: a step of these nodes
 //! starts from where a step may, and ends as a step does, and what it delivers is allowed by the
 //! plan for the node's start.

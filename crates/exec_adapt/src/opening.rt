@@ -1,9 +1,9 @@
 //! What a step has at hand, once the homes are emptied.
 ghost use Rattle.std.specs.Prelude.{◌≡◌};
-ghost use Rattle.node_steps.specs.TakenOut.{start_at};
+ghost use Rattle.step_parts.specs.TakenOut.{start_at};
 ghost use Rattle.exec_adapt.specs.Openings.{parcel_at};
 
-use node_steps::{AtHome, Env, Parcel, TakenOut};
+use step_parts::{AtHome, Env, Parcel, TakenOut};
 
 /// The node's environment, and the parcel of its child, where that has completed: as it lay in the
 /// child's home, or as the node kept it.

@@ -5,23 +5,23 @@ ghost use Rattle.plan_kinds.specs.Small.{IsSmall};
 ghost use Rattle.plan_kinds.specs.Runnable.{IsRunnable};
 ghost use Rattle.table_steps.specs.Readings.{KnowsIdle};
 ghost use Rattle.table_steps.specs.Views.{IsHandOf, Stays};
-ghost use Rattle.exec_start.specs.Entries.{plan_of};
+ghost use Rattle.home_items.specs.Entries.{plan_of};
 ghost use Rattle.exec_recv.specs.Over.{IsOver};
 ghost use Rattle.exec_recv.specs.Beginnings.{AllCanStart};
 ghost use Rattle.exec_recv.specs.Steppable.{CanStep};
 ghost use Rattle.exec_recv.specs.Nexts.{IsStepped};
-ghost use Rattle.node_steps.specs.Starts.{MayRun};
+ghost use Rattle.step_parts.specs.Starts.{MayRun};
 ghost use Rattle.exec_adapt.specs.Adapts.{ReadsTop, ReceivesTop};
 
 use crate::opening::at_hand;
 use crate::tops::{TakenTop, take_top};
 use life_rules::Name;
-use node_steps::{Env, Item, Next, leave_at_rest, start_top};
 use node_tree::Context;
 use op_slot::{Hand, OpTable};
 use plan_rules::NodeId;
 use plan_shape::Plan;
 use std::alloc::Global;
+use step_parts::{Env, Item, Next, leave_at_rest, start_top};
 
 // Reads whether the child has begun, and starts it where it hasn't. When the receiver node was just
 // begun it hasn't; that it has doesn't come later either. Then the node is left ready in the loop,

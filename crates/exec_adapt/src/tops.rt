@@ -2,19 +2,19 @@
 //! each `ahead`; its start names the one of them that its operation runs.
 ghost use Rattle.std.specs.Prelude.{◌≡◌, ◌≤◌, ◌-◌, length};
 ghost use Rattle.table_steps.specs.Views.{IsHandOf, Stays};
-ghost use Rattle.exec_start.specs.Entries.{child_of};
-ghost use Rattle.exec_start.specs.Starts.{IsStart};
+ghost use Rattle.home_items.specs.Entries.{child_of};
+ghost use Rattle.home_items.specs.Starts.{IsStart};
 ghost use Rattle.exec_recv.specs.Over.{IsOver};
 ghost use Rattle.exec_recv.specs.Beginnings.{AllCanStart};
 ghost use Rattle.exec_recv.specs.Steppable.{CanStep};
-ghost use Rattle.node_steps.specs.TakenOut.{start_at, IsEmptying};
+ghost use Rattle.step_parts.specs.TakenOut.{start_at, IsEmptying};
 ghost use Rattle.exec_adapt.specs.Tops.{spawned_by, Empties, TakesTop};
 
 use life_rules::Name;
-use node_steps::{AtHome, Item, TakenOut, take_below, take_own};
 use op_slot::{Hand, OpTable};
 use plan_rules::{Node, NodeId};
 use plan_shape::Plan;
+use step_parts::{AtHome, Item, TakenOut, take_below, take_own};
 
 /// What lay in the homes of the receiver node and of the child that its start names.
 #[derive(Drop)]

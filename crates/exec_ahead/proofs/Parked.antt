@@ -9,23 +9,23 @@ use Rattle.plan_rules.specs.declared.node.Node.TheVariants.{Ahead}
 use Rattle.plan_shape.specs.Blueprint.{Blueprint}
 use Rattle.table_steps.specs.Views.{Board}
 use Rattle.table_steps.specs.Claims.{Seated}
-use Rattle.exec_start.specs.declared.entry.Entry.{Entry}
-use Rattle.exec_start.specs.declared.item.Item.{Item}
-use Rattle.exec_start.specs.declared.item.Item.TheVariants.{Rest, Done}
-use Rattle.exec_start.specs.Bounds.{least_of}
-use Rattle.exec_start.specs.Items.{parcel_in}
-use Rattle.exec_start.specs.Parcels.{Delivery}
+use Rattle.home_items.specs.declared.entry.Entry.{Entry}
+use Rattle.home_items.specs.declared.item.Item.{Item}
+use Rattle.home_items.specs.declared.item.Item.TheVariants.{Rest, Done}
+use Rattle.home_items.specs.Bounds.{least_of}
+use Rattle.home_items.specs.Items.{parcel_in}
+use Rattle.home_items.specs.Parcels.{Delivery}
 use Rattle.exec_recv.specs.declared.next.Next.{Next}
 use Rattle.exec_recv.specs.declared.next.Next.TheVariants.{Parked}
 use Rattle.exec_recv.specs.Steppable.{CanStep}
 use Rattle.start_laws.specs.Nodes.{IsStartOf}
 use Rattle.start_laws.proofs.Bounding.{few-begun}
-use Rattle.node_steps.specs.Leaves.{IsLeftAt, MayLeave}
-use Rattle.node_steps.specs.Midway.{Ready}
-use Rattle.node_steps.proofs.Frames.{emptying-less}
-use Rattle.node_steps.proofs.Places.{inner-is}
-use Rattle.node_steps.proofs.Telling.{from-keeps}
-use Rattle.node_steps.proofs.Wanted.{bare-leaves}
+use Rattle.step_parts.specs.Leaves.{IsLeftAt, MayLeave}
+use Rattle.step_parts.specs.Midway.{Ready}
+use Rattle.step_parts.proofs.Frames.{emptying-less}
+use Rattle.step_parts.proofs.Places.{inner-is}
+use Rattle.step_parts.proofs.Telling.{from-keeps}
+use Rattle.step_parts.proofs.Wanted.{bare-leaves}
 use Rattle.exec_ahead.specs.declared.opening.AtHand.{AtHand}
 use Rattle.exec_ahead.specs.Openings.{HasParcel, Opens}
 use Rattle.exec_ahead.specs.Parks.{IsLeftParked, ParksWith}

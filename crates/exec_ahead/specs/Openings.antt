@@ -6,16 +6,16 @@ use Rattle.plan_rules.specs.declared.node.Node.TheVariants.{Ahead}
 use Rattle.plan_shape.specs.Blueprint.{Blueprint}
 use Rattle.table_steps.specs.Views.{Board}
 use Rattle.table_steps.specs.Claims.{Seated}
-use Rattle.exec_start.specs.declared.entry.Entry.{Entry}
-use Rattle.exec_start.specs.declared.item.Item.{Item}
-use Rattle.exec_start.specs.declared.item.Item.TheVariants.{Done}
-use Rattle.exec_start.specs.Items.{parcel_in}
-use Rattle.exec_start.specs.Parcels.{Delivery}
+use Rattle.home_items.specs.declared.entry.Entry.{Entry}
+use Rattle.home_items.specs.declared.item.Item.{Item}
+use Rattle.home_items.specs.declared.item.Item.TheVariants.{Done}
+use Rattle.home_items.specs.Items.{parcel_in}
+use Rattle.home_items.specs.Parcels.{Delivery}
 use Rattle.exec_recv.specs.Steppable.{CanStep}
 use Rattle.start_laws.specs.Holding.{IsFromBelow}
 use Rattle.start_laws.specs.Nodes.{IsStartOf}
-use Rattle.node_steps.specs.Heard.{has_heard}
-use Rattle.node_steps.specs.Midway.{Ready, KeepsOthers}
+use Rattle.step_parts.specs.Heard.{has_heard}
+use Rattle.step_parts.specs.Midway.{Ready, KeepsOthers}
 use Rattle.exec_ahead.specs.declared.opening.AtHand.{AtHand}
 
 module _ (board : Board Blueprint) (x : Name) where
@@ -25,8 +25,8 @@ module _ (board : Board Blueprint) (x : Name) where
     pub ready : Ready board x start 1 m
     pub from : IsFromBelow start parcel (has_heard board x m)
 
-  -- So x has its start at hand, and with it that child's parcel, as it lay in the child's home, or as x
-  -- kept it.
+  -- So x has its start at hand, and with it that child's parcel, as it lay in the child's home, or
+  -- as x kept it.
   pub record Opens (first second : ℕ) (hand : AtHand) (m m' : Seated Item Entry) :
       Type 0 where
     pub beside : KeepsOthers board x m m'

@@ -7,15 +7,15 @@ use Rattle.plan_rules.specs.declared.node.Node.TheVariants.{Ahead}
 use Rattle.plan_shape.specs.Blueprint.{Blueprint}
 use Rattle.table_steps.specs.Views.{Board}
 use Rattle.table_steps.specs.Claims.{Seated}
-use Rattle.exec_start.specs.declared.entry.Entry.{Entry}
-use Rattle.exec_start.specs.declared.item.Item.{Item}
-use Rattle.exec_start.specs.declared.item.Item.TheVariants.{Done}
-use Rattle.exec_start.specs.Items.{parcel_in}
-use Rattle.exec_start.specs.Parcels.{Delivery}
+use Rattle.home_items.specs.declared.entry.Entry.{Entry}
+use Rattle.home_items.specs.declared.item.Item.{Item}
+use Rattle.home_items.specs.declared.item.Item.TheVariants.{Done}
+use Rattle.home_items.specs.Items.{parcel_in}
+use Rattle.home_items.specs.Parcels.{Delivery}
 use Rattle.exec_recv.specs.declared.next.Next.{Next}
 use Rattle.exec_recv.specs.declared.next.Next.TheVariants.{Parked}
 use Rattle.exec_recv.specs.Steppable.{CanStep}
-use Rattle.node_steps.specs.Leaves.{IsLeftAt}
+use Rattle.step_parts.specs.Leaves.{IsLeftAt}
 
 module _ (board : Board Blueprint) (x : Name) where
   -- x was left parked, with this parcel of its second child, where it has one
@@ -26,8 +26,8 @@ module _ (board : Board Blueprint) (x : Name) where
     pub from : Seated Item Entry
     pub left : IsLeftAt board x start kept IsParked from m'
 
-  -- An `ahead` is left parked: with its second child's parcel once that has completed, and else with
-  -- what it kept.
+  -- An `ahead` is left parked: with its second child's parcel once that has completed, and else
+  -- with what it kept.
   pub record ParksWith (second : ℕ) (next : Next) (m m' : Seated Item Entry) : Type 0 where
     pub waits : (can : CanStep board x m) → can.kid second ≡ None →
         IsLeftParked (parcel_in can.item) next m'

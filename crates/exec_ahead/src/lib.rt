@@ -1,9 +1,9 @@
 //! The step of an `ahead`, whose first child runs as an operation of its own in the scope (P3149,
 //! `spawn_future`): it waits parked until hand 0 serves it.
 //!
-//! It stands on node_steps, of whose calls the step is made, and on the laws of start_laws. It keeps
-//! two promises: the step starts from where a step may, and ends as a step does; and it leaves the
-//! node parked, with what its second child completed with, once that has completed.
+//! It stands on step_parts, of whose calls the step is made, and on the laws of start_laws. It
+//! keeps two promises: the step starts from where a step may, and ends as a step does; and it
+//! leaves the node parked, with what its second child completed with, once that has completed.
 //!
 //!     ahead  Start --> Parked      hand 0 spawns the first child, and starts the second
 //!            .. the second is done --> Parked, with its parcel      hand 0 polls the first
@@ -14,6 +14,6 @@
 mod opening;
 mod parking;
 
-pub use node_steps::{Env, Item, Next, Parcel};
 pub use opening::{AtHand, open};
 pub use parking::advance_ahead;
+pub use step_parts::{Env, Item, Next, Parcel};

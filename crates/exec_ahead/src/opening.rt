@@ -1,4 +1,5 @@
-//! How a step opens: what lies in the homes of its node and of the node's second child is taken out.
+//! How a step opens: what lies in the homes of its node and of the node's second child is taken
+//! out.
 ghost use Rattle.std.specs.Prelude.{◌≡◌, slice_get, Some};
 ghost use Rattle.plan_kinds.specs.Runnable.{IsRunnable};
 ghost use Rattle.table_steps.specs.Views.{IsHandOf, Stays};
@@ -8,10 +9,10 @@ ghost use Rattle.exec_recv.specs.Steppable.{CanStep};
 ghost use Rattle.exec_ahead.specs.Openings.{Opens};
 
 use life_rules::Name;
-use node_steps::{AtHome, Env, Item, Parcel, TakenOut, take_out};
 use op_slot::{Hand, OpTable};
 use plan_rules::{Node, NodeId};
 use plan_shape::Plan;
+use step_parts::{AtHome, Env, Item, Parcel, TakenOut, take_out};
 
 /// What a step has at hand, once the homes are emptied.
 #[derive(Drop)]

@@ -11,10 +11,10 @@ ghost use Rattle.exec_ahead.specs.Parks.{ParksAs, ParksWith};
 
 use crate::opening::{AtHand, open};
 use life_rules::Name;
-use node_steps::{Item, Next, leave_parked};
 use op_slot::{Hand, OpTable};
 use plan_rules::{Node, NodeId};
 use plan_shape::Plan;
+use step_parts::{Item, Next, leave_parked};
 
 // Leaves the `ahead` of these two children parked.
 fn step_ahead(

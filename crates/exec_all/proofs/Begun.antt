@@ -10,21 +10,23 @@ use Rattle.plan_kinds.specs.Runnable.{IsRunnable}
 use Rattle.table_steps.specs.Claims.{Seated}
 use Rattle.table_steps.specs.Slots.{has_seen}
 use Rattle.table_steps.specs.Views.{Board}
-use Rattle.exec_start.specs.declared.entry.Entry.{Entry}
-use Rattle.exec_start.specs.declared.item.Item.{Item}
-use Rattle.exec_start.specs.Entries.{plan_of, node_of, args_of, record_number, asked_of, whole_row}
-use Rattle.exec_start.specs.Starts.{BeginsBelow, NeedsNoRequest}
+use Rattle.home_items.specs.declared.entry.Entry.{Entry}
+use Rattle.home_items.specs.declared.item.Item.{Item}
+use Rattle.home_items.specs.Entries.{plan_of, node_of, args_of, record_number, asked_of, whole_row}
+use Rattle.home_items.specs.Starts.{BeginsBelow, NeedsNoRequest}
+use Rattle.exec_recv.specs.Areas.{MovesWithin}
 use Rattle.exec_recv.specs.Asides.{KeepsAside}
 use Rattle.exec_recv.specs.Nexts.{IsStepped}
 use Rattle.exec_recv.specs.Over.{IsOver}
 use Rattle.exec_recv.specs.declared.next.Next.TheVariants.{Rest as IsAtRest}
+use Rattle.exec_recv.proofs.Moves.{moves-on}
 use Rattle.exec_recv.proofs.Asiding.{aside-on}
 use Rattle.exec_recv.proofs.Starts.{owes-as}
-use Rattle.node_steps.specs.Heard.{TellsRequest, was_told}
-use Rattle.node_steps.specs.Midway.{Ready, KeepsReady}
-use Rattle.node_steps.specs.Starts.{asked_for_child, child_start}
-use Rattle.node_steps.proofs.Frames.{stepped-after}
-use Rattle.node_steps.proofs.RunKinds.{child-begins, plain-below}
+use Rattle.step_parts.specs.Heard.{TellsRequest, was_told}
+use Rattle.step_parts.specs.Midway.{Ready, KeepsReady}
+use Rattle.step_parts.specs.Starts.{asked_for_child, child_start}
+use Rattle.step_parts.proofs.Frames.{stepped-after}
+use Rattle.step_parts.proofs.RunKinds.{child-begins, plain-below}
 use Rattle.many_steps.specs.Awaits.{MayAwaitMany, AwaitsMany}
 use Rattle.many_steps.specs.Kids.{KnowsAllIdle}
 use Rattle.many_steps.specs.Puts.{MayPutStart, PutsStart}
@@ -102,12 +104,13 @@ module _ (plan : Blueprint) (board : Board Blueprint) (x : Name) (start : List E
 
 -- all are in their homes
 pub puts-all : (plan : Blueprint) (board : Board Blueprint) (x : Name) (start : List Entry) (children : List ℕ) (left : ℕ) (starts : Starts) (m m' : Seated Item Entry) →
-    left ≤ 0 → MayPut plan board x start children left starts m' → KeepsAside m m' → m'.0.held ≡ m.0.held → m'.0.owed ≡ m.0.owed →
+    left ≤ 0 → MayPut plan board x start children left starts m' → KeepsAside m m' → ((y : Name) → MovesWithin board y m m') → m'.0.held ≡ m.0.held → m'.0.owed ≡ m.0.owed →
     PutsAll board m m'
-puts-all plan board x start children left starts m m' none may aside held owed =
+puts-all plan board x start children left starts m m' none may aside moves held owed =
     let at : left ≡ 0 = omega (arith, none) in
     record {
       aside = aside;
+      moves = moves;
       held = held;
       owed = owed;
       starts = none-left board x start [] children m'
@@ -164,6 +167,7 @@ module _ (board : Board Blueprint) (plan : Blueprint) (x : Name) (start : List E
             stepped-after board x m m1 m3 keeps.beside IsAtRest
             (record {
               aside = aside-on m1 m2 m3 awaits.aside puts.aside;
+              moves = moves-on board x m1 m2 m3 awaits.moves (puts.moves x);
               starts = puts.starts;
               owes = λ y owes. awaits.owes y (owes-as m2 m3 y puts.owed owes);
               goes = puts.held ∙ awaits.lets_go;

@@ -14,14 +14,14 @@ use Rattle.table_steps.specs.Awaits.{is_named}
 use Rattle.table_steps.specs.Claims.{Seated}
 use Rattle.table_steps.specs.Slots.{held_at}
 use Rattle.op_slot.specs.Tends.{put_at}
-use Rattle.exec_start.specs.declared.entry.Entry.{Entry}
-use Rattle.exec_start.specs.declared.item.Item.{Item}
-use Rattle.exec_start.specs.declared.item.Item.TheVariants.{Done}
-use Rattle.exec_start.specs.Parcels.{Delivery, IsDelivery}
-use Rattle.node_steps.specs.Heard.{has_heard}
-use Rattle.node_steps.specs.Midway.{Emptying, KeepsOthers}
-use Rattle.node_steps.specs.TakenOut.{IsEmptying, IsFoundBelow}
-use Rattle.node_steps.proofs.Frames.{others-here, others-on}
+use Rattle.home_items.specs.declared.entry.Entry.{Entry}
+use Rattle.home_items.specs.declared.item.Item.{Item}
+use Rattle.home_items.specs.declared.item.Item.TheVariants.{Done}
+use Rattle.home_items.specs.Parcels.{Delivery, IsDelivery}
+use Rattle.step_parts.specs.Heard.{has_heard}
+use Rattle.step_parts.specs.Midway.{Emptying, KeepsOthers}
+use Rattle.step_parts.specs.TakenOut.{IsEmptying, IsFoundBelow}
+use Rattle.step_parts.proofs.Frames.{others-here, others-on}
 use Rattle.many_steps.specs.Kids.{AreKids}
 use Rattle.many_steps.proofs.Lists.{places-differ}
 use Rattle.exec_all.specs.declared.joining.Joining.{Joining}

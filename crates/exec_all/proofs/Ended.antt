@@ -12,12 +12,12 @@ use Rattle.plan_shape.specs.Blueprint.{Blueprint}
 use Rattle.plan_kinds.specs.Small.{IsSmall}
 use Rattle.table_steps.specs.Claims.{Seated}
 use Rattle.table_steps.specs.Views.{Board}
-use Rattle.exec_start.specs.declared.entry.Entry.{Entry}
-use Rattle.exec_start.specs.declared.item.Item.{Item}
-use Rattle.exec_start.specs.declared.item.Item.TheVariants.{Done}
-use Rattle.exec_start.specs.Bounds.{least_of}
-use Rattle.exec_start.specs.Entries.{plan_of}
-use Rattle.exec_start.specs.Parcels.{Delivery, MayDeliver}
+use Rattle.home_items.specs.declared.entry.Entry.{Entry}
+use Rattle.home_items.specs.declared.item.Item.{Item}
+use Rattle.home_items.specs.declared.item.Item.TheVariants.{Done}
+use Rattle.home_items.specs.Bounds.{least_of}
+use Rattle.home_items.specs.Entries.{plan_of}
+use Rattle.home_items.specs.Parcels.{Delivery, MayDeliver}
 use Rattle.node_images.specs.Joined.{HasMoreThan}
 use Rattle.node_images.specs.Makes.{CompletesInPlace}
 use Rattle.start_laws.specs.AllEnds.{all_ends, all_saw}
@@ -26,10 +26,10 @@ use Rattle.start_laws.specs.RoomLaws.{IsLongError}
 use Rattle.start_laws.proofs.Knowing.{from-plain}
 use Rattle.start_laws.proofs.Rooms.{room-there}
 use Rattle.start_laws.proofs.Walked.{alls-end}
-use Rattle.node_steps.specs.Completes.{MayComplete}
-use Rattle.node_steps.specs.Heard.{has_heard}
-use Rattle.node_steps.specs.Midway.{Ready}
-use Rattle.node_steps.proofs.Frames.{emptying-less}
+use Rattle.step_parts.specs.Completes.{MayComplete}
+use Rattle.step_parts.specs.Heard.{has_heard}
+use Rattle.step_parts.specs.Midway.{Ready}
+use Rattle.step_parts.proofs.Frames.{emptying-less}
 use Rattle.exec_all.specs.declared.joining.Joining.{Joining}
 use Rattle.exec_all.specs.Joined.{some_want, NoneWants}
 use Rattle.exec_all.specs.Ends.{together, MayEndAll}

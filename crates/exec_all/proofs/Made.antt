@@ -13,16 +13,16 @@ use Rattle.plan_kinds.specs.Runnable.{IsRunnable}
 use Rattle.plan_kinds.specs.Small.{IsSmall}
 use Rattle.table_steps.specs.Claims.{Seated}
 use Rattle.table_steps.specs.Views.{Board}
-use Rattle.exec_start.specs.declared.entry.Entry.{Entry}
-use Rattle.exec_start.specs.declared.item.Item.{Item}
-use Rattle.exec_start.specs.Entries.{plan_of, args_of}
-use Rattle.exec_start.specs.Fits.{FitsChild}
+use Rattle.home_items.specs.declared.entry.Entry.{Entry}
+use Rattle.home_items.specs.declared.item.Item.{Item}
+use Rattle.home_items.specs.Entries.{plan_of, args_of}
+use Rattle.home_items.specs.Fits.{FitsChild}
 use Rattle.exec_recv.specs.Over.{IsOver}
 use Rattle.start_laws.specs.Nodes.{IsStartOf}
-use Rattle.node_steps.specs.Midway.{Ready}
-use Rattle.node_steps.specs.Starts.{child_start}
-use Rattle.node_steps.specs.Wants.{is_text_alone}
-use Rattle.node_steps.proofs.RunKinds.{child-begins, small-child}
+use Rattle.step_parts.specs.Midway.{Ready}
+use Rattle.step_parts.specs.Starts.{child_start}
+use Rattle.step_parts.specs.Wants.{is_text_alone}
+use Rattle.step_parts.proofs.RunKinds.{child-begins, small-child}
 use Rattle.exec_all.specs.Starts.{is_light, all_starts, CanMake}
 use Rattle.exec_all.proofs.Plans.{all-run, all-unasked}
 

@@ -10,29 +10,29 @@ use Rattle.plan_kinds.specs.Runnable.{IsRunnable}
 use Rattle.table_steps.specs.Claims.{Seated}
 use Rattle.table_steps.specs.Slots.{held_at}
 use Rattle.table_steps.specs.Views.{Board}
-use Rattle.exec_start.specs.declared.entry.Entry.{Entry}
-use Rattle.exec_start.specs.declared.item.Item.{Item}
-use Rattle.exec_start.specs.declared.item.Item.TheVariants.{Done}
-use Rattle.exec_start.specs.Bounds.{least_of}
-use Rattle.exec_start.specs.Entries.{node_of}
-use Rattle.exec_start.specs.Fits.{FitsHome}
-use Rattle.exec_start.specs.Items.{start_in}
-use Rattle.exec_start.specs.Parcels.{Delivery}
-use Rattle.exec_start.specs.Starts.{IsStart}
+use Rattle.home_items.specs.declared.entry.Entry.{Entry}
+use Rattle.home_items.specs.declared.item.Item.{Item}
+use Rattle.home_items.specs.declared.item.Item.TheVariants.{Done}
+use Rattle.home_items.specs.Bounds.{least_of}
+use Rattle.home_items.specs.Entries.{node_of}
+use Rattle.home_items.specs.Fits.{FitsHome}
+use Rattle.home_items.specs.Items.{start_in}
+use Rattle.home_items.specs.Parcels.{Delivery}
+use Rattle.home_items.specs.Starts.{IsStart}
 use Rattle.exec_recv.specs.Over.{IsOver}
 use Rattle.exec_recv.specs.Steppable.{CanStep, IsBack, IsDoneBelow as LiesDone}
 use Rattle.start_laws.specs.AllEnds.{FailedFirst}
 use Rattle.start_laws.specs.Holding.{IsDoneBelow}
 use Rattle.start_laws.specs.Nodes.{IsStartOf}
 use Rattle.start_laws.proofs.Knowing.{homes-tell}
-use Rattle.node_steps.specs.declared.taken.AtHome.{AtHome}
-use Rattle.node_steps.specs.declared.taken.AtHome.TheVariants.{Start as Unbegun, Rest as Rested}
-use Rattle.node_steps.specs.Heard.{has_heard}
-use Rattle.node_steps.specs.Midway.{Emptying, Ready}
-use Rattle.node_steps.specs.TakenOut.{item_at, start_at, TakesOwn}
-use Rattle.node_steps.proofs.Frames.{others-on, emptying-less, emptying-none}
-use Rattle.node_steps.proofs.Places.{start-of}
-use Rattle.node_steps.proofs.Opened.{told-none}
+use Rattle.step_parts.specs.declared.taken.AtHome.{AtHome}
+use Rattle.step_parts.specs.declared.taken.AtHome.TheVariants.{Start as Unbegun, Rest as Rested}
+use Rattle.step_parts.specs.Heard.{has_heard}
+use Rattle.step_parts.specs.Midway.{Emptying, Ready}
+use Rattle.step_parts.specs.TakenOut.{item_at, start_at, TakesOwn}
+use Rattle.step_parts.proofs.Frames.{others-on, emptying-less, emptying-none}
+use Rattle.step_parts.proofs.Places.{start-of}
+use Rattle.step_parts.proofs.Opened.{told-none}
 use Rattle.many_steps.specs.Kids.{AreKids}
 use Rattle.exec_all.specs.declared.joining.Joining.{Joining}
 use Rattle.exec_all.specs.Joined.{IsJoined}

@@ -17,16 +17,16 @@ use Rattle.plan_shape.specs.declared.limits.TheConstants.{MOST_CHILDREN}
 use Rattle.plan_kinds.specs.TreeLaws.{ShowsNode}
 use Rattle.table_steps.specs.Awaits.{is_named}
 use Rattle.table_steps.specs.Views.{Board}
-use Rattle.exec_start.specs.declared.entry.Entry.{Entry}
-use Rattle.exec_start.specs.declared.item.Item.TheVariants.{Rest, Done}
-use Rattle.exec_start.specs.Below.{run_below, asked_below}
-use Rattle.exec_start.specs.Bounds.{least_of, least_at_rest, least_when_done}
-use Rattle.exec_start.specs.Parcels.{Delivery}
+use Rattle.home_items.specs.declared.entry.Entry.{Entry}
+use Rattle.home_items.specs.declared.item.Item.TheVariants.{Rest, Done}
+use Rattle.home_items.specs.Below.{run_below, asked_below}
+use Rattle.home_items.specs.Bounds.{least_of, least_at_rest, least_when_done}
+use Rattle.home_items.specs.Parcels.{Delivery}
 use Rattle.exec_recv.specs.Over.{IsOver}
 use Rattle.start_laws.specs.Nodes.{IsStartOf}
 use Rattle.start_laws.proofs.Pairs.{none-some, below-plain}
-use Rattle.node_steps.specs.Starts.{asked_for_child}
-use Rattle.node_steps.proofs.Places.{node-shown}
+use Rattle.step_parts.specs.Starts.{asked_for_child}
+use Rattle.step_parts.proofs.Places.{node-shown}
 use Rattle.many_steps.specs.Kids.{AreKids}
 use Rattle.many_steps.proofs.Lists.{any-at}
 use Rattle.exec_all.specs.Starts.{AllRun}

@@ -9,19 +9,19 @@ use Rattle.node_tree.specs.declared.context.Context.TheVariants.{Loop}
 use Rattle.table_rules.specs.declared.view.View.{View}
 use Rattle.table_steps.specs.Takes.{resting_in}
 use Rattle.exec_recv.specs.declared.next.Next.{Next}
-use Rattle.node_steps.specs.Completes.{IsCompleted}
+use Rattle.step_parts.specs.Completes.{IsCompleted}
 use Rattle.plan_rules.specs.declared.node.Node.TheVariants.{WhenAll}
 use Rattle.plan_shape.specs.Blueprint.{Blueprint}
 use Rattle.table_steps.specs.Claims.{Seated}
 use Rattle.table_steps.specs.Views.{Board}
-use Rattle.exec_start.specs.declared.entry.Entry.{Entry}
-use Rattle.exec_start.specs.declared.item.Item.{Item}
-use Rattle.exec_start.specs.Entries.{asked_of}
+use Rattle.home_items.specs.declared.entry.Entry.{Entry}
+use Rattle.home_items.specs.declared.item.Item.{Item}
+use Rattle.home_items.specs.Entries.{asked_of}
 use Rattle.exec_recv.specs.Over.{IsOver}
-use Rattle.node_steps.specs.Leaves.{MayLeave, IsLeftAt}
-use Rattle.node_steps.specs.Midway.{Ready}
-use Rattle.node_steps.proofs.Wanted.{bare-leaves}
-use Rattle.node_steps.proofs.Places.{inner-is}
+use Rattle.step_parts.specs.Leaves.{MayLeave, IsLeftAt}
+use Rattle.step_parts.specs.Midway.{Ready}
+use Rattle.step_parts.proofs.Wanted.{bare-leaves}
+use Rattle.step_parts.proofs.Places.{inner-is}
 use Rattle.exec_all.specs.declared.joining.Joining.{Joining}
 use Rattle.exec_all.specs.declared.opening.Opened.{Opened}
 use Rattle.exec_all.specs.Begins.{stopping, MayStop, MayBegin, BeginsAll}

@@ -6,13 +6,13 @@ use Rattle.plan_rules.specs.declared.node.Node.TheVariants.{WhenAll}
 use Rattle.plan_shape.specs.Blueprint.{Blueprint}
 use Rattle.table_steps.specs.Claims.{Seated}
 use Rattle.table_steps.specs.Views.{Board}
-use Rattle.exec_start.specs.declared.entry.Entry.{Entry}
-use Rattle.exec_start.specs.declared.item.Item.{Item}
-use Rattle.exec_start.specs.Parcels.{Delivery, MayDeliver}
+use Rattle.home_items.specs.declared.entry.Entry.{Entry}
+use Rattle.home_items.specs.declared.item.Item.{Item}
+use Rattle.home_items.specs.Parcels.{Delivery, MayDeliver}
 use Rattle.start_laws.proofs.Bounding.{few-begun}
 use Rattle.start_laws.proofs.LeafCases.{stops-allowed}
-use Rattle.node_steps.specs.Completes.{MayComplete}
-use Rattle.node_steps.specs.Midway.{Ready}
+use Rattle.step_parts.specs.Completes.{MayComplete}
+use Rattle.step_parts.specs.Midway.{Ready}
 use Rattle.exec_all.specs.Begins.{stopping, MayStop}
 
 stopped-memory : Stopped ≡ NoMemory → ⊥

@@ -5,7 +5,7 @@ use Rattle.std.proofs.lemmas.Bool.{or_parts, or_from, both_ways, cases_eq}
 use Rattle.std.proofs.lemmas.List.{append-nil}
 use Rattle.exec_value.specs.declared.outcome.Completion.{Completion}
 use Rattle.exec_value.specs.declared.outcome.Completion.TheVariants.{Value, Error, Stopped, NoMemory}
-use Rattle.exec_start.specs.Parcels.{Delivery}
+use Rattle.home_items.specs.Parcels.{Delivery}
 use Rattle.node_images.specs.Joined.{Tells}
 use Rattle.node_images.specs.declared.join.NoRoom.{NoRoom}
 use Rattle.node_images.specs.declared.join.NoRoom.TheVariants.{Memory, Limit}

@@ -5,7 +5,7 @@ use Rattle.life_rules.specs.declared.event.Name.{Name}
 use Rattle.life_rules.specs.declared.words.CallbackPhase.{CallbackPhase}
 use Rattle.life_rules.specs.declared.words.CallbackPhase.TheVariants.{Never, Armed, Running, Ran, Removed}
 use Rattle.life_rules.specs.States.{source_for}
-use Rattle.listed_steps.specs.Lists.{entry}
+use Rattle.listed_words.specs.Lists.{entry}
 use Rattle.node_tree.specs.declared.node.TreeNode.{TreeNode}
 use Rattle.node_tree.specs.Tree.{nearest}
 use Rattle.plan_shape.specs.Blueprint.{Blueprint}
@@ -14,13 +14,14 @@ use Rattle.table_steps.specs.Callbacks.{callback_index, CanArm}
 use Rattle.table_steps.specs.Claims.{Seated}
 use Rattle.table_steps.specs.Readings.{at_entry, IsPhaseAs}
 use Rattle.table_steps.specs.Views.{Board}
-use Rattle.exec_start.specs.declared.entry.Entry.{Entry}
-use Rattle.exec_start.specs.declared.item.Item.{Item}
+use Rattle.home_items.specs.declared.entry.Entry.{Entry}
+use Rattle.home_items.specs.declared.item.Item.{Item}
 use Rattle.exec_recv.specs.Asides.{aside_of}
+use Rattle.exec_recv.proofs.Moves.{moves-look}
 use Rattle.exec_recv.proofs.Asiding.{aside-one}
-use Rattle.node_steps.specs.Midway.{IsReady}
-use Rattle.node_steps.proofs.Noting.{NotesEntry, notes-held}
-use Rattle.node_steps.proofs.Settled.{with_phase, phase-slight}
+use Rattle.step_parts.specs.Midway.{IsReady}
+use Rattle.step_parts.proofs.Noting.{NotesEntry, notes-held}
+use Rattle.step_parts.proofs.Settled.{with_phase, phase-slight}
 use Rattle.exec_all.specs.Watches.{may_arm}
 
 never-is : (tree : List TreeNode) (x : Name) (phase : CallbackPhase) → may_arm tree x phase ≡ true →
@@ -33,7 +34,7 @@ never-is tree x Removed may = cc
 
 module _ (board : Board Blueprint) (x : Name) (phase : CallbackPhase) (m m' : Seated Item Entry) (is : IsReady board x m)
     (read : IsPhaseAs board.frame x phase m m') where
-  phase-notes : NotesEntry x (with_phase phase) m m'
+  phase-notes : NotesEntry board x (with_phase phase) m m'
   phase-notes =
       record {
         held = ap (λ (z : Seated Item Entry). z.0.held) read.2
@@ -42,6 +43,7 @@ module _ (board : Board Blueprint) (x : Name) (phase : CallbackPhase) (m m' : Se
         homes = ap (λ (z : Seated Item Entry). z.1) read.2;
         aside = aside-one (entry (callback_index board x) read.0 read.0) m m' (ap (λ (z : Seated Item Entry). aside_of z.0) read.2)
             (ap (λ (z : Seated Item Entry). z.0.steps) read.2) (ap (λ (z : Seated Item Entry). z.0.seen) read.2);
+        moves = moves-look board x (callback_index board x) read.0 m m' (ap (λ (z : Seated Item Entry). z.0.steps) read.2);
       }
 
   -- where it was never registered it can be

@@ -9,19 +9,20 @@ use Rattle.op_slot.specs.Tends.{HasPlaces}
 use Rattle.table_rules.specs.declared.view.View.{View}
 use Rattle.table_steps.specs.Claims.{Seated}
 use Rattle.table_steps.specs.Views.{Board}
-use Rattle.exec_start.specs.declared.entry.Entry.{Entry}
-use Rattle.exec_start.specs.declared.item.Item.{Item}
-use Rattle.exec_start.specs.Entries.{plan_of, args_of, asked_of}
-use Rattle.exec_start.specs.Parcels.{Delivery}
+use Rattle.home_items.specs.declared.entry.Entry.{Entry}
+use Rattle.home_items.specs.declared.item.Item.{Item}
+use Rattle.home_items.specs.Entries.{plan_of, args_of, asked_of}
+use Rattle.home_items.specs.Parcels.{Delivery}
 use Rattle.exec_recv.specs.declared.next.Next.{Next}
 use Rattle.exec_recv.specs.declared.next.Next.TheVariants.{Rest as IsAtRest}
+use Rattle.exec_recv.specs.Areas.{MovesWithin}
 use Rattle.exec_recv.specs.Asides.{KeepsAside}
 use Rattle.exec_recv.specs.Beginnings.{AllCanStart}
 use Rattle.start_laws.specs.Nodes.{IsStartOf}
-use Rattle.node_steps.specs.Completes.{IsCompleted}
-use Rattle.node_steps.specs.Heard.{MaySee}
-use Rattle.node_steps.specs.Midway.{Ready, KeepsReady}
-use Rattle.node_steps.specs.Wants.{wanting}
+use Rattle.step_parts.specs.Completes.{IsCompleted}
+use Rattle.step_parts.specs.Heard.{MaySee}
+use Rattle.step_parts.specs.Midway.{Ready, KeepsReady}
+use Rattle.step_parts.specs.Wants.{wanting}
 use Rattle.many_steps.specs.Awaits.{AwaitsMany}
 use Rattle.many_steps.specs.Kids.{AreKids}
 use Rattle.many_steps.specs.Starting.{IsStarting}
@@ -34,8 +35,8 @@ abbrev pub stopping : List Entry → Bool → Delivery
 stopping start saw = record { start = start; completion = Stopped; saw = saw }
 
 module _ (board : Board Blueprint) (x : Name) (start : List Entry) where
-  -- The step has come so far that x can complete stopped: a request was made before its start, or one
-  -- was seen.
+  -- The step has come so far that x can complete stopped: a request was made before its start, or
+  -- one was seen.
   pub record MayStop (saw : Bool) (m : Seated Item Entry) : Type 0 where
     pub children : List ℕ
     pub of : IsStartOf start (WhenAll children)
@@ -61,8 +62,8 @@ module _ (board : Board Blueprint) (x : Name) (start : List Entry) (children : L
     pub awaits : AwaitsMany board x start None children ready waiting
     pub owed : m'.0.owed ≡ waiting.0.owed
 
-  -- x listened to the source above it, and then looked: where a stop was requested there it completed
-  -- stopped, and began no child; else it began all
+  -- x listened to the source above it, and then looked: where a stop was requested there it
+  -- completed stopped, and began no child; else it began all
   pub record LooksFirst (next : Next) (old new : Seat (Option Item) (View Item Entry)) :
       Type 0 where
     pub answer : Bool
@@ -102,6 +103,7 @@ pub record MayPutAll (plan : Blueprint) (board : Board Blueprint) (x : Name) (ch
 -- All of them are in their homes: what the hand owes is as before, and can begin.
 pub record PutsAll (board : Board Blueprint) (m m' : Seated Item Entry) : Type 0 where
   pub aside : KeepsAside m m'
+  pub moves : (x : Name) → MovesWithin board x m m'
   pub held : m'.0.held ≡ m.0.held
   pub owed : m'.0.owed ≡ m.0.owed
   pub starts : AllCanStart board m'

@@ -6,17 +6,17 @@ use Rattle.plan_rules.specs.declared.node.Node.TheVariants.{WhenAll}
 use Rattle.plan_shape.specs.Blueprint.{Blueprint}
 use Rattle.table_steps.specs.Claims.{Seated}
 use Rattle.table_steps.specs.Views.{Board}
-use Rattle.exec_start.specs.declared.entry.Entry.{Entry}
-use Rattle.exec_start.specs.declared.item.Item.{Item}
-use Rattle.exec_start.specs.Entries.{asked_of}
-use Rattle.exec_start.specs.Parcels.{Delivery}
+use Rattle.home_items.specs.declared.entry.Entry.{Entry}
+use Rattle.home_items.specs.declared.item.Item.{Item}
+use Rattle.home_items.specs.Entries.{asked_of}
+use Rattle.home_items.specs.Parcels.{Delivery}
 use Rattle.exec_recv.specs.declared.next.Next.{Next}
 use Rattle.node_images.specs.Joined.{HasMoreThan}
 use Rattle.start_laws.specs.AllEnds.{all_ends, all_saw}
 use Rattle.start_laws.specs.Nodes.{IsStartOf}
-use Rattle.node_steps.specs.Completes.{IsCompleted}
-use Rattle.node_steps.specs.Midway.{Ready}
-use Rattle.node_steps.specs.Wants.{wanting}
+use Rattle.step_parts.specs.Completes.{IsCompleted}
+use Rattle.step_parts.specs.Midway.{Ready}
+use Rattle.step_parts.specs.Wants.{wanting}
 use Rattle.exec_all.specs.declared.joining.Joining.{Joining}
 use Rattle.exec_all.specs.Joined.{some_want}
 use Rattle.exec_all.specs.Opens.{HaveJoined}

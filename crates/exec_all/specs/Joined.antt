@@ -2,7 +2,7 @@
 use Rattle.std.specs.Prelude.{◌≡◌, ◌≢◌, ◌&&◌, ◌||◌, not, ℕ, zero, suc, ◌<◌, Bool, true, false, [], Result, Err, IfOk, IfErr}
 use Rattle.exec_value.specs.declared.outcome.Completion.{Completion}
 use Rattle.exec_value.specs.declared.outcome.Completion.TheVariants.{Value, NoMemory}
-use Rattle.exec_start.specs.Parcels.{Delivery}
+use Rattle.home_items.specs.Parcels.{Delivery}
 use Rattle.node_images.specs.Joined.{Tells}
 use Rattle.node_images.specs.declared.join.NoRoom.{NoRoom}
 use Rattle.start_laws.specs.AllEnds.{first_ends, late_ends, all_ends, some_saw, some_first, saw_together, all_saw}
@@ -25,8 +25,8 @@ pub record Sees (ends : ℕ → Delivery) (n : ℕ) (saw first : Bool) : Type 0 
   pub saw_is : saw ≡ some_saw ends n
   pub first_is : first ≡ some_first ends n
 
--- What the first n of these parcels come to: the two walks apart, of which the second begins with no
--- data.
+-- What the first n of these parcels come to: the two walks apart, of which the second begins with
+-- no data.
 pub record IsJoined (joining : Joining) (ends : ℕ → Delivery) (n : ℕ) : Type 0 where
   pub front : Tells joining.front (first_ends ends n)
   pub late : Tells joining.late (late_ends ends n (Value []))
@@ -49,8 +49,8 @@ pub record Notes (saw failed want : Bool) (before after : Joining) : Type 0 wher
   pub first_is : after.first ≡ (before.first || (not saw && failed))
   pub want_is : after.want ≡ (before.want || want)
 
--- what the first n complete with together, and whether a request was seen; or values for which there
--- is no room
+-- what the first n complete with together, and whether a request was seen; or values for which
+-- there is no room
 pub record TellsAll (ends : ℕ → Delivery) (n : ℕ)
     (result : Result (Completion × Bool) NoRoom) : Type 0 where
   pub ok : IfOk result (λ all. (all.0 ≡ all_ends ends n) × (all.1 ≡ all_saw ends n))

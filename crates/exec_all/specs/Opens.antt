@@ -8,19 +8,19 @@ use Rattle.table_steps.specs.Views.{Board}
 use Rattle.table_steps.specs.Claims.{Seated}
 use Rattle.table_steps.specs.Slots.{held_at}
 use Rattle.op_slot.specs.Tends.{put_at}
-use Rattle.exec_start.specs.declared.entry.Entry.{Entry}
-use Rattle.exec_start.specs.declared.item.Item.{Item}
-use Rattle.exec_start.specs.declared.item.Item.TheVariants.{Start, Done}
-use Rattle.exec_start.specs.Parcels.{Delivery, IsDelivery}
+use Rattle.home_items.specs.declared.entry.Entry.{Entry}
+use Rattle.home_items.specs.declared.item.Item.{Item}
+use Rattle.home_items.specs.declared.item.Item.TheVariants.{Start, Done}
+use Rattle.home_items.specs.Parcels.{Delivery, IsDelivery}
 use Rattle.exec_recv.specs.Steppable.{CanStep}
 use Rattle.start_laws.specs.AllEnds.{FailedFirst}
 use Rattle.start_laws.specs.Holding.{IsDoneBelow}
 use Rattle.start_laws.specs.Nodes.{IsStartOf}
-use Rattle.node_steps.specs.declared.taken.AtHome.{AtHome}
-use Rattle.node_steps.specs.declared.taken.AtHome.TheVariants.{Start as Unbegun, Rest as Rested}
-use Rattle.node_steps.specs.Heard.{has_heard}
-use Rattle.node_steps.specs.Midway.{Emptying, Ready, KeepsOthers}
-use Rattle.node_steps.specs.TakenOut.{TakesBelow}
+use Rattle.step_parts.specs.declared.taken.AtHome.{AtHome}
+use Rattle.step_parts.specs.declared.taken.AtHome.TheVariants.{Start as Unbegun, Rest as Rested}
+use Rattle.step_parts.specs.Heard.{has_heard}
+use Rattle.step_parts.specs.Midway.{Emptying, Ready, KeepsOthers}
+use Rattle.step_parts.specs.TakenOut.{TakesBelow}
 use Rattle.exec_all.specs.declared.joining.Joining.{Joining}
 use Rattle.exec_all.specs.declared.opening.Opened.{Opened}
 use Rattle.exec_all.specs.Joined.{IsJoined, Adds}
@@ -72,8 +72,8 @@ module _ (board : Board Blueprint) (x : Name) where
     pub found_is : found ≡ is_some answer
     pub adds : IfSome answer (Adds before after)
 
-  -- the homes of these children were emptied. Where a parcel lay in each, this is what they come to;
-  -- else one was empty
+  -- the homes of these children were emptied. Where a parcel lay in each, this is what they come
+  -- to; else one was empty
   pub record TakesAll (children : List ℕ) (all : Option Joining) (m m' : Seated Item Entry) :
       Type 0 where
     pub beside : KeepsOthers board x m m'
@@ -99,8 +99,8 @@ module _ (board : Board Blueprint) (x : Name) where
         IsDoneBelow start (ends i) (slice_index children i) told
     pub failed : told ≡ true → has_heard board x m ≡ false → FailedFirst ends (length children)
 
-  -- So the step of x opened. Where x had begun, it has awaited its children before. What its children's
-  -- parcels come to is at hand exactly where each home was full.
+  -- So the step of x opened. Where x had begun, it has awaited its children before. What its
+  -- children's parcels come to is at hand exactly where each home was full.
   pub record Opens (children : List ℕ) (opened : Opened) (m m' : Seated Item Entry) :
       Type 0 where
     pub beside : KeepsOthers board x m m'

@@ -4,10 +4,10 @@ use Rattle.exec_value.specs.declared.data.Datum.{Datum}
 use Rattle.exec_value.specs.declared.data.Datum.TheVariants.{Row}
 use Rattle.plan_kinds.specs.Runnable.{IsRunnable}
 use Rattle.plan_shape.specs.Blueprint.{Blueprint}
-use Rattle.exec_start.specs.declared.entry.Entry.{Entry}
-use Rattle.exec_start.specs.Entries.{plan_of}
-use Rattle.exec_start.specs.Fits.{FitsChild}
-use Rattle.node_steps.specs.Starts.{RunsBelow, asked_for_child, child_start}
+use Rattle.home_items.specs.declared.entry.Entry.{Entry}
+use Rattle.home_items.specs.Entries.{plan_of}
+use Rattle.home_items.specs.Fits.{FitsChild}
+use Rattle.step_parts.specs.Starts.{RunsBelow, asked_for_child, child_start}
 use Rattle.exec_all.specs.declared.starts.Starts.{Starts}
 use Rattle.exec_all.specs.declared.starts.Starts.TheVariants.{Alike, Each}
 

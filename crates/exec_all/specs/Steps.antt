@@ -8,12 +8,12 @@ use Rattle.plan_shape.specs.Blueprint.{Blueprint}
 use Rattle.table_rules.specs.declared.view.View.{View}
 use Rattle.table_steps.specs.Takes.{resting_in}
 use Rattle.table_steps.specs.Views.{Board}
-use Rattle.exec_start.specs.declared.entry.Entry.{Entry}
-use Rattle.exec_start.specs.declared.item.Item.{Item}
-use Rattle.exec_start.specs.Entries.{asked_of}
+use Rattle.home_items.specs.declared.entry.Entry.{Entry}
+use Rattle.home_items.specs.declared.item.Item.{Item}
+use Rattle.home_items.specs.Entries.{asked_of}
 use Rattle.exec_recv.specs.declared.next.Next.{Next}
-use Rattle.node_steps.specs.Completes.{IsCompleted}
-use Rattle.node_steps.specs.Leaves.{IsLeftAt}
+use Rattle.step_parts.specs.Completes.{IsCompleted}
+use Rattle.step_parts.specs.Leaves.{IsLeftAt}
 use Rattle.exec_all.specs.declared.joining.Joining.{Joining}
 use Rattle.exec_all.specs.declared.opening.Opened.{Opened}
 use Rattle.exec_all.specs.Begins.{stopping, BeginsAll}

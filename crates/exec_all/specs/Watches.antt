@@ -13,9 +13,9 @@ use Rattle.table_steps.specs.Readings.{IsPhaseAs}
 use Rattle.table_steps.specs.Views.{Board}
 use Rattle.stop_calls.specs.declared.arming.Armed.{Armed}
 use Rattle.stop_calls.specs.Armings.{is_asked, IsArmedSo}
-use Rattle.exec_start.specs.declared.entry.Entry.{Entry}
-use Rattle.exec_start.specs.declared.item.Item.{Item}
-use Rattle.node_steps.specs.Heard.{TellsRequest}
+use Rattle.home_items.specs.declared.entry.Entry.{Entry}
+use Rattle.home_items.specs.declared.item.Item.{Item}
+use Rattle.step_parts.specs.Heard.{TellsRequest}
 
 -- the callback of x was never registered, and x hears a source
 abbrev pub may_arm : List TreeNode → Name → CallbackPhase → Bool
@@ -30,8 +30,8 @@ module _ (board : Board Blueprint) (x : Name) (answer : Bool)
     pub is : IsArmedSo board x armed old new
     pub answer_is : answer ≡ is_asked armed
 
--- The callback's word was read. Where x hears a source, and its callback was never registered, it was
--- registered then, before the source was looked at. The answer is whether a stop is requested.
+-- The callback's word was read. Where x hears a source, and its callback was never registered, it
+-- was registered then, before the source was looked at. The answer is whether a stop is requested.
 pub record IsWatched (board : Board Blueprint) (x : Name) (answer : Bool)
     (old new : Seat (Option Item) (View Item Entry)) : Type 0 where
   pub phase : CallbackPhase

@@ -16,13 +16,13 @@ use crate::ending::end_all;
 use crate::opening::{Opened, open_all};
 use crate::stopping::stop_all;
 use life_rules::Name;
-use node_steps::{Gate, Item, Next, leave_at_rest};
 use node_tree::Context;
 use op_slot::{Hand, OpTable};
 use plan_rules::{Node, NodeId};
 use plan_shape::Plan;
 use std::alloc::Global;
 use std::sync::Wait;
+use step_parts::{Gate, Item, Next, leave_at_rest};
 
 // Steps a `when_all` with these children. One that has begun, and is stepped before each child has
 // completed, goes on later, in the loop; that doesn't come.
@@ -64,15 +64,15 @@ fn step_all<G: Gate, R: Wait + Sync>(
 
 /// Steps a `when_all`, which the hand holds ([exec.when.all]).
 ///
-/// From its start it registers its callback on the source that it hears, and then looks there: where
-/// a stop is requested, it completes stopped and starts no child; else it starts all. Once the last
-/// child has reported, it completes with what all complete with together. Its callback is removed
-/// before it is done.
+/// From its start it registers its callback on the source that it hears, and then looks there:
+/// where a stop is requested, it completes stopped and starts no child; else it starts all. Once
+/// the last child has reported, it completes with what all complete with together. Its callback is
+/// removed before it is done.
 ///
 /// Step: those of its start, or of its end.
-/// Needs: the node is a `when_all`. The table is over the plan, whose kinds match. The hand makes no
-/// scan and runs no callback, and since it came to hold the node it has made no step on it, and has
-/// moved nothing of its home and of its children's. Each start that the hand owes can begin.
+/// Needs: the node is a `when_all`. The table is over the plan, whose kinds match. The hand makes
+/// no scan and runs no callback, and since it came to hold the node it has made no step on it, and
+/// has moved nothing of its home and of its children's. Each start that the hand owes can begin.
 /// Afterwards: Go names the node that the hand holds in place of this one, and may step next; else
 /// it holds none in its place. Each start that the hand owes can begin.
 pub fn advance_all<G: Gate, R: Wait + Sync>(

@@ -14,12 +14,12 @@ use crate::stopping::stop_all;
 use crate::watching::watch;
 use life_rules::Name;
 use many_steps::{await_many, put_start, read_all_idle};
-use node_steps::{Env, Gate, Item, Next, deliver_no_memory};
 use op_slot::{Hand, OpTable};
 use plan_rules::NodeId;
 use plan_shape::Plan;
 use std::alloc::{AllocError, Global};
 use std::sync::Wait;
+use step_parts::{Env, Gate, Item, Next, deliver_no_memory};
 
 // Puts the children's starts into their homes, from the last child to the first.
 fn put_all<R: Wait>(
@@ -110,8 +110,8 @@ fn look_and_start<G: Gate, R: Wait + Sync>(
 }
 
 /// Begins the children, with the node's arguments. The node listens to the source above it before,
-/// and looks: where a stop is requested there, it completes stopped, and begins none. Where there is
-/// no memory for the children's arguments, it begins none either, and delivers want of memory.
+/// and looks: where a stop is requested there, it completes stopped, and begins none. Where there
+/// is no memory for the children's arguments, it begins none either, and delivers want of memory.
 pub(crate) fn begin_all<G: Gate, R: Wait + Sync>(
     rt: &R,
     alloc: Global,

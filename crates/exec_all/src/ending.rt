@@ -10,10 +10,10 @@ ghost use Rattle.exec_all.specs.Ends.{MayEndAll, EndsAll};
 use crate::joining::Joining;
 use life_rules::Name;
 use node_images::NoRoom;
-use node_steps::{Env, Gate, Item, Next, Parcel, complete, deliver_no_memory};
 use op_slot::{Hand, OpTable};
 use plan_shape::Plan;
 use std::sync::Wait;
+use step_parts::{Env, Gate, Item, Next, Parcel, complete, deliver_no_memory};
 
 /// Delivers what the children complete with together: the values of all, joined in order; else the
 /// error of a child that failed without having seen a request, else that of another; else stopped.

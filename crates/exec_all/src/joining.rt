@@ -1,13 +1,13 @@
 //! How what the children of a `when_all` delivered comes together ([exec.when.all]).
 ghost use Rattle.std.specs.Prelude.{◌≡◌, ◌&&◌, ℕ};
-ghost use Rattle.exec_start.specs.Parcels.{Delivery};
+ghost use Rattle.home_items.specs.Parcels.{Delivery};
 ghost use Rattle.start_laws.specs.AllEnds.{is_failure};
 ghost use Rattle.exec_all.specs.Joined.{is_want, TellsSeen, Notes, IsJoined, Adds, FinishesFront, Finishes};
 
 use exec_value::Completion;
 use node_images::{NoRoom, Together, join_child, no_children, put_together};
-use node_steps::Parcel;
 use std::alloc::Global;
+use step_parts::Parcel;
 
 /// What the parcels of some children come to.
 #[derive(Drop)]

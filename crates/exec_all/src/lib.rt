@@ -1,9 +1,9 @@
 //! The step of a `when_all` ([exec.when.all]).
 //!
-//! It stands on node_steps and many_steps, of whose calls the step is made, on node_images, which
-//! joins values, on stop_calls, which registers its callback, and on the laws of start_laws. It keeps
-//! one promise: a step of a `when_all` starts from where a step may, and ends as a step does, and what
-//! it delivers is allowed by the plan for the node's start.
+//! It stands on step_parts and many_steps, of whose calls the step is made, on node_images, which
+//! joins values, on stop_calls, which registers its callback, and on the laws of start_laws. It
+//! keeps one promise: a step of a `when_all` starts from where a step may, and ends as a step does,
+//! and what it delivers is allowed by the plan for the node's start.
 //!
 //!     Start --watch: no stop stands--> start_all --> Rest, awaiting all children
 //!           --watch: a stop stands---> Done(stopped), and no child was begun

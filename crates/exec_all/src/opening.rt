@@ -7,17 +7,17 @@ ghost use Rattle.table_steps.specs.Views.{IsHandOf, Stays};
 ghost use Rattle.exec_recv.specs.Over.{IsOver};
 ghost use Rattle.exec_recv.specs.Beginnings.{AllCanStart};
 ghost use Rattle.exec_recv.specs.Steppable.{CanStep};
-ghost use Rattle.node_steps.specs.TakenOut.{start_at, IsEmptying};
+ghost use Rattle.step_parts.specs.TakenOut.{start_at, IsEmptying};
 ghost use Rattle.many_steps.specs.Kids.{AreKids};
 ghost use Rattle.exec_all.specs.Opens.{has_begun, TakesOne, TakesAll, Opens};
 
 use crate::joining::{Joining, both};
 use life_rules::Name;
-use node_steps::{AtHome, Env, Item, take_below, take_own};
 use op_slot::{Hand, OpTable};
 use plan_rules::NodeId;
 use plan_shape::Plan;
 use std::alloc::Global;
+use step_parts::{AtHome, Env, Item, take_below, take_own};
 
 /// What a `when_all` has at hand, once the homes are emptied.
 #[derive(Drop)]

@@ -1,19 +1,19 @@
 //! The starts of the children of a `when_all`, before they are in their homes.
 ghost use Rattle.std.specs.Prelude.{◌≡◌, true, false, length, IfOk, IsOk};
 ghost use Rattle.plan_kinds.specs.Runnable.{IsRunnable};
-ghost use Rattle.exec_start.specs.Entries.{plan_of, args_of};
-ghost use Rattle.exec_start.specs.Fits.{FitsChild};
-ghost use Rattle.node_steps.specs.Starts.{RunsBelow, asked_for_child, child_start};
+ghost use Rattle.home_items.specs.Entries.{plan_of, args_of};
+ghost use Rattle.home_items.specs.Fits.{FitsChild};
+ghost use Rattle.step_parts.specs.Starts.{RunsBelow, asked_for_child, child_start};
 ghost use Rattle.exec_all.specs.Starts.{is_light, AllRun, all_starts, AreStarts, HasLast, TakesLast};
 
-use exec_start::copy_env;
 use exec_value::{Data, Datum};
-use node_steps::{Env, child_env};
+use home_items::copy_env;
 use plan_rules::NodeId;
 use plan_shape::Plan;
 use std::alloc::{AllocError, Global};
 use std::sync::Wait;
 use std::thread::yield_now;
+use step_parts::{Env, child_env};
 
 /// The starts of a node's children, which run with the node's arguments.
 #[derive(Drop)]

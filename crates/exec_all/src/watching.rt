@@ -2,13 +2,13 @@
 ghost use Rattle.std.specs.Prelude.{◌≡◌, ◌<◌, length};
 ghost use Rattle.table_steps.specs.Views.{IsHandOf, Stays};
 ghost use Rattle.stop_calls.specs.Armings.{is_asked};
-ghost use Rattle.node_steps.specs.Midway.{IsReady, KeepsReady};
+ghost use Rattle.step_parts.specs.Midway.{IsReady, KeepsReady};
 ghost use Rattle.exec_all.specs.Watches.{may_arm, IsWatched};
 
 use life_rules::{CallbackPhase, Name};
-use node_steps::{Item, hear};
 use node_tree::Tree;
 use op_slot::{Hand, OpTable};
+use step_parts::{Item, hear};
 use stop_calls::{Armed, arm, source_above};
 
 // The node's callback was never registered, and the node hears a source.

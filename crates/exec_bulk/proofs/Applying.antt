@@ -51,6 +51,12 @@ module _ (job : Job) (first : ℕ) (xs made : List ℤ) (place : ℕ) (d : ℤ) 
       let behind : Result (List ℤ) (List ℕ) = each_of job (first + place + 1) (drop (place + 1) xs) in
       here ∙ ap (λ answer. after made (in_front (first + place) answer behind)) same
 
+-- a list of one element is that element
+pub single : (xs : List ℤ) (d : ℤ) → 1 ≤ length xs → length xs < 2 → xs ≡ get_or xs 0 d ∷ []
+single [] d some few = absurd (omega (arith, some))
+single (x ∷ []) d some few = refl
+single (x ∷ y ∷ xs) d some few = absurd (omega (arith, few))
+
 -- where no number fails, it is a row, which doesn't stand in place
 pub none-fails : (job : Job) (first : ℕ) (xs made : List ℤ) (place : ℕ) → IsDoneTo job first xs place made → length xs ≤ place →
     CompletesInPlace (row_ending (each_of job first xs)) → ⊥

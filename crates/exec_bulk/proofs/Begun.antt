@@ -23,25 +23,26 @@ use Rattle.table_steps.specs.Claims.{Seated}
 use Rattle.table_steps.specs.Lefts.{LeavesControl}
 use Rattle.table_steps.specs.Slots.{has_seen}
 use Rattle.table_steps.specs.Views.{Board, aim_at}
-use Rattle.exec_start.specs.contracts.item.ItemCargo.TheImpl.{ghosts}
-use Rattle.exec_start.specs.declared.entry.Entry.{Entry}
-use Rattle.exec_start.specs.declared.item.Item.{Item}
-use Rattle.exec_start.specs.declared.item.Item.TheVariants.{Rest}
-use Rattle.exec_start.specs.Entries.{plan_of, node_of}
-use Rattle.exec_start.specs.Items.{row_for, lot_of}
-use Rattle.exec_start.specs.Parcels.{Delivery}
+use Rattle.home_items.specs.contracts.item.ItemCargo.TheImpl.{ghosts}
+use Rattle.home_items.specs.declared.entry.Entry.{Entry}
+use Rattle.home_items.specs.declared.item.Item.{Item}
+use Rattle.home_items.specs.declared.item.Item.TheVariants.{Rest}
+use Rattle.home_items.specs.Entries.{plan_of, node_of}
+use Rattle.home_items.specs.Items.{row_for, lot_of}
+use Rattle.home_items.specs.Parcels.{Delivery}
 use Rattle.exec_recv.specs.declared.next.Next.TheVariants.{Rest as IsAtRest}
 use Rattle.exec_recv.specs.Nexts.{IsStepped}
 use Rattle.exec_recv.specs.Over.{IsOver}
+use Rattle.exec_recv.proofs.Moves.{moves-on}
 use Rattle.exec_recv.proofs.Asiding.{aside-on}
 use Rattle.exec_recv.proofs.Fitting.{sees-more}
 use Rattle.exec_recv.proofs.Starts.{owes-as}
 use Rattle.start_laws.specs.Laws.{MayBegin}
 use Rattle.start_laws.proofs.Rows.{parts-begin}
-use Rattle.node_steps.specs.Heard.{has_heard}
-use Rattle.node_steps.specs.Midway.{Ready, IsReady, KeepsReady}
-use Rattle.node_steps.proofs.Frames.{emptying-less, ready-is}
-use Rattle.node_steps.proofs.Places.{seen-below}
+use Rattle.step_parts.specs.Heard.{has_heard}
+use Rattle.step_parts.specs.Midway.{Ready, IsReady, KeepsReady}
+use Rattle.step_parts.proofs.Frames.{emptying-less, ready-is}
+use Rattle.step_parts.proofs.Places.{seen-below}
 use Rattle.many_steps.specs.Awaits.{MayAwaitMany, AwaitsMany}
 use Rattle.many_steps.specs.Kids.{AreKids, KnowsAllIdle}
 use Rattle.many_steps.specs.Starting.{IsStarting}
@@ -260,6 +261,7 @@ module _ (board : Board Blueprint) (plan : Blueprint) (x : Name) (start : List E
         parts-stepped =
             record {
               aside = aside-on m m1 m3 keeps.beside.aside (aside-on m1 m2 m3 awaits.aside puts.aside);
+              moves = moves-on board x m m1 m3 keeps.beside.moves (moves-on board x m1 m2 m3 awaits.moves (puts.moves x));
               starts = puts.starts;
               owes = λ y owes.
                   elim (awaits.owes y (owes-as m2 m3 y puts.owed owes)) [

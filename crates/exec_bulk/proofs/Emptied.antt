@@ -16,18 +16,18 @@ use Rattle.table_steps.specs.Claims.{Seated}
 use Rattle.table_steps.specs.Slots.{held_at}
 use Rattle.table_steps.specs.Views.{Board}
 use Rattle.op_slot.specs.Tends.{put_at}
-use Rattle.exec_start.specs.declared.entry.Entry.{Entry}
-use Rattle.exec_start.specs.declared.item.Item.{Item}
-use Rattle.exec_start.specs.declared.item.Item.TheVariants.{Done}
-use Rattle.exec_start.specs.Entries.{plan_of, node_of, whole_row}
-use Rattle.exec_start.specs.Parcels.{Delivery}
+use Rattle.home_items.specs.declared.entry.Entry.{Entry}
+use Rattle.home_items.specs.declared.item.Item.{Item}
+use Rattle.home_items.specs.declared.item.Item.TheVariants.{Done}
+use Rattle.home_items.specs.Entries.{plan_of, node_of, whole_row}
+use Rattle.home_items.specs.Parcels.{Delivery}
 use Rattle.start_laws.specs.Holding.{IsDoneBelow}
 use Rattle.start_laws.proofs.Rows.{parts-make}
 use Rattle.plan_rules.specs.Bulks.{row_ending}
 use Rattle.start_laws.specs.BulkLaws.{share_made}
-use Rattle.node_steps.specs.Midway.{Emptying}
-use Rattle.node_steps.specs.TakenOut.{IsFoundBelow, IsEmptying, TakesBelow}
-use Rattle.node_steps.proofs.Frames.{others-here, others-on}
+use Rattle.step_parts.specs.Midway.{Emptying}
+use Rattle.step_parts.specs.TakenOut.{IsFoundBelow, IsEmptying, TakesBelow}
+use Rattle.step_parts.proofs.Frames.{others-here, others-on}
 use Rattle.exec_bulk.specs.declared.joining.Made.{Made}
 use Rattle.exec_bulk.specs.declared.joining.Made.TheVariants.{Want}
 use Rattle.exec_bulk.specs.Made.{IsMade, IsOfShare}

@@ -11,17 +11,17 @@ use Rattle.plan_rules.specs.declared.node.Node.TheVariants.{Bulk}
 use Rattle.plan_shape.specs.Blueprint.{Blueprint}
 use Rattle.table_steps.specs.Claims.{Seated}
 use Rattle.table_steps.specs.Views.{Board}
-use Rattle.exec_start.specs.declared.entry.Entry.{Entry}
-use Rattle.exec_start.specs.declared.item.Item.{Item}
-use Rattle.exec_start.specs.declared.item.Item.TheVariants.{Rest, Done}
-use Rattle.exec_start.specs.Bounds.{least_of, least_at_rest, least_when_done}
-use Rattle.exec_start.specs.Parcels.{Delivery, MayDeliver}
+use Rattle.home_items.specs.declared.entry.Entry.{Entry}
+use Rattle.home_items.specs.declared.item.Item.{Item}
+use Rattle.home_items.specs.declared.item.Item.TheVariants.{Rest, Done}
+use Rattle.home_items.specs.Bounds.{least_of, least_at_rest, least_when_done}
+use Rattle.home_items.specs.Parcels.{Delivery, MayDeliver}
 use Rattle.exec_recv.specs.declared.next.Next.{Next}
 use Rattle.start_laws.specs.BulkLaws.{front_made}
 use Rattle.start_laws.specs.Nodes.{IsStartOf}
 use Rattle.start_laws.proofs.ImageCases.{images-allowed}
-use Rattle.node_steps.specs.Completes.{MayComplete, IsCompleted, CompletesWith}
-use Rattle.node_steps.proofs.Frames.{emptying-less}
+use Rattle.step_parts.specs.Completes.{MayComplete, IsCompleted, CompletesWith}
+use Rattle.step_parts.proofs.Frames.{emptying-less}
 use Rattle.exec_bulk.specs.declared.joining.Made.{Made}
 use Rattle.exec_bulk.specs.Ends.{HasChild, EndsRow}
 use Rattle.exec_bulk.specs.Rows.{numbers_in, parts_for}

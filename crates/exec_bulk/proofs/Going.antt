@@ -12,23 +12,23 @@ use Rattle.plan_rules.specs.declared.node.Node.TheVariants.{Bulk}
 use Rattle.plan_shape.specs.Blueprint.{Blueprint}
 use Rattle.table_steps.specs.Claims.{Seated}
 use Rattle.table_steps.specs.Views.{Board}
-use Rattle.exec_start.specs.declared.entry.Entry.{Entry}
-use Rattle.exec_start.specs.declared.item.Item.{Item}
-use Rattle.exec_start.specs.declared.item.Item.TheVariants.{Rest, Done}
-use Rattle.exec_start.specs.Below.{run_below, asked_below}
-use Rattle.exec_start.specs.Bounds.{least_of}
-use Rattle.exec_start.specs.Entries.{plan_of, node_of, asked_of}
-use Rattle.exec_start.specs.Parcels.{Delivery}
+use Rattle.home_items.specs.declared.entry.Entry.{Entry}
+use Rattle.home_items.specs.declared.item.Item.{Item}
+use Rattle.home_items.specs.declared.item.Item.TheVariants.{Rest, Done}
+use Rattle.home_items.specs.Below.{run_below, asked_below}
+use Rattle.home_items.specs.Bounds.{least_of}
+use Rattle.home_items.specs.Entries.{plan_of, node_of, asked_of}
+use Rattle.home_items.specs.Parcels.{Delivery}
 use Rattle.exec_recv.specs.declared.next.Next.{Next}
 use Rattle.exec_recv.specs.Over.{IsOver}
 use Rattle.start_laws.specs.Holding.{IsFromBelow}
 use Rattle.start_laws.specs.Nodes.{IsStartOf}
 use Rattle.start_laws.proofs.Bounding.{few-begun}
 use Rattle.start_laws.proofs.Pairs.{none-some, below-plain}
-use Rattle.node_steps.specs.Heard.{has_heard}
-use Rattle.node_steps.specs.Midway.{Ready}
-use Rattle.node_steps.specs.Starts.{RunsBelow, asked_for_child, MayRun}
-use Rattle.node_steps.proofs.Frames.{emptying-less}
+use Rattle.step_parts.specs.Heard.{has_heard}
+use Rattle.step_parts.specs.Midway.{Ready}
+use Rattle.step_parts.specs.Starts.{RunsBelow, asked_for_child, MayRun}
+use Rattle.step_parts.proofs.Frames.{emptying-less}
 use Rattle.exec_bulk.specs.declared.joining.Made.TheVariants.{Want}
 use Rattle.exec_bulk.specs.declared.opening.Opened.{Opened}
 use Rattle.exec_bulk.specs.Ends.{HasChild, HasParted}
@@ -36,7 +36,7 @@ use Rattle.exec_bulk.specs.Made.{IsMade}
 use Rattle.exec_bulk.specs.Opens.{HaveDelivered, Opens}
 use Rattle.exec_bulk.specs.Rows.{numbers_in, parts_for, first_part}
 use Rattle.exec_bulk.specs.Begins.{BeginsParts}
-use Rattle.node_steps.specs.Completes.{CompletesWith}
+use Rattle.step_parts.specs.Completes.{CompletesWith}
 use Rattle.exec_bulk.specs.Steps.{Wants, EndsAsMade, CutsRow, BeginsChild, GoesOnByChild, EndsByParts}
 use Rattle.exec_bulk.proofs.Making.{row-is}
 

@@ -14,8 +14,8 @@ use Rattle.node_images.specs.Makes.{CompletesInPlace}
 use Rattle.plan_rules.specs.Bulks.{in_front, each_of, row_ending, bulk_of}
 use Rattle.plan_rules.specs.declared.node.Node.TheVariants.{Bulk}
 use Rattle.plan_shape.specs.declared.limits.TheConstants.{BULK_PARTS}
-use Rattle.exec_start.specs.Bounds.{least_when_done}
-use Rattle.exec_start.specs.Shares.{first_index}
+use Rattle.home_items.specs.Bounds.{least_when_done}
+use Rattle.home_items.specs.Shares.{first_index}
 use Rattle.start_laws.specs.BulkLaws.{share_made, front_made, made_behind}
 use Rattle.start_laws.proofs.Rows.{shares-made}
 use Rattle.exec_bulk.specs.declared.joining.Made.{Made}

@@ -24,27 +24,27 @@ use Rattle.table_steps.specs.Claims.{Seated}
 use Rattle.table_steps.specs.Slots.{held_at}
 use Rattle.table_steps.specs.Views.{Board}
 use Rattle.op_slot.specs.Tends.{put_at}
-use Rattle.exec_start.specs.declared.entry.Entry.{Entry}
-use Rattle.exec_start.specs.declared.item.Item.{Item}
-use Rattle.exec_start.specs.declared.item.Item.TheVariants.{Rest, Done}
-use Rattle.exec_start.specs.Bounds.{least_of}
-use Rattle.exec_start.specs.Fits.{IsItemOf}
-use Rattle.exec_start.specs.Items.{parcel_in, saw_in, row_for, lot_of}
-use Rattle.exec_start.specs.Parcels.{Delivery, IsDelivery}
-use Rattle.exec_start.specs.Starts.{IsStart}
+use Rattle.home_items.specs.declared.entry.Entry.{Entry}
+use Rattle.home_items.specs.declared.item.Item.{Item}
+use Rattle.home_items.specs.declared.item.Item.TheVariants.{Rest, Done}
+use Rattle.home_items.specs.Bounds.{least_of}
+use Rattle.home_items.specs.Fits.{IsItemOf}
+use Rattle.home_items.specs.Items.{parcel_in, saw_in, row_for, lot_of}
+use Rattle.home_items.specs.Parcels.{Delivery, IsDelivery}
+use Rattle.home_items.specs.Starts.{IsStart}
 use Rattle.exec_recv.specs.Over.{IsOver}
 use Rattle.exec_recv.specs.Steppable.{CanStep}
 use Rattle.start_laws.specs.Holding.{IsFromBelow}
 use Rattle.start_laws.specs.Nodes.{IsStartOf}
 use Rattle.start_laws.proofs.Knowing.{from-plain}
-use Rattle.node_steps.specs.declared.taken.AtHome.{AtHome}
-use Rattle.node_steps.specs.declared.taken.AtHome.TheVariants.{Start as Unbegun, Rest as Rested}
-use Rattle.node_steps.specs.Heard.{has_heard, MaySee}
-use Rattle.node_steps.specs.Midway.{Emptying, Ready}
-use Rattle.node_steps.specs.TakenOut.{item_at, start_at, IsFoundBelow, TakesOwn, TakesBelow}
-use Rattle.node_steps.proofs.Frames.{others-on, emptying-less, emptying-none, named-so}
-use Rattle.node_steps.proofs.Places.{start-of}
-use Rattle.node_steps.proofs.Telling.{found-done, kept-from}
+use Rattle.step_parts.specs.declared.taken.AtHome.{AtHome}
+use Rattle.step_parts.specs.declared.taken.AtHome.TheVariants.{Start as Unbegun, Rest as Rested}
+use Rattle.step_parts.specs.Heard.{has_heard, MaySee}
+use Rattle.step_parts.specs.Midway.{Emptying, Ready}
+use Rattle.step_parts.specs.TakenOut.{item_at, start_at, IsFoundBelow, TakesOwn, TakesBelow}
+use Rattle.step_parts.proofs.Frames.{others-on, emptying-less, emptying-none, named-so}
+use Rattle.step_parts.proofs.Places.{start-of}
+use Rattle.step_parts.proofs.Telling.{found-done, kept-from}
 use Rattle.exec_bulk.specs.declared.joining.Made.{Made}
 use Rattle.exec_bulk.specs.declared.joining.Made.TheVariants.{Want}
 use Rattle.exec_bulk.specs.declared.opening.Opened.{Opened}

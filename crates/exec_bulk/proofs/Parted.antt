@@ -10,29 +10,29 @@ use Rattle.plan_shape.specs.Blueprint.{Blueprint}
 use Rattle.plan_kinds.specs.Runnable.{IsRunnable}
 use Rattle.table_steps.specs.Claims.{Seated}
 use Rattle.table_steps.specs.Views.{Board}
-use Rattle.exec_start.specs.declared.entry.Entry.{Entry}
-use Rattle.exec_start.specs.declared.item.Item.{Item}
-use Rattle.exec_start.specs.declared.item.Item.TheVariants.{Rest, Done}
-use Rattle.exec_start.specs.Bounds.{least_of}
-use Rattle.exec_start.specs.Entries.{plan_of, node_of, args_of}
-use Rattle.exec_start.specs.Items.{start_in}
-use Rattle.exec_start.specs.Parcels.{Delivery, MayDeliver}
-use Rattle.exec_start.specs.Starts.{IsStart}
+use Rattle.home_items.specs.declared.entry.Entry.{Entry}
+use Rattle.home_items.specs.declared.item.Item.{Item}
+use Rattle.home_items.specs.declared.item.Item.TheVariants.{Rest, Done}
+use Rattle.home_items.specs.Bounds.{least_of}
+use Rattle.home_items.specs.Entries.{plan_of, node_of, args_of}
+use Rattle.home_items.specs.Items.{start_in}
+use Rattle.home_items.specs.Parcels.{Delivery, MayDeliver}
+use Rattle.home_items.specs.Starts.{IsStart}
 use Rattle.exec_recv.specs.Over.{IsOver}
 use Rattle.exec_recv.specs.Steppable.{CanStep}
 use Rattle.exec_recv.specs.declared.next.Next.{Next}
 use Rattle.start_laws.specs.Nodes.{IsStartOf}
 use Rattle.start_laws.proofs.Bounding.{few-begun}
 use Rattle.start_laws.proofs.LeafCases.{leaves-allowed}
-use Rattle.node_steps.specs.declared.taken.AtHome.{AtHome}
-use Rattle.node_steps.specs.declared.taken.AtHome.TheVariants.{Start as Unbegun, Rest as Rested}
-use Rattle.node_steps.specs.Completes.{MayComplete}
-use Rattle.node_steps.specs.Leaves.{MayLeave}
-use Rattle.node_steps.specs.Midway.{Ready}
-use Rattle.node_steps.specs.TakenOut.{item_at, start_at, TakesOwn}
-use Rattle.node_steps.proofs.Frames.{emptying-less, emptying-none}
-use Rattle.node_steps.proofs.Places.{inner-is, start-of}
-use Rattle.node_steps.proofs.Wanted.{bare-leaves}
+use Rattle.step_parts.specs.declared.taken.AtHome.{AtHome}
+use Rattle.step_parts.specs.declared.taken.AtHome.TheVariants.{Start as Unbegun, Rest as Rested}
+use Rattle.step_parts.specs.Completes.{MayComplete}
+use Rattle.step_parts.specs.Leaves.{MayLeave}
+use Rattle.step_parts.specs.Midway.{Ready}
+use Rattle.step_parts.specs.TakenOut.{item_at, start_at, TakesOwn}
+use Rattle.step_parts.proofs.Frames.{emptying-less, emptying-none}
+use Rattle.step_parts.proofs.Places.{inner-is, start-of}
+use Rattle.step_parts.proofs.Wanted.{bare-leaves}
 use Rattle.exec_bulk.specs.Ends.{HasShare}
 use Rattle.exec_bulk.specs.Kinds.{HasBulk}
 use Rattle.exec_bulk.specs.Steps.{IsUnbegun, has_begun, EndsPart}

@@ -18,12 +18,12 @@ use Rattle.plan_kinds.specs.Small.{IsSmall}
 use Rattle.plan_kinds.specs.TreeLaws.{ShowsNode}
 use Rattle.plan_kinds.proofs.Placing.{no-member}
 use Rattle.table_steps.specs.Views.{Board}
-use Rattle.exec_start.specs.declared.entry.Entry.{Entry}
-use Rattle.exec_start.specs.Entries.{plan_of, node_of}
+use Rattle.home_items.specs.declared.entry.Entry.{Entry}
+use Rattle.home_items.specs.Entries.{plan_of, node_of}
 use Rattle.exec_recv.specs.Over.{IsOver}
 use Rattle.start_laws.specs.Nodes.{IsStartOf}
 use Rattle.start_laws.proofs.Pairs.{sole}
-use Rattle.node_steps.proofs.Places.{node-shown}
+use Rattle.step_parts.proofs.Places.{node-shown}
 use Rattle.exec_bulk.specs.Opens.{HasParts}
 use Rattle.exec_bulk.specs.Rows.{first_part}
 use Rattle.exec_bulk.proofs.Ranges.{range-place, place-range}

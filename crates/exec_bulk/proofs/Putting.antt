@@ -7,8 +7,9 @@ use Rattle.life_rules.specs.Views.{beside}
 use Rattle.plan_shape.specs.Blueprint.{Blueprint}
 use Rattle.table_steps.specs.Claims.{Seated}
 use Rattle.table_steps.specs.Views.{Board}
-use Rattle.exec_start.specs.declared.entry.Entry.{Entry}
-use Rattle.exec_start.specs.declared.item.Item.{Item}
+use Rattle.home_items.specs.declared.entry.Entry.{Entry}
+use Rattle.home_items.specs.declared.item.Item.{Item}
+use Rattle.exec_recv.specs.Areas.{MovesWithin}
 use Rattle.exec_recv.specs.Asides.{KeepsAside}
 use Rattle.many_steps.specs.Puts.{MayPutStart, PutsStart}
 use Rattle.many_steps.proofs.Put.{none-left}
@@ -115,11 +116,12 @@ none-there items rest count none rest_is items_is =
 
 -- where none is left all can begin
 pub puts-all : (board : Board Blueprint) (x : Name) (nodes : List ℕ) (left : ℕ) (starts : List (List Entry)) (m m' : Seated Item Entry) → left ≡ 0 →
-    MayPutFirst board x nodes left starts m' → KeepsAside m m' → m'.0.held ≡ m.0.held → m'.0.owed ≡ m.0.owed → PutsAll board m m'
-puts-all board x nodes left starts m m' none may aside held owed =
+    MayPutFirst board x nodes left starts m' → KeepsAside m m' → ((y : Name) → MovesWithin board y m m') → m'.0.held ≡ m.0.held → m'.0.owed ≡ m.0.owed → PutsAll board m m'
+puts-all board x nodes left starts m m' none may aside moves held owed =
     let last = subst (λ k. MayPut board x may.start may.whole may.count k starts m') none may.may in
     record {
       aside = aside;
+      moves = moves;
       held = held;
       owed = owed;
       starts = none-left board x may.start may.whole (range_with_len (first_part x.node) may.count) m' last.starting;

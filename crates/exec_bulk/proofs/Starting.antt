@@ -1,6 +1,6 @@
 -- Where the shares of a row lie, and which starts the parts have.
 use Rattle.std.proofs.Common.{◌≡◌, ℕ, zero, suc, ◌+◌, ℤ, List, [], ◌∷◌, ◌++◌, length, refl, ap, ◌∙◌}
-use Rattle.exec_start.specs.declared.entry.Entry.{Entry}
+use Rattle.home_items.specs.declared.entry.Entry.{Entry}
 use Rattle.exec_bulk.specs.Starts.{part_start, part_starts}
 
 pub starts-length : (first : ℕ) (whole : List ℤ) (start : List Entry) (n : ℕ) → length (part_starts first whole start n) ≡ n

@@ -10,16 +10,16 @@ use Rattle.plan_shape.specs.declared.limits.TheConstants.{BULK_PARTS}
 use Rattle.table_steps.specs.Claims.{Seated}
 use Rattle.table_steps.specs.Slots.{has_seen}
 use Rattle.table_steps.specs.Views.{Board}
-use Rattle.exec_start.specs.declared.entry.Entry.{Entry}
-use Rattle.exec_start.specs.declared.item.Item.{Item}
-use Rattle.exec_start.specs.Parcels.{Delivery}
+use Rattle.home_items.specs.declared.entry.Entry.{Entry}
+use Rattle.home_items.specs.declared.item.Item.{Item}
+use Rattle.home_items.specs.Parcels.{Delivery}
 use Rattle.exec_recv.specs.declared.next.Next.{Next}
-use Rattle.node_steps.specs.Midway.{KeepsReady}
+use Rattle.step_parts.specs.Midway.{KeepsReady}
 use Rattle.exec_bulk.specs.declared.beginning.Cut.{Cut}
 use Rattle.exec_bulk.specs.Ends.{HasChild, MayPut}
 use Rattle.exec_bulk.specs.Rows.{numbers_in, parts_for, first_part}
 use Rattle.exec_bulk.specs.Starts.{part_starts, AllBegin}
-use Rattle.node_steps.specs.Completes.{CompletesWith}
+use Rattle.step_parts.specs.Completes.{CompletesWith}
 use Rattle.exec_bulk.specs.Steps.{AwaitsParts}
 
 -- the parts of x, which has this start, can be made for the row in the parcel
@@ -63,4 +63,5 @@ module _ (board : Board Blueprint) (x : Name) where
 
   -- x awaits the parts of the row, or there was no memory for their starts
   abbrev pub BeginsParts : Completion → Next → Seated Item Entry → Type 0
-  BeginsParts done next m' = AwaitsParts board x done next m' ⊎ CompletesWith board x NoMemory next m'
+  BeginsParts done next m' = AwaitsParts board x done next m'
+      ⊎ CompletesWith board x NoMemory next m'

@@ -10,19 +10,20 @@ use Rattle.plan_shape.specs.Blueprint.{Blueprint}
 use Rattle.table_steps.specs.Claims.{Seated}
 use Rattle.table_steps.specs.Slots.{has_seen}
 use Rattle.table_steps.specs.Views.{Board}
-use Rattle.exec_start.specs.declared.entry.Entry.{Entry}
-use Rattle.exec_start.specs.declared.item.Item.{Item}
-use Rattle.exec_start.specs.declared.item.Item.TheVariants.{Rest}
-use Rattle.exec_start.specs.Bounds.{least_of}
-use Rattle.exec_start.specs.Entries.{plan_of}
-use Rattle.exec_start.specs.Parcels.{Delivery}
-use Rattle.exec_start.specs.Starts.{NeedsNoRequest}
+use Rattle.home_items.specs.declared.entry.Entry.{Entry}
+use Rattle.home_items.specs.declared.item.Item.{Item}
+use Rattle.home_items.specs.declared.item.Item.TheVariants.{Rest}
+use Rattle.home_items.specs.Bounds.{least_of}
+use Rattle.home_items.specs.Entries.{plan_of}
+use Rattle.home_items.specs.Parcels.{Delivery}
+use Rattle.home_items.specs.Starts.{NeedsNoRequest}
+use Rattle.exec_recv.specs.Areas.{MovesWithin}
 use Rattle.exec_recv.specs.Asides.{KeepsAside}
 use Rattle.exec_recv.specs.Beginnings.{AllCanStart}
 use Rattle.start_laws.specs.Holding.{IsFromBelow}
 use Rattle.start_laws.specs.Nodes.{IsStartOf}
-use Rattle.node_steps.specs.Heard.{has_heard}
-use Rattle.node_steps.specs.Midway.{Ready}
+use Rattle.step_parts.specs.Heard.{has_heard}
+use Rattle.step_parts.specs.Midway.{Ready}
 use Rattle.many_steps.specs.Kids.{AreKids}
 use Rattle.many_steps.specs.Starting.{IsStarting}
 use Rattle.exec_bulk.specs.declared.joining.Made.{Made}
@@ -80,6 +81,7 @@ pub record MayPut (board : Board Blueprint) (x : Name) (start : List Entry) (who
 -- All of them are in their homes: what the hand owes is as before, and can begin.
 pub record PutsAll (board : Board Blueprint) (m m' : Seated Item Entry) : Type 0 where
   pub aside : KeepsAside m m'
+  pub moves : (x : Name) → MovesWithin board x m m'
   pub held : m'.0.held ≡ m.0.held
   pub owed : m'.0.owed ≡ m.0.owed
   pub starts : AllCanStart board m'

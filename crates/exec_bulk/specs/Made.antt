@@ -6,7 +6,7 @@ use Rattle.exec_job.specs.declared.job.Job.{Job}
 use Rattle.node_images.specs.Makes.{CompletesInPlace}
 use Rattle.plan_rules.specs.Bulks.{row_ending}
 use Rattle.plan_shape.specs.declared.limits.TheConstants.{BULK_PARTS}
-use Rattle.exec_start.specs.Parcels.{Delivery}
+use Rattle.home_items.specs.Parcels.{Delivery}
 use Rattle.start_laws.specs.BulkLaws.{share_made, front_made}
 use Rattle.exec_bulk.specs.declared.joining.Made.{Made}
 use Rattle.exec_bulk.specs.declared.joining.Made.TheVariants.{Numbers, Failed, Want}

@@ -13,18 +13,18 @@ use Rattle.table_steps.specs.Views.{Board}
 use Rattle.table_steps.specs.Claims.{Seated}
 use Rattle.table_steps.specs.Slots.{held_at}
 use Rattle.op_slot.specs.Tends.{put_at}
-use Rattle.exec_start.specs.declared.entry.Entry.{Entry}
-use Rattle.exec_start.specs.declared.item.Item.{Item}
-use Rattle.exec_start.specs.declared.item.Item.TheVariants.{Rest, Done}
-use Rattle.exec_start.specs.Bounds.{least_of}
-use Rattle.exec_start.specs.Items.{parcel_in}
-use Rattle.exec_start.specs.Parcels.{Delivery}
+use Rattle.home_items.specs.declared.entry.Entry.{Entry}
+use Rattle.home_items.specs.declared.item.Item.{Item}
+use Rattle.home_items.specs.declared.item.Item.TheVariants.{Rest, Done}
+use Rattle.home_items.specs.Bounds.{least_of}
+use Rattle.home_items.specs.Items.{parcel_in}
+use Rattle.home_items.specs.Parcels.{Delivery}
 use Rattle.exec_recv.specs.Steppable.{CanStep}
 use Rattle.start_laws.specs.Holding.{IsFromBelow}
 use Rattle.start_laws.specs.Nodes.{IsStartOf}
-use Rattle.node_steps.specs.Heard.{has_heard}
-use Rattle.node_steps.specs.Midway.{Emptying, Ready, KeepsOthers}
-use Rattle.node_steps.specs.TakenOut.{TakesBelow}
+use Rattle.step_parts.specs.Heard.{has_heard}
+use Rattle.step_parts.specs.Midway.{Emptying, Ready, KeepsOthers}
+use Rattle.step_parts.specs.TakenOut.{TakesBelow}
 use Rattle.exec_bulk.specs.declared.joining.Made.{Made}
 use Rattle.exec_bulk.specs.declared.joining.Made.TheVariants.{Want}
 use Rattle.exec_bulk.specs.declared.opening.Opened.{Opened}
@@ -66,8 +66,8 @@ module _ (board : Board Blueprint) (x : Name) where
     pub draws : (n : ℕ) (done : Item) → is_child board.frame.tree x.node n ≡ true →
         kid n ≡ Some done → lot_at x m ≡ Some whole
 
-  -- the home of the part of this number was emptied, and where the part is one of the first so many,
-  -- it was added to those before it
+  -- the home of the part of this number was emptied, and where the part is one of the first so
+  -- many, it was added to those before it
   pub record TakesPart (part count : ℕ) (before after : Made) (m m' : Seated Item Entry) :
       Type 0 where
     pub answer : Option Delivery
@@ -76,8 +76,8 @@ module _ (board : Board Blueprint) (x : Name) where
     pub wants : part < count → WantsAfter answer before after
     pub passes : count ≤ part → after ≡ before
 
-  -- The homes of the first n parts were emptied, and those among the first so many were added. Where
-  -- they want memory, one of them does, or isn't done.
+  -- The homes of the first n parts were emptied, and those among the first so many were added.
+  -- Where they want memory, one of them does, or isn't done.
   pub record TakesParts (n count : ℕ) (made : Made) (m m' : Seated Item Entry) : Type 0 where
     pub beside : KeepsOthers board x m m'
     pub same_held : held_at m'.0 x ≡ held_at m.0 x
@@ -92,8 +92,8 @@ module _ (board : Board Blueprint) (x : Name) where
         Emptying board x start least kid m → made ≡ Want →
         HaveDelivered (first_part x.node) (min n count) kid → ⊥
 
-  -- The homes are empty. The child's parcel lay in its home, or is kept. Where a row is kept, this is
-  -- what the job makes of it; and where the parts want memory, one of them does, or isn't done.
+  -- The homes are empty. The child's parcel lay in its home, or is kept. Where a row is kept, this
+  -- is what the job makes of it; and where the parts want memory, one of them does, or isn't done.
   pub record Opens (child : ℕ) (opened : Opened) (m m' : Seated Item Entry) : Type 0 where
     pub beside : KeepsOthers board x m m'
     pub job : Job

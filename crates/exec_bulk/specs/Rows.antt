@@ -6,7 +6,7 @@ use Rattle.exec_value.specs.declared.limits.TheConstants.{NUMBERS}
 use Rattle.exec_value.specs.declared.outcome.Completion.{Completion}
 use Rattle.exec_value.specs.declared.outcome.Completion.TheVariants.{Value}
 use Rattle.plan_shape.specs.declared.limits.TheConstants.{BULK_PARTS}
-use Rattle.exec_start.specs.Parcels.{Delivery}
+use Rattle.home_items.specs.Parcels.{Delivery}
 
 -- the numbers of a completion that is one row; of any other none
 abbrev pub numbers_in : Completion → List ℤ

@@ -1,9 +1,9 @@
 -- The starts of the parts of a bulk.
 use Rattle.std.specs.Prelude.{ℕ, zero, suc, ◌+◌, ◌<◌, ℤ, List, [], ◌∷◌, ◌++◌}
-use Rattle.exec_start.specs.declared.entry.Entry.{Entry}
-use Rattle.exec_start.specs.Entries.{asked_of, start_below}
-use Rattle.exec_start.specs.Shares.{part_args}
-use Rattle.exec_start.specs.Starts.{BeginsBelow}
+use Rattle.home_items.specs.declared.entry.Entry.{Entry}
+use Rattle.home_items.specs.Entries.{asked_of, start_below}
+use Rattle.home_items.specs.Shares.{part_args}
+use Rattle.home_items.specs.Starts.{BeginsBelow}
 
 -- the start of node n, the bulk's part of this number: its share, of the whole row that it shows
 abbrev pub part_start : ℕ → List ℤ → ℕ → List Entry → List Entry

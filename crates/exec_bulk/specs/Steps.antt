@@ -18,21 +18,21 @@ use Rattle.table_steps.specs.Claims.{Seated}
 use Rattle.table_steps.specs.Lefts.{LeavesControl}
 use Rattle.table_steps.specs.Slots.{home_at}
 use Rattle.table_steps.specs.Views.{Board, aim_at}
-use Rattle.exec_start.specs.contracts.item.ItemCargo.TheImpl.{ghosts}
-use Rattle.exec_start.specs.declared.entry.Entry.{Entry}
-use Rattle.exec_start.specs.declared.item.Item.{Item}
-use Rattle.exec_start.specs.declared.item.Item.TheVariants.{Start, Done, Rest as Kept}
-use Rattle.exec_start.specs.Entries.{args_of}
-use Rattle.exec_start.specs.Items.{start_in, parcel_in}
-use Rattle.exec_start.specs.Parcels.{Delivery}
+use Rattle.home_items.specs.contracts.item.ItemCargo.TheImpl.{ghosts}
+use Rattle.home_items.specs.declared.entry.Entry.{Entry}
+use Rattle.home_items.specs.declared.item.Item.{Item}
+use Rattle.home_items.specs.declared.item.Item.TheVariants.{Start, Done, Rest as Kept}
+use Rattle.home_items.specs.Entries.{args_of}
+use Rattle.home_items.specs.Items.{start_in, parcel_in}
+use Rattle.home_items.specs.Parcels.{Delivery}
 use Rattle.exec_recv.specs.declared.next.Next.{Next}
 use Rattle.exec_recv.specs.declared.next.Next.TheVariants.{Rest}
 use Rattle.exec_recv.specs.Steppable.{CanStep}
-use Rattle.node_steps.specs.declared.taken.AtHome.{AtHome}
-use Rattle.node_steps.specs.declared.taken.AtHome.TheVariants.{Start as Unbegun, Rest as Rested}
-use Rattle.node_steps.specs.Completes.{CompletesWith}
-use Rattle.node_steps.specs.Leaves.{IsLeftIn}
-use Rattle.node_steps.specs.Starts.{StartsOne}
+use Rattle.step_parts.specs.declared.taken.AtHome.{AtHome}
+use Rattle.step_parts.specs.declared.taken.AtHome.TheVariants.{Start as Unbegun, Rest as Rested}
+use Rattle.step_parts.specs.Completes.{CompletesWith}
+use Rattle.step_parts.specs.Leaves.{IsLeftIn}
+use Rattle.step_parts.specs.Starts.{StartsOne}
 use Rattle.exec_bulk.specs.declared.joining.Made.{Made}
 use Rattle.exec_bulk.specs.declared.joining.Made.TheVariants.{Want}
 use Rattle.exec_bulk.specs.Made.{IsMade}
@@ -49,8 +49,8 @@ has_begun (Unbegun start) = false
 has_begun (Rested start kept) = true
 
 module _ (board : Board Blueprint) (x : Name) where
-  -- x keeps the parcel of its child, which completed with this row, and awaits as many of its parts as
-  -- the row has; it owes what it owed then
+  -- x keeps the parcel of its child, which completed with this row, and awaits as many of its parts
+  -- as the row has; it owes what it owed then
   pub record AwaitsParts (done : Completion) (next : Next) (m' : Seated Item Entry) :
       Type 0 where
     pub next_is : next ≡ Rest
@@ -65,8 +65,8 @@ module _ (board : Board Blueprint) (x : Name) where
         (range_with_len (first_part x.node) (parts_for (numbers_in done)))) full waiting
     pub owed : m'.0.owed ≡ waiting.0.owed
 
-  -- The child of x has completed with this. Where that is a row with numbers, x awaits as many parts
-  -- as the row has, or there was no memory for their starts; else x completes with the same.
+  -- The child of x has completed with this. Where that is a row with numbers, x awaits as many
+  -- parts as the row has, or there was no memory for their starts; else x completes with the same.
   pub record CutsRow (done : Completion) (next : Next) (m' : Seated Item Entry) : Type 0 where
     pub cuts : 1 ≤ length (numbers_in done) →
         AwaitsParts done next m' ⊎ CompletesWith board x NoMemory next m'
@@ -84,8 +84,8 @@ module _ (board : Board Blueprint) (x : Name) where
     pub large : able → CompletesInPlace done → ⊥
     pub ends : CompletesWith board x NoMemory next m'
 
-  -- a part with these arguments completes with this; or there was no memory for it, and where the part
-  -- begins within a row, it doesn't stand in place
+  -- a part with these arguments completes with this; or there was no memory for it, and where the
+  -- part begins within a row, it doesn't stand in place
   abbrev pub EndsPart : List Datum → Completion → Next → Seated Item Entry → Type 0
   EndsPart args done next m' =
       CompletesWith board x done next m' ⊎ Wants (IsWithinRow args) done next m'
@@ -103,14 +103,15 @@ module _ (board : Board Blueprint) (x : Name) where
       (can : CanStep board x m) → can.kid child ≡ None → parcel_in can.item ≡ None →
       StartsOne board x child next m m'
 
-  -- when the parcel of the child lies in the child's home, x goes on by what the child completed with
+  -- when the parcel of the child lies in the child's home, x goes on by what the child completed
+  -- with
   abbrev pub GoesOnByChild : ℕ → Next → Seated Item Entry → Seated Item Entry → Type 0
   GoesOnByChild child next m m' =
       (can : CanStep board x m) (parcel : Delivery) → can.kid child ≡ Some (Done parcel) →
       CutsRow parcel.completion next m'
 
-  -- whatever job and row these were made of, x completes with what the job makes of the row; or a part
-  -- wants memory, or there was none for that
+  -- whatever job and row these were made of, x completes with what the job makes of the row; or a
+  -- part wants memory, or there was none for that
   abbrev pub EndsAsMade : Made → Next → Seated Item Entry → Type 0
   EndsAsMade made next m' =
       (job : Job) (whole : List ℤ) → IsMade made job whole (parts_for whole) →

@@ -18,15 +18,15 @@ use crate::opening::{Opened, open_bulk};
 use crate::parts::step_part;
 use crate::rows::numbers_of;
 use life_rules::Name;
-use node_steps::{Env, Gate, Item, Next, Parcel, start_unbegun_child};
 use op_slot::{Hand, OpTable};
 use plan_rules::{Node, NodeId};
 use plan_shape::Plan;
 use std::alloc::Global;
 use std::sync::Wait;
+use step_parts::{Env, Gate, Item, Next, Parcel, start_unbegun_child};
 
-// Goes on once the child has completed: begins the parts of its row, or completes with the same, where
-// that is no row or an empty one.
+// Goes on once the child has completed: begins the parts of its row, or completes with the same,
+// where that is no row or an empty one.
 fn after_child<G: Gate, R: Wait + Sync>(
     rt: &R,
     alloc: Global,
@@ -102,18 +102,18 @@ fn step_bulk<G: Gate, R: Wait + Sync>(
 /// Steps a bulk, or a part of one, which the hand holds ([exec.bulk]).
 ///
 /// A bulk starts its child. Of a row with numbers that the child completes with it begins as many
-/// parts as there are numbers, eight at most, each with its share; of anything else it completes with
-/// the same. Once the last part has reported, it completes with the row that the parts make, or with
-/// the error of the least failing index. A part goes into the pool, and completes there with what the
-/// bulk's job makes of its share. The parts' starts want memory, and so does each row that is made.
+/// parts as there are numbers, eight at most, each with its share; of anything else it completes
+/// with the same. Once the last part has reported, it completes with the row that the parts make,
+/// or with the error of the least failing index. A part goes into the pool, and completes there
+/// with what the bulk's job makes of its share. The parts' starts want memory, and so does each row
+/// that is made.
 ///
 /// Step: those of its start, of its child's end, or of its parts' end.
 /// Needs: the node is a bulk, or a part of one. The table is over the plan, whose kinds match. The
-/// hand makes no scan and runs no callback, and since it came to hold the node it has made no step on
-/// it, and has moved nothing of its home and of its children's. Each start that the hand owes can
-/// begin.
-/// Afterwards: Go names the node that the hand holds in place of this one, and may step next; else
-/// it holds none in its place. Each start that the hand owes can begin.
+/// hand makes no scan and runs no callback, and since it came to hold the node it has made no step
+/// on it, and has moved nothing of its home and of its children's. Each start that the hand owes
+/// can begin. Afterwards: Go names the node that the hand holds in place of this one, and may step
+/// next; else it holds none in its place. Each start that the hand owes can begin.
 pub fn advance_bulk<G: Gate, R: Wait + Sync>(
     rt: &R,
     alloc: Global,

@@ -5,8 +5,8 @@ ghost use Rattle.node_tree.specs.Tree.{is_root};
 ghost use Rattle.table_steps.specs.Views.{IsHandOf, Stays};
 ghost use Rattle.exec_recv.specs.Nexts.{IsStepped};
 ghost use Rattle.exec_recv.specs.Over.{IsOver};
-ghost use Rattle.exec_start.specs.Entries.{plan_of};
-ghost use Rattle.node_steps.specs.Midway.{IsReady};
+ghost use Rattle.home_items.specs.Entries.{plan_of};
+ghost use Rattle.step_parts.specs.Midway.{IsReady};
 ghost use Rattle.exec_bulk.specs.Begins.{MayCut, HasCut, Looks, MayBeginParts, MayPutAll, BeginsParts};
 ghost use Rattle.exec_bulk.specs.Ends.{HasChild, PutsAll};
 ghost use Rattle.exec_bulk.specs.Rows.{numbers_in};
@@ -16,12 +16,12 @@ use crate::rows::{first_part, numbers_of, part_nodes, parts_for};
 use crate::shares::part_envs;
 use life_rules::Name;
 use many_steps::{await_many, put_start, read_all_idle};
-use node_steps::{Env, Gate, Item, Next, Parcel, deliver_no_memory, hear};
 use op_slot::{Hand, OpTable};
 use plan_rules::NodeId;
 use plan_shape::Plan;
 use std::alloc::{AllocError, Global};
 use std::sync::Wait;
+use step_parts::{Env, Gate, Item, Next, Parcel, deliver_no_memory, hear};
 
 /// The parts that are begun for a row, and what they begin with.
 #[derive(Drop)]
@@ -107,8 +107,8 @@ fn start_parts<R: Wait + Sync>(
     Next::Rest
 }
 
-// Whether the parts' starts may rest on what the child completed with. Where the child saw a request,
-// the node looks at the source that it hears. That the look finds none doesn't come.
+// Whether the parts' starts may rest on what the child completed with. Where the child saw a
+// request, the node looks at the source that it hears. That the look finds none doesn't come.
 fn may_rest_on(table: &OpTable<Item>, hand: &mut Hand<Item>, name: Name, parcel: &Parcel) -> bool
     requires hand { IsHandOf table.now hand.old }
     requires ready { IsReady table.now name hand.old.me }

@@ -13,8 +13,8 @@ use exec_value::{Completion, Data, Datum, NUMBERS, Nums};
 use node_images::error_at;
 use std::alloc::{AllocError, Global};
 
-/// What the job makes of the share that a part has as arguments; stopped, where it has none. None where
-/// there is no memory for that, or the share begins where no row goes.
+/// What the job makes of the share that a part has as arguments; stopped, where it has none. None
+/// where there is no memory for that, or the share begins where no row goes.
 pub(crate) fn end_share(alloc: Global, job: &Job, args: &Data) -> Option<Completion>
     requires { IsTrue (is_element job.now) }
     ensures exact { IfSome result (λ done. done ≡ part_of job.now args.now) }
@@ -32,8 +32,8 @@ pub(crate) fn end_share(alloc: Global, job: &Job, args: &Data) -> Option<Complet
     }
 }
 
-/// What the job makes of the numbers, the first of which has this index in the whole row. The job is
-/// matched here alone, once for all of them.
+/// What the job makes of the numbers, the first of which has this index in the whole row. The job
+/// is matched here alone, once for all of them.
 fn make_share(
     alloc: Global,
     job: &Job,
@@ -57,8 +57,8 @@ fn make_share(
     }
 }
 
-/// The row of what the element job makes of each number; or the error of the first that fails. A short
-/// name of that wants no memory.
+/// The row of what the element job makes of each number; or the error of the first that fails. A
+/// short name of that wants no memory.
 #[inline(never)]
 fn make_each<E: Element>(
     alloc: Global,
@@ -70,6 +70,9 @@ fn make_each<E: Element>(
     requires first { first ≤ NUMBERS }
     ensures { MakesEach (E.job element.now) first numbers.now result }
 {
+    if let [number] = numbers {
+        return make_one(alloc, element, first, *number);
+    }
     let Ok(mut made) = Vec::with_capacity(alloc, numbers.len()) else {
         return fail_first(alloc, element, first, numbers);
     };
@@ -82,6 +85,26 @@ fn make_each<E: Element>(
     }
     let row = Datum::Row(Nums::from_vec(made)?);
     Ok(Completion::Value(Data::one(alloc, row)))
+}
+
+/// The row of what the element job makes of one number, or its error. The row wants no memory.
+#[inline(always)]
+fn make_one<E: Element>(
+    alloc: Global,
+    element: &E,
+    first: u32,
+    number: i64,
+) -> Result<Completion, AllocError>
+    requires first { first ≤ NUMBERS }
+    ensures { MakesEach (E.job element.now) first (number ∷ []) result }
+{
+    match element.at(first, number) {
+        Ok(number) => {
+            let row = Datum::Row(Nums::one(number));
+            Ok(Completion::Value(Data::one(alloc, row)))
+        }
+        Err(fault) => Ok(Completion::Error(error_at(alloc, fault, first)?)),
+    }
 }
 
 /// The error of the first number that fails, where there is no memory for the row.

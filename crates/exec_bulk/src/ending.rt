@@ -7,17 +7,17 @@ ghost use Rattle.exec_recv.specs.Nexts.{IsStepped};
 ghost use Rattle.exec_recv.specs.Over.{IsOver};
 ghost use Rattle.exec_bulk.specs.Ends.{HasChild, HasParted, EndsRow};
 ghost use Rattle.exec_bulk.specs.Rows.{numbers_in};
-ghost use Rattle.node_steps.specs.Completes.{CompletesWith};
+ghost use Rattle.step_parts.specs.Completes.{CompletesWith};
 ghost use Rattle.exec_bulk.specs.Steps.{EndsAsMade};
 
 use crate::joining::Made;
 use crate::rows::numbers_of;
 use life_rules::Name;
-use node_steps::{Env, Gate, Item, Next, Parcel, complete, deliver_no_memory};
 use op_slot::{Hand, OpTable};
 use plan_shape::Plan;
 use std::alloc::Global;
 use std::sync::Wait;
+use step_parts::{Env, Gate, Item, Next, Parcel, complete, deliver_no_memory};
 
 /// Completes as the child did, which completed with no row, or with an empty one.
 pub(crate) fn pass_on<G: Gate, R: Wait + Sync>(
@@ -77,8 +77,9 @@ fn deliver_row<G: Gate, R: Wait + Sync>(
     }
 }
 
-/// Completes with what the parts make of the kept row: the row of what the job made of each number, or
-/// the error of the least failing index. Where a part isn't done, which doesn't come, want of memory.
+/// Completes with what the parts make of the kept row: the row of what the job made of each number,
+/// or the error of the least failing index. Where a part isn't done, which doesn't come, want of
+/// memory.
 pub(crate) fn end_parts<G: Gate, R: Wait + Sync>(
     rt: &R,
     alloc: Global,

@@ -5,13 +5,14 @@ ghost use Rattle.exec_bulk.specs.Made.{IsMade, AddsShare, AddsPart, WantsAfter, 
 
 use crate::rows::numbers_at;
 use exec_value::{Completion, Data, Datum, NUMBERS, Nums, Txt};
-use node_steps::Parcel;
 use std::alloc::Global;
+use step_parts::Parcel;
 
 /// What the parts so far come to, in the order of the row.
 #[derive(Drop)]
 pub(crate) enum Made {
-    /// What the job made of the numbers, none of which failed; none where there is no memory for them.
+    /// What the job made of the numbers, none of which failed; none where there is no memory for
+    /// them.
     Numbers(Option<Vec<i64>>),
     /// The error of the first that failed.
     Failed(Txt),
@@ -89,8 +90,8 @@ impl Made {
         }
     }
 
-    /// What they complete with together: the row of the numbers, or the error. None where a part wants
-    /// memory, or there is none for the row. An error is at hand, and wants none.
+    /// What they complete with together: the row of the numbers, or the error. None where a part
+    /// wants memory, or there is none for the row. An error is at hand, and wants none.
     pub(crate) fn finish(self, alloc: Global) -> Option<Completion>
         ensures made { JoinsTo self result }
         ensures in_place { JoinsInPlace self result }

@@ -6,19 +6,19 @@ ghost use Rattle.table_steps.specs.Views.{IsHandOf, Stays};
 ghost use Rattle.exec_recv.specs.Over.{IsOver};
 ghost use Rattle.exec_recv.specs.Beginnings.{AllCanStart};
 ghost use Rattle.exec_recv.specs.Steppable.{CanStep};
-ghost use Rattle.exec_start.specs.Items.{parcel_in};
-ghost use Rattle.node_steps.specs.TakenOut.{item_at, start_at, IsEmptying};
+ghost use Rattle.home_items.specs.Items.{parcel_in};
+ghost use Rattle.step_parts.specs.TakenOut.{item_at, start_at, IsEmptying};
 ghost use Rattle.exec_bulk.specs.Kinds.{IsBulkOf};
 ghost use Rattle.exec_bulk.specs.Opens.{HasParts, TakesPart, TakesParts, Opens};
 
 use crate::joining::Made;
 use crate::rows::{first_part, parts_kept};
 use life_rules::Name;
-use node_steps::{AtHome, Env, Item, Parcel, take_below, take_own};
 use op_slot::{Hand, OpTable};
 use plan_rules::NodeId;
 use plan_shape::{BULK_PARTS, Plan};
 use std::alloc::Global;
+use step_parts::{AtHome, Env, Item, Parcel, take_below, take_own};
 
 /// What a bulk has at hand, once the homes are emptied.
 #[derive(Drop)]
@@ -43,8 +43,8 @@ fn at_hand(own: AtHome) -> (Env, Option<Parcel>)
     }
 }
 
-// Takes the parcel of the part of this number out of its home. Where it is one of the first so many,
-// it is added to those before it.
+// Takes the parcel of the part of this number out of its home. Where it is one of the first so
+// many, it is added to those before it.
 fn take_part(
     table: &OpTable<Item>,
     hand: &mut Hand<Item>,
@@ -91,7 +91,8 @@ fn take_parts(
     made
 }
 
-/// Opens the step: takes what lies in the node's own home, and the parcels of its child and its parts.
+/// Opens the step: takes what lies in the node's own home, and the parcels of its child and its
+/// parts.
 ///
 /// Step: one `take_home` for the node, for its child and for each part.
 /// Needs: the step begins here.

@@ -10,9 +10,9 @@ ghost use Rattle.exec_recv.specs.Over.{IsOver};
 ghost use Rattle.exec_recv.specs.Beginnings.{AllCanStart};
 ghost use Rattle.exec_recv.specs.Steppable.{CanStep};
 ghost use Rattle.exec_recv.specs.Nexts.{IsStepped};
-ghost use Rattle.exec_start.specs.Entries.{args_of};
+ghost use Rattle.home_items.specs.Entries.{args_of};
 ghost use Rattle.node_images.specs.Makes.{CompletesInPlace};
-ghost use Rattle.node_steps.specs.TakenOut.{start_at};
+ghost use Rattle.step_parts.specs.TakenOut.{start_at};
 ghost use Rattle.exec_bulk.specs.Ends.{HasShare};
 ghost use Rattle.exec_bulk.specs.Kinds.{IsPartOfBulk, HasBulk};
 ghost use Rattle.exec_bulk.specs.Rows.{IsWithinRow};
@@ -22,15 +22,15 @@ use crate::elements::end_share;
 use exec_recv::Point;
 use exec_value::Completion;
 use life_rules::Name;
-use node_steps::{
-    AtHome, Env, Gate, Item, Next, Parcel, complete, deliver_no_memory, leave_at_rest, take_own,
-};
 use node_tree::Context;
 use op_slot::{Hand, OpTable};
 use plan_rules::{Node, NodeId};
 use plan_shape::Plan;
 use std::alloc::Global;
 use std::sync::Wait;
+use step_parts::{
+    AtHome, Env, Gate, Item, Next, Parcel, complete, deliver_no_memory, leave_at_rest, take_own,
+};
 
 // The node's environment, and whether it has begun.
 fn at_hand(own: AtHome) -> (Env, bool)
@@ -46,8 +46,8 @@ fn at_hand(own: AtHome) -> (Env, bool)
     }
 }
 
-// What the bulk's job makes of the share that the part has as arguments. None where there is no memory
-// for it, and it doesn't stand in place.
+// What the bulk's job makes of the share that the part has as arguments. None where there is no
+// memory for it, and it doesn't stand in place.
 fn make_share(alloc: Global, plan: &Plan, env: &Env, bulk: NodeId) -> Option<Completion>
     requires plan { IsPlan plan.now }
     requires bulk { HasBulk plan.now.nodes bulk }
@@ -101,8 +101,8 @@ fn run_part<G: Gate, R: Wait + Sync>(
     }
 }
 
-/// Steps a part: from its start it is left ready in the pool; when it is taken there it completes with
-/// what the bulk's job makes of its share.
+/// Steps a part: from its start it is left ready in the pool; when it is taken there it completes
+/// with what the bulk's job makes of its share.
 pub(crate) fn step_part<G: Gate, R: Wait + Sync>(
     rt: &R,
     alloc: Global,

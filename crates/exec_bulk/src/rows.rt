@@ -6,10 +6,10 @@ ghost use Rattle.plan_shape.specs.declared.limits.TheConstants.{BULK_PARTS};
 ghost use Rattle.exec_bulk.specs.Rows.{numbers_in, numbers_kept, parts_for, first_part};
 
 use exec_value::{Completion, Datum};
-use node_steps::Parcel;
 use plan_rules::NodeId;
 use plan_shape::BULK_PARTS;
 use std::alloc::{AllocError, Global};
+use step_parts::Parcel;
 
 // No numbers.
 fn no_numbers<'a>() -> &'a [i64]

@@ -2,16 +2,16 @@
 ghost use Rattle.std.specs.Prelude.{◌≡◌, ◌<◌, ◌≤◌, length, IfOk};
 ghost use Rattle.exec_value.specs.declared.limits.TheConstants.{NUMBERS};
 ghost use Rattle.plan_shape.specs.declared.limits.TheConstants.{BULK_PARTS};
-ghost use Rattle.exec_start.specs.Entries.{plan_of};
-ghost use Rattle.exec_start.specs.Shares.{first_index, share_of, part_args};
-ghost use Rattle.exec_start.specs.Starts.{BeginsBelow};
+ghost use Rattle.home_items.specs.Entries.{plan_of};
+ghost use Rattle.home_items.specs.Shares.{first_index, share_of, part_args};
+ghost use Rattle.home_items.specs.Starts.{BeginsBelow};
 ghost use Rattle.exec_bulk.specs.Starts.{part_start, part_starts, AllBegin};
 
 use exec_value::{Data, Datum, Nums};
-use node_steps::Env;
 use plan_rules::NodeId;
 use plan_shape::{BULK_PARTS, Plan};
 use std::alloc::{AllocError, Global};
+use step_parts::Env;
 
 // The index of the first number of this share, in a row of so many.
 fn first_index(count: usize, part: u32) -> usize

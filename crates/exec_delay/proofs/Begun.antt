@@ -11,15 +11,15 @@ use Rattle.plan_shape.specs.Blueprint.{Blueprint}
 use Rattle.table_steps.specs.Callbacks.{CanArm}
 use Rattle.table_steps.specs.Claims.{Seated}
 use Rattle.table_steps.specs.Views.{Board}
-use Rattle.exec_start.specs.declared.entry.Entry.{Entry}
-use Rattle.exec_start.specs.declared.item.Item.{Item}
+use Rattle.home_items.specs.declared.entry.Entry.{Entry}
+use Rattle.home_items.specs.declared.item.Item.{Item}
 use Rattle.exec_recv.specs.Over.{IsOver}
 use Rattle.start_laws.proofs.Bounding.{few-begun}
-use Rattle.node_steps.specs.Heard.{TellsRequest}
-use Rattle.node_steps.specs.Leaves.{MayLeave}
-use Rattle.node_steps.specs.Midway.{Ready, KeepsReady}
-use Rattle.node_steps.specs.TakenOut.{HasJustBegun}
-use Rattle.node_steps.proofs.Wanted.{bare-leaves}
+use Rattle.step_parts.specs.Heard.{TellsRequest}
+use Rattle.step_parts.specs.Leaves.{MayLeave}
+use Rattle.step_parts.specs.Midway.{Ready, KeepsReady}
+use Rattle.step_parts.specs.TakenOut.{HasJustBegun}
+use Rattle.step_parts.proofs.Wanted.{bare-leaves}
 use Rattle.exec_delay.specs.Ends.{MayStop}
 use Rattle.exec_delay.specs.Listens.{hears_one}
 use Rattle.exec_delay.specs.Opens.{HasStart}

@@ -8,14 +8,14 @@ use Rattle.plan_rules.specs.Settle.{unless_asked}
 use Rattle.plan_shape.specs.Blueprint.{Blueprint}
 use Rattle.table_steps.specs.Claims.{Seated}
 use Rattle.table_steps.specs.Views.{Board}
-use Rattle.exec_start.specs.declared.entry.Entry.{Entry}
-use Rattle.exec_start.specs.declared.item.Item.{Item}
-use Rattle.exec_start.specs.Parcels.{Delivery, MayDeliver}
+use Rattle.home_items.specs.declared.entry.Entry.{Entry}
+use Rattle.home_items.specs.declared.item.Item.{Item}
+use Rattle.home_items.specs.Parcels.{Delivery, MayDeliver}
 use Rattle.start_laws.proofs.Bounding.{few-begun}
 use Rattle.start_laws.proofs.LeafCases.{leaves-allowed}
-use Rattle.node_steps.specs.Completes.{MayComplete}
-use Rattle.node_steps.specs.Heard.{MaySee}
-use Rattle.node_steps.specs.Midway.{Ready, KeepsReady}
+use Rattle.step_parts.specs.Completes.{MayComplete}
+use Rattle.step_parts.specs.Heard.{MaySee}
+use Rattle.step_parts.specs.Midway.{Ready, KeepsReady}
 use Rattle.exec_delay.specs.Ends.{ended_with, MayEnd}
 use Rattle.exec_delay.proofs.Opened.{has-still}
 

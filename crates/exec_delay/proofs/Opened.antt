@@ -4,17 +4,17 @@ use Rattle.life_rules.specs.declared.event.Name.{Name}
 use Rattle.plan_shape.specs.Blueprint.{Blueprint}
 use Rattle.table_steps.specs.Views.{Board}
 use Rattle.table_steps.specs.Claims.{Seated}
-use Rattle.exec_start.specs.declared.entry.Entry.{Entry}
-use Rattle.exec_start.specs.declared.item.Item.{Item}
-use Rattle.exec_start.specs.declared.item.Item.TheVariants.{Start, Rest, Done}
-use Rattle.exec_start.specs.Fits.{IsRest}
-use Rattle.exec_start.specs.Starts.{IsStart}
+use Rattle.home_items.specs.declared.entry.Entry.{Entry}
+use Rattle.home_items.specs.declared.item.Item.{Item}
+use Rattle.home_items.specs.declared.item.Item.TheVariants.{Start, Rest, Done}
+use Rattle.home_items.specs.Fits.{IsRest}
+use Rattle.home_items.specs.Starts.{IsStart}
 use Rattle.exec_recv.specs.Steppable.{CanStep}
-use Rattle.node_steps.specs.declared.taken.AtHome.{AtHome}
-use Rattle.node_steps.specs.Midway.{KeepsReady}
-use Rattle.node_steps.specs.TakenOut.{item_at, start_at, least_known, HasJustBegun, TakesOwn, TakesOut}
-use Rattle.node_steps.proofs.Frames.{emptying-less}
-use Rattle.node_steps.proofs.Opened.{takes-one}
+use Rattle.step_parts.specs.declared.taken.AtHome.{AtHome}
+use Rattle.step_parts.specs.Midway.{KeepsReady}
+use Rattle.step_parts.specs.TakenOut.{item_at, start_at, least_known, HasJustBegun, TakesOwn, TakesOut}
+use Rattle.step_parts.proofs.Frames.{emptying-less}
+use Rattle.step_parts.proofs.Opened.{takes-one}
 use Rattle.exec_delay.specs.declared.opening.Opened.{Opened}
 use Rattle.exec_delay.specs.Opens.{has_begun, HasStart, Opens}
 use Rattle.exec_delay.proofs.Places.{Delaying, delay-only, start-of}

@@ -13,15 +13,15 @@ use Rattle.plan_kinds.specs.Runnable.{IsRunnable}
 use Rattle.plan_kinds.proofs.Trees.{trees-show}
 use Rattle.table_steps.specs.Views.{Board}
 use Rattle.table_steps.specs.Claims.{Seated}
-use Rattle.exec_start.specs.declared.entry.Entry.{Entry}
-use Rattle.exec_start.specs.declared.item.Item.{Item}
-use Rattle.exec_start.specs.Entries.{plan_of, node_of}
-use Rattle.exec_start.specs.Starts.{IsStart}
+use Rattle.home_items.specs.declared.entry.Entry.{Entry}
+use Rattle.home_items.specs.declared.item.Item.{Item}
+use Rattle.home_items.specs.Entries.{plan_of, node_of}
+use Rattle.home_items.specs.Starts.{IsStart}
 use Rattle.exec_recv.specs.Over.{IsOver}
 use Rattle.start_laws.specs.Nodes.{IsStartOf}
-use Rattle.node_steps.specs.Midway.{Ready}
-use Rattle.node_steps.specs.TakenOut.{IsOnlyChild}
-use Rattle.node_steps.proofs.Only.{only-named}
+use Rattle.step_parts.specs.Midway.{Ready}
+use Rattle.step_parts.specs.TakenOut.{IsOnlyChild}
+use Rattle.step_parts.proofs.Only.{only-named}
 use Rattle.exec_delay.specs.Kinds.{IsDelay}
 
 delay-of : (o : Option Node) → IsDelay o → (turns : ℕ) × (o ≡ Some (Delay turns))

@@ -19,9 +19,9 @@ use Rattle.table_steps.specs.Views.{Board}
 use Rattle.stop_calls.specs.declared.removing.Settled.{Settled}
 use Rattle.stop_calls.specs.declared.removing.Settled.TheVariants.{NeverRan, Ran, OwnHand}
 use Rattle.stop_calls.specs.Removals.{IsLastTry, IsSettled}
-use Rattle.exec_start.specs.declared.entry.Entry.{Entry}
-use Rattle.exec_start.specs.declared.item.Item.{Item}
-use Rattle.node_steps.specs.Heard.{was_told, has_heard, MaySee}
+use Rattle.home_items.specs.declared.entry.Entry.{Entry}
+use Rattle.home_items.specs.declared.item.Item.{Item}
+use Rattle.step_parts.specs.Heard.{was_told, has_heard, MaySee}
 use Rattle.exec_delay.specs.Listens.{hears_one}
 use Rattle.exec_delay.specs.Withdraws.{did_run, Withdraws}
 

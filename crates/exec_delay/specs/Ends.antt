@@ -8,13 +8,13 @@ use Rattle.plan_shape.specs.Blueprint.{Blueprint}
 use Rattle.table_rules.specs.declared.view.View.{View}
 use Rattle.table_steps.specs.Views.{Board}
 use Rattle.table_steps.specs.Claims.{Seated}
-use Rattle.exec_start.specs.declared.entry.Entry.{Entry}
-use Rattle.exec_start.specs.declared.item.Item.{Item}
-use Rattle.exec_start.specs.Entries.{asked_of}
-use Rattle.exec_start.specs.Parcels.{Delivery}
+use Rattle.home_items.specs.declared.entry.Entry.{Entry}
+use Rattle.home_items.specs.declared.item.Item.{Item}
+use Rattle.home_items.specs.Entries.{asked_of}
+use Rattle.home_items.specs.Parcels.{Delivery}
 use Rattle.exec_recv.specs.declared.next.Next.{Next}
-use Rattle.node_steps.specs.Completes.{IsCompleted}
-use Rattle.node_steps.specs.Heard.{MaySee}
+use Rattle.step_parts.specs.Completes.{IsCompleted}
+use Rattle.step_parts.specs.Heard.{MaySee}
 use Rattle.exec_delay.specs.Opens.{HasStart}
 use Rattle.exec_delay.specs.Withdraws.{Withdraws}
 

@@ -9,9 +9,9 @@ use Rattle.table_rules.specs.declared.view.View.{View}
 use Rattle.table_steps.specs.Views.{Board}
 use Rattle.stop_calls.specs.declared.arming.Armed.{Armed}
 use Rattle.stop_calls.specs.Armings.{is_asked, IsArmedSo}
-use Rattle.exec_start.specs.declared.entry.Entry.{Entry}
-use Rattle.exec_start.specs.declared.item.Item.{Item}
-use Rattle.node_steps.specs.Heard.{TellsRequest}
+use Rattle.home_items.specs.declared.entry.Entry.{Entry}
+use Rattle.home_items.specs.declared.item.Item.{Item}
+use Rattle.step_parts.specs.Heard.{TellsRequest}
 
 -- whether x hears a source
 abbrev pub hears_one : Board Blueprint → Name → Bool

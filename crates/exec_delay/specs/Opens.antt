@@ -5,13 +5,13 @@ use Rattle.plan_rules.specs.declared.node.Node.TheVariants.{Delay}
 use Rattle.plan_shape.specs.Blueprint.{Blueprint}
 use Rattle.table_steps.specs.Views.{Board}
 use Rattle.table_steps.specs.Claims.{Seated}
-use Rattle.exec_start.specs.declared.entry.Entry.{Entry}
-use Rattle.exec_start.specs.declared.item.Item.{Item}
-use Rattle.exec_start.specs.declared.item.Item.TheVariants.{Start}
+use Rattle.home_items.specs.declared.entry.Entry.{Entry}
+use Rattle.home_items.specs.declared.item.Item.{Item}
+use Rattle.home_items.specs.declared.item.Item.TheVariants.{Start}
 use Rattle.exec_recv.specs.Steppable.{CanStep}
 use Rattle.start_laws.specs.Nodes.{IsStartOf}
-use Rattle.node_steps.specs.Midway.{Ready, KeepsOthers}
-use Rattle.node_steps.specs.TakenOut.{HasJustBegun}
+use Rattle.step_parts.specs.Midway.{Ready, KeepsOthers}
+use Rattle.step_parts.specs.TakenOut.{HasJustBegun}
 use Rattle.exec_delay.specs.declared.opening.Opened.{Opened}
 
 -- whether a node with this in its home has begun something: it was parked before

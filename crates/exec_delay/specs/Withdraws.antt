@@ -12,8 +12,8 @@ use Rattle.table_steps.specs.Views.{Board}
 use Rattle.stop_calls.specs.declared.removing.Settled.{Settled}
 use Rattle.stop_calls.specs.declared.removing.Settled.TheVariants.{NeverRan, Ran, OwnHand}
 use Rattle.stop_calls.specs.Removals.{IsSettled}
-use Rattle.exec_start.specs.declared.entry.Entry.{Entry}
-use Rattle.exec_start.specs.declared.item.Item.{Item}
+use Rattle.home_items.specs.declared.entry.Entry.{Entry}
+use Rattle.home_items.specs.declared.item.Item.{Item}
 use Rattle.exec_delay.specs.Listens.{hears_one}
 
 -- whether a callback that was removed had run to its end

@@ -15,11 +15,11 @@ use crate::ending::end_delay;
 use crate::opening::{Opened, open_delay};
 use crate::stopping::stop_delay;
 use life_rules::Name;
-use node_steps::{Gate, Item, Next};
 use op_slot::{Hand, OpTable};
 use plan_shape::Plan;
 use std::alloc::Global;
 use std::sync::Wait;
+use step_parts::{Gate, Item, Next};
 
 /// Steps a `delay`, which the hand holds.
 ///

@@ -10,10 +10,10 @@ ghost use Rattle.exec_delay.specs.Begins.{MayBegin, BeginsWaiting};
 use crate::listening::listen;
 use crate::stopping::stop_delay;
 use life_rules::Name;
-use node_steps::{Env, Gate, Item, Next, leave_parked};
 use op_slot::{Hand, OpTable};
 use plan_shape::Plan;
 use std::sync::Wait;
+use step_parts::{Env, Gate, Item, Next, leave_parked};
 
 /// Listens to the source above the node, and parks the node. Where a stop is requested there, it
 /// completes stopped instead.

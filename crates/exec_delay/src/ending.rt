@@ -11,11 +11,11 @@ use crate::withdrawing::withdraw_callback;
 use exec_value::Completion;
 use life_rules::Name;
 use node_images::put_scheduled;
-use node_steps::{Env, Gate, Item, Next, Parcel, complete};
 use op_slot::{Hand, OpTable};
 use plan_shape::Plan;
 use std::alloc::Global;
 use std::sync::Wait;
+use step_parts::{Env, Gate, Item, Next, Parcel, complete};
 
 /// Removes the callback of the node, which was parked, and completes the node: stopped where the
 /// callback ran, and else with no data.

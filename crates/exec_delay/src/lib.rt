@@ -1,7 +1,7 @@
 //! The step of a `delay`, which completes after a number of turns of the loop, unless a stop
 //! request comes first ([stopcallback.inplace.cons]).
 //!
-//! It stands on node_steps, of whose calls the step is made, on stop_calls, whose callback it
+//! It stands on step_parts, of whose calls the step is made, on stop_calls, whose callback it
 //! registers and removes, and on node_images, which makes what it completes with. It keeps two
 //! promises: the step starts from where a step may, and ends as a step does, and what it delivers
 //! is allowed by the plan for the node's start; and a delay is left parked only once its callback

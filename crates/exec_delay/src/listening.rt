@@ -2,13 +2,13 @@
 ghost use Rattle.std.specs.Prelude.{◌≡◌};
 ghost use Rattle.table_steps.specs.Views.{IsHandOf, Stays};
 ghost use Rattle.stop_calls.specs.Armings.{is_asked};
-ghost use Rattle.node_steps.specs.Midway.{IsReady, KeepsReady};
-ghost use Rattle.node_steps.specs.TakenOut.{HasJustBegun};
+ghost use Rattle.step_parts.specs.Midway.{IsReady, KeepsReady};
+ghost use Rattle.step_parts.specs.TakenOut.{HasJustBegun};
 ghost use Rattle.exec_delay.specs.Listens.{Listens};
 
 use life_rules::Name;
-use node_steps::Item;
 use op_slot::{Hand, OpTable};
+use step_parts::Item;
 use stop_calls::{Armed, arm, source_above};
 
 // The look read a request.

@@ -9,9 +9,9 @@ ghost use Rattle.exec_delay.specs.Kinds.{IsDelay};
 ghost use Rattle.exec_delay.specs.Opens.{Opens};
 
 use life_rules::Name;
-use node_steps::{AtHome, Env, Item, take_own};
 use op_slot::{Hand, OpTable};
 use plan_shape::Plan;
+use step_parts::{AtHome, Env, Item, take_own};
 
 /// What a `delay` has at hand, once its home is emptied.
 #[derive(Drop)]

@@ -5,15 +5,15 @@ ghost use Rattle.node_tree.specs.Tree.{is_root};
 ghost use Rattle.table_steps.specs.Views.{IsHandOf, Stays};
 ghost use Rattle.exec_recv.specs.Nexts.{IsStepped};
 ghost use Rattle.exec_recv.specs.Over.{IsOver};
-ghost use Rattle.node_steps.specs.Completes.{IsCompleted};
+ghost use Rattle.step_parts.specs.Completes.{IsCompleted};
 ghost use Rattle.exec_delay.specs.Ends.{stopped_with, MayStop};
 
 use exec_value::Completion;
 use life_rules::Name;
-use node_steps::{Env, Gate, Item, Next, Parcel, complete};
 use op_slot::{Hand, OpTable};
 use plan_shape::Plan;
 use std::sync::Wait;
+use step_parts::{Env, Gate, Item, Next, Parcel, complete};
 
 /// Delivers stopped: a request was made before the operation was started, or was seen.
 pub(crate) fn stop_delay<G: Gate, R: Wait + Sync>(

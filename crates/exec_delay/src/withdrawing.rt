@@ -3,14 +3,14 @@ ghost use Rattle.std.specs.Prelude.{◌≡◌};
 ghost use Rattle.std.specs.Thread.{IsSync};
 ghost use Rattle.table_steps.specs.Callbacks.{is_registered};
 ghost use Rattle.table_steps.specs.Views.{IsHandOf, Stays};
-ghost use Rattle.node_steps.specs.Midway.{IsReady, KeepsReady};
+ghost use Rattle.step_parts.specs.Midway.{IsReady, KeepsReady};
 ghost use Rattle.exec_delay.specs.Withdraws.{did_run, Removes, Withdraws};
 
 use exec_recv::Point;
 use life_rules::{CallbackPhase, Name};
-use node_steps::{Gate, Item};
 use op_slot::{Hand, OpTable};
 use std::sync::Wait;
+use step_parts::{Gate, Item};
 use stop_calls::{Settled, source_above, withdraw};
 
 // The callback was registered, and wasn't removed.

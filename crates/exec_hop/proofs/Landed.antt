@@ -11,28 +11,28 @@ use Rattle.plan_rules.specs.Settle.{unless_asked}
 use Rattle.plan_shape.specs.Blueprint.{Blueprint}
 use Rattle.table_steps.specs.Views.{Board}
 use Rattle.table_steps.specs.Claims.{Seated}
-use Rattle.exec_start.specs.declared.entry.Entry.{Entry}
-use Rattle.exec_start.specs.declared.item.Item.{Item}
-use Rattle.exec_start.specs.declared.item.Item.TheVariants.{Rest, Done}
-use Rattle.exec_start.specs.Below.{run_below, asked_below}
-use Rattle.exec_start.specs.Bounds.{least_of}
-use Rattle.exec_start.specs.Entries.{asked_of}
-use Rattle.exec_start.specs.Parcels.{Delivery, MayDeliver}
+use Rattle.home_items.specs.declared.entry.Entry.{Entry}
+use Rattle.home_items.specs.declared.item.Item.{Item}
+use Rattle.home_items.specs.declared.item.Item.TheVariants.{Rest, Done}
+use Rattle.home_items.specs.Below.{run_below, asked_below}
+use Rattle.home_items.specs.Bounds.{least_of}
+use Rattle.home_items.specs.Entries.{asked_of}
+use Rattle.home_items.specs.Parcels.{Delivery, MayDeliver}
 use Rattle.start_laws.specs.Leaves.{IsLeaf, leaf_of, IsStoppable}
 use Rattle.start_laws.specs.Nodes.{IsStartOf, plain_children, image_of, MayHaveSeen}
 use Rattle.start_laws.proofs.Bounding.{few-begun}
 use Rattle.start_laws.proofs.ImageCases.{images-allowed}
 use Rattle.start_laws.proofs.LeafCases.{leaves-allowed, stops-allowed}
 use Rattle.start_laws.proofs.Pairs.{none-some, below-plain}
-use Rattle.node_steps.specs.Completes.{MayComplete}
-use Rattle.node_steps.specs.Heard.{MaySee}
-use Rattle.node_steps.specs.Midway.{Ready, KeepsReady}
-use Rattle.node_steps.specs.Starts.{RunsBelow, asked_for_child, MayRun}
-use Rattle.node_steps.proofs.Completed.{or-left, unheard-before}
-use Rattle.node_steps.proofs.Places.{inner-is}
-use Rattle.node_steps.proofs.Frames.{emptying-less}
-use Rattle.node_steps.proofs.Telling.{from-keeps}
-use Rattle.node_steps.proofs.Wanted.{bare-leaves}
+use Rattle.step_parts.specs.Completes.{MayComplete}
+use Rattle.step_parts.specs.Heard.{MaySee}
+use Rattle.step_parts.specs.Midway.{Ready, KeepsReady}
+use Rattle.step_parts.specs.Starts.{RunsBelow, asked_for_child, MayRun}
+use Rattle.step_parts.proofs.Completed.{or-left, unheard-before}
+use Rattle.step_parts.proofs.Places.{inner-is}
+use Rattle.step_parts.proofs.Frames.{emptying-less}
+use Rattle.step_parts.proofs.Telling.{from-keeps}
+use Rattle.step_parts.proofs.Wanted.{bare-leaves}
 use Rattle.exec_hop.specs.Ends.{stopped_with, passed, MayStop, MayHop, MayPass, MayLand, MayStart, HasStart}
 use Rattle.exec_hop.specs.Kinds.{hop_child}
 use Rattle.exec_hop.specs.Openings.{HasParcel}

@@ -9,28 +9,28 @@ use Rattle.plan_rules.specs.declared.node.Node.{Node}
 use Rattle.plan_shape.specs.Blueprint.{Blueprint}
 use Rattle.table_steps.specs.Views.{Board}
 use Rattle.table_steps.specs.Claims.{Seated}
-use Rattle.exec_start.specs.declared.entry.Entry.{Entry}
-use Rattle.exec_start.specs.declared.item.Item.{Item}
-use Rattle.exec_start.specs.declared.item.Item.TheVariants.{Rest, Done}
-use Rattle.exec_start.specs.Bounds.{least_of, least_at_rest}
-use Rattle.exec_start.specs.Fits.{IsItemOf}
-use Rattle.exec_start.specs.Items.{parcel_in, saw_in}
-use Rattle.exec_start.specs.Parcels.{Delivery, IsDelivery}
-use Rattle.exec_start.specs.Starts.{IsStart}
+use Rattle.home_items.specs.declared.entry.Entry.{Entry}
+use Rattle.home_items.specs.declared.item.Item.{Item}
+use Rattle.home_items.specs.declared.item.Item.TheVariants.{Rest, Done}
+use Rattle.home_items.specs.Bounds.{least_of, least_at_rest}
+use Rattle.home_items.specs.Fits.{IsItemOf}
+use Rattle.home_items.specs.Items.{parcel_in, saw_in}
+use Rattle.home_items.specs.Parcels.{Delivery, IsDelivery}
+use Rattle.home_items.specs.Starts.{IsStart}
 use Rattle.start_laws.specs.Nodes.{IsStartOf}
 use Rattle.start_laws.proofs.Knowing.{from-plain}
-use Rattle.node_steps.specs.declared.taken.AtHome.{AtHome}
-use Rattle.node_steps.specs.declared.taken.AtHome.TheVariants.{Start as Unbegun, Rest as Rested}
-use Rattle.node_steps.specs.declared.taken.TakenOut.{TakenOut}
-use Rattle.node_steps.specs.Heard.{MaySee}
-use Rattle.node_steps.specs.Midway.{Ready}
-use Rattle.node_steps.specs.TakenOut.{item_at, start_at, least_known, IsFoundBelow, TakesOut}
-use Rattle.node_steps.proofs.Frames.{emptying-less}
-use Rattle.node_steps.proofs.Telling.{found-done, kept-from}
+use Rattle.step_parts.specs.declared.taken.AtHome.{AtHome}
+use Rattle.step_parts.specs.declared.taken.AtHome.TheVariants.{Start as Unbegun, Rest as Rested}
+use Rattle.step_parts.specs.declared.taken.TakenOut.{TakenOut}
+use Rattle.step_parts.specs.Heard.{MaySee}
+use Rattle.step_parts.specs.Midway.{Ready}
+use Rattle.step_parts.specs.TakenOut.{item_at, start_at, least_known, IsFoundBelow, TakesOut}
+use Rattle.step_parts.proofs.Frames.{emptying-less}
+use Rattle.step_parts.proofs.Telling.{found-done, kept-from}
 use Rattle.exec_hop.specs.declared.opening.AtHand.{AtHand}
 use Rattle.exec_hop.specs.Kinds.{hop_child}
 use Rattle.exec_hop.specs.Openings.{item_of, HasParcel, Opens}
-use Rattle.node_steps.proofs.Places.{source-none, start-of}
+use Rattle.step_parts.proofs.Places.{source-none, start-of}
 use Rattle.exec_hop.proofs.Places.{Hopping, hop-plain, hop-runs, hop-keeps}
 
 -- The step of a node that hops or shelters was opened.

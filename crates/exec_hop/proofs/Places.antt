@@ -15,13 +15,13 @@ use Rattle.plan_shape.specs.PlanTree.{is_when_all, spawns}
 use Rattle.plan_shape.specs.PlanTree as plan_tree
 use Rattle.plan_kinds.specs.Runnable.{IsRunnable}
 use Rattle.table_steps.specs.Views.{Board}
-use Rattle.exec_start.specs.Bounds.{least_at_rest}
-use Rattle.exec_start.specs.Parcels.{Delivery}
+use Rattle.home_items.specs.Bounds.{least_at_rest}
+use Rattle.home_items.specs.Parcels.{Delivery}
 use Rattle.exec_recv.specs.Over.{IsOver}
 use Rattle.start_laws.specs.Nodes.{plain_children, image_of, AwaitsOne, MakesImage}
-use Rattle.node_steps.specs.TakenOut.{IsOnlyChild}
-use Rattle.node_steps.proofs.Only.{only-named}
-use Rattle.node_steps.proofs.Places.{node-shown}
+use Rattle.step_parts.specs.TakenOut.{IsOnlyChild}
+use Rattle.step_parts.proofs.Only.{only-named}
+use Rattle.step_parts.proofs.Places.{node-shown}
 use Rattle.exec_hop.specs.Kinds.{HopsOrShelters, hop_child, CanHop}
 
 hop-children : (node : Node) → HopsOrShelters node → (n : ℕ) → children_of n node ≡ option_to_list (hop_child node)

@@ -6,15 +6,15 @@ use Rattle.plan_rules.specs.declared.node.Node.{Node}
 use Rattle.plan_shape.specs.Blueprint.{Blueprint}
 use Rattle.table_steps.specs.Views.{Board}
 use Rattle.table_steps.specs.Claims.{Seated}
-use Rattle.exec_start.specs.declared.entry.Entry.{Entry}
-use Rattle.exec_start.specs.declared.item.Item.{Item}
-use Rattle.exec_start.specs.Entries.{asked_of}
-use Rattle.exec_start.specs.Parcels.{Delivery, MayDeliver}
+use Rattle.home_items.specs.declared.entry.Entry.{Entry}
+use Rattle.home_items.specs.declared.item.Item.{Item}
+use Rattle.home_items.specs.Entries.{asked_of}
+use Rattle.home_items.specs.Parcels.{Delivery, MayDeliver}
 use Rattle.start_laws.specs.Nodes.{IsStartOf}
-use Rattle.node_steps.specs.Completes.{MayComplete}
-use Rattle.node_steps.specs.Leaves.{MayLeave}
-use Rattle.node_steps.specs.Midway.{Ready}
-use Rattle.node_steps.specs.Starts.{MayRun}
+use Rattle.step_parts.specs.Completes.{MayComplete}
+use Rattle.step_parts.specs.Leaves.{MayLeave}
+use Rattle.step_parts.specs.Midway.{Ready}
+use Rattle.step_parts.specs.Starts.{MayRun}
 
 -- stopped, with this start
 abbrev pub stopped_with : List Entry → Bool → Delivery

@@ -13,13 +13,13 @@ use crate::hopping::hop;
 use crate::opening::{AtHand, open};
 use crate::stopping::{pass_unless_stopped, start_unless_stopped};
 use life_rules::Name;
-use node_steps::{Gate, Item, Next, hear};
 use node_tree::Context;
 use op_slot::{Hand, OpTable};
 use plan_rules::{Node, NodeId};
 use plan_shape::Plan;
 use std::alloc::Global;
 use std::sync::Wait;
+use step_parts::{Gate, Item, Next, hear};
 
 /// Steps a `continues_on`: it starts its child, hops when the child has completed, whatever with,
 /// and when it is taken there completes as the child did.

@@ -15,12 +15,12 @@ use crate::schedule::step_schedule;
 use crate::starts_on::step_starts_on;
 use crate::unstoppable::step_unstoppable;
 use life_rules::Name;
-use node_steps::{Gate, Item, Next};
 use op_slot::{Hand, OpTable};
 use plan_rules::Node;
 use plan_shape::Plan;
 use std::alloc::Global;
 use std::sync::Wait;
+use step_parts::{Gate, Item, Next};
 
 /// Steps a `schedule`, a `starts_on`, a `continues_on` or an `unstoppable`, which the hand holds.
 ///
@@ -31,9 +31,11 @@ use std::sync::Wait;
 /// Afterwards: Go names the node that the hand holds in place of this one, and may step next; else
 /// it holds none in its place. Each start that the hand owes can begin. A `schedule` or a
 /// `starts_on` that had begun nothing, and a `continues_on` whose child has completed, is ready in
-/// its context, or has completed stopped. Taken there, a `schedule` has completed, and so has a
-/// `continues_on`, as its child; a `starts_on` has started its child. Once the child of a
-/// `starts_on` or of an `unstoppable` has completed, the node has too.
+/// its context. Taken there each has read the source that it hears; then a `schedule` has
+/// completed, and so has a `continues_on`, as its child; a `starts_on` has started its child. Where
+/// a request was made before the operation was started, or the hop read one, it has completed
+/// stopped instead, and only there. Once the child of a `starts_on` or of an `unstoppable` has
+/// completed, the node has too.
 pub fn advance_hop<G: Gate, R: Wait + Sync>(
     rt: &R,
     alloc: Global,

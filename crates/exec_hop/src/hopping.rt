@@ -5,16 +5,18 @@ ghost use Rattle.node_tree.specs.Tree.{is_root};
 ghost use Rattle.table_steps.specs.Views.{IsHandOf, Stays};
 ghost use Rattle.exec_recv.specs.Nexts.{IsStepped};
 ghost use Rattle.exec_recv.specs.Over.{IsOver};
+ghost use Rattle.home_items.specs.Entries.{asked_of};
+ghost use Rattle.step_parts.specs.Leaves.{IsLeftIn};
 ghost use Rattle.exec_hop.specs.Ends.{MayHop};
-ghost use Rattle.exec_hop.specs.Hops.{LandsIn};
+ghost use Rattle.exec_hop.specs.Hops.{StopsOr};
 
 use crate::stopping::deliver_stopped;
 use life_rules::Name;
-use node_steps::{Env, Gate, Item, Next, Parcel, leave_at_rest};
 use node_tree::Context;
 use op_slot::{Hand, OpTable};
 use plan_shape::Plan;
 use std::sync::Wait;
+use step_parts::{Env, Gate, Item, Next, Parcel, leave_at_rest};
 
 /// Leaves the node ready in the context, with what it keeps of its child. Where a request was made
 /// before the operation was started, it completes stopped.
@@ -35,7 +37,8 @@ pub(crate) fn hop<G: Gate, R: Wait + Sync>(
     requires inner { is_root table.now.frame.tree name.node ≡ false }
     requires may { MayHop table.now name env kept hand.old.me }
     ensures stays { Stays table.now hand.old hand.new }
-    ensures lands { LandsIn table.now name on kept result hand.new.me }
+    ensures lands { StopsOr table.now name (asked_of env) result hand.new.me
+        (IsLeftIn table.now name on kept result hand.new.me) }
     ensures stepped { IsStepped table.now name hand.old.me hand.new.me result }
 {
     if env.asked() {

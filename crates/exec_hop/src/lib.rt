@@ -1,7 +1,7 @@
 //! The steps of hops into a context, and of nodes that shelter their child from stop requests
 //! ([exec.schedule], [exec.starts.on], [exec.continues.on], [exec.unstoppable]).
 //!
-//! It stands on node_steps, of whose calls each step is made, on node_images, which makes what a
+//! It stands on step_parts, of whose calls each step is made, on node_images, which makes what a
 //! `schedule` completes with, and on the laws of start_laws. It keeps two promises: a step of these
 //! nodes starts from where a step may, and ends as a step does, and what it delivers is allowed by
 //! the plan for the node's start; and a hop is left ready in the context that the plan says, or

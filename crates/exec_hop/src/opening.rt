@@ -9,10 +9,10 @@ ghost use Rattle.exec_hop.specs.Kinds.{HopsOrShelters, hop_child};
 ghost use Rattle.exec_hop.specs.Openings.{Opens};
 
 use life_rules::Name;
-use node_steps::{AtHome, Env, Item, Parcel, TakenOut, take_out};
 use op_slot::{Hand, OpTable};
 use plan_rules::{Node, NodeId};
 use plan_shape::Plan;
+use step_parts::{AtHome, Env, Item, Parcel, TakenOut, take_out};
 
 /// What a step has at hand, once the homes are emptied.
 #[derive(Drop)]

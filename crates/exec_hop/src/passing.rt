@@ -5,14 +5,14 @@ ghost use Rattle.node_tree.specs.Tree.{is_root};
 ghost use Rattle.table_steps.specs.Views.{IsHandOf, Stays};
 ghost use Rattle.exec_recv.specs.Nexts.{IsStepped};
 ghost use Rattle.exec_recv.specs.Over.{IsOver};
-ghost use Rattle.node_steps.specs.Completes.{CompletesWith};
+ghost use Rattle.step_parts.specs.Completes.{CompletesWith};
 ghost use Rattle.exec_hop.specs.Ends.{MayPass};
 
 use life_rules::Name;
-use node_steps::{Env, Gate, Item, Next, Parcel, complete};
 use op_slot::{Hand, OpTable};
 use plan_shape::Plan;
 use std::sync::Wait;
+use step_parts::{Env, Gate, Item, Next, Parcel, complete};
 
 /// Completes the node with what its child completed with.
 pub(crate) fn pass_on<G: Gate, R: Wait + Sync>(

@@ -8,8 +8,9 @@ ghost use Rattle.exec_recv.specs.Over.{IsOver};
 ghost use Rattle.exec_recv.specs.Beginnings.{AllCanStart};
 ghost use Rattle.exec_recv.specs.Steppable.{CanStep};
 ghost use Rattle.exec_recv.specs.Nexts.{IsStepped};
+ghost use Rattle.step_parts.specs.Completes.{CompletesWith};
 ghost use Rattle.exec_hop.specs.Ends.{HasStart};
-ghost use Rattle.exec_hop.specs.Hops.{HopsAs, EndsWith};
+ghost use Rattle.exec_hop.specs.Hops.{HopsAs, LooksAndStopsOr};
 
 use crate::hopping::hop;
 use crate::opening::{AtHand, open};
@@ -17,13 +18,13 @@ use crate::stopping::either;
 use exec_value::Completion;
 use life_rules::Name;
 use node_images::put_scheduled;
-use node_steps::{Env, Gate, Item, Next, Parcel, complete, hear};
 use node_tree::Context;
 use op_slot::{Hand, OpTable};
 use plan_rules::Node;
 use plan_shape::Plan;
 use std::alloc::Global;
 use std::sync::Wait;
+use step_parts::{Env, Gate, Item, Next, Parcel, complete, hear};
 
 // Completes the node, which was taken in its context: with no data, or stopped where a request was
 // made.
@@ -46,7 +47,8 @@ fn finish<G: Gate, R: Wait + Sync>(
     requires is { node.now ≡ Node.Schedule on }
     requires has { HasStart table.now name env node.now hand.old.me }
     ensures stays { Stays table.now hand.old hand.new }
-    ensures ends { EndsWith table.now name (Completion.Value []) result hand.new.me }
+    ensures ends { LooksAndStopsOr table.now name env result hand.old.me hand.new.me
+        (CompletesWith table.now name (Completion.Value []) result hand.new.me) }
     ensures stepped { IsStepped table.now name hand.old.me hand.new.me result }
 {
     let _ = node;

@@ -12,15 +12,15 @@ ghost use Rattle.exec_hop.specs.Hops.{HopsAs};
 use crate::opening::{AtHand, open};
 use crate::passing::pass_on;
 use life_rules::Name;
-use node_steps::{Gate, Item, Next, start_unbegun_child};
 use op_slot::{Hand, OpTable};
 use plan_rules::{Node, NodeId};
 use plan_shape::Plan;
 use std::alloc::Global;
 use std::sync::Wait;
+use step_parts::{Gate, Item, Next, start_unbegun_child};
 
-/// Steps an `unstoppable`: it starts its child as if no request was made, and completes as the child
-/// does.
+/// Steps an `unstoppable`: it starts its child as if no request was made, and completes as the
+/// child does.
 pub(crate) fn step_unstoppable<G: Gate, R: Wait + Sync>(
     rt: &R,
     alloc: Global,

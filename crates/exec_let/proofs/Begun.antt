@@ -20,14 +20,14 @@ use Rattle.table_steps.specs.Claims.{Seated}
 use Rattle.table_steps.specs.Readings.{HoldsAbove, IsBegunAs}
 use Rattle.table_steps.specs.Slots.{has_seen}
 use Rattle.node_images.specs.Picks.{picked_body}
-use Rattle.exec_start.specs.declared.entry.Entry.{Entry}
-use Rattle.exec_start.specs.declared.item.Item.{Item}
-use Rattle.exec_start.specs.declared.item.Item.TheVariants.{Rest}
-use Rattle.exec_start.specs.Bounds.{least_of}
-use Rattle.exec_start.specs.Entries.{plan_of, node_of, record_number, whole_row, asked_of, start_below}
-use Rattle.exec_start.specs.Parcels.{Delivery}
-use Rattle.exec_start.specs.Starts.{NeedsNoRequest, BeginsBelow}
-use Rattle.exec_start.proofs.KindsBelow.{body-among}
+use Rattle.home_items.specs.declared.entry.Entry.{Entry}
+use Rattle.home_items.specs.declared.item.Item.{Item}
+use Rattle.home_items.specs.declared.item.Item.TheVariants.{Rest}
+use Rattle.home_items.specs.Bounds.{least_of}
+use Rattle.home_items.specs.Entries.{plan_of, node_of, record_number, whole_row, asked_of, start_below}
+use Rattle.home_items.specs.Parcels.{Delivery}
+use Rattle.home_items.specs.Starts.{NeedsNoRequest, BeginsBelow}
+use Rattle.home_items.proofs.KindsBelow.{body-among}
 use Rattle.exec_recv.specs.Over.{IsOver}
 use Rattle.exec_recv.proofs.Fitting.{sees-more}
 use Rattle.start_laws.specs.Laws.{MayBegin}
@@ -36,15 +36,15 @@ use Rattle.start_laws.specs.Nodes.{JobTakes}
 use Rattle.start_laws.proofs.Bodies.{bodies-begin, picked-number}
 use Rattle.start_laws.proofs.Bounding.{few-begun}
 use Rattle.start_laws.proofs.Operands.{jobs-take}
-use Rattle.node_steps.specs.Heard.{TellsRequest}
-use Rattle.node_steps.specs.Leaves.{MayLeave}
-use Rattle.node_steps.specs.Midway.{KeepsReady}
-use Rattle.node_steps.specs.Starts.{MayAwait}
-use Rattle.node_steps.proofs.Completed.{unheard-before}
-use Rattle.node_steps.proofs.Places.{seen-below}
-use Rattle.node_steps.proofs.Reading.{child-above, child-place, begun-keeps, idle-keeps, idle-known}
-use Rattle.node_steps.proofs.Frames.{emptying-less}
-use Rattle.node_steps.proofs.Telling.{from-keeps}
+use Rattle.step_parts.specs.Heard.{TellsRequest}
+use Rattle.step_parts.specs.Leaves.{MayLeave}
+use Rattle.step_parts.specs.Midway.{KeepsReady}
+use Rattle.step_parts.specs.Starts.{MayAwait}
+use Rattle.step_parts.proofs.Completed.{unheard-before}
+use Rattle.step_parts.proofs.Places.{seen-below}
+use Rattle.step_parts.proofs.Reading.{child-above, child-place, begun-keeps, idle-keeps, idle-known}
+use Rattle.step_parts.proofs.Frames.{emptying-less}
+use Rattle.step_parts.proofs.Telling.{from-keeps}
 use Rattle.exec_let.specs.Ends.{MayPick, Picks}
 use Rattle.exec_let.proofs.Places.{Letting, let-plain, let-awaits, some-bodies, let-source, stoppable, body-below}
 use Rattle.exec_let.proofs.Reading.{look-hears}

@@ -13,14 +13,14 @@ use Rattle.table_steps.specs.Views.{Board}
 use Rattle.table_steps.specs.Claims.{Seated}
 use Rattle.table_steps.specs.Slots.{held_at}
 use Rattle.op_slot.specs.Tends.{put_at}
-use Rattle.exec_start.specs.declared.entry.Entry.{Entry}
-use Rattle.exec_start.specs.declared.item.Item.{Item}
-use Rattle.exec_start.specs.declared.item.Item.TheVariants.{Done}
-use Rattle.exec_start.specs.Parcels.{Delivery}
-use Rattle.node_steps.specs.Heard.{has_heard}
-use Rattle.node_steps.specs.Midway.{Emptying}
-use Rattle.node_steps.specs.TakenOut.{IsFoundBelow, TakesBelow, IsEmptying}
-use Rattle.node_steps.proofs.Frames.{others-here, others-on}
+use Rattle.home_items.specs.declared.entry.Entry.{Entry}
+use Rattle.home_items.specs.declared.item.Item.{Item}
+use Rattle.home_items.specs.declared.item.Item.TheVariants.{Done}
+use Rattle.home_items.specs.Parcels.{Delivery}
+use Rattle.step_parts.specs.Heard.{has_heard}
+use Rattle.step_parts.specs.Midway.{Emptying}
+use Rattle.step_parts.specs.TakenOut.{IsFoundBelow, TakesBelow, IsEmptying}
+use Rattle.step_parts.proofs.Frames.{others-here, others-on}
 use Rattle.exec_let.specs.Openings.{first_of, Emptied, IsOfBody, TakesBodies}
 
 none-some : {G : Type 0} (item : Item) → None ≡ Some item → G

@@ -26,27 +26,27 @@ use Rattle.plan_kinds.specs.Runnable.{IsRunnable}
 use Rattle.table_steps.specs.Views.{Board}
 use Rattle.table_steps.specs.Claims.{Seated}
 use Rattle.node_images.specs.Picks.{picked_body}
-use Rattle.exec_start.specs.declared.entry.Entry.{Entry}
-use Rattle.exec_start.specs.declared.item.Item.{Item}
-use Rattle.exec_start.specs.declared.item.Item.TheVariants.{Rest, Done}
-use Rattle.exec_start.specs.Below.{run_below, asked_below}
-use Rattle.exec_start.specs.Bounds.{least_of}
-use Rattle.exec_start.specs.Entries.{plan_of, asked_of}
-use Rattle.exec_start.specs.Fits.{IsChildOf}
-use Rattle.exec_start.specs.Parcels.{Delivery, MayDeliver}
-use Rattle.exec_start.specs.Starts.{IsStart}
+use Rattle.home_items.specs.declared.entry.Entry.{Entry}
+use Rattle.home_items.specs.declared.item.Item.{Item}
+use Rattle.home_items.specs.declared.item.Item.TheVariants.{Rest, Done}
+use Rattle.home_items.specs.Below.{run_below, asked_below}
+use Rattle.home_items.specs.Bounds.{least_of}
+use Rattle.home_items.specs.Entries.{plan_of, asked_of}
+use Rattle.home_items.specs.Fits.{IsChildOf}
+use Rattle.home_items.specs.Parcels.{Delivery, MayDeliver}
+use Rattle.home_items.specs.Starts.{IsStart}
 use Rattle.start_laws.specs.Lets.{channel_of, pick_of}
 use Rattle.start_laws.specs.Nodes.{IsStartOf, image_of, PicksNone, MakesImage, MayHaveSeen}
 use Rattle.start_laws.proofs.Bodies.{bodies-allowed}
 use Rattle.start_laws.proofs.Bounding.{few-begun}
 use Rattle.start_laws.proofs.ImageCases.{images-allowed}
 use Rattle.start_laws.proofs.Pairs.{none-some, below-plain}
-use Rattle.node_steps.specs.Heard.{has_heard, MaySee, TellsRequest}
-use Rattle.node_steps.proofs.Asked.{look-sees}
-use Rattle.node_steps.specs.Midway.{Ready, KeepsReady}
-use Rattle.node_steps.specs.Starts.{RunsBelow, asked_for_child, MayRun}
-use Rattle.node_steps.proofs.Completed.{unheard-before}
-use Rattle.node_steps.proofs.Frames.{emptying-less}
+use Rattle.step_parts.specs.Heard.{has_heard, MaySee, TellsRequest}
+use Rattle.step_parts.proofs.Asked.{look-sees}
+use Rattle.step_parts.specs.Midway.{Ready, KeepsReady}
+use Rattle.step_parts.specs.Starts.{RunsBelow, asked_for_child, MayRun}
+use Rattle.step_parts.proofs.Completed.{unheard-before}
+use Rattle.step_parts.proofs.Frames.{emptying-less}
 use Rattle.exec_let.specs.Ends.{ends_with, MayEnd, MayPick}
 use Rattle.exec_let.specs.Kinds.{IsLet, let_child, is_small}
 use Rattle.exec_let.specs.Openings.{HasBody}

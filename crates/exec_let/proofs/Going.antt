@@ -14,13 +14,13 @@ use Rattle.plan_kinds.specs.Runs.{bodies_of}
 use Rattle.table_steps.specs.Views.{Board}
 use Rattle.table_steps.specs.Claims.{Seated}
 use Rattle.node_images.specs.Picks.{picked_body}
-use Rattle.exec_start.specs.declared.entry.Entry.{Entry}
-use Rattle.exec_start.specs.declared.item.Item.{Item}
-use Rattle.exec_start.specs.Parcels.{Delivery}
+use Rattle.home_items.specs.declared.entry.Entry.{Entry}
+use Rattle.home_items.specs.declared.item.Item.{Item}
+use Rattle.home_items.specs.Parcels.{Delivery}
 use Rattle.start_laws.specs.Lets.{channel_of, pick_of}
 use Rattle.exec_recv.specs.declared.next.Next.{Next}
-use Rattle.node_steps.specs.Completes.{CompletesWith}
-use Rattle.node_steps.specs.Starts.{StartsOne}
+use Rattle.step_parts.specs.Completes.{CompletesWith}
+use Rattle.step_parts.specs.Starts.{StartsOne}
 use Rattle.exec_let.specs.declared.opening.AtHand.{AtHand}
 use Rattle.exec_let.specs.Ends.{Picks}
 use Rattle.exec_let.specs.Kinds.{let_child}

@@ -22,12 +22,12 @@ use Rattle.plan_kinds.specs.TreeLaws.{ShowsNode}
 use Rattle.plan_kinds.proofs.Placing.{no-member, child-no_body, run-named, body-named, named-cases}
 use Rattle.plan_kinds.proofs.Plans.{plans-built}
 use Rattle.table_steps.specs.Views.{Board}
-use Rattle.exec_start.specs.Bounds.{least_at_rest}
-use Rattle.exec_start.specs.Parcels.{Delivery}
+use Rattle.home_items.specs.Bounds.{least_at_rest}
+use Rattle.home_items.specs.Parcels.{Delivery}
 use Rattle.exec_recv.specs.Over.{IsOver}
 use Rattle.start_laws.specs.Nodes.{plain_children, AwaitsOne}
 use Rattle.start_laws.proofs.Pairs.{sole}
-use Rattle.node_steps.proofs.Places.{node-shown, source-none}
+use Rattle.step_parts.proofs.Places.{node-shown, source-none}
 use Rattle.exec_let.specs.Kinds.{IsLet, let_child}
 
 pub let-plain : (node : Node) → IsLet node → is_when_all node ≡ false

@@ -12,10 +12,10 @@ use Rattle.table_rules.specs.declared.view.Held.{Held}
 use Rattle.table_rules.specs.ShownViews.{has_source_ref}
 use Rattle.table_steps.specs.Views.{Board}
 use Rattle.table_steps.specs.Claims.{Seated}
-use Rattle.exec_start.specs.declared.entry.Entry.{Entry}
-use Rattle.exec_start.specs.declared.item.Item.{Item}
-use Rattle.node_steps.specs.Heard.{was_told, has_heard, TellsRequest}
-use Rattle.node_steps.specs.Midway.{Ready}
+use Rattle.home_items.specs.declared.entry.Entry.{Entry}
+use Rattle.home_items.specs.declared.item.Item.{Item}
+use Rattle.step_parts.specs.Heard.{was_told, has_heard, TellsRequest}
+use Rattle.step_parts.specs.Midway.{Ready}
 
 -- where it reads no request, the hand has heard of none
 pub look-hears : (board : Board Blueprint) (x : Name) (start : List Entry) (least : ℕ) (m : Seated Item Entry) → Ready board x start least m →

@@ -10,12 +10,12 @@ use Rattle.plan_kinds.specs.Runs.{bodies_of}
 use Rattle.table_steps.specs.Views.{Board}
 use Rattle.table_steps.specs.Claims.{Seated}
 use Rattle.node_images.specs.Picks.{picked_body}
-use Rattle.exec_start.specs.declared.entry.Entry.{Entry}
-use Rattle.exec_start.specs.declared.item.Item.{Item}
-use Rattle.exec_start.specs.Parcels.{Delivery, MayDeliver}
+use Rattle.home_items.specs.declared.entry.Entry.{Entry}
+use Rattle.home_items.specs.declared.item.Item.{Item}
+use Rattle.home_items.specs.Parcels.{Delivery, MayDeliver}
 use Rattle.start_laws.specs.Lets.{channel_of, pick_of}
 use Rattle.start_laws.specs.Nodes.{IsStartOf}
-use Rattle.node_steps.specs.Completes.{MayComplete}
+use Rattle.step_parts.specs.Completes.{MayComplete}
 use Rattle.exec_let.specs.Kinds.{IsLet}
 use Rattle.exec_let.specs.Openings.{HasParcel}
 

@@ -17,23 +17,24 @@ use Rattle.table_steps.specs.Claims.{Seated}
 use Rattle.table_steps.specs.Readings.{IsBegunAs}
 use Rattle.table_steps.specs.Takes.{resting_in}
 use Rattle.node_images.specs.Picks.{picked_body}
-use Rattle.exec_start.specs.declared.entry.Entry.{Entry}
-use Rattle.exec_start.specs.declared.item.Item.{Item}
-use Rattle.exec_start.specs.declared.item.Item.TheVariants.{Done}
-use Rattle.exec_start.specs.Entries.{asked_of, start_below}
-use Rattle.exec_start.specs.Parcels.{Delivery}
+use Rattle.home_items.specs.declared.entry.Entry.{Entry}
+use Rattle.home_items.specs.declared.item.Item.{Item}
+use Rattle.home_items.specs.declared.item.Item.TheVariants.{Done}
+use Rattle.home_items.specs.Entries.{asked_of, start_below}
+use Rattle.home_items.specs.Parcels.{Delivery}
 use Rattle.start_laws.specs.Lets.{channel_of, pick_of}
 use Rattle.exec_recv.specs.declared.next.Next.{Next}
 use Rattle.exec_recv.specs.declared.next.Next.TheVariants.{Go, Ready}
 use Rattle.exec_recv.specs.Steppable.{CanStep}
-use Rattle.node_steps.specs.Completes.{CompletesWith}
-use Rattle.node_steps.specs.Leaves.{IsLeftAt, IsLeftIn}
-use Rattle.node_steps.specs.Starts.{IsAwaiting, StartsOne}
-use Rattle.node_steps.specs.TakenOut.{newest_in}
+use Rattle.step_parts.specs.Completes.{CompletesWith}
+use Rattle.step_parts.specs.Leaves.{IsLeftAt, IsLeftIn}
+use Rattle.step_parts.specs.Starts.{IsAwaiting, StartsOne}
+use Rattle.step_parts.specs.TakenOut.{newest_in}
 use Rattle.exec_let.specs.Kinds.{let_child, is_small}
 
 module _ (board : Board Blueprint) (x : Name) (next : Next) (m' : Seated Item Entry) where
-  -- x awaits this body, which began with these data as its arguments, and with which the hand goes on
+  -- x awaits this body, which began with these data as its arguments, and with which the hand goes
+  -- on
   pub record Awaits (body : ℕ) (values : List Datum) : Type 0 where
     pub next_is : next ≡ Go (beside x body)
     pub start : List Entry
@@ -81,8 +82,8 @@ module _ (board : Board Blueprint) (x : Name) (next : Next) (m' : Seated Item En
   GoesOn node parcel = ByData node (channel_of node parcel.completion) parcel
 
 module _ (board : Board Blueprint) (x : Name) (m : Seated Item Entry) (node : Node) where
-  -- The child had completed with this parcel, which lay in its home, or was kept; and no body's home
-  -- was full.
+  -- The child had completed with this parcel, which lay in its home, or was kept; and no body's
+  -- home was full.
   pub record ChildIsDone (can : CanStep board x m) (parcel : Delivery) : Type 0 where
     pub done : newest_in (can.kid (let_child node)) can.item ≡ Some parcel
     pub alone : All (λ n. can.kid n ≡ None) (bodies_of node)
@@ -100,8 +101,8 @@ module _ (board : Board Blueprint) (x : Name) (m : Seated Item Entry) (node : No
     pub alone : (n : ℕ) (item : Item) → Contains (bodies_of node) n → can.kid n ≡ Some item →
         n ≡ body
 
-  -- First the let starts its child. Where the child has completed it goes on by that, and where a body
-  -- has it completes as the body.
+  -- First the let starts its child. Where the child has completed it goes on by that, and where a
+  -- body has it completes as the body.
   pub record LetsAs (next : Next) (m' : Seated Item Entry) : Type 0 where
     pub begins : (can : CanStep board x m) → NoneIsDone can →
         StartsOne board x (let_child node) next m m'

@@ -10,11 +10,11 @@ ghost use Rattle.exec_let.specs.Lets.{Awaits, FindsBegun};
 
 use exec_value::Data;
 use life_rules::Name;
-use node_steps::{Env, Item, Next, Parcel, await_child, hear, leave_at_rest};
 use node_tree::Context;
 use op_slot::{Hand, OpTable};
 use plan_rules::{Node, NodeId};
 use plan_shape::Plan;
+use step_parts::{Env, Item, Next, Parcel, await_child, hear, leave_at_rest};
 
 // The row of a start that is no part of a bulk.
 fn no_row<'a>() -> &'a [i64]

@@ -2,13 +2,13 @@
 ghost use Rattle.std.specs.Prelude.{◌≡◌, true, All};
 ghost use Rattle.node_tree.specs.Tree.{is_child};
 ghost use Rattle.table_steps.specs.Views.{IsHandOf, Stays};
-ghost use Rattle.node_steps.specs.TakenOut.{IsEmptying};
+ghost use Rattle.step_parts.specs.TakenOut.{IsEmptying};
 ghost use Rattle.exec_let.specs.Openings.{first_of, TakesBodies};
 
 use life_rules::Name;
-use node_steps::{Item, Parcel, take_below};
 use op_slot::{Hand, OpTable};
 use plan_rules::NodeId;
+use step_parts::{Item, Parcel, take_below};
 
 /// The one parcel, where there is one, else the other.
 pub(crate) fn first_of(one: Option<Parcel>, other: Option<Parcel>) -> Option<Parcel>

@@ -41,8 +41,8 @@ fn copy_stopped(alloc: Global, done: &Completion) -> Option<Data>
     }
 }
 
-/// A copy of the data that the completion has on the let's channel; none where it is on another. Data
-/// that stand in place want no memory.
+/// A copy of the data that the completion has on the let's channel; none where it is on another.
+/// Data that stand in place want no memory.
 pub(crate) fn copy_channel(
     alloc: Global,
     node: &Node,

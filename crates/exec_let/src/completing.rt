@@ -5,7 +5,7 @@ ghost use Rattle.node_tree.specs.Tree.{is_root};
 ghost use Rattle.table_steps.specs.Views.{IsHandOf, Stays};
 ghost use Rattle.exec_recv.specs.Nexts.{IsStepped};
 ghost use Rattle.exec_recv.specs.Over.{IsOver};
-ghost use Rattle.node_steps.specs.Completes.{CompletesWith};
+ghost use Rattle.step_parts.specs.Completes.{CompletesWith};
 ghost use Rattle.exec_let.specs.Ends.{MayEnd, MayPick};
 ghost use Rattle.exec_let.specs.Openings.{HasBody};
 ghost use Rattle.start_laws.specs.Nodes.{IsStartOf};
@@ -15,12 +15,12 @@ ghost use Rattle.exec_let.specs.Lets.{Defers};
 use crate::channel::is_small;
 use exec_value::Completion;
 use life_rules::Name;
-use node_steps::{Env, Gate, Item, Next, Parcel, complete, deliver_no_memory, hear, leave_at_rest};
 use node_tree::Context;
 use op_slot::{Hand, OpTable};
 use plan_rules::Node;
 use plan_shape::Plan;
 use std::sync::Wait;
+use step_parts::{Env, Gate, Item, Next, Parcel, complete, deliver_no_memory, hear, leave_at_rest};
 
 /// Completes the let with this.
 pub(crate) fn end_with<G: Gate, R: Wait + Sync>(

@@ -15,12 +15,12 @@ use crate::opening::{AtHand, open};
 use crate::parts::let_child;
 use crate::picking::go_on;
 use life_rules::Name;
-use node_steps::{Gate, Item, Next, start_unbegun_child};
 use op_slot::{Hand, OpTable};
 use plan_rules::Node;
 use plan_shape::Plan;
 use std::alloc::Global;
 use std::sync::Wait;
+use step_parts::{Gate, Item, Next, start_unbegun_child};
 
 // Steps this let: by the body that has completed, else by its child, which else is started.
 fn step_let<G: Gate, R: Wait + Sync>(

@@ -1,6 +1,6 @@
 //! The steps of `let_value`, `let_error` and `let_stopped` ([exec.let]).
 //!
-//! It stands on node_steps, of whose calls each step is made, on node_images, which picks the body,
+//! It stands on step_parts, of whose calls each step is made, on node_images, which picks the body,
 //! and on the laws of start_laws. It keeps two promises: a step of a let starts from where a step
 //! may, and ends as a step does, so what it delivers is allowed by the plan for the let's start;
 //! and the body that the pick names for what the child completed with, and no other, begins, with

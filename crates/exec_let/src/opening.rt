@@ -11,10 +11,10 @@ ghost use Rattle.exec_let.specs.Openings.{Opens};
 use crate::bodies::{first_of, take_bodies};
 use crate::parts::{let_bodies, let_child};
 use life_rules::Name;
-use node_steps::{AtHome, Env, Item, Parcel, take_below, take_own};
 use op_slot::{Hand, OpTable};
 use plan_rules::Node;
 use plan_shape::Plan;
+use step_parts::{AtHome, Env, Item, Parcel, take_below, take_own};
 
 /// What a let's step has at hand, once the homes are emptied.
 #[derive(Drop)]

@@ -18,12 +18,12 @@ use exec_recv::Point;
 use exec_value::{Completion, Data};
 use life_rules::Name;
 use node_images::pick_body;
-use node_steps::{Env, Gate, Item, Next, Parcel};
 use op_slot::{Hand, OpTable};
 use plan_rules::Node;
 use plan_shape::Plan;
 use std::alloc::{AllocError, Global};
 use std::sync::Wait;
+use step_parts::{Env, Gate, Item, Next, Parcel};
 
 // The child has these data for the let: the pick, which is applied past the gate, names the body
 // that begins with them; or it answers what the let completes with.

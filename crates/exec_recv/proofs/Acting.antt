@@ -1,14 +1,19 @@
 -- Lists of steps in which each callback acts that begins to run there.
-use Rattle.std.proofs.Common.{◌≡◌, ◌⊎◌, inl, inr, List, [], ◌∷◌, ◌++◌, append_assoc, refl, sym, ap, ◌∙◌, subst}
+use Rattle.std.proofs.Common.{◌≡◌, ◌⊎◌, inl, inr, ℕ, List, [], ◌∷◌, ◌++◌, append_assoc, refl, sym, ap, ◌∙◌, subst}
 use Rattle.std.proofs.lemmas.List.Elements.{Contains-append_left, Contains-append_right}
 use Rattle.life_rules.specs.declared.event.Name.{Name}
-use Rattle.listed_steps.specs.declared.seen.Seen.{Seen}
+use Rattle.life_rules.specs.declared.event.SourceRef.{SourceRef}
+use Rattle.life_rules.specs.declared.event.SourceRef.TheVariants.{Scope, Node}
+use Rattle.listed_words.specs.declared.seen.Seen.{Seen}
+use Rattle.listed_words.specs.Lists.{entry}
 use Rattle.plan_shape.specs.Blueprint.{Blueprint}
+use Rattle.table_words.specs.Layouts.{Spot, TheScope, TheScopeSource, OfBlock, OfControl, OfCallback, OfSource, IsSpot, index}
 use Rattle.table_rules.specs.Named.{Each}
 use Rattle.table_steps.specs.Views.{Board}
 use Rattle.table_steps.specs.Claims.{Seated}
-use Rattle.exec_start.specs.declared.entry.Entry.{Entry}
-use Rattle.exec_start.specs.declared.item.Item.{Item}
+use Rattle.home_items.specs.declared.entry.Entry.{Entry}
+use Rattle.home_items.specs.declared.item.Item.{Item}
+use Rattle.exec_recv.specs.Areas.{IsOfBlock, IsOfAny, IsWithin}
 use Rattle.exec_recv.specs.Actions.{BeginsRun, HasActed, AllAct, ListsActions}
 
 module _ {A : Type 0} where
@@ -45,25 +50,63 @@ module _ (board : Board Blueprint) where
   abbrev pub BeginsNone : Seen → Type 0
   BeginsNone step = (y : Name) → BeginsRun board y step → ⊥
 
-  -- the list grew by steps that begin no run
-  pub record AddsOthers (l l' : List Seen) : Type 0 where
-    pub made : List Seen
-    pub is : l' ≡ made ++ l
-    pub others : Each BeginsNone made
+  -- the list grew by steps that begin no run, and that a scan of the source may make
+  module _ (source : SourceRef) where
+    pub record AddsOthers (l l' : List Seen) : Type 0 where
+      pub made : List Seen
+      pub is : l' ≡ made ++ l
+      pub others : Each BeginsNone made
+      pub within : Each (IsWithin board source) made
 
-  pub others-here : (l l' : List Seen) → l' ≡ l → AddsOthers l l'
-  others-here l l' is = record { made = []; is = is; others = tt }
+    pub others-here : (l l' : List Seen) → l' ≡ l → AddsOthers l l'
+    others-here l l' is = record { made = []; is = is; others = tt; within = tt }
 
-  pub others-one : (step : Seen) (l l' : List Seen) → l' ≡ step ∷ l → BeginsNone step → AddsOthers l l'
-  others-one step l l' is none = record { made = step ∷ []; is = is; others = (none, tt) }
+    pub others-one : (step : Seen) (l l' : List Seen) → l' ≡ step ∷ l → BeginsNone step → IsWithin board source step → AddsOthers l l'
+    others-one step l l' is none within = record { made = step ∷ []; is = is; others = (none, tt); within = (within, tt) }
 
-  pub others-on : (a b c : List Seen) → AddsOthers a b → AddsOthers b c → AddsOthers a c
-  others-on a b c first second =
-      record {
-        made = second.made ++ first.made;
-        is = second.is ∙ ap (λ (l : List Seen). second.made ++ l) first.is ∙ sym (append_assoc second.made first.made a);
-        others = each-both BeginsNone second.made first.made second.others first.others;
-      }
+    pub others-on : (a b c : List Seen) → AddsOthers a b → AddsOthers b c → AddsOthers a c
+    others-on a b c first second =
+        record {
+          made = second.made ++ first.made;
+          is = second.is ∙ ap (λ (l : List Seen). second.made ++ l) first.is ∙ sym (append_assoc second.made first.made a);
+          others = each-both BeginsNone second.made first.made second.others first.others;
+          within = each-both (IsWithin board source) second.made first.made second.within first.within;
+        }
+
+  -- a step on a word of a place of the block of x
+  pub place-within : (x : Name) (spot : Spot) → IsSpot board.frame.layout spot → IsOfBlock x.block spot → (read left : ℕ) →
+      IsWithin board (Node x) (entry (index board.frame.layout spot) read left)
+  place-within x spot is of read left = inr (record { spot = spot; is = is; may = of; index_is = refl })
+
+  -- the scan of this source may come to x
+  abbrev pub MayReach : SourceRef → Name → Type 0
+  MayReach Scope x = Unit {0}
+  MayReach (Node y) x = x.block ≡ y.block
+
+  any-block : (block : ℕ) (spot : Spot) → IsOfBlock block spot → IsOfAny spot
+  any-block block TheScope of = absurd of
+  any-block block TheScopeSource of = absurd of
+  any-block block (OfBlock b) of = absurd of
+  any-block block (OfControl b n) of = tt
+  any-block block (OfCallback b n) of = tt
+  any-block block (OfSource b n) of = tt
+
+  -- so what may move in the block of x may move in that scan
+  pub within-more : (source : SourceRef) (x : Name) → MayReach source x → (step : Seen) → IsWithin board (Node x) step → IsWithin board source step
+  within-more source x reach step (inl look) = inl look
+  within-more Scope x reach step (inr move) =
+      inr (record { spot = move.spot; is = move.is; may = any-block x.block move.spot move.may; index_is = move.index_is })
+  within-more (Node y) x reach step (inr move) =
+      inr (record {
+        spot = move.spot;
+        is = move.is;
+        may = subst (λ (b : ℕ). IsOfBlock b move.spot) reach move.may;
+        index_is = move.index_is;
+      })
+
+  pub all-more : (source : SourceRef) (x : Name) → MayReach source x → (l : List Seen) → Each (IsWithin board (Node x)) l → Each (IsWithin board source) l
+  all-more source x reach [] all = tt
+  all-more source x reach (step ∷ l) all = (within-more source x reach step all.0, all-more source x reach l all.1)
 
   module _ (plan : Blueprint) where
     acted-left : (front back : List Seen) (y : Name) → HasActed board plan y front → HasActed board plan y (front ++ back)
@@ -113,12 +156,13 @@ module _ (board : Board Blueprint) where
           ]
 
     -- one call after the other
-    pub lists-others : (m m' : Seated Item Entry) → AddsOthers m.0.steps m'.0.steps → ListsActions board plan m m'
-    lists-others m m' adds =
-        record { steps = record { made = adds.made; is = adds.is }; act = others-act adds.made adds.others }
+    pub lists-others : (source : SourceRef) (m m' : Seated Item Entry) → AddsOthers source m.0.steps m'.0.steps → ListsActions board plan source m m'
+    lists-others source m m' adds =
+        record { steps = record { made = adds.made; is = adds.is }; within = adds.within; act = others-act adds.made adds.others }
 
-    pub lists-on : (m m1 m2 : Seated Item Entry) → ListsActions board plan m m1 → ListsActions board plan m1 m2 → ListsActions board plan m m2
-    lists-on m m1 m2 first second =
+    pub lists-on : (source : SourceRef) (m m1 m2 : Seated Item Entry) → ListsActions board plan source m m1 → ListsActions board plan source m1 m2 →
+        ListsActions board plan source m m2
+    lists-on source m m1 m2 first second =
         record {
           steps = record {
             made = second.steps.made ++ first.steps.made;
@@ -126,5 +170,6 @@ module _ (board : Board Blueprint) where
                 second.steps.is ∙ ap (λ (l : List Seen). second.steps.made ++ l) first.steps.is
                 ∙ sym (append_assoc second.steps.made first.steps.made m.0.steps);
           };
+          within = each-both (IsWithin board source) second.steps.made first.steps.made second.within first.within;
           act = act-on first.steps.made second.steps.made first.act second.act;
         }

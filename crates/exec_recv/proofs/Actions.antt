@@ -6,29 +6,31 @@ use Rattle.std.proofs.lemmas.Option.{slice_get_past}
 use Rattle.std.proofs.lemmas.List.Elements.{Contains-append_right}
 use Rattle.life_rules.specs.declared.event.Name.{Name}
 use Rattle.life_rules.specs.declared.event.Resting.TheVariants.{Parked}
+use Rattle.life_rules.specs.declared.event.SourceRef.{SourceRef}
 use Rattle.life_rules.specs.declared.event.SourceRef.TheVariants.{Node}
 use Rattle.atomic_table.specs.declared.shared.Seat.{Seat}
-use Rattle.listed_steps.specs.declared.seen.Seen.{Seen}
-use Rattle.listed_steps.specs.Lists.{entry}
+use Rattle.listed_words.specs.declared.seen.Seen.{Seen}
+use Rattle.listed_words.specs.Lists.{entry}
 use Rattle.node_tree.specs.declared.node_list.NodeList.{NodeList}
 use Rattle.plan_rules.specs.declared.node.Node.{Node as PlanNode}
 use Rattle.plan_rules.specs.declared.node.Node.TheVariants.{Delay, WhenAll}
 use Rattle.plan_shape.specs.Blueprint.{Blueprint}
-use Rattle.table_words.specs.Layouts.{OfSource, index}
+use Rattle.table_words.specs.Layouts.{OfControl, OfSource, index}
 use Rattle.table_rules.specs.declared.view.View.{View}
 use Rattle.table_steps.specs.Views.{Board, IsPlaceIn}
 use Rattle.table_steps.specs.Claims.{Seated}
 use Rattle.table_steps.specs.Rouses.{IsRoused}
-use Rattle.table_steps.specs.Sights.{IsSourceIn}
+use Rattle.table_steps.specs.Sights.{spot_of, IsSourceIn}
 use Rattle.table_steps.specs.Steps.{control_index}
 use Rattle.table_steps.specs.Takes.{rest_word}
 use Rattle.stop_calls.specs.declared.requesting.Request.{Request}
 use Rattle.stop_calls.specs.Requests.{IsAskedFor}
-use Rattle.exec_start.specs.declared.entry.Entry.{Entry}
-use Rattle.exec_start.specs.declared.item.Item.{Item}
+use Rattle.home_items.specs.declared.entry.Entry.{Entry}
+use Rattle.home_items.specs.declared.item.Item.{Item}
 use Rattle.exec_recv.specs.Actions.{ListsActions, Acts}
-use Rattle.exec_recv.proofs.Acting.{others-act, others-here, act-on, lists-others}
-use Rattle.exec_recv.proofs.Running.{control-none, source-none}
+use Rattle.exec_recv.specs.Areas.{IsWithin}
+use Rattle.exec_recv.proofs.Acting.{each-both, others-act, others-here, act-on, place-within, lists-others, lists-on}
+use Rattle.exec_recv.proofs.Running.{control-none, source-none, source-within}
 
 -- one node isn't of two kinds
 two-kinds : (found : Option PlanNode) (turns : ℕ) (children : NodeList) → found ≡ Some (Delay turns) → found ≡ Some (WhenAll children) → ⊥
@@ -39,8 +41,8 @@ none-some found n none some = cc
 
 module _ (board : Board Blueprint) (plan : Blueprint) where
   -- nothing is new
-  pub lists-here : (m : Seated Item Entry) → ListsActions board plan m m
-  lists-here m = lists-others board plan m m (others-here board m.0.steps m.0.steps refl)
+  pub lists-here : (source : SourceRef) (m : Seated Item Entry) → ListsActions board plan source m m
+  lists-here source m = lists-others board plan source m m (others-here board source m.0.steps m.0.steps refl)
 
   module _ (x : Name) where
     -- the callback of a node that is neither a delay nor a `when_all` does nothing
@@ -48,7 +50,7 @@ module _ (board : Board Blueprint) (plan : Blueprint) where
         ((children : NodeList) → slice_get plan.nodes x.node ≡ Some (WhenAll children) → ⊥) → Acts board plan x m m
     other-acts m no_delay no_all =
         record {
-          lists = lists-here m;
+          lists = lists-here (Node x) m;
           acted = record {
             wakes = λ turns at. absurd (no_delay turns at);
             passes_on = λ children at. absurd (no_all children at);
@@ -71,6 +73,7 @@ module _ (board : Board Blueprint) (plan : Blueprint) where
           record {
             lists = record {
               steps = record { made = step ∷ []; is = ap (λ (z : Seated Item Entry). z.0.steps) roused.me_is };
+              within = (place-within board x (OfControl x.block x.node) (place.block, place.node) refl roused.word roused.left, tt);
               act = others-act board plan (step ∷ []) (control-none board x place roused.word roused.left, tt);
             };
             acted = record {
@@ -89,7 +92,7 @@ module _ (board : Board Blueprint) (plan : Blueprint) where
       -- that of a `when_all` requests a stop of the node's source, and does what comes of it
       pub all-acts : IsSourceIn board (Node x) → (children : NodeList) → slice_get plan.nodes x.node ≡ Some (WhenAll children) →
           (failure : Bool) (answer : Request) → IsAskedFor board (Node x) failure answer old new → (m : Seated Item Entry) →
-          ListsActions board plan new.me m → Acts board plan x old.me m
+          ListsActions board plan (Node x) new.me m → Acts board plan x old.me m
       all-acts is_one children at failure answer asked m more =
           let step : Seen = entry (index board.frame.layout (OfSource x.block x.node)) asked.word asked.left in
           let made = more.steps.made in
@@ -102,6 +105,8 @@ module _ (board : Board Blueprint) (plan : Blueprint) where
                     ∙ ap (λ (l : List Seen). made ++ l) (ap (λ (z : Seated Item Entry). z.0.steps) asked.me_is)
                     ∙ sym (append_assoc made (step ∷ []) old.me.0.steps);
               };
+              within = each-both (IsWithin board (Node x)) made (step ∷ []) more.within
+                  (source-within board (Node x) is_one asked.word asked.left, tt);
               act =
                   act-on board plan (step ∷ []) made
                   (others-act board plan (step ∷ []) (source-none board (Node x) is_one asked.word asked.left, tt)) more.act;
@@ -119,3 +124,16 @@ module _ (board : Board Blueprint) (plan : Blueprint) where
               );
             };
           }
+
+-- a request of a source, and what came of it
+pub asked-acts : (board : Board Blueprint) (plan : Blueprint) (source : SourceRef) (old new : Seat (Option Item) (View Item Entry)) →
+    IsSourceIn board source → (failure : Bool) (answer : Request) → IsAskedFor board source failure answer old new → (m : Seated Item Entry) →
+    ListsActions board plan source new.me m → ListsActions board plan source old.me m
+asked-acts board plan source old new is_one failure answer asked m more =
+    let step : Seen = entry (index board.frame.layout (spot_of source)) asked.word asked.left in
+    lists-on board plan source old.me new.me m
+    (record {
+      steps = record { made = step ∷ []; is = ap (λ (z : Seated Item Entry). z.0.steps) asked.me_is };
+      within = (source-within board source is_one asked.word asked.left, tt);
+      act = others-act board plan (step ∷ []) (source-none board source is_one asked.word asked.left, tt);
+    }) more

@@ -16,9 +16,9 @@ use Rattle.table_steps.specs.Slots.{IsSeated, AreApart, slot_of, kids_of, kept, 
 use Rattle.table_steps.specs.Takes.{TakenAt}
 use Rattle.op_slot.specs.Tends.{IsCalm, HasPlaces, OwesReport}
 use Rattle.op_slot.proofs.Tending.{held_as, last-calm, last-tends, taken-calm, taken-tends}
-use Rattle.exec_start.specs.contracts.item.ItemCargo.TheImpl.{ghosts}
-use Rattle.exec_start.specs.declared.entry.Entry.{Entry}
-use Rattle.exec_start.specs.declared.item.Item.{Item}
+use Rattle.home_items.specs.contracts.item.ItemCargo.TheImpl.{ghosts}
+use Rattle.home_items.specs.declared.entry.Entry.{Entry}
+use Rattle.home_items.specs.declared.item.Item.{Item}
 use Rattle.exec_recv.specs.Beginnings.{AllCanStart}
 use Rattle.exec_recv.specs.Family.{AreOwedElsewhere}
 use Rattle.exec_recv.specs.Steppable.{CanStep}
@@ -151,6 +151,6 @@ module _ (board : Board Blueprint) (x : Name) (i read left : ℕ) (m m' : Seated
         hears = hears-still board.frame.tree m.0 m'.0 x did.told did.told_children (ap (λ (z : Seated Item Entry). z.0.number) did.me_is)
             (ap (λ (z : Seated Item Entry). z.0.requested) did.me_is) did.hears;
         kids = λ n done at full. cc;
-        came = inr (inl (record { empty = λ n at. refl; rests = did.rests; most = did.most }));
+        came = inr (inl (record { empty = λ n at. refl; rests = did.rests; most = did.most; unread = refl; unlotted = refl }));
         elsewhere = owed-elsewhere board x m m' starts taken-in-front;
       }

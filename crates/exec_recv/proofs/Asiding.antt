@@ -2,13 +2,13 @@
 use Rattle.std.proofs.Common.{◌≡◌, Bool, List, [], ◌∷◌, ◌++◌, append_assoc, refl, sym, ap, ◌∙◌}
 use Rattle.life_rules.specs.declared.event.Name.{Name}
 use Rattle.life_rules.specs.declared.event.SourceRef.{SourceRef}
-use Rattle.listed_steps.specs.declared.seen.Seen.{Seen}
+use Rattle.listed_words.specs.declared.seen.Seen.{Seen}
 use Rattle.table_rules.specs.ShownViews.{has_source_ref}
 use Rattle.plan_shape.specs.Blueprint.{Blueprint}
 use Rattle.table_steps.specs.Views.{Board}
 use Rattle.table_steps.specs.Claims.{Seated}
-use Rattle.exec_start.specs.declared.entry.Entry.{Entry}
-use Rattle.exec_start.specs.declared.item.Item.{Item}
+use Rattle.home_items.specs.declared.entry.Entry.{Entry}
+use Rattle.home_items.specs.declared.item.Item.{Item}
 use Rattle.exec_recv.specs.Asides.{aside_of, KeepsAside}
 use Rattle.exec_recv.specs.Deliveries.{HasStopped, HasTold}
 
@@ -38,4 +38,4 @@ aside-one step m m' same steps seen =
 -- a failure was told, or there was none
 pub tells-stopped : (board : Board Blueprint) (y : Name) (failed : Bool) (m m' : Seated Item Entry) → HasStopped board y m m' →
     HasTold board y failed m m'
-tells-stopped board y failed m m' stopped = record { keeps = stopped.keeps; marks = λ source failed. stopped.marks }
+tells-stopped board y failed m m' stopped = record { keeps = stopped.keeps; marks = λ source failed. stopped.marks; acts = stopped.acts }

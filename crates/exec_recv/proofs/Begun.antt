@@ -30,12 +30,12 @@ use Rattle.table_kept.proofs.Entries.{count-without, each-without}
 use Rattle.op_slot.specs.Tends.{IsCalm, HasPlaces, Owes as OwesWith}
 use Rattle.op_slot.proofs.Kept.{find-without}
 use Rattle.op_slot.proofs.Tending.{renewed-same, begun-calm, begun-tends}
-use Rattle.exec_start.specs.contracts.item.ItemCargo.TheImpl.{ghosts}
-use Rattle.exec_start.specs.declared.entry.Entry.{Entry}
-use Rattle.exec_start.specs.declared.item.Item.{Item}
-use Rattle.exec_start.specs.Items.{start_in}
-use Rattle.exec_start.specs.Bounds.{least_of}
-use Rattle.exec_start.specs.Fits.{FitsHome}
+use Rattle.home_items.specs.contracts.item.ItemCargo.TheImpl.{ghosts}
+use Rattle.home_items.specs.declared.entry.Entry.{Entry}
+use Rattle.home_items.specs.declared.item.Item.{Item}
+use Rattle.home_items.specs.Items.{start_in}
+use Rattle.home_items.specs.Bounds.{least_of}
+use Rattle.home_items.specs.Fits.{FitsHome}
 use Rattle.exec_recv.specs.Beginnings.{CanStart, AllCanStart}
 use Rattle.exec_recv.specs.Steppable.{CanStep}
 use Rattle.exec_recv.proofs.Behind.{behind-laid, empty-laid}
@@ -212,6 +212,6 @@ module _ (board : Board Blueprint) (y : Name) (places : HasPlaces board.frame y)
         hears = hears-still board.frame.tree did.middle.0 m'.0 y at.told at.told_children (ap (λ (z : Seated Item Entry). z.0.number) at.me_is)
             (ap (λ (z : Seated Item Entry). z.0.requested) at.me_is) at.hears;
         kids = λ n done below full. cc;
-        came = inl (record { empty = λ n below. refl; named = refl; phase = refl; idle = refl });
+        came = inl (record { empty = λ n below. refl; named = refl; phase = refl; idle = refl; unbegun = can.is_start });
         elsewhere = λ z owed owes. far-away z owed owes;
       }

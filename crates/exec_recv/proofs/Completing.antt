@@ -1,12 +1,12 @@
 -- How a node delivers: its parcel is put into its home, it is finished, and reported.
-use Rattle.std.proofs.Common.{◌≡◌, inl, Bool, true, false, ◌||◌, ◌==◌, ◌∷◌, refl, sym, ap, ◌∙◌, subst}
+use Rattle.std.proofs.Common.{◌≡◌, inl, ℕ, Bool, true, false, ◌||◌, ◌==◌, ◌∷◌, refl, sym, ap, ◌∙◌, subst}
 use Rattle.std.specs.Prelude.{Option, Some, None, MatchOption}
 use Rattle.std.specs.List.{list_any}
 use Rattle.life_rules.specs.declared.event.Name.{Name}
 use Rattle.life_rules.specs.declared.words.CallbackPhase.{CallbackPhase}
 use Rattle.life_rules.specs.declared.words.ControlWord.TheVariants.{Busy, Done as IsDone}
-use Rattle.listed_steps.specs.declared.seen.Seen.{Seen}
-use Rattle.listed_steps.specs.Lists.{entry}
+use Rattle.listed_words.specs.declared.seen.Seen.{Seen}
+use Rattle.listed_words.specs.Lists.{entry}
 use Rattle.node_tree.specs.Tree.{is_root}
 use Rattle.plan_shape.specs.Blueprint.{Blueprint}
 use Rattle.table_words.specs.Layouts.{place_number}
@@ -18,6 +18,7 @@ use Rattle.table_steps.specs.Views.{Board, aimed, aim_at}
 use Rattle.table_steps.specs.Claims.{Seated}
 use Rattle.table_steps.specs.Finishes.{is_settled, CanFinish, FinishesAt, FinishedAt}
 use Rattle.table_steps.specs.Lefts.{LeavesControl}
+use Rattle.table_steps.specs.Readings.{above_it}
 use Rattle.table_steps.specs.Reports.{IsReportedAs}
 use Rattle.table_steps.specs.Slots.{slot_of, kids_of, kept, is_of_family, has_seen}
 use Rattle.table_steps.specs.Steps.{control_index}
@@ -28,13 +29,13 @@ use Rattle.op_slot.specs.Tends.{IsCalm, HasPlaces, OwesReport, Tends}
 use Rattle.op_slot.proofs.Tending.{swapped-calm, swapped-own, swapped-else}
 use Rattle.op_slot.proofs.Leaving.{tends-puts, tends-finishes, finished-owes, finished-calm}
 use Rattle.op_slot.proofs.Kept.{kept-shed}
-use Rattle.exec_start.specs.contracts.item.ItemCargo.TheImpl.{ghosts}
-use Rattle.exec_start.specs.declared.entry.Entry.{Entry}
-use Rattle.exec_start.specs.declared.item.Item.{Item}
-use Rattle.exec_start.specs.declared.item.Item.TheVariants.{Done}
-use Rattle.exec_start.specs.Items.{start_in}
-use Rattle.exec_start.specs.Fits.{FitsHome}
-use Rattle.exec_start.specs.Parcels.{Delivery}
+use Rattle.home_items.specs.contracts.item.ItemCargo.TheImpl.{ghosts}
+use Rattle.home_items.specs.declared.entry.Entry.{Entry}
+use Rattle.home_items.specs.declared.item.Item.{Item}
+use Rattle.home_items.specs.declared.item.Item.TheVariants.{Done}
+use Rattle.home_items.specs.Items.{start_in}
+use Rattle.home_items.specs.Fits.{FitsHome}
+use Rattle.home_items.specs.Parcels.{Delivery}
 use Rattle.exec_recv.specs.Asides.{Aside, aside_of, SeesMore, KeepsAside}
 use Rattle.exec_recv.specs.Beginnings.{AllCanStart}
 use Rattle.exec_recv.specs.Deliveries.{CanDeliver}
@@ -160,6 +161,6 @@ module _ (board : Board Blueprint) (x : Name) (m3 m4 : Seated Item Entry) where
   report-seen Others (found, left, down, more, is) = ap (λ (z : Seated Item Entry). z.0.seen) is
 
   pub report-steps : (report : Report) → IsReportedAs ghosts board.frame x report m3 m4 →
-      (s : Seen) × (m4.0.steps ≡ s ∷ m3.0.steps)
-  report-steps Last (found, left, down, one, did) = (_, ap (λ (z : Seated Item Entry). z.0.steps) did.me_is)
-  report-steps Others (found, left, down, more, is) = (_, ap (λ (z : Seated Item Entry). z.0.steps) is)
+      (read : ℕ) × (left : ℕ) × (m4.0.steps ≡ entry (control_index board (above_it board.frame.tree x)) read left ∷ m3.0.steps)
+  report-steps Last (found, left, down, one, did) = (found, left, ap (λ (z : Seated Item Entry). z.0.steps) did.me_is)
+  report-steps Others (found, left, down, more, is) = (found, left, ap (λ (z : Seated Item Entry). z.0.steps) is)

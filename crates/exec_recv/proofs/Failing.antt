@@ -19,16 +19,16 @@ use Rattle.table_steps.specs.Claims.{Seated}
 use Rattle.table_steps.specs.Readings.{above_it}
 use Rattle.table_steps.specs.Requests.{OwesFailed}
 use Rattle.op_slot.specs.Tends.{OwesReport}
-use Rattle.exec_start.specs.contracts.item.ItemCargo.TheImpl.{ghosts}
-use Rattle.exec_start.specs.declared.entry.Entry.{Entry}
-use Rattle.exec_start.specs.declared.item.Item.{Item}
-use Rattle.exec_start.specs.declared.item.Item.TheVariants.{Done}
-use Rattle.exec_start.specs.Entries.{plan_of, node_of, node_above}
-use Rattle.exec_start.specs.Fits.{FitsHome}
-use Rattle.exec_start.specs.Parcels.{Delivery}
-use Rattle.exec_start.specs.Starts.{IsStart}
-use Rattle.exec_start.proofs.Reading.{fits-failed}
-use Rattle.exec_start.proofs.Standing.{stands-below}
+use Rattle.home_items.specs.contracts.item.ItemCargo.TheImpl.{ghosts}
+use Rattle.home_items.specs.declared.entry.Entry.{Entry}
+use Rattle.home_items.specs.declared.item.Item.{Item}
+use Rattle.home_items.specs.declared.item.Item.TheVariants.{Done}
+use Rattle.home_items.specs.Entries.{plan_of, node_of, node_above}
+use Rattle.home_items.specs.Fits.{FitsHome}
+use Rattle.home_items.specs.Parcels.{Delivery}
+use Rattle.home_items.specs.Starts.{IsStart}
+use Rattle.home_items.proofs.Reading.{fits-failed}
+use Rattle.home_items.proofs.Standing.{stands-below}
 use Rattle.exec_recv.specs.Over.{IsOver}
 
 -- beside its parent a node has its own name

@@ -14,9 +14,9 @@ use Rattle.table_rules.specs.ShownViews.{has_source_ref}
 use Rattle.table_steps.specs.Claims.{Seated}
 use Rattle.table_steps.specs.Hearings.{HearsAs}
 use Rattle.table_steps.specs.Slots.{has_seen}
-use Rattle.exec_start.specs.declared.entry.Entry.{Entry}
-use Rattle.exec_start.specs.declared.item.Item.{Item}
-use Rattle.exec_start.specs.Fits.{FitsHome}
+use Rattle.home_items.specs.declared.entry.Entry.{Entry}
+use Rattle.home_items.specs.declared.item.Item.{Item}
+use Rattle.home_items.specs.Fits.{FitsHome}
 use Rattle.exec_recv.specs.Asides.{SeesMore}
 
 pub fits-more : (item : Item) (n : ℕ) (before now : Bool) → (before ≡ true → now ≡ true) → FitsHome item n before →

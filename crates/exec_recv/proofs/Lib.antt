@@ -1,10 +1,12 @@
 pub mod Behind
 pub mod Asiding
+pub mod Since
 pub mod Fitting
 pub mod Starts
 pub mod Places
 pub mod Sources
 pub mod Acting
+pub mod Moves
 pub mod Running
 pub mod Actions
 pub mod Arriving

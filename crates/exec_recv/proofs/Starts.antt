@@ -15,8 +15,8 @@ use Rattle.table_steps.specs.Views.{Board}
 use Rattle.table_steps.specs.Claims.{Seated}
 use Rattle.table_steps.specs.Owing.{Owes}
 use Rattle.table_steps.specs.Slots.{slot_of, kept, has_seen}
-use Rattle.exec_start.specs.declared.entry.Entry.{Entry}
-use Rattle.exec_start.specs.declared.item.Item.{Item}
+use Rattle.home_items.specs.declared.entry.Entry.{Entry}
+use Rattle.home_items.specs.declared.item.Item.{Item}
 use Rattle.exec_recv.specs.Asides.{SeesMore}
 use Rattle.exec_recv.specs.Beginnings.{CanStart, AllCanStart, OwesNoRoot}
 use Rattle.exec_recv.specs.Nexts.{OwesNewBelow}

@@ -3,8 +3,8 @@ use Rattle.std.proofs.Common.{◌≡◌, Bool, true, false, ◌||◌, List, [], 
 use Rattle.std.proofs.lemmas.List.Elements.{Contains-append_right}
 use Rattle.life_rules.specs.declared.event.Name.{Name}
 use Rattle.life_rules.specs.declared.event.SourceRef.TheVariants.{Node}
-use Rattle.listed_steps.specs.declared.seen.Seen.{Seen}
-use Rattle.listed_steps.specs.Lists.{entry}
+use Rattle.listed_words.specs.declared.seen.Seen.{Seen}
+use Rattle.listed_words.specs.Lists.{entry}
 use Rattle.atomic_table.specs.declared.shared.Seat.{Seat}
 use Rattle.plan_shape.specs.Blueprint.{Blueprint}
 use Rattle.table_words.specs.Layouts.{OfSource, index}
@@ -15,8 +15,9 @@ use Rattle.stop_calls.specs.declared.requesting.Request.{Request}
 use Rattle.stop_calls.specs.Asides.{ComesBack, IsLonger}
 use Rattle.stop_calls.specs.Requests.{IsAskedFor}
 use Rattle.stop_calls.proofs.Keeping.{longer-seen}
-use Rattle.exec_start.specs.declared.entry.Entry.{Entry}
-use Rattle.exec_start.specs.declared.item.Item.{Item}
+use Rattle.home_items.specs.declared.entry.Entry.{Entry}
+use Rattle.home_items.specs.declared.item.Item.{Item}
+use Rattle.exec_recv.specs.Actions.{ListsActions}
 use Rattle.exec_recv.specs.Asides.{aside_of, KeepsAll}
 use Rattle.exec_recv.specs.Deliveries.{HasStopped}
 
@@ -44,7 +45,7 @@ or-right true = refl
 or-right false = refl
 
 module _ (board : Board Blueprint) (y : Name) (answer : Request) (old new : Seat (Option Item) (View Item Entry)) (asked : IsAskedFor board (Node y) true answer old new)
-    (m : Seated Item Entry) (back : ComesBack old.me m) (more : IsLonger new.me.0.steps m.0.steps) where
+    (m : Seated Item Entry) (back : ComesBack old.me m) (more : IsLonger new.me.0.steps m.0.steps) (acts : ListsActions board board.frame.over.value (Node y) old.me m) where
   abbrev told : Seen
   told = entry (index board.frame.layout (OfSource y.block y.node)) asked.word asked.left
 
@@ -74,4 +75,5 @@ module _ (board : Board Blueprint) (y : Name) (answer : Request) (old new : Seat
           failed = ap (λ b. b.failed) asked.left_is ∙ or-right _;
           requested = ap (λ b. b.requested) asked.left_is;
         };
+        acts = acts;
       }

@@ -1,17 +1,17 @@
--- What a step leaves as it was: what the hand's view has beside the nodes that it holds and the starts
--- that it owes.
+-- What a step leaves as it was: what the hand's view has beside the nodes that it holds and the
+-- starts that it owes.
 use Rattle.std.specs.Prelude.{◌≡◌, ℕ, Bool, true, List, ◌++◌}
 use Rattle.life_rules.specs.declared.event.Name.{Name}
 use Rattle.life_rules.specs.declared.event.SourceRef.{SourceRef}
-use Rattle.listed_steps.specs.declared.seen.Seen.{Seen}
+use Rattle.listed_words.specs.declared.seen.Seen.{Seen}
 use Rattle.table_rules.specs.declared.view.View.{View}
 use Rattle.table_rules.specs.declared.view.Reported.{Reported}
 use Rattle.table_rules.specs.declared.view.Rooted.{Rooted}
 use Rattle.table_rules.specs.declared.view.Scanning.{Scanning}
 use Rattle.table_rules.specs.ShownViews.{has_source_ref}
 use Rattle.table_steps.specs.Claims.{Seated}
-use Rattle.exec_start.specs.declared.entry.Entry.{Entry}
-use Rattle.exec_start.specs.declared.item.Item.{Item}
+use Rattle.home_items.specs.declared.entry.Entry.{Entry}
+use Rattle.home_items.specs.declared.item.Item.{Item}
 
 pub record Aside : Type 0 where
   pub number : ℕ
@@ -46,7 +46,8 @@ aside_of v = record {
 -- A request that was seen is seen still.
 abbrev pub SeesMore : Seated Item Entry → Seated Item Entry → Type 0
 SeesMore m m' =
-    (source : SourceRef) → has_source_ref m.0.seen source ≡ true → has_source_ref m'.0.seen source ≡ true
+    (source : SourceRef) → has_source_ref m.0.seen source ≡ true →
+    has_source_ref m'.0.seen source ≡ true
 
 -- Of the rest the list of steps only grew, and a request that was seen is seen still.
 pub record KeepsAside (m m' : Seated Item Entry) : Type 0 where

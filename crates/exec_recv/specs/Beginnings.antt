@@ -8,15 +8,15 @@ use Rattle.table_steps.specs.Begins.{CanBegin}
 use Rattle.table_steps.specs.Claims.{Seated}
 use Rattle.table_steps.specs.Owing.{owing, Owes, AreOfItsBlock}
 use Rattle.table_steps.specs.Slots.{has_seen}
-use Rattle.exec_start.specs.contracts.item.ItemCargo.TheImpl.{ghosts}
-use Rattle.exec_start.specs.declared.entry.Entry.{Entry}
-use Rattle.exec_start.specs.declared.item.Item.{Item}
-use Rattle.exec_start.specs.declared.item.Item.TheVariants.{Start}
-use Rattle.exec_start.specs.Items.{start_in}
-use Rattle.exec_start.specs.Fits.{FitsHome}
+use Rattle.home_items.specs.contracts.item.ItemCargo.TheImpl.{ghosts}
+use Rattle.home_items.specs.declared.entry.Entry.{Entry}
+use Rattle.home_items.specs.declared.item.Item.{Item}
+use Rattle.home_items.specs.declared.item.Item.TheVariants.{Start}
+use Rattle.home_items.specs.Items.{start_in}
+use Rattle.home_items.specs.Fits.{FitsHome}
 
--- The node's home keeps its start, which fits by what the hand has seen of requests. The hand owes it
--- once, and what it owes in the block is of one generation.
+-- The node's home keeps its start, which fits by what the hand has seen of requests. The hand owes
+-- it once, and what it owes in the block is of one generation.
 pub record CanStart (board : Board Blueprint) (y : Name) (m : Seated Item Entry) : Type 0 where
   pub place : IsPlaceIn board y
   pub begin : CanBegin ghosts board.frame m y

@@ -1,9 +1,10 @@
 -- How a node delivers its completion ([exec.recv]): what that needs, and what it does.
 use Rattle.std.specs.Prelude.{◌≡◌, ℕ, ◌≤◌, Bool, true, false, ◌||◌, Some, None, MatchOption, List, [], Contains}
 use Rattle.life_rules.specs.declared.event.Name.{Name}
+use Rattle.life_rules.specs.declared.event.SourceRef.TheVariants.{Node}
 use Rattle.life_rules.specs.declared.words.ControlWord.TheVariants.{Busy, Done as IsDone}
-use Rattle.listed_steps.specs.declared.seen.Seen.{Seen}
-use Rattle.listed_steps.specs.Lists.{entry}
+use Rattle.listed_words.specs.declared.seen.Seen.{Seen}
+use Rattle.listed_words.specs.Lists.{entry}
 use Rattle.node_tree.specs.declared.node.TreeNode.{TreeNode}
 use Rattle.node_tree.specs.Tree.{is_root, has_source}
 use Rattle.plan_rules.specs.Allowed.{IsFailure}
@@ -20,25 +21,28 @@ use Rattle.table_steps.specs.Reports.{IsReportedAs}
 use Rattle.table_steps.specs.Slots.{has_seen, home_at}
 use Rattle.table_steps.specs.declared.report.Report.{Report}
 use Rattle.table_steps.specs.declared.report.Report.TheVariants.{Last, Others}
+use Rattle.op_slot.specs.Puts.{IsPut}
 use Rattle.op_slot.specs.Tends.{IsCalm, Tends}
-use Rattle.exec_start.specs.contracts.item.ItemCargo.TheImpl.{ghosts}
-use Rattle.exec_start.specs.declared.entry.Entry.{Entry}
-use Rattle.exec_start.specs.declared.item.Item.{Item}
-use Rattle.exec_start.specs.declared.item.Item.TheVariants.{Done}
-use Rattle.exec_start.specs.Bounds.{least_of}
-use Rattle.exec_start.specs.Entries.{plan_of}
-use Rattle.exec_start.specs.Fits.{IsItemOf, SawNoRequest}
-use Rattle.exec_start.specs.Parcels.{Delivery}
+use Rattle.home_items.specs.contracts.item.ItemCargo.TheImpl.{ghosts}
+use Rattle.home_items.specs.declared.entry.Entry.{Entry}
+use Rattle.home_items.specs.declared.item.Item.{Item}
+use Rattle.home_items.specs.declared.item.Item.TheVariants.{Done}
+use Rattle.home_items.specs.Bounds.{least_of}
+use Rattle.home_items.specs.Entries.{plan_of}
+use Rattle.home_items.specs.Fits.{IsItemOf, SawNoRequest}
+use Rattle.home_items.specs.Parcels.{Delivery}
 use Rattle.exec_recv.specs.declared.next.Next.{Next}
 use Rattle.exec_recv.specs.declared.next.Next.TheVariants.{Go, Rest}
+use Rattle.exec_recv.specs.Actions.{ListsActions}
 use Rattle.exec_recv.specs.Asides.{KeepsAside, KeepsAll}
 use Rattle.exec_recv.specs.Family.{AreOwedElsewhere}
 
--- The hand holds x, which isn't the receiver node, makes no scan and runs no callback. The homes of x and of its
--- children are empty, and its callback isn't registered. The parcel shows the start of x and fits: it
--- asks for no more children than were awaited, and where it saw a request, or its start rests on one,
--- the hand has seen it, or was told of it.
-pub record CanDeliver (board : Board Blueprint) (x : Name) (parcel : Delivery) (m : Seated Item Entry) : Type 0 where
+-- The hand holds x, which isn't the receiver node, makes no scan and runs no callback. The homes of
+-- x and of its children are empty, and its callback isn't registered. The parcel shows the start of
+-- x and fits: it asks for no more children than were awaited, and where it saw a request, or its
+-- start rests on one, the hand has seen it, or was told of it.
+pub record CanDeliver (board : Board Blueprint) (x : Name) (parcel : Delivery)
+    (m : Seated Item Entry) : Type 0 where
   pub place : IsPlaceIn board x
   pub inner : is_root board.frame.tree x.node ≡ false
   pub calm : IsCalm m
@@ -70,24 +74,33 @@ pub record MarksFailed (board : Board Blueprint) (y : Name) (steps : List Seen) 
 pub record HasStopped (board : Board Blueprint) (y : Name) (m m' : Seated Item Entry) : Type 0 where
   pub keeps : KeepsAll m m'
   pub marks : MarksFailed board y keeps.aside.fresh
+  pub acts : ListsActions board board.frame.over.value (Node y) m m'
 
 -- So it was where a child failed and y has a source.
-pub record HasTold (board : Board Blueprint) (y : Name) (failed : Bool) (m m' : Seated Item Entry) : Type 0 where
+pub record HasTold (board : Board Blueprint) (y : Name) (failed : Bool)
+    (m m' : Seated Item Entry) : Type 0 where
   pub keeps : KeepsAll m m'
-  pub marks : has_source board.frame.tree y.node ≡ true → failed ≡ true → MarksFailed board y keeps.aside.fresh
+  pub marks : has_source board.frame.tree y.node ≡ true → failed ≡ true →
+      MarksFailed board y keeps.aside.fresh
+  pub acts : ListsActions board board.frame.over.value (Node y) m m'
 
--- The parcel was put into the home of x and x was finished with it; where it failed and the parent has
--- a stop source, that was then marked so; and last x was reported.
-pub record IsDelivered (board : Board Blueprint) (x : Name) (parcel : Delivery) (next : Next) (m m' : Seated Item Entry) : Type 0 where
+-- The parcel was put into the home of x and x was finished with it; where it failed and the parent
+-- has a stop source, that was then marked so; and last x was reported.
+pub record IsDelivered (board : Board Blueprint) (x : Name) (parcel : Delivery) (next : Next)
+    (m m' : Seated Item Entry) : Type 0 where
   pub full : Seated Item Entry
-  pub put : KeepsAside m full
+  pub put : IsPut board.frame x (Done parcel) m full
   pub home : home_at board.frame.layout full x ≡ Some (Some (Done parcel))
   pub done : Seated Item Entry
-  pub finished : LeavesControl (aim_at board x) (Busy 0) IsDone (FinishesAt ghosts (aim_at board x)) full done
+  pub finished : LeavesControl (aim_at board x) (Busy 0) IsDone
+      (FinishesAt ghosts (aim_at board x)) full done
   pub last : Seated Item Entry
   pub told : KeepsAside done last
   pub fails : has_source board.frame.tree (above_it board.frame.tree x).node ≡ true →
       IsFailure parcel.completion → MarksFailed board (above_it board.frame.tree x) told.fresh
+  -- each callback whose run began since did what it does
+  pub acts : ListsActions board board.frame.over.value (Node (above_it board.frame.tree x))
+      done last
   pub report : Report
   pub reported : IsReportedAs ghosts board.frame x report last m'
   pub next_is : next ≡ next_after board.frame.tree x report

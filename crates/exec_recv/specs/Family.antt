@@ -6,8 +6,8 @@ use Rattle.table_rules.specs.declared.view.Owed.{Owed}
 use Rattle.table_steps.specs.Views.{Board}
 use Rattle.table_steps.specs.Claims.{Seated}
 use Rattle.table_steps.specs.Slots.{slot_of, is_of_family, owed_at}
-use Rattle.exec_start.specs.declared.entry.Entry.{Entry}
-use Rattle.exec_start.specs.declared.item.Item.{Item}
+use Rattle.home_items.specs.declared.entry.Entry.{Entry}
+use Rattle.home_items.specs.declared.item.Item.{Item}
 
 -- No node whose start the hand owes has its home among those of x and of the children of x.
 abbrev pub AreOwedElsewhere : Board Blueprint → Name → Seated Item Entry → Type 0

@@ -3,6 +3,8 @@ pub mod Family
 pub mod Beginnings
 pub mod Steppable
 pub mod Asides
+pub mod Since
+pub mod Areas
 pub mod Actions
 pub mod Nexts
 pub mod Deliveries

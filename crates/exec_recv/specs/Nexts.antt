@@ -4,8 +4,8 @@ use Rattle.life_rules.specs.declared.event.Name.{Name}
 use Rattle.life_rules.specs.Words.{resting_at}
 use Rattle.life_rules.specs.declared.event.Resting.{Resting}
 use Rattle.life_rules.specs.declared.event.Resting.TheVariants.{Parked as parked}
-use Rattle.listed_steps.specs.declared.seen.Seen.{Seen}
-use Rattle.listed_steps.specs.Lists.{entry}
+use Rattle.listed_words.specs.declared.seen.Seen.{Seen}
+use Rattle.listed_words.specs.Lists.{entry}
 use Rattle.node_tree.specs.Tree.{is_child}
 use Rattle.plan_shape.specs.Blueprint.{Blueprint}
 use Rattle.table_rules.specs.declared.view.Held.{Held}
@@ -16,10 +16,11 @@ use Rattle.table_steps.specs.Lefts.{SaysControl}
 use Rattle.table_steps.specs.Owing.{Owes}
 use Rattle.table_steps.specs.Steps.{control_index}
 use Rattle.table_steps.specs.Takes.{resting_in}
-use Rattle.exec_start.specs.declared.entry.Entry.{Entry}
-use Rattle.exec_start.specs.declared.item.Item.{Item}
+use Rattle.home_items.specs.declared.entry.Entry.{Entry}
+use Rattle.home_items.specs.declared.item.Item.{Item}
 use Rattle.exec_recv.specs.declared.next.Next.{Next}
 use Rattle.exec_recv.specs.declared.next.Next.TheVariants.{Go, Rest, Ready, Parked}
+use Rattle.exec_recv.specs.Areas.{MovesWithin}
 use Rattle.exec_recv.specs.Asides.{KeepsAside}
 use Rattle.exec_recv.specs.Beginnings.{AllCanStart}
 use Rattle.exec_recv.specs.Steppable.{CanStep}
@@ -59,10 +60,12 @@ module _ (board : Board Blueprint) (x : Name) (m m' : Seated Item Entry) where
   OwesNewBelow =
       (y : Name) → Owes m'.0 y → Owes m.0 y ⊎ (is_child board.frame.tree x.node y.node ≡ true)
 
-  -- What each step of a node x leaves: the hand's view beside nodes and starts is as before. Each
-  -- start that it owes can begin, and what it came to owe are starts of children of x.
+  -- What each step of a node x leaves: the hand's view beside nodes and starts is as before, and no
+  -- word was moved but those of places of the block of x. Each start that it owes can begin, and
+  -- what it came to owe are starts of children of x.
   pub record IsStepped (next : Next) : Type 0 where
     pub aside : KeepsAside m m'
+    pub moves : MovesWithin board x m m'
     pub starts : AllCanStart board m'
     pub owes : OwesNewBelow
     pub goes : IsNext next

@@ -11,17 +11,18 @@ use Rattle.table_steps.specs.Claims.{Seated}
 use Rattle.table_steps.specs.Hearings.{HearsAs}
 use Rattle.table_steps.specs.Slots.{kids_of}
 use Rattle.op_slot.specs.Tends.{IsCalm, Tends}
-use Rattle.exec_start.specs.declared.entry.Entry.{Entry}
-use Rattle.exec_start.specs.declared.item.Item.{Item}
-use Rattle.exec_start.specs.Entries.{plan_of, whole_row}
-use Rattle.exec_start.specs.Items.{start_in, HasCompleted, lot_of}
-use Rattle.exec_start.specs.Bounds.{least_of}
-use Rattle.exec_start.specs.Fits.{FitsHome, MayRest}
+use Rattle.home_items.specs.declared.entry.Entry.{Entry}
+use Rattle.home_items.specs.declared.item.Item.{Item}
+use Rattle.home_items.specs.declared.item.Item.TheVariants.{Start}
+use Rattle.home_items.specs.Entries.{plan_of, whole_row}
+use Rattle.home_items.specs.Items.{start_in, HasCompleted, lot_of}
+use Rattle.home_items.specs.Bounds.{least_of}
+use Rattle.home_items.specs.Fits.{FitsHome, MayRest}
 use Rattle.exec_recv.specs.Family.{AreOwedElsewhere}
 
--- What a child's home keeps when its parent is stepped: the child's completion, which fits by what the
--- hand was told of the source that the children hear. Its start goes on with the parent's, and draws
--- what the parent's last await fixed.
+-- What a child's home keeps when its parent is stepped: the child's completion, which fits by what
+-- the hand was told of the source that the children hear. Its start goes on with the parent's, and
+-- draws what the parent's last await fixed.
 pub record IsDoneBelow (held : Held Entry) (n : ℕ) (kid : Item) : Type 0 where
   pub ends : HasCompleted kid
   pub fit : FitsHome kid n held.told_children
@@ -30,7 +31,8 @@ pub record IsDoneBelow (held : Held Entry) (n : ℕ) (kid : Item) : Type 0 where
   pub draws : held.lot ≡ Some (whole_row (start_in kid))
 
 -- How the hand came to hold the node x.
-module _ (board : Board Blueprint) (x : Name) (held : Held Entry) (item : Item) (kid : ℕ → Option Item) where
+module _ (board : Board Blueprint) (x : Name) (held : Held Entry) (item : Item)
+    (kid : ℕ → Option Item) where
   abbrev pub AreAllEmpty : Type 0
   AreAllEmpty = (n : ℕ) → is_child board.frame.tree x.node n ≡ true → kid n ≡ None
 
@@ -40,12 +42,15 @@ module _ (board : Board Blueprint) (x : Name) (held : Held Entry) (item : Item) 
     pub named : held.named ≡ 0
     pub phase : held.phase ≡ Some Never
     pub idle : held.idle ≡ kids_of board.frame.tree x.node
+    pub unbegun : item ≡ Start (start_in item)
 
   -- by a take, where it rested with an item that may rest there
   pub record WasTaken : Type 0 where
     pub empty : AreAllEmpty
     pub rests : MayRest item x.node
     pub most : held.named ≤ length (kids_of board.frame.tree x.node)
+    pub unread : held.phase ≡ None
+    pub unlotted : held.lot ≡ None
 
   -- by the last report of its children: as many homes are full as its last await named, and one is.
   -- That await fixed what the item fixes.
@@ -63,9 +68,9 @@ module _ (board : Board Blueprint) (x : Name) (held : Held Entry) (item : Item) 
         (n : ℕ) × (done : Item) × (is_child board.frame.tree x.node n ≡ true) × (kid n ≡ Some done)
         × FitsHome done x.node false
 
--- The hand holds x, makes no scan and runs no callback. Since it came to hold the node it has made no step on it, and
--- has moved nothing of its home and of its children's. The item in the node's home shows its start and
--- is no completion.
+-- The hand holds x, makes no scan and runs no callback. Since it came to hold the node it has made
+-- no step on it, and has moved nothing of its home and of its children's. The item in the node's
+-- home shows its start and is no completion.
 pub record CanStep (board : Board Blueprint) (x : Name) (m : Seated Item Entry) : Type 0 where
   pub place : IsPlaceIn board x
   pub calm : IsCalm m
@@ -82,5 +87,6 @@ pub record CanStep (board : Board Blueprint) (x : Name) (m : Seated Item Entry) 
   pub hears : HearsAs board.frame.tree m.0 x held.told held.told_children
   pub kids : (n : ℕ) (done : Item) → is_child board.frame.tree x.node n ≡ true → kid n ≡ Some done →
       IsDoneBelow held n done
-  pub came : HasBegun board x held item kid ⊎ (WasTaken board x held item kid ⊎ IsBack board x held item kid)
+  pub came : HasBegun board x held item kid
+      ⊎ (WasTaken board x held item kid ⊎ IsBack board x held item kid)
   pub elsewhere : AreOwedElsewhere board x m

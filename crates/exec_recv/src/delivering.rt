@@ -15,8 +15,8 @@ ghost use Rattle.exec_recv.specs.Nexts.{IsStepped};
 use crate::gate::{Gate, Point};
 use crate::next::Next;
 use crate::scans::run_scan;
-use exec_start::{Item, Parcel};
 use exec_value::Completion;
+use home_items::{Item, Parcel};
 use life_rules::Name;
 use op_slot::{Cargo, Hand, OpTable, put_home};
 use op_table::Report;
@@ -53,8 +53,8 @@ fn parent_of(table: &OpTable<Item>, child: Name) -> Name
     }
 }
 
-// Marks the node's source as failed, and where no stop was requested of it yet runs the callbacks of
-// its children.
+// Marks the node's source as failed, and where no stop was requested of it yet runs the callbacks
+// of its children.
 fn stop_siblings<G: Gate, R: Wait + Sync>(
     rt: &R,
     plan: &Plan,
@@ -112,13 +112,13 @@ fn tell_failure<G: Gate, R: Wait + Sync>(
 /// exactly where the report was the last. A child of a `when_all` that failed first requests a stop
 /// of its siblings ([exec.when.all]): their callbacks run on this hand.
 ///
-/// Step: those of `put_home` and `finish`, where a child of a `when_all` failed those of `fail_stop`
-/// and of the scan, and that of `report`.
-/// Needs: the hand holds the node, which isn't the receiver node, makes no scan and runs no
-/// callback. The homes of the node and of its children are empty, and its callback isn't registered.
-/// The parcel shows the node's start and fits. Each start that the hand owes can begin.
-/// Afterwards: the node is done with this parcel. The hand holds its parent in its place, and may
-/// step it, or nothing. What else it holds and owes is as before.
+/// Step: those of `put_home` and `finish`, where a child of a `when_all` failed those of
+/// `fail_stop` and of the scan, and that of `report`. Needs: the hand holds the node, which isn't
+/// the receiver node, makes no scan and runs no callback. The homes of the node and of its children
+/// are empty, and its callback isn't registered. The parcel shows the node's start and fits. Each
+/// start that the hand owes can begin. Afterwards: the node is done with this parcel. The hand
+/// holds its parent in its place, and may step it, or nothing. What else it holds and owes is as
+/// before.
 #[inline(always)]
 pub fn deliver<G: Gate, R: Wait + Sync>(
     rt: &R,

@@ -9,7 +9,7 @@ ghost use Rattle.exec_recv.specs.Steppable.{CanStep};
 ghost use Rattle.exec_recv.specs.Nexts.{IsStepped};
 
 use crate::next::Next;
-use exec_start::Item;
+use home_items::Item;
 use life_rules::Name;
 use op_slot::{Block, Hand, OpTable};
 use plan_rules::NodeId;

@@ -1,10 +1,10 @@
 //! Receivers on the running table: how a node delivers its completion to its parent ([exec.recv]),
 //! and what a step of a node needs and leaves.
 //!
-//! It stands on exec_start, whose items lie in the homes of a table over a plan, and on op_slot and
-//! stop_calls, whose calls it makes. It keeps one promise: a node completes once, with a parcel that
-//! the plan allows for its start, after its children; and its parent goes on where that was the last
-//! of its children.
+//! It stands on home_items, whose items lie in the homes of a table over a plan, and on op_slot and
+//! stop_calls, whose calls it makes. It keeps one promise: a node completes once, with a parcel
+//! that the plan allows for its start, after its children; and its parent goes on where that was
+//! the last of its children.
 //!
 //!     step of a node --deliver--> finished --fail_stop--> reported --Go--> step of its parent
 //!                    |                      (a `when_all` whose child failed)
@@ -18,7 +18,7 @@ mod next;
 mod scans;
 
 pub use delivering::deliver;
-pub use exec_start::{Env, Item, Parcel};
 pub use gate::{Gate, OpenGate, Point, Stepper};
+pub use home_items::{Env, Item, Parcel};
 pub use next::Next;
 pub use scans::run_scan;

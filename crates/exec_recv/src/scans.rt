@@ -7,7 +7,7 @@ ghost use Rattle.exec_recv.specs.Over.{IsOver};
 ghost use Rattle.exec_recv.specs.Actions.{Acts, ListsActions};
 
 use crate::gate::{Gate, Point};
-use exec_start::Item;
+use home_items::Item;
 use life_rules::{Name, SourceRef};
 use op_slot::{Hand, OpTable};
 use plan_rules::Node;
@@ -58,8 +58,9 @@ fn act<G: Gate, R: Wait + Sync>(
 /// seal.
 /// Needs: the hand makes the scan, innermost, and each callback of it that it ran is over.
 /// Afterwards: the hand makes the scan no more, and runs what it ran. Each callback whose run this
-/// call began did what it does. Beside requests that it has seen and the list of its steps all that
-/// the hand knows and has in homes is as before.
+/// call began did what it does. Of a node's source it moved only words of places of the node's
+/// block; of the scope's it didn't move the scope's own word. Beside requests that it has seen and
+/// the list of its steps all that the hand knows and has in homes is as before.
 #[cycle(scanning)]
 pub fn run_scan<G: Gate, R: Wait + Sync>(
     rt: &R,
@@ -75,7 +76,7 @@ pub fn run_scan<G: Gate, R: Wait + Sync>(
     requires nests { Nests table.now scan hand.old.me }
     ensures stays { Stays table.now hand.old hand.new }
     ensures ended { EndsScan hand.old.me hand.new.me scan.source }
-    ensures acts { ListsActions table.now plan.now hand.old.me hand.new.me }
+    ensures acts { ListsActions table.now plan.now scan.source hand.old.me hand.new.me }
 {
     while let Some(due) = scan.next(table, hand) {
         let place = due.place();

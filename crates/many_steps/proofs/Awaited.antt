@@ -10,7 +10,7 @@ use Rattle.life_rules.specs.declared.event.Name.{Name}
 use Rattle.life_rules.specs.declared.words.ControlWord.TheVariants.{Busy}
 use Rattle.life_rules.specs.Views.{beside, same}
 use Rattle.life_rules.proofs.Names.{same-true}
-use Rattle.listed_steps.specs.Lists.{entry}
+use Rattle.listed_words.specs.Lists.{entry}
 use Rattle.plan_shape.specs.Blueprint.{Blueprint}
 use Rattle.table_words.specs.Layouts.{place_number}
 use Rattle.table_kept.proofs.Awaiting.{count-owes, each-owes}
@@ -30,20 +30,21 @@ use Rattle.op_slot.specs.Tends.{Tends}
 use Rattle.op_slot.proofs.Kept.{kept-shed}
 use Rattle.op_slot.proofs.Leaving.{tends-awaits, awaited-owes}
 use Rattle.op_slot.proofs.Places.{kid-within}
-use Rattle.exec_start.specs.contracts.item.ItemCargo.TheImpl.{ghosts}
-use Rattle.exec_start.specs.declared.entry.Entry.{Entry}
-use Rattle.exec_start.specs.declared.item.Item.{Item}
-use Rattle.exec_start.specs.declared.item.Item.TheVariants.{Rest}
-use Rattle.exec_start.specs.Items.{lot_of}
-use Rattle.exec_start.specs.Parcels.{Delivery}
+use Rattle.home_items.specs.contracts.item.ItemCargo.TheImpl.{ghosts}
+use Rattle.home_items.specs.declared.entry.Entry.{Entry}
+use Rattle.home_items.specs.declared.item.Item.{Item}
+use Rattle.home_items.specs.declared.item.Item.TheVariants.{Rest}
+use Rattle.home_items.specs.Items.{lot_of}
+use Rattle.home_items.specs.Parcels.{Delivery}
 use Rattle.exec_recv.specs.Asides.{aside_of, KeepsAside}
 use Rattle.exec_recv.specs.Beginnings.{CanStart}
 use Rattle.exec_recv.specs.Nexts.{OwesNewBelow}
+use Rattle.exec_recv.proofs.Moves.{moves-control, moves-on}
 use Rattle.exec_recv.proofs.Asiding.{aside-on, aside-one}
 use Rattle.exec_recv.proofs.Fitting.{fits-more, sees-more}
-use Rattle.node_steps.specs.Midway.{Ready}
+use Rattle.step_parts.specs.Midway.{Ready}
 use Rattle.node_tree.specs.Tree.{is_child}
-use Rattle.node_steps.proofs.Left.{can-put, put-tends, put-calm, put-on, put-beside, put-held, put-starts, put-elsewhere}
+use Rattle.step_parts.proofs.Left.{can-put, put-tends, put-calm, put-on, put-beside, put-held, put-starts, put-elsewhere}
 use Rattle.many_steps.specs.Awaits.{MayAwaitMany, AwaitsMany}
 use Rattle.many_steps.specs.Starting.{OwesBare, owed_below, IsAmong}
 use Rattle.many_steps.proofs.Lists.{any-at, all-at}
@@ -259,6 +260,8 @@ module _ (board : Board Blueprint) (x : Name) (start : List Entry) (kept_one : O
             home = lies.own;
             awaits = awaited;
             aside = aside-on m m1 m2 beside_it.aside await-aside;
+            moves = moves-on board x m m1 m2 beside_it.moves
+                (moves-control board x awaited.read awaited.left m1 m2 (ap (λ (z : Seated Item Entry). z.0.steps) did.me_is));
             lets_go = ap (λ (z : Seated Item Entry). z.0.held) did.me_is
                 ∙ ap (λ (l : List (Held Entry)). without (λ (e : Held Entry). e.name) l x)
                 (put-held board x start kept_one 0 m may.ready may.child may.saw may.small m1 put);

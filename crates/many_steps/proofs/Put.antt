@@ -5,7 +5,7 @@ use Rattle.std.proofs.lemmas.Bool.{cases_lt, eqb-true, ne_eqb}
 use Rattle.common_lemmas.proofs.Bool.{either}
 use Rattle.life_rules.specs.declared.event.Name.{Name}
 use Rattle.life_rules.specs.Views.{beside}
-use Rattle.listed_steps.specs.Lists.{entry}
+use Rattle.listed_words.specs.Lists.{entry}
 use Rattle.plan_shape.specs.Blueprint.{Blueprint}
 use Rattle.table_rules.specs.declared.view.Owed.{Owed}
 use Rattle.table_rules.specs.Named.{find_by, count_by, Each}
@@ -19,12 +19,12 @@ use Rattle.op_slot.specs.Tends.{HasPlaces, Owes as OwesWith}
 use Rattle.op_slot.proofs.Leaving.{owes-fits, owes-puts}
 use Rattle.op_slot.proofs.Places.{kids-apart}
 use Rattle.op_slot.proofs.Tending.{swapped-owes, swapped-beside, swapped-else}
-use Rattle.exec_start.specs.contracts.item.ItemCargo.TheImpl.{ghosts}
-use Rattle.exec_start.specs.declared.entry.Entry.{Entry}
-use Rattle.exec_start.specs.declared.item.Item.{Item}
-use Rattle.exec_start.specs.declared.item.Item.TheVariants.{Start}
-use Rattle.exec_start.specs.Fits.{FitsHome}
-use Rattle.exec_start.proofs.Fitting.{start-fits, below-names}
+use Rattle.home_items.specs.contracts.item.ItemCargo.TheImpl.{ghosts}
+use Rattle.home_items.specs.declared.entry.Entry.{Entry}
+use Rattle.home_items.specs.declared.item.Item.{Item}
+use Rattle.home_items.specs.declared.item.Item.TheVariants.{Start}
+use Rattle.home_items.specs.Fits.{FitsHome}
+use Rattle.home_items.proofs.Fitting.{start-fits, below-names}
 use Rattle.exec_recv.specs.Asides.{aside_of, KeepsAside}
 use Rattle.exec_recv.specs.Beginnings.{CanStart, AllCanStart}
 use Rattle.exec_recv.proofs.Asiding.{aside-one}

@@ -13,12 +13,12 @@ use Rattle.table_steps.specs.Views.{Board}
 use Rattle.table_steps.specs.Claims.{Seated}
 use Rattle.table_steps.specs.Readings.{IsBegunAs}
 use Rattle.table_steps.specs.Slots.{knows_idle}
-use Rattle.exec_start.specs.declared.entry.Entry.{Entry}
-use Rattle.exec_start.specs.declared.item.Item.{Item}
-use Rattle.node_steps.specs.Midway.{IsReady}
+use Rattle.home_items.specs.declared.entry.Entry.{Entry}
+use Rattle.home_items.specs.declared.item.Item.{Item}
+use Rattle.step_parts.specs.Midway.{IsReady}
 use Rattle.table_steps.specs.Readings.{KnowsIdle}
-use Rattle.node_steps.proofs.Noting.{notes-held}
-use Rattle.node_steps.proofs.Reading.{with_idle, idle-slight, begun-so, idle-notes}
+use Rattle.step_parts.proofs.Noting.{notes-held}
+use Rattle.step_parts.proofs.Reading.{with_idle, idle-slight, begun-so, idle-notes}
 use Rattle.many_steps.specs.Kids.{KnowsAllIdle, KeepsIdle}
 
 pub idles-here : (x : Name) (m : Seated Item Entry) → KeepsIdle x m m

@@ -10,19 +10,20 @@ use Rattle.table_steps.specs.Awaits.{AwaitsAt}
 use Rattle.table_steps.specs.Claims.{Seated}
 use Rattle.table_steps.specs.Lefts.{LeavesControl}
 use Rattle.table_steps.specs.Slots.{home_at}
-use Rattle.exec_start.specs.contracts.item.ItemCargo.TheImpl.{ghosts}
-use Rattle.exec_start.specs.declared.entry.Entry.{Entry}
-use Rattle.exec_start.specs.declared.item.Item.{Item}
-use Rattle.exec_start.specs.declared.item.Item.TheVariants.{Rest}
-use Rattle.exec_start.specs.Bounds.{least_of}
-use Rattle.exec_start.specs.Entries.{plan_of}
-use Rattle.exec_start.specs.Fits.{KeepsChild}
-use Rattle.exec_start.specs.Items.{completion_in, saw_in, lot_of}
-use Rattle.exec_start.specs.Parcels.{Delivery}
+use Rattle.home_items.specs.contracts.item.ItemCargo.TheImpl.{ghosts}
+use Rattle.home_items.specs.declared.entry.Entry.{Entry}
+use Rattle.home_items.specs.declared.item.Item.{Item}
+use Rattle.home_items.specs.declared.item.Item.TheVariants.{Rest}
+use Rattle.home_items.specs.Bounds.{least_of}
+use Rattle.home_items.specs.Entries.{plan_of}
+use Rattle.home_items.specs.Fits.{KeepsChild}
+use Rattle.home_items.specs.Items.{completion_in, saw_in, lot_of}
+use Rattle.home_items.specs.Parcels.{Delivery}
+use Rattle.exec_recv.specs.Areas.{MovesWithin}
 use Rattle.exec_recv.specs.Asides.{KeepsAside}
 use Rattle.exec_recv.specs.Nexts.{LetsGo, OwesNewBelow}
-use Rattle.node_steps.specs.Heard.{MaySee}
-use Rattle.node_steps.specs.Midway.{Ready}
+use Rattle.step_parts.specs.Heard.{MaySee}
+use Rattle.step_parts.specs.Midway.{Ready}
 use Rattle.many_steps.specs.Kids.{AreKids, KnowsAllIdle}
 use Rattle.many_steps.specs.Starting.{IsStarting}
 
@@ -48,6 +49,7 @@ module _ (board : Board Blueprint) (x : Name) (start : List Entry) (kept : Optio
     pub awaits : LeavesControl (aim_at board x) (Busy 0) (Busy (length children))
         (AwaitsAt ghosts (aim_at board x) children) full m'
     pub aside : KeepsAside m m'
+    pub moves : MovesWithin board x m m'
     pub lets_go : LetsGo board x m m'
     pub owes : OwesNewBelow board x m m'
     pub starting : IsStarting board x start (lot_of (Rest start kept)) children (length children) m'

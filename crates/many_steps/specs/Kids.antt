@@ -8,8 +8,8 @@ use Rattle.table_rules.specs.declared.view.Held.{Held}
 use Rattle.table_steps.specs.Views.{Board}
 use Rattle.table_steps.specs.Claims.{Seated}
 use Rattle.table_steps.specs.Slots.{held_at, knows_idle}
-use Rattle.exec_start.specs.declared.entry.Entry.{Entry}
-use Rattle.exec_start.specs.declared.item.Item.{Item}
+use Rattle.home_items.specs.declared.entry.Entry.{Entry}
+use Rattle.home_items.specs.declared.item.Item.{Item}
 
 -- these are children of x, different ones
 pub record AreKids (board : Board Blueprint) (x : Name) (children : List ℕ) : Type 0 where
@@ -24,7 +24,8 @@ pub record KnowsAllIdle (x : Name) (children : List ℕ) (count : ℕ) (m : Seat
   pub holds : held_at m.0 x ≡ Some held
   pub idle : (i : ℕ) → i < count → knows_idle held (slice_index children i) ≡ true
 
--- the hand holds x still, and of each child of x of which it knew that it hasn't begun it still knows so
+-- the hand holds x still, and of each child of x of which it knew that it hasn't begun it still
+-- knows so
 pub record KeepsIdle (x : Name) (m m' : Seated Item Entry) : Type 0 where
   pub held : (before : Held Entry) → held_at m.0 x ≡ Some before → Held Entry
   pub holds : (before : Held Entry) (had : held_at m.0 x ≡ Some before) →

@@ -8,11 +8,11 @@ use Rattle.table_steps.specs.Views.{Board}
 use Rattle.table_steps.specs.Claims.{Seated}
 use Rattle.table_steps.specs.Slots.{has_seen}
 use Rattle.op_slot.specs.Puts.{IsPut}
-use Rattle.exec_start.specs.declared.entry.Entry.{Entry}
-use Rattle.exec_start.specs.declared.item.Item.{Item}
-use Rattle.exec_start.specs.declared.item.Item.TheVariants.{Start}
-use Rattle.exec_start.specs.Entries.{plan_of, node_of, whole_row}
-use Rattle.exec_start.specs.Starts.{BeginsBelow, NeedsNoRequest}
+use Rattle.home_items.specs.declared.entry.Entry.{Entry}
+use Rattle.home_items.specs.declared.item.Item.{Item}
+use Rattle.home_items.specs.declared.item.Item.TheVariants.{Start}
+use Rattle.home_items.specs.Entries.{plan_of, node_of, whole_row}
+use Rattle.home_items.specs.Starts.{BeginsBelow, NeedsNoRequest}
 use Rattle.exec_recv.specs.Asides.{KeepsAside}
 use Rattle.exec_recv.specs.Beginnings.{CanStart}
 use Rattle.many_steps.specs.Kids.{AreKids}
@@ -33,8 +33,8 @@ module _ (board : Board Blueprint) (y : Name) (below : List Entry) where
     pub begins : BeginsBelow below
     pub calmly : has_seen board.frame.tree m.0 y ≡ false → NeedsNoRequest below
 
-  -- The start lies in the home of y, which can begin. Where y was the last of the children of x whose
-  -- homes were empty, it is one less.
+  -- The start lies in the home of y, which can begin. Where y was the last of the children of x
+  -- whose homes were empty, it is one less.
   pub record PutsStart (m m' : Seated Item Entry) : Type 0 where
     pub put : IsPut board.frame y (Start below) m m'
     pub aside : KeepsAside m m'

@@ -8,8 +8,8 @@ use Rattle.table_steps.specs.Views.{Board, IsPlaceIn}
 use Rattle.table_steps.specs.Claims.{Seated}
 use Rattle.table_steps.specs.Owing.{owing, Owes, AreOfItsBlock}
 use Rattle.op_slot.specs.Tends.{Owes as OwesWith}
-use Rattle.exec_start.specs.declared.entry.Entry.{Entry}
-use Rattle.exec_start.specs.declared.item.Item.{Item}
+use Rattle.home_items.specs.declared.entry.Entry.{Entry}
+use Rattle.home_items.specs.declared.item.Item.{Item}
 use Rattle.exec_recv.specs.Beginnings.{CanStart}
 
 -- The hand owes the start of y, once, with this entry. The home of y is empty, and what the hand

@@ -3,7 +3,7 @@ ghost use Rattle.std.specs.Prelude.{◌≡◌, true, length};
 ghost use Rattle.std.specs.Thread.{IsSync};
 ghost use Rattle.node_tree.specs.Tree.{is_child};
 ghost use Rattle.table_steps.specs.Views.{IsHandOf, Stays};
-ghost use Rattle.node_steps.specs.Midway.{IsReady, KeepsReady};
+ghost use Rattle.step_parts.specs.Midway.{IsReady, KeepsReady};
 ghost use Rattle.table_steps.specs.Readings.{KnowsIdle};
 ghost use Rattle.many_steps.specs.Kids.{AreKids, KeepsIdle, KnowsAllIdle};
 

@@ -3,16 +3,16 @@ use Rattle.std.specs.Prelude.{Contains}
 use Rattle.std.proofs.Common.{◌≡◌, ℕ, Bool, true, false, List, [], ◌∷◌, Some, None, inl, refl, sym, subst}
 use Rattle.plan_rules.specs.declared.node.Node.{Node}
 use Rattle.plan_rules.specs.declared.node.Node.TheVariants.{LetValue, LetError, LetStopped, Bulk}
-use Rattle.exec_start.specs.declared.entry.Entry.{Entry}
-use Rattle.exec_start.specs.Entries.{node_of, args_of, asked_of, child_of, plan_node, start_below}
-use Rattle.exec_start.specs.HasKinds.{HasKinds}
-use Rattle.exec_start.specs.Below.{asked_below, IsPlainChild, ByNode, GoesBelow}
-use Rattle.exec_start.specs.Starts.{IsReceiver, IsReceiverStart, BeginsBelow, NeedsNoRequest}
-use Rattle.exec_start.specs.Fits.{FitsChild}
-use Rattle.exec_start.proofs.Beginning.{goes-on, top-begins}
-use Rattle.exec_start.proofs.Collecting.{receiver-none}
-use Rattle.exec_start.proofs.Fitting.{below-names, start-fits}
-use Rattle.exec_start.proofs.KindsBelow.{option-in}
+use Rattle.home_items.specs.declared.entry.Entry.{Entry}
+use Rattle.home_items.specs.Entries.{node_of, args_of, asked_of, child_of, plan_node, start_below}
+use Rattle.home_items.specs.HasKinds.{HasKinds}
+use Rattle.home_items.specs.Below.{asked_below, IsPlainChild, ByNode, GoesBelow}
+use Rattle.home_items.specs.Starts.{IsReceiver, IsReceiverStart, BeginsBelow, NeedsNoRequest}
+use Rattle.home_items.specs.Fits.{FitsChild}
+use Rattle.home_items.proofs.Beginning.{goes-on, top-begins}
+use Rattle.home_items.proofs.Collecting.{receiver-none}
+use Rattle.home_items.proofs.Fitting.{below-names, start-fits}
+use Rattle.home_items.proofs.KindsBelow.{option-in}
 use Rattle.start_laws.specs.Nodes.{IsStartOf, plain_children}
 use Rattle.start_laws.specs.Laws.{MayBegin, ChildrenMayBegin}
 use Rattle.start_laws.proofs.Pairs.{none-some, start-kinds, below-plain}

@@ -19,14 +19,14 @@ use Rattle.plan_kinds.proofs.Placing.{no-member, child-no_body}
 use Rattle.plan_shape.specs.Blueprint.{Blueprint}
 use Rattle.plan_shape.specs.Forest.{IsForest}
 use Rattle.node_images.specs.Picks.{picked_body}
-use Rattle.exec_start.specs.declared.entry.Entry.{Entry}
-use Rattle.exec_start.specs.Entries.{node_of, plan_node, start_below}
-use Rattle.exec_start.specs.HasKinds.{HasKinds}
-use Rattle.exec_start.specs.Below.{asked_below, AllowedWith, IsBody, ByNode, GoesBelow}
-use Rattle.exec_start.specs.Starts.{IsStart, NeedsNoRequest}
-use Rattle.exec_start.specs.Parcels.{AllowedFor}
-use Rattle.exec_start.proofs.Beginning.{goes-on}
-use Rattle.exec_start.proofs.Widening.{below-widens}
+use Rattle.home_items.specs.declared.entry.Entry.{Entry}
+use Rattle.home_items.specs.Entries.{node_of, plan_node, start_below}
+use Rattle.home_items.specs.HasKinds.{HasKinds}
+use Rattle.home_items.specs.Below.{asked_below, AllowedWith, IsBody, ByNode, GoesBelow}
+use Rattle.home_items.specs.Starts.{IsStart, NeedsNoRequest}
+use Rattle.home_items.specs.Parcels.{AllowedFor}
+use Rattle.home_items.proofs.Beginning.{goes-on}
+use Rattle.home_items.proofs.Widening.{below-widens}
 use Rattle.start_laws.specs.Nodes.{IsStartOf, plain_children}
 use Rattle.start_laws.specs.Lets.{channel_of, pick_of}
 use Rattle.start_laws.specs.LetLaws.{BodiesMayBegin, BodiesAreAllowed}

@@ -7,11 +7,11 @@ use Rattle.plan_rules.specs.declared.node.Node.{Node}
 use Rattle.plan_rules.specs.declared.node.Node.TheVariants.{Then, StartsOn, ContinuesOn, Bulk, WhenAll, Input, Just, JustError, JustStopped, Schedule, Delay, ReadEnv, Part}
 use Rattle.plan_rules.specs.Children.{named_by}
 use Rattle.plan_shape.specs.PlanTree.{is_when_all}
-use Rattle.exec_start.specs.declared.entry.Entry.{Entry}
-use Rattle.exec_start.specs.Bounds.{least_at_rest, least_when_done}
-use Rattle.exec_start.specs.Starts.{IsReceiverStart}
-use Rattle.exec_start.specs.Parcels.{Delivery}
-use Rattle.exec_start.proofs.Collecting.{receiver-none}
+use Rattle.home_items.specs.declared.entry.Entry.{Entry}
+use Rattle.home_items.specs.Bounds.{least_at_rest, least_when_done}
+use Rattle.home_items.specs.Starts.{IsReceiverStart}
+use Rattle.home_items.specs.Parcels.{Delivery}
+use Rattle.home_items.proofs.Collecting.{receiver-none}
 use Rattle.start_laws.specs.Nodes.{start_node, AwaitsOne}
 use Rattle.start_laws.specs.Leaves.{IsLeaf, IsStoppable}
 use Rattle.start_laws.specs.Laws.{FewAreBegun}

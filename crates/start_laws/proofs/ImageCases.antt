@@ -19,11 +19,11 @@ use Rattle.plan_rules.specs.Allowed.{Meaning, OrStopped, PickedBy, LetOf, Case}
 use Rattle.plan_rules.specs.Seen.{seen_state}
 use Rattle.plan_laws.proofs.Memory.{HasMemory}
 use Rattle.node_images.specs.Picks.{picked_body}
-use Rattle.exec_start.specs.declared.entry.Entry.{Entry}
-use Rattle.exec_start.specs.Entries.{plan_of, node_of, args_of, record_number, asked_of}
-use Rattle.exec_start.specs.Below.{asked_below}
-use Rattle.exec_start.specs.Parcels.{Delivery, AllowedFor, MayDeliver, IsDelivery}
-use Rattle.exec_start.specs.Fits.{IsChildOf}
+use Rattle.home_items.specs.declared.entry.Entry.{Entry}
+use Rattle.home_items.specs.Entries.{plan_of, node_of, args_of, record_number, asked_of}
+use Rattle.home_items.specs.Below.{asked_below}
+use Rattle.home_items.specs.Parcels.{Delivery, AllowedFor, MayDeliver, IsDelivery}
+use Rattle.home_items.specs.Fits.{IsChildOf}
 use Rattle.start_laws.specs.Nodes.{IsStartOf, plain_children, image_of, PicksNone, MakesImage, MayHaveSeen}
 use Rattle.start_laws.specs.Laws.{ImagesAreAllowed, WantPasses}
 use Rattle.start_laws.proofs.Pairs.{none-some, sole, for-has, memory-not, delivers-allowed, below_start, case-allowed, child-allowed}

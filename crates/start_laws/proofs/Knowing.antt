@@ -6,19 +6,19 @@ use Rattle.plan_rules.specs.declared.node.Node.TheVariants.{LetValue, LetError, 
 use Rattle.plan_kinds.specs.Small.{IsSmall}
 use Rattle.plan_kinds.proofs.Placing.{no-part, child-no_body}
 use Rattle.plan_shape.specs.Blueprint.{IsPlan}
-use Rattle.exec_start.specs.declared.entry.Entry.{Entry}
-use Rattle.exec_start.specs.declared.item.Item.{Item}
-use Rattle.exec_start.specs.declared.item.Item.TheVariants.{Rest, Done}
-use Rattle.exec_start.specs.Entries.{plan_of, node_of, plan_node}
-use Rattle.exec_start.specs.Below.{IsPlainChild, ByNode}
-use Rattle.exec_start.specs.Starts.{IsReceiverStart, IsStart, NeedsNoRequest}
-use Rattle.exec_start.specs.Parcels.{Delivery, IsDelivery}
-use Rattle.exec_start.specs.Items.{start_in, HasCompleted}
-use Rattle.exec_start.specs.Fits.{FitsChild, IsChildOf, IsItemOf, FitsHome}
-use Rattle.exec_start.proofs.Collecting.{receiver-none}
-use Rattle.exec_start.proofs.KindsBelow.{body-among}
-use Rattle.exec_start.proofs.Reading.{held-fits, child-fits}
-use Rattle.exec_start.proofs.Standing.{kinds-within}
+use Rattle.home_items.specs.declared.entry.Entry.{Entry}
+use Rattle.home_items.specs.declared.item.Item.{Item}
+use Rattle.home_items.specs.declared.item.Item.TheVariants.{Rest, Done}
+use Rattle.home_items.specs.Entries.{plan_of, node_of, plan_node}
+use Rattle.home_items.specs.Below.{IsPlainChild, ByNode}
+use Rattle.home_items.specs.Starts.{IsReceiverStart, IsStart, NeedsNoRequest}
+use Rattle.home_items.specs.Parcels.{Delivery, IsDelivery}
+use Rattle.home_items.specs.Items.{start_in, HasCompleted}
+use Rattle.home_items.specs.Fits.{FitsChild, IsChildOf, IsItemOf, FitsHome}
+use Rattle.home_items.proofs.Collecting.{receiver-none}
+use Rattle.home_items.proofs.KindsBelow.{body-among}
+use Rattle.home_items.proofs.Reading.{held-fits, child-fits}
+use Rattle.home_items.proofs.Standing.{kinds-within}
 use Rattle.plan_kinds.proofs.Plans.{plans-built}
 use Rattle.start_laws.specs.Nodes.{IsStartOf, plain_children}
 use Rattle.start_laws.specs.Holding.{IsHeld, IsDoneBelow, IsFromBelow}

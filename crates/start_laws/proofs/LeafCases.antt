@@ -12,9 +12,9 @@ use Rattle.plan_rules.specs.Settle.{unless_asked, shown_of}
 use Rattle.plan_rules.specs.Allowed.{Meaning, OrStopped, Asks, AllOf, Case}
 use Rattle.plan_rules.specs.Seen.{seen_state}
 use Rattle.exec_value.specs.declared.data.Datum.{Datum}
-use Rattle.exec_start.specs.declared.entry.Entry.{Entry}
-use Rattle.exec_start.specs.Entries.{plan_of, args_of, record_number, asked_of}
-use Rattle.exec_start.specs.Parcels.{AllowedFor}
+use Rattle.home_items.specs.declared.entry.Entry.{Entry}
+use Rattle.home_items.specs.Entries.{plan_of, args_of, record_number, asked_of}
+use Rattle.home_items.specs.Parcels.{AllowedFor}
 use Rattle.start_laws.specs.Nodes.{IsStartOf}
 use Rattle.start_laws.specs.Leaves.{IsLeaf, leaf_of, IsStoppable}
 use Rattle.start_laws.specs.Laws.{LeavesAreAllowed, StopsAreAllowed}

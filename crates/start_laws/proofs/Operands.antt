@@ -18,13 +18,13 @@ use Rattle.plan_kinds.specs.Gives.{gives, picks}
 use Rattle.plan_kinds.specs.Signatures.{sig_of, matches, Fits}
 use Rattle.plan_kinds.proofs.Taken.{HasValue, has-value, value-taken, error-taken, stopped-taken}
 use Rattle.plan_shape.specs.Blueprint.{Blueprint}
-use Rattle.exec_start.specs.declared.entry.Entry.{Entry}
-use Rattle.exec_start.specs.Entries.{plan_of, node_of, args_of, record_number, asked_of}
-use Rattle.exec_start.specs.HasKinds.{HasKinds}
-use Rattle.exec_start.specs.Below.{asked_below}
-use Rattle.exec_start.specs.Parcels.{Delivery, IsDelivery}
-use Rattle.exec_start.specs.Fits.{IsChildOf}
-use Rattle.exec_start.proofs.KindsBelow.{run-ends}
+use Rattle.home_items.specs.declared.entry.Entry.{Entry}
+use Rattle.home_items.specs.Entries.{plan_of, node_of, args_of, record_number, asked_of}
+use Rattle.home_items.specs.HasKinds.{HasKinds}
+use Rattle.home_items.specs.Below.{asked_below}
+use Rattle.home_items.specs.Parcels.{Delivery, IsDelivery}
+use Rattle.home_items.specs.Fits.{IsChildOf}
+use Rattle.home_items.proofs.KindsBelow.{run-ends}
 use Rattle.start_laws.specs.Nodes.{IsStartOf, plain_children, JobTakes}
 use Rattle.start_laws.specs.Laws.{JobsTakeTheirData}
 use Rattle.start_laws.proofs.Pairs.{sole, start-kinds, delivers-allowed, child-allowed, child-among, plain-run}

@@ -15,15 +15,15 @@ use Rattle.plan_laws.proofs.Steps.{allowed-by-case}
 use Rattle.plan_kinds.specs.Runs.{run_by}
 use Rattle.plan_kinds.proofs.Placing.{no-member}
 use Rattle.plan_kinds.proofs.Plans.{plans-built}
-use Rattle.exec_start.specs.declared.entry.Entry.{Entry}
-use Rattle.exec_start.specs.Entries.{plan_of, node_of, args_of, record_number, asked_of, plan_node}
-use Rattle.exec_start.specs.HasKinds.{HasKinds}
-use Rattle.exec_start.specs.Below.{run_below, asked_below, IsPlainChild}
-use Rattle.exec_start.specs.Starts.{IsStart}
-use Rattle.exec_start.specs.Parcels.{AllowedFor, MayDeliver}
-use Rattle.exec_start.specs.Fits.{IsChildOf}
-use Rattle.exec_start.proofs.Collecting.{receiver-none}
-use Rattle.exec_start.proofs.Pairing.{run-allowed}
+use Rattle.home_items.specs.declared.entry.Entry.{Entry}
+use Rattle.home_items.specs.Entries.{plan_of, node_of, args_of, record_number, asked_of, plan_node}
+use Rattle.home_items.specs.HasKinds.{HasKinds}
+use Rattle.home_items.specs.Below.{run_below, asked_below, IsPlainChild}
+use Rattle.home_items.specs.Starts.{IsStart}
+use Rattle.home_items.specs.Parcels.{AllowedFor, MayDeliver}
+use Rattle.home_items.specs.Fits.{IsChildOf}
+use Rattle.home_items.proofs.Collecting.{receiver-none}
+use Rattle.home_items.proofs.Pairing.{run-allowed}
 use Rattle.start_laws.specs.Nodes.{start_node, IsStartOf, plain_children}
 
 pub none-some : {A G : Type 0} {x : A} → None ≡ Some x → G

@@ -22,11 +22,11 @@ use Rattle.plan_shape.specs.Forest.{IsForest, IsPartOf}
 use Rattle.plan_shape.specs.declared.limits.TheConstants.{BULK_PARTS}
 use Rattle.plan_shape.proofs.ListLemmas.{range_member}
 use Rattle.plan_shape.specs.PlanTree.{spawns, tree_of}
-use Rattle.exec_start.specs.declared.entry.Entry.{Entry}
-use Rattle.exec_start.specs.Entries.{plan_of, node_of, child_of}
-use Rattle.exec_start.specs.Below.{asked_below}
-use Rattle.exec_start.specs.Starts.{IsReceiverStart}
-use Rattle.exec_start.proofs.Standing.{stands-below}
+use Rattle.home_items.specs.declared.entry.Entry.{Entry}
+use Rattle.home_items.specs.Entries.{plan_of, node_of, child_of}
+use Rattle.home_items.specs.Below.{asked_below}
+use Rattle.home_items.specs.Starts.{IsReceiverStart}
+use Rattle.home_items.proofs.Standing.{stands-below}
 use Rattle.start_laws.specs.Nodes.{IsStartOf, plain_children}
 use Rattle.start_laws.specs.HoldingLaws.{StandsBelow, ChildrenStand}
 use Rattle.start_laws.proofs.Pairs.{none-some, plain-run}

@@ -15,14 +15,14 @@ use Rattle.plan_kinds.proofs.Trees.{trees-show}
 use Rattle.plan_shape.specs.PlanTree.{is_when_all, receiver_node, tree_of}
 use Rattle.plan_shape.proofs.TreeLemmas.{tree_of-receiver}
 use Rattle.common_lemmas.proofs.Bool.{either}
-use Rattle.exec_start.specs.declared.entry.Entry.{Entry}
-use Rattle.exec_start.specs.declared.item.Item.{Item}
-use Rattle.exec_start.specs.declared.item.Item.TheVariants.{Start, Rest, Done}
-use Rattle.exec_start.specs.Entries.{plan_of, node_of, asked_of}
-use Rattle.exec_start.specs.Starts.{IsReceiverStart}
-use Rattle.exec_start.specs.Parcels.{Delivery}
-use Rattle.exec_start.specs.Fits.{FitsHome, MayRest}
-use Rattle.exec_start.proofs.Fitting.{start-fits, rest-fits, kept-fits, done-fits}
+use Rattle.home_items.specs.declared.entry.Entry.{Entry}
+use Rattle.home_items.specs.declared.item.Item.{Item}
+use Rattle.home_items.specs.declared.item.Item.TheVariants.{Start, Rest, Done}
+use Rattle.home_items.specs.Entries.{plan_of, node_of, asked_of}
+use Rattle.home_items.specs.Starts.{IsReceiverStart}
+use Rattle.home_items.specs.Parcels.{Delivery}
+use Rattle.home_items.specs.Fits.{FitsHome, MayRest}
+use Rattle.home_items.proofs.Fitting.{start-fits, rest-fits, kept-fits, done-fits}
 use Rattle.start_laws.specs.Nodes.{start_node, IsStartOf, image_of, MakesImage, MayHaveSeen}
 use Rattle.start_laws.specs.Holding.{IsHeld, IsFromBelow, PassesTold}
 use Rattle.start_laws.specs.HoldingLaws.{HomesFit, NodesMayRest, RequestsAreTold}

@@ -3,12 +3,12 @@ use Rattle.std.specs.Prelude.{IsFalse, Contains}
 use Rattle.std.proofs.Common.{◌≡◌, ℕ, Bool, false, List, Some, sym, ◌∙◌, subst}
 use Rattle.plan_rules.specs.declared.node.Node.{Node}
 use Rattle.plan_shape.specs.PlanTree.{is_when_all, tree_of}
-use Rattle.exec_start.specs.declared.entry.Entry.{Entry}
-use Rattle.exec_start.specs.declared.item.Item.TheVariants.{Rest}
-use Rattle.exec_start.specs.Entries.{plan_of, node_of}
-use Rattle.exec_start.specs.Starts.{IsReceiverStart}
-use Rattle.exec_start.specs.Parcels.{Delivery}
-use Rattle.exec_start.specs.Fits.{MayRest}
+use Rattle.home_items.specs.declared.entry.Entry.{Entry}
+use Rattle.home_items.specs.declared.item.Item.TheVariants.{Rest}
+use Rattle.home_items.specs.Entries.{plan_of, node_of}
+use Rattle.home_items.specs.Starts.{IsReceiverStart}
+use Rattle.home_items.specs.Parcels.{Delivery}
+use Rattle.home_items.specs.Fits.{MayRest}
 use Rattle.start_laws.specs.Nodes.{IsStartOf, plain_children, MakesImage, MayHaveSeen}
 use Rattle.start_laws.specs.Holding.{IsFromBelow, PassesTold}
 use Rattle.start_laws.specs.StepLaws.{IsReported, MayEnd, MayKeep, StepsMayEnd}

@@ -25,10 +25,10 @@ use Rattle.plan_kinds.proofs.Kept.{kinds-kept}
 use Rattle.plan_kinds.proofs.Plans.{plans-built}
 use Rattle.plan_kinds.proofs.Signed.{signed-by-case}
 use Rattle.node_images.specs.Makes.{CompletesInPlace}
-use Rattle.exec_start.specs.declared.entry.Entry.{Entry}
-use Rattle.exec_start.specs.Entries.{plan_of, node_of, args_of}
-use Rattle.exec_start.specs.HasKinds.{HasKinds}
-use Rattle.exec_start.specs.Parcels.{AllowedFor, MayDeliver}
+use Rattle.home_items.specs.declared.entry.Entry.{Entry}
+use Rattle.home_items.specs.Entries.{plan_of, node_of, args_of}
+use Rattle.home_items.specs.HasKinds.{HasKinds}
+use Rattle.home_items.specs.Parcels.{AllowedFor, MayDeliver}
 use Rattle.start_laws.specs.Nodes.{IsStartOf}
 use Rattle.start_laws.specs.RoomLaws.{JoinsValues, IsLongError, RoomIsThere}
 use Rattle.start_laws.proofs.Pairs.{start-kinds}

@@ -17,15 +17,15 @@ use Rattle.plan_kinds.proofs.Placing.{no-part}
 use Rattle.plan_kinds.proofs.Plans.{plans-built}
 use Rattle.plan_shape.specs.Blueprint.{Blueprint, IsPlan}
 use Rattle.plan_shape.specs.declared.limits.TheConstants.{BULK_PARTS}
-use Rattle.exec_start.specs.declared.entry.Entry.{Entry}
-use Rattle.exec_start.specs.Entries.{plan_of, node_of, whole_row, plan_node, start_below}
-use Rattle.exec_start.specs.HasKinds.{HasKinds}
-use Rattle.exec_start.specs.Below.{AllowedWith, IsPart, ByNode, GoesBelow}
-use Rattle.exec_start.specs.Starts.{IsStart}
-use Rattle.exec_start.specs.Parcels.{AllowedFor}
-use Rattle.exec_start.specs.Shares.{first_index, share_of, part_args}
-use Rattle.exec_start.proofs.Beginning.{goes-on}
-use Rattle.exec_start.proofs.Shares.{first-none, first-rises, first-last, shares-join}
+use Rattle.home_items.specs.declared.entry.Entry.{Entry}
+use Rattle.home_items.specs.Entries.{plan_of, node_of, whole_row, plan_node, start_below}
+use Rattle.home_items.specs.HasKinds.{HasKinds}
+use Rattle.home_items.specs.Below.{AllowedWith, IsPart, ByNode, GoesBelow}
+use Rattle.home_items.specs.Starts.{IsStart}
+use Rattle.home_items.specs.Parcels.{AllowedFor}
+use Rattle.home_items.specs.Shares.{first_index, share_of, part_args}
+use Rattle.home_items.proofs.Beginning.{goes-on}
+use Rattle.home_items.proofs.Shares.{first-none, first-rises, first-last, shares-join}
 use Rattle.start_laws.specs.Nodes.{IsStartOf}
 use Rattle.start_laws.specs.BulkLaws.{PartsMayBegin, share_made, front_made, PartsMakeShares, made_behind, SharesAreMade}
 use Rattle.start_laws.proofs.Pairs.{none-some, sole, start-kinds, delivers-allowed, child-allowed}

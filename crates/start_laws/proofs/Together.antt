@@ -13,10 +13,10 @@ use Rattle.plan_rules.specs.Seen.{seen_state}
 use Rattle.plan_laws.proofs.Covers.{may-covers}
 use Rattle.plan_laws.proofs.Memory.{HasMemory}
 use Rattle.plan_shape.specs.Blueprint.{Blueprint}
-use Rattle.exec_start.specs.declared.entry.Entry.{Entry}
-use Rattle.exec_start.specs.Entries.{plan_of, node_of, args_of, record_number, asked_of}
-use Rattle.exec_start.specs.Below.{AllowedWith}
-use Rattle.exec_start.specs.Parcels.{Delivery, AllowedFor, MayDeliver}
+use Rattle.home_items.specs.declared.entry.Entry.{Entry}
+use Rattle.home_items.specs.Entries.{plan_of, node_of, args_of, record_number, asked_of}
+use Rattle.home_items.specs.Below.{AllowedWith}
+use Rattle.home_items.specs.Parcels.{Delivery, AllowedFor, MayDeliver}
 use Rattle.start_laws.specs.AllLaws.{AllDelivered, AllsAreAllowed, RunsAlike, AheadsAreAllowed}
 use Rattle.start_laws.proofs.Pairs.{sole, allowed-has, delivers-allowed, below_start, case-allowed, child-allowed}
 

@@ -5,8 +5,8 @@ use Rattle.common_lemmas.proofs.Bool.{either}
 use Rattle.exec_value.specs.declared.outcome.Completion.{Completion}
 use Rattle.exec_value.specs.declared.outcome.Completion.TheVariants.{Value, Error, Stopped, NoMemory}
 use Rattle.plan_rules.specs.Allowed.{IsFailure, FailsWith}
-use Rattle.exec_start.specs.declared.entry.Entry.{Entry}
-use Rattle.exec_start.specs.Parcels.{Delivery, MayDeliver}
+use Rattle.home_items.specs.declared.entry.Entry.{Entry}
+use Rattle.home_items.specs.Parcels.{Delivery, MayDeliver}
 use Rattle.start_laws.specs.AllLaws.{AllDelivered}
 use Rattle.start_laws.specs.AllEnds.{is_failure, fails_first, first_ends, all_ends, some_saw, some_first, saw_together, all_saw, FailedFirst, AllsMayEnd}
 use Rattle.start_laws.proofs.Together.{all-values, one-fails}

@@ -7,7 +7,7 @@ use Rattle.exec_value.specs.declared.outcome.Completion.{Completion}
 use Rattle.exec_value.specs.declared.outcome.Completion.TheVariants.{Value, Error, Stopped, NoMemory}
 use Rattle.plan_rules.specs.Allowed.{joined}
 use Rattle.plan_rules.specs.Settle.{and_then}
-use Rattle.exec_start.specs.Parcels.{Delivery}
+use Rattle.home_items.specs.Parcels.{Delivery}
 use Rattle.start_laws.specs.AllEnds.{is_failure, fails_late, fails_first, joins_where, first_ends, late_ends, some_saw, some_first}
 
 -- the data of a value

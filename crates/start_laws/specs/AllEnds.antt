@@ -6,8 +6,8 @@ use Rattle.exec_value.specs.declared.outcome.Completion.{Completion}
 use Rattle.exec_value.specs.declared.outcome.Completion.TheVariants.{Value, Error, Stopped, NoMemory}
 use Rattle.plan_rules.specs.Allowed.{IsFailure}
 use Rattle.plan_rules.specs.Settle.{and_then}
-use Rattle.exec_start.specs.declared.entry.Entry.{Entry}
-use Rattle.exec_start.specs.Parcels.{Delivery, MayDeliver}
+use Rattle.home_items.specs.declared.entry.Entry.{Entry}
+use Rattle.home_items.specs.Parcels.{Delivery, MayDeliver}
 use Rattle.start_laws.specs.AllLaws.{AllDelivered}
 
 abbrev pub is_failure : Completion → Bool

@@ -7,11 +7,11 @@ use Rattle.exec_value.specs.declared.outcome.Completion.TheVariants.{Value, NoMe
 use Rattle.plan_rules.specs.declared.node.Node.TheVariants.{WhenAll, Ahead}
 use Rattle.plan_rules.specs.Allowed.{IsFailure, joined, FailsWith}
 use Rattle.plan_rules.specs.Settle.{ahead_of}
-use Rattle.exec_start.specs.declared.entry.Entry.{Entry}
-use Rattle.exec_start.specs.Entries.{plan_of, node_of, args_of, record_number, asked_of}
-use Rattle.exec_start.specs.Below.{AllowedWith}
-use Rattle.exec_start.specs.Parcels.{Delivery, MayDeliver, IsDelivery}
-use Rattle.exec_start.specs.Fits.{IsChildOf}
+use Rattle.home_items.specs.declared.entry.Entry.{Entry}
+use Rattle.home_items.specs.Entries.{plan_of, node_of, args_of, record_number, asked_of}
+use Rattle.home_items.specs.Below.{AllowedWith}
+use Rattle.home_items.specs.Parcels.{Delivery, MayDeliver, IsDelivery}
+use Rattle.home_items.specs.Fits.{IsChildOf}
 use Rattle.start_laws.specs.Nodes.{IsStartOf}
 
 -- each child of the `when_all` has delivered: the parcels of its children, by their places

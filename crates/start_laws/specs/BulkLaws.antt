@@ -6,11 +6,11 @@ use Rattle.exec_job.specs.declared.job.Job.{Job}
 use Rattle.plan_rules.specs.declared.node.Node.TheVariants.{Bulk, Part}
 use Rattle.plan_rules.specs.Bulks.{each_of, row_ending}
 use Rattle.plan_shape.specs.declared.limits.TheConstants.{BULK_PARTS}
-use Rattle.exec_start.specs.declared.entry.Entry.{Entry}
-use Rattle.exec_start.specs.Entries.{plan_of, node_of, asked_of, whole_row, start_below}
-use Rattle.exec_start.specs.Parcels.{Delivery, IsDelivery}
-use Rattle.exec_start.specs.Fits.{IsChildOf}
-use Rattle.exec_start.specs.Shares.{first_index, share_of, part_args}
+use Rattle.home_items.specs.declared.entry.Entry.{Entry}
+use Rattle.home_items.specs.Entries.{plan_of, node_of, asked_of, whole_row, start_below}
+use Rattle.home_items.specs.Parcels.{Delivery, IsDelivery}
+use Rattle.home_items.specs.Fits.{IsChildOf}
+use Rattle.home_items.specs.Shares.{first_index, share_of, part_args}
 use Rattle.start_laws.specs.Holding.{IsDoneBelow}
 use Rattle.start_laws.specs.Nodes.{IsStartOf}
 use Rattle.start_laws.specs.Laws.{MayBegin}

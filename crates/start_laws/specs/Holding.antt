@@ -4,11 +4,11 @@ use Rattle.exec_value.specs.declared.outcome.Completion.TheVariants.{NoMemory}
 use Rattle.node_tree.specs.declared.node.TreeNode.{TreeNode}
 use Rattle.node_tree.specs.Tree.{has_source, is_unstoppable}
 use Rattle.plan_kinds.specs.Small.{IsSmall}
-use Rattle.exec_start.specs.declared.entry.Entry.{Entry}
-use Rattle.exec_start.specs.Entries.{plan_of, node_of}
-use Rattle.exec_start.specs.Starts.{IsStart, NeedsNoRequest}
-use Rattle.exec_start.specs.Parcels.{Delivery, IsDelivery}
-use Rattle.exec_start.specs.Fits.{FitsChild, IsChildOf}
+use Rattle.home_items.specs.declared.entry.Entry.{Entry}
+use Rattle.home_items.specs.Entries.{plan_of, node_of}
+use Rattle.home_items.specs.Starts.{IsStart, NeedsNoRequest}
+use Rattle.home_items.specs.Parcels.{Delivery, IsDelivery}
+use Rattle.home_items.specs.Fits.{FitsChild, IsChildOf}
 
 -- The hand holds node n with this start, and was told of a request above it, or of none.
 pub record IsHeld (start : List Entry) (n : ℕ) (told : Bool) : Type 0 where

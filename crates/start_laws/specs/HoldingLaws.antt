@@ -10,14 +10,14 @@ use Rattle.plan_kinds.specs.Runs.{bodies_of}
 use Rattle.plan_shape.specs.Blueprint.{IsPlan}
 use Rattle.plan_shape.specs.PlanTree.{is_when_all, tree_of}
 use Rattle.plan_kinds.specs.Small.{IsSmall}
-use Rattle.exec_start.specs.declared.entry.Entry.{Entry}
-use Rattle.exec_start.specs.declared.item.Item.{Item}
-use Rattle.exec_start.specs.declared.item.Item.TheVariants.{Start, Rest, Done}
-use Rattle.exec_start.specs.Entries.{plan_of, node_of, asked_of, child_of}
-use Rattle.exec_start.specs.Starts.{IsReceiverStart, IsStart}
-use Rattle.exec_start.specs.Parcels.{Delivery, IsDelivery}
-use Rattle.exec_start.specs.Items.{start_in, HasCompleted}
-use Rattle.exec_start.specs.Fits.{FitsHome, MayRest}
+use Rattle.home_items.specs.declared.entry.Entry.{Entry}
+use Rattle.home_items.specs.declared.item.Item.{Item}
+use Rattle.home_items.specs.declared.item.Item.TheVariants.{Start, Rest, Done}
+use Rattle.home_items.specs.Entries.{plan_of, node_of, asked_of, child_of}
+use Rattle.home_items.specs.Starts.{IsReceiverStart, IsStart}
+use Rattle.home_items.specs.Parcels.{Delivery, IsDelivery}
+use Rattle.home_items.specs.Items.{start_in, HasCompleted}
+use Rattle.home_items.specs.Fits.{FitsHome, MayRest}
 use Rattle.start_laws.specs.Nodes.{start_node, IsStartOf, plain_children, image_of, MakesImage, MayHaveSeen}
 use Rattle.start_laws.specs.Holding.{IsHeld, IsDoneBelow, IsFromBelow, PassesTold}
 

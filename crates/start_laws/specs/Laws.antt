@@ -3,14 +3,14 @@ use Rattle.std.specs.Prelude.{◌≡◌, ◌≢◌, ◌||◌, ℕ, ◌≤◌, Is
 use Rattle.exec_value.specs.declared.outcome.Completion.TheVariants.{Stopped, NoMemory}
 use Rattle.plan_rules.specs.declared.node.Node.{Node}
 use Rattle.plan_shape.specs.PlanTree.{is_when_all}
-use Rattle.exec_start.specs.declared.entry.Entry.{Entry}
-use Rattle.exec_start.specs.declared.item.Item.TheVariants.{Start, Rest, Done}
-use Rattle.exec_start.specs.Entries.{args_of, asked_of, child_of, start_below}
-use Rattle.exec_start.specs.Starts.{IsReceiverStart, BeginsBelow}
-use Rattle.exec_start.specs.Below.{asked_below}
-use Rattle.exec_start.specs.Parcels.{Delivery, MayDeliver, IsDelivery}
-use Rattle.exec_start.specs.Bounds.{least_of}
-use Rattle.exec_start.specs.Fits.{FitsChild, IsChildOf, FitsHome}
+use Rattle.home_items.specs.declared.entry.Entry.{Entry}
+use Rattle.home_items.specs.declared.item.Item.TheVariants.{Start, Rest, Done}
+use Rattle.home_items.specs.Entries.{args_of, asked_of, child_of, start_below}
+use Rattle.home_items.specs.Starts.{IsReceiverStart, BeginsBelow}
+use Rattle.home_items.specs.Below.{asked_below}
+use Rattle.home_items.specs.Parcels.{Delivery, MayDeliver, IsDelivery}
+use Rattle.home_items.specs.Bounds.{least_of}
+use Rattle.home_items.specs.Fits.{FitsChild, IsChildOf, FitsHome}
 use Rattle.start_laws.specs.Nodes.{start_node, IsStartOf, plain_children, image_of, MakesImage, AwaitsOne, MayHaveSeen, JobTakes}
 use Rattle.start_laws.specs.Leaves.{IsLeaf, leaf_of, IsStoppable}
 

@@ -6,8 +6,8 @@ use Rattle.plan_rules.specs.declared.node.Node.{Node}
 use Rattle.plan_rules.specs.declared.node.Node.TheVariants.{Input, Just, JustError, JustStopped, Schedule, Delay, ReadEnv, StartsOn, ContinuesOn, WhenAll, Part}
 use Rattle.plan_rules.specs.Bulks.{job_of_bulk, part_ending}
 use Rattle.plan_rules.specs.Settle.{unless_asked, shown_of}
-use Rattle.exec_start.specs.declared.entry.Entry.{Entry}
-use Rattle.exec_start.specs.Entries.{plan_of, args_of, record_number}
+use Rattle.home_items.specs.declared.entry.Entry.{Entry}
+use Rattle.home_items.specs.Entries.{plan_of, args_of, record_number}
 
 -- the node has no child
 abbrev pub IsLeaf : Node → Type 0

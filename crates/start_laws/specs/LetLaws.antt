@@ -5,10 +5,10 @@ use Rattle.exec_job.specs.Apply.{apply_of, ending}
 use Rattle.plan_rules.specs.declared.node.Node.{Node}
 use Rattle.plan_kinds.specs.Runs.{bodies_of}
 use Rattle.node_images.specs.Picks.{picked_body}
-use Rattle.exec_start.specs.declared.entry.Entry.{Entry}
-use Rattle.exec_start.specs.Entries.{asked_of, start_below}
-use Rattle.exec_start.specs.Parcels.{Delivery, MayDeliver, IsDelivery}
-use Rattle.exec_start.specs.Fits.{IsChildOf}
+use Rattle.home_items.specs.declared.entry.Entry.{Entry}
+use Rattle.home_items.specs.Entries.{asked_of, start_below}
+use Rattle.home_items.specs.Parcels.{Delivery, MayDeliver, IsDelivery}
+use Rattle.home_items.specs.Fits.{IsChildOf}
 use Rattle.start_laws.specs.Nodes.{IsStartOf}
 use Rattle.start_laws.specs.Holding.{IsDoneBelow}
 use Rattle.start_laws.specs.Lets.{channel_of, pick_of}

@@ -13,10 +13,10 @@ use Rattle.plan_rules.specs.Bulks.{bulk_of}
 use Rattle.plan_rules.specs.Settle.{unless_asked}
 use Rattle.plan_kinds.specs.Runs.{run_by}
 use Rattle.node_images.specs.Picks.{picked_body}
-use Rattle.exec_start.specs.declared.entry.Entry.{Entry}
+use Rattle.home_items.specs.declared.entry.Entry.{Entry}
 use Rattle.plan_kinds.specs.Runnable.{IsRunnable}
-use Rattle.exec_start.specs.Entries.{plan_of, node_of}
-use Rattle.exec_start.specs.Starts.{IsStart}
+use Rattle.home_items.specs.Entries.{plan_of, node_of}
+use Rattle.home_items.specs.Starts.{IsStart}
 
 -- the node that a start is of, where it isn't the receiver node
 abbrev pub start_node : List Entry → Option Node

@@ -8,9 +8,9 @@ use Rattle.plan_rules.specs.declared.node.Node.{Node}
 use Rattle.plan_rules.specs.declared.node.Node.TheVariants.{WhenAll, Ahead}
 use Rattle.plan_kinds.specs.Small.{IsSmall}
 use Rattle.node_images.specs.Makes.{CompletesInPlace}
-use Rattle.exec_start.specs.declared.entry.Entry.{Entry}
-use Rattle.exec_start.specs.Entries.{plan_of}
-use Rattle.exec_start.specs.Parcels.{MayDeliver}
+use Rattle.home_items.specs.declared.entry.Entry.{Entry}
+use Rattle.home_items.specs.Entries.{plan_of}
+use Rattle.home_items.specs.Parcels.{MayDeliver}
 use Rattle.start_laws.specs.Nodes.{IsStartOf}
 
 -- the node joins the values of its children

@@ -2,12 +2,12 @@
 use Rattle.std.specs.Prelude.{ℕ, IsFalse, Bool, List, Contains, Some}
 use Rattle.plan_rules.specs.declared.node.Node.{Node}
 use Rattle.plan_shape.specs.PlanTree.{is_when_all, tree_of}
-use Rattle.exec_start.specs.declared.entry.Entry.{Entry}
-use Rattle.exec_start.specs.declared.item.Item.TheVariants.{Rest, Done}
-use Rattle.exec_start.specs.Entries.{plan_of, asked_of}
-use Rattle.exec_start.specs.Starts.{IsReceiverStart}
-use Rattle.exec_start.specs.Parcels.{Delivery, MayDeliver}
-use Rattle.exec_start.specs.Fits.{FitsHome, MayRest}
+use Rattle.home_items.specs.declared.entry.Entry.{Entry}
+use Rattle.home_items.specs.declared.item.Item.TheVariants.{Rest, Done}
+use Rattle.home_items.specs.Entries.{plan_of, asked_of}
+use Rattle.home_items.specs.Starts.{IsReceiverStart}
+use Rattle.home_items.specs.Parcels.{Delivery, MayDeliver}
+use Rattle.home_items.specs.Fits.{FitsHome, MayRest}
 use Rattle.start_laws.specs.Nodes.{IsStartOf, plain_children, image_of, MakesImage, JobTakes}
 use Rattle.start_laws.specs.Holding.{IsHeld, IsDoneBelow, IsFromBelow, PassesTold}
 

@@ -1,7 +1,7 @@
 //! The laws of starts and completions: what a node completes with is allowed for its own start,
 //! where what its children delivered was allowed for theirs.
 //!
-//! It stands on `exec_start`, which has the starts, the parcels and what fits a home, on
+//! It stands on `home_items`, which has the starts, the parcels and what fits a home, on
 //! `node_images`, whose calls make the completions, and on the plans' crates. It has no code: each
 //! function's contract is laws over the definitions alone, for every plan whose kinds match. Of a
 //! running table it knows what a hand is told of the homes, so a step of any node can cite it.

@@ -1,8 +1,8 @@
 use Rattle.std.proofs.Common.{inl, inr, refl, sym, ap, ◌∙◌, subst}
 use Rattle.exec_value.specs.declared.outcome.Completion.{Completion}
-use Rattle.exec_start.specs.Parcels.{Delivery}
+use Rattle.home_items.specs.Parcels.{Delivery}
 use Rattle.node_images.specs.Makes.{CompletesInPlace}
-use Rattle.node_steps.specs.Wants.{wanting}
+use Rattle.step_parts.specs.Wants.{wanting}
 use Rattle.start_laws.specs.Nodes.{JobTakes}
 use Rattle.exec_adapt.specs.Images.{names_error, adapted_to, StandsButForName}
 use Rattle.exec_adapt.proofs.Adapting.{pass-takes, image-may, image-completes, pass-stands, pass-empty}

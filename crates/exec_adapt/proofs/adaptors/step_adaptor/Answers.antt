@@ -1,8 +1,8 @@
 use Rattle.std.proofs.Common.{Some, sym, ◌∙◌, subst}
-use Rattle.exec_start.specs.Parcels.{Delivery}
+use Rattle.home_items.specs.Parcels.{Delivery}
 use Rattle.exec_recv.proofs.Places.{over-places}
-use Rattle.node_steps.proofs.Frames.{stepped-after}
-use Rattle.node_steps.proofs.Places.{inner-is}
+use Rattle.step_parts.proofs.Frames.{stepped-after}
+use Rattle.step_parts.proofs.Places.{inner-is}
 use Rattle.exec_adapt.specs.Adapts.{EndsWith}
 use Rattle.exec_adapt.specs.Images.{adapted_to}
 use Rattle.exec_adapt.proofs.Found.{taken-lay, found-same, found-some, found-none}

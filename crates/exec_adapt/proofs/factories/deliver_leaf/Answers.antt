@@ -1,7 +1,7 @@
 use Rattle.std.proofs.Common.{inl, inr, Bool, ◌||◌, refl, sym, ap, ◌∙◌, subst}
-use Rattle.exec_start.specs.Parcels.{Delivery}
+use Rattle.home_items.specs.Parcels.{Delivery}
 use Rattle.node_images.specs.Makes.{CompletesInPlace}
-use Rattle.node_steps.specs.Wants.{wanting}
+use Rattle.step_parts.specs.Wants.{wanting}
 use Rattle.start_laws.specs.Leaves.{leaf_of}
 use Rattle.exec_adapt.proofs.Leafing.{made-may, made-completes, leaf-large}
 use Rattle.exec_adapt.proofs.factories.deliver_leaf.Goals as goal

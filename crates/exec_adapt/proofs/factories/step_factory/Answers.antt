@@ -1,14 +1,15 @@
-use Rattle.std.proofs.Common.{false, ◌||◌, List, None, sym, ap, ◌∙◌, subst}
+use Rattle.std.proofs.Common.{◌||◌, List, None, sym, ap, ◌∙◌, subst}
 use Rattle.plan_rules.specs.declared.node.Node.{Node}
-use Rattle.exec_start.specs.Entries.{asked_of}
-use Rattle.exec_start.specs.Items.{start_in}
-use Rattle.exec_start.specs.declared.entry.Entry.{Entry}
+use Rattle.home_items.specs.Entries.{asked_of}
+use Rattle.home_items.specs.Items.{start_in}
+use Rattle.home_items.specs.declared.entry.Entry.{Entry}
 use Rattle.exec_recv.proofs.Places.{over-places}
 use Rattle.start_laws.specs.Leaves.{leaf_of}
-use Rattle.node_steps.proofs.Frames.{ready-is, others-on, stepped-after}
-use Rattle.node_steps.proofs.Places.{inner-is}
+use Rattle.step_parts.proofs.Frames.{ready-is, others-on, stepped-after}
+use Rattle.step_parts.proofs.Places.{inner-is}
 use Rattle.exec_adapt.specs.Adapts.{EndsWith}
 use Rattle.exec_adapt.proofs.Places.{factory-only}
+use Rattle.exec_adapt.proofs.Looks.{looks-within}
 use Rattle.exec_adapt.proofs.Leafing.{taken-empty, taken-leaf, leaf-names, no-error}
 use Rattle.exec_adapt.proofs.factories.step_factory.Goals as goal
 
@@ -73,20 +74,25 @@ returns-in_default-clause-stepped g c =
 pub returns-in-JustError-clause-makes : goal.returns-in-JustError-clause-makes
 returns-in-JustError-clause-makes g c =
     record {
-      ends = λ can. (
-        false,
-        subst (λ (n : Node). EndsWith c.args.table.now c.args.name None (leaf_of n false (start_in can.item)) c.deliver_error.result c.deliver_error.new.hand.me)
-            (sym c.in-JustError.is) c.deliver_error.ensures.ends,
-      );
+      saw = c.finds_request-saw.result;
+      looks = looks-within c.args.table.now c.args.name c.args.node.now c.finds_request-saw.result c.args.hand.now.me c.take_out.new.hand.me
+          c.finds_request-saw.new.hand.me c.deliver_error.new.hand.me c.take_out.ensures.takes.beside.aside c.deliver_error.ensures.stepped.aside
+          c.finds_request-saw.ensures.looks;
+      ends = λ can.
+          subst (λ (n : Node). EndsWith c.args.table.now c.args.name None
+          (leaf_of n (asked_of (start_in can.item) || c.finds_request-saw.result) (start_in can.item)) c.deliver_error.result c.deliver_error.new.hand.me)
+          (sym c.in-JustError.is) c.deliver_error.ensures.ends;
     }
 
 pub returns-in_default-clause-makes : goal.returns-in_default-clause-makes
 returns-in_default-clause-makes g c =
     record {
-      ends = λ can. (
-        asked_of c.at_hand-env.result.0 || c.finds_request-saw.result,
-        subst (λ (s : List Entry). EndsWith c.args.table.now c.args.name None
-            (leaf_of c.args.node.now (asked_of c.at_hand-env.result.0 || c.finds_request-saw.result) s) c.deliver_leaf.result c.deliver_leaf.new.hand.me)
-            (c.at_hand-env.ensures.env ∙ ap start_in (sym (c.take_out.ensures.takes.item can))) c.deliver_leaf.ensures.ends,
-      );
+      saw = c.finds_request-saw.result;
+      looks = looks-within c.args.table.now c.args.name c.args.node.now c.finds_request-saw.result c.args.hand.now.me c.take_out.new.hand.me
+          c.finds_request-saw.new.hand.me c.deliver_leaf.new.hand.me c.take_out.ensures.takes.beside.aside c.deliver_leaf.ensures.stepped.aside
+          c.finds_request-saw.ensures.looks;
+      ends = λ can.
+          subst (λ (s : List Entry). EndsWith c.args.table.now c.args.name None
+          (leaf_of c.args.node.now (asked_of s || c.finds_request-saw.result) s) c.deliver_leaf.result c.deliver_leaf.new.hand.me)
+          (c.at_hand-env.ensures.env ∙ ap start_in (sym (c.take_out.ensures.takes.item can))) c.deliver_leaf.ensures.ends;
     }

@@ -2,8 +2,8 @@ use Rattle.std.proofs.Common.{Bool, subst}
 use Rattle.std.proofs.lemmas.Bool.{both_ways}
 use Rattle.life_rules.specs.Views.{beside}
 use Rattle.table_steps.specs.Readings.{IsBegunAs}
-use Rattle.node_steps.proofs.Frames.{stepped-after}
-use Rattle.node_steps.proofs.Started.{run-above, run-place, begun-runs, idle-runs, idle-read, run-still}
+use Rattle.step_parts.proofs.Frames.{stepped-after}
+use Rattle.step_parts.proofs.Started.{run-above, run-place, begun-runs, idle-runs, idle-read, run-still}
 use Rattle.exec_adapt.proofs.Receiving.{begun-leaves}
 use Rattle.exec_adapt.proofs.receiver.start_unbegun_top.Goals as goal
 

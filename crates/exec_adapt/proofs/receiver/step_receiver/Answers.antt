@@ -1,12 +1,12 @@
 use Rattle.std.specs.Prelude.{Some}
 use Rattle.std.proofs.Common.{sym, ap, ◌∙◌, subst}
 use Rattle.node_tree.specs.declared.context.Context.TheVariants.{Loop}
-use Rattle.exec_start.specs.declared.item.Item.{Item}
-use Rattle.exec_start.specs.Entries.{child_of}
-use Rattle.exec_start.specs.Items.{start_in}
-use Rattle.exec_start.specs.Parcels.{Delivery}
-use Rattle.node_steps.specs.Leaves.{IsLeftIn}
-use Rattle.node_steps.proofs.Frames.{stepped-after}
+use Rattle.home_items.specs.declared.item.Item.{Item}
+use Rattle.home_items.specs.Entries.{child_of}
+use Rattle.home_items.specs.Items.{start_in}
+use Rattle.home_items.specs.Parcels.{Delivery}
+use Rattle.step_parts.specs.Leaves.{IsLeftIn}
+use Rattle.step_parts.proofs.Frames.{stepped-after}
 use Rattle.exec_adapt.proofs.Found.{top-lay, found-same, found-some, found-none}
 use Rattle.exec_adapt.proofs.Receiving.{top-leaves, top-may, top-idle}
 use Rattle.exec_adapt.proofs.TopPlaces.{root-is}

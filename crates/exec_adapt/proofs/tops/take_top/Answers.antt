@@ -1,7 +1,7 @@
 use Rattle.std.proofs.Common.{◌≡◌, ◌≤◌, sym, ◌∙◌, subst}
 use Rattle.plan_rules.specs.declared.settings.Settings.{Settings}
 use Rattle.exec_recv.proofs.Places.{over-places}
-use Rattle.node_steps.proofs.Opened.{own-opens}
+use Rattle.step_parts.proofs.Opened.{own-opens}
 use Rattle.exec_adapt.proofs.Emptied.{below-emptying}
 use Rattle.exec_adapt.proofs.TopPlaces.{old-spawns}
 use Rattle.exec_adapt.proofs.TopTaken.{never-none, named-child, takes-single, takes-several}

@@ -1,9 +1,9 @@
 use Rattle.std.proofs.Common.{refl, sym, ap, subst}
-use Rattle.exec_start.specs.Items.{parcel_in}
-use Rattle.exec_start.specs.Starts.{IsStart}
+use Rattle.home_items.specs.Items.{parcel_in}
+use Rattle.home_items.specs.Starts.{IsStart}
 use Rattle.exec_recv.proofs.Places.{over-places}
-use Rattle.node_steps.specs.declared.taken.AtHome.{AtHome}
-use Rattle.node_steps.specs.TakenOut.{item_at, start_at}
+use Rattle.step_parts.specs.declared.taken.AtHome.{AtHome}
+use Rattle.step_parts.specs.TakenOut.{item_at, start_at}
 use Rattle.exec_ahead.proofs.Opened.{ahead-only, ahead-opens}
 use Rattle.exec_ahead.proofs.opening.open.Goals as goal
 

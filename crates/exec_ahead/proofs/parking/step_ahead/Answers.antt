@@ -1,7 +1,7 @@
 use Rattle.std.proofs.Common.{Option, subst}
 use Rattle.std.specs.Prelude.{IfSome}
-use Rattle.exec_start.specs.Parcels.{Delivery}
-use Rattle.node_steps.proofs.Frames.{stepped-after}
+use Rattle.home_items.specs.Parcels.{Delivery}
+use Rattle.step_parts.proofs.Frames.{stepped-after}
 use Rattle.exec_ahead.specs.Openings.{HasParcel}
 use Rattle.exec_ahead.proofs.Parked.{ahead-leaves, parks-new, parks-still}
 use Rattle.exec_ahead.proofs.parking.step_ahead.Goals as goal

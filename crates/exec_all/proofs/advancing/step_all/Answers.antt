@@ -1,7 +1,7 @@
 use Rattle.std.proofs.Common.{sym, ◌∙◌}
 use Rattle.plan_rules.specs.declared.node.Node.TheVariants.{WhenAll}
-use Rattle.node_steps.proofs.Frames.{stepped-after}
-use Rattle.node_steps.proofs.Places.{inner-is}
+use Rattle.step_parts.proofs.Frames.{stepped-after}
+use Rattle.step_parts.proofs.Places.{inner-is}
 use Rattle.exec_all.proofs.Stepped.{then-stops, then-begins, then-ends, then-rests, did-stop, did-begin, did-end, did-wait}
 use Rattle.exec_all.proofs.advancing.step_all.Goals as goal
 

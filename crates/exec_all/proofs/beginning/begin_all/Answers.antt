@@ -1,6 +1,6 @@
 use Rattle.std.proofs.Common.{inl, inr}
 use Rattle.common_lemmas.proofs.Bool.{either}
-use Rattle.exec_start.specs.Entries.{args_of}
+use Rattle.home_items.specs.Entries.{args_of}
 use Rattle.exec_all.specs.Starts.{is_light}
 use Rattle.exec_all.proofs.Made.{can-make, small-light}
 use Rattle.exec_all.proofs.beginning.begin_all.Goals as goal

@@ -1,5 +1,5 @@
 use Rattle.std.proofs.lemmas.Bool.{both_ways}
-use Rattle.node_steps.proofs.Frames.{ready-is, stepped-after}
+use Rattle.step_parts.proofs.Frames.{ready-is, stepped-after}
 use Rattle.exec_all.proofs.Begun.{begin-still, may-stop}
 use Rattle.exec_all.proofs.beginning.look_and_start.Goals as goal
 

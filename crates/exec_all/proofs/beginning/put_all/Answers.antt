@@ -1,5 +1,9 @@
-use Rattle.std.proofs.Common.{◌≡◌, ◌-◌, suc, arith, refl, ◌∙◌, subst}
+use Rattle.std.proofs.Common.{◌≡◌, ◌-◌, suc, arith, refl, ◌∙◌, subst, ap}
 use Rattle.op_slot.proofs.Staying.{stays-here, stays-on}
+use Rattle.table_steps.specs.Claims.{Seated}
+use Rattle.home_items.specs.declared.entry.Entry.{Entry}
+use Rattle.home_items.specs.declared.item.Item.{Item}
+use Rattle.exec_recv.proofs.Moves.{moves-here, moves-look, moves-on}
 use Rattle.exec_recv.proofs.Asiding.{aside-here, aside-on}
 use Rattle.exec_all.specs.Begins.{MayPut}
 use Rattle.exec_all.proofs.Begun.{put-last, put-may, put-on, puts-all}
@@ -10,6 +14,7 @@ loop-left-init g c =
     record {
       stays = stays-here c.args.table.now c.args.hand.now c.requires.hand;
       aside = aside-here c.args.hand.now.me;
+      moves = λ y. moves-here c.args.table.now y c.args.hand.now.me;
       held = refl;
       owed = refl;
       may = λ start may. may;
@@ -43,6 +48,10 @@ loop-left-preserved g c =
     record {
       stays = stays-on c.args.table.now c.args.hand.now c.loop-left.hand c.put_start.new.hand before.stays c.put_start.ensures.stays;
       aside = aside-on c.args.hand.now.me c.loop-left.hand.me c.put_start.new.hand.me before.aside puts.aside;
+      moves = λ y.
+          moves-on c.args.table.now y c.args.hand.now.me c.loop-left.hand.me c.put_start.new.hand.me (c.loop-left.invariant.moves y)
+          (moves-look c.args.table.now y _ c.put_start.ensures.puts.put.word c.loop-left.hand.me c.put_start.new.hand.me
+          (ap (λ (z : Seated Item Entry). z.0.steps) c.put_start.ensures.puts.put.me_is));
       held = puts.held ∙ before.held;
       owed = puts.owed ∙ before.owed;
       may = λ start may.
@@ -57,5 +66,5 @@ pub returns-clause-puts : goal.returns-clause-puts
 returns-clause-puts g c =
     puts-all c.args.plan.now c.args.table.now c.args.name c.requires.may.start c.args.children.now c.loop-left.left c.loop-left.starts
     c.args.hand.now.me c.loop-left.hand.me c.loop-left-test.false
-    (c.loop-left.invariant.may c.requires.may.start c.requires.may.may) c.loop-left.invariant.aside c.loop-left.invariant.held
+    (c.loop-left.invariant.may c.requires.may.start c.requires.may.may) c.loop-left.invariant.aside c.loop-left.invariant.moves c.loop-left.invariant.held
     c.loop-left.invariant.owed

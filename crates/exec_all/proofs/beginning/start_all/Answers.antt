@@ -1,4 +1,4 @@
-use Rattle.node_steps.proofs.Frames.{ready-is}
+use Rattle.step_parts.proofs.Frames.{ready-is}
 use Rattle.exec_all.proofs.Begun.{may-await, may-put, all-started, all-stepped}
 use Rattle.exec_all.proofs.beginning.start_all.Goals as goal
 

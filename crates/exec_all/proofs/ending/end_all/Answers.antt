@@ -1,11 +1,11 @@
 use Rattle.std.proofs.Common.{inl, inr, length, sym, ◌∙◌, subst}
 use Rattle.std.specs.Prelude.{Err}
 use Rattle.std.proofs.lemmas.Bool.{both_ways}
-use Rattle.exec_start.specs.Parcels.{Delivery}
+use Rattle.home_items.specs.Parcels.{Delivery}
 use Rattle.node_images.specs.Joined.{Tells}
 use Rattle.node_images.specs.declared.join.NoRoom.{NoRoom}
 use Rattle.start_laws.specs.AllEnds.{all_ends}
-use Rattle.node_steps.specs.Completes.{IsCompleted}
+use Rattle.step_parts.specs.Completes.{IsCompleted}
 use Rattle.exec_all.specs.Joined.{some_want}
 use Rattle.exec_all.proofs.Ended.{want-is, want-large, end-empty, end-fits, end-large, end-completes, end-tells, end-parcel}
 use Rattle.exec_all.proofs.Walking.{want-none}

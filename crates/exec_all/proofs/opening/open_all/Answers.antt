@@ -1,5 +1,5 @@
 use Rattle.exec_recv.proofs.Places.{over-places}
-use Rattle.node_steps.proofs.Opened.{own-opens}
+use Rattle.step_parts.proofs.Opened.{own-opens}
 use Rattle.exec_all.proofs.Opened.{opens}
 use Rattle.exec_all.proofs.Plans.{all-kids}
 use Rattle.exec_all.proofs.opening.open_all.Goals as goal

@@ -1,6 +1,6 @@
 use Rattle.std.proofs.Common.{subst}
-use Rattle.exec_start.specs.Parcels.{Delivery}
-use Rattle.node_steps.specs.Completes.{IsCompleted}
+use Rattle.home_items.specs.Parcels.{Delivery}
+use Rattle.step_parts.specs.Completes.{IsCompleted}
 use Rattle.exec_all.proofs.Stopped.{stop-may, stop-completes}
 use Rattle.exec_all.proofs.stopping.stop_all.Goals as goal
 

@@ -1,10 +1,10 @@
 use Rattle.std.proofs.Common.{Bool, List, sym, ap, ◌∙◌, subst}
 use Rattle.std.proofs.lemmas.Bool.{both_ways}
 use Rattle.node_tree.specs.declared.node.TreeNode.{TreeNode}
-use Rattle.node_steps.specs.Heard.{TellsRequest}
-use Rattle.node_steps.proofs.Asked.{arm-keeps, arm-tells}
-use Rattle.node_steps.proofs.Frames.{keeps-on}
-use Rattle.node_steps.proofs.Settled.{ready-after, read-keeps, can-read}
+use Rattle.step_parts.specs.Heard.{TellsRequest}
+use Rattle.step_parts.proofs.Asked.{arm-keeps, arm-tells}
+use Rattle.step_parts.proofs.Frames.{keeps-on}
+use Rattle.step_parts.proofs.Settled.{ready-after, read-keeps, can-read}
 use Rattle.exec_all.specs.Watches.{may_arm}
 use Rattle.exec_all.proofs.Watched.{can-arm}
 use Rattle.exec_all.proofs.watching.watch.Goals as goal

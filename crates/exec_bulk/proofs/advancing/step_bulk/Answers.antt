@@ -1,10 +1,10 @@
 use Rattle.std.proofs.Common.{Option, sym, subst}
 use Rattle.plan_rules.specs.declared.node.Node.{Node}
 use Rattle.plan_rules.specs.declared.node.Node.TheVariants.{Bulk}
-use Rattle.node_steps.proofs.Frames.{stepped-after}
+use Rattle.step_parts.proofs.Frames.{stepped-after}
 use Rattle.exec_bulk.specs.Steps.{BulkSteps}
 use Rattle.exec_bulk.proofs.Going.{opens-child, opens-parted, opens-runs, opens-job, goes-on, goes-else, ends-found, ends-kept, ends-unkept, starts-found, starts-kept}
-use Rattle.node_steps.proofs.Places.{inner-is}
+use Rattle.step_parts.proofs.Places.{inner-is}
 use Rattle.exec_bulk.proofs.advancing.step_bulk.Goals as goal
 
 pub after_child-requires-clause-inner : goal.after_child-requires-clause-inner

@@ -1,6 +1,6 @@
 use Rattle.std.proofs.Common.{Bool, inr, refl, subst}
-use Rattle.node_steps.specs.Wants.{wanting}
-use Rattle.node_steps.proofs.Frames.{stepped-after}
+use Rattle.step_parts.specs.Wants.{wanting}
+use Rattle.step_parts.proofs.Frames.{stepped-after}
 use Rattle.exec_bulk.specs.Begins.{Looks}
 use Rattle.exec_bulk.proofs.Begun.{child-ready, child-large, child-cuts, may-begin}
 use Rattle.exec_bulk.proofs.beginning.begin_parts.Goals as goal

@@ -3,8 +3,18 @@ use Rattle.std.proofs.lemmas.Int.{to_z-of_z}
 use Rattle.exec_value.specs.declared.outcome.Completion.TheVariants.{Error}
 use Rattle.exec_job.specs.Fault.{name_of}
 use Rattle.plan_rules.specs.Bulks.{each_of, error_at}
-use Rattle.exec_bulk.proofs.Applying.{IsDoneTo, done-more, done-fault, fails-large, makes-fault, makes-none}
+use Rattle.exec_bulk.specs.Elements.{MakesEach}
+use Rattle.exec_bulk.proofs.Applying.{IsDoneTo, done-more, done-fault, fails-large, makes-fault, makes-none, single}
 use Rattle.exec_bulk.proofs.elements.make_each.Goals as goal
+
+pub returns-in-len1 : goal.returns-in-len1
+returns-in-len1 g c =
+    let job = g.E.Element.job c.args.element.now in
+    let numbers = c.args.numbers.now in
+    let fits : FitsSigned w64 (get_or numbers 0 (pos 0)) = search rules in
+    let made = simp to_z-of_z at c.make_one.ensures in
+    subst (λ (l : List ℤ). MakesEach job c.args.first l c.make_one.result)
+    (sym (single numbers (pos 0) c.in-len1.len_at_least c.in-len1.len_below)) made
 
 pub returns-in-Err : goal.returns-in-Err
 returns-in-Err g c =

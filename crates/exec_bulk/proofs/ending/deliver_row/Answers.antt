@@ -1,7 +1,7 @@
 use Rattle.std.proofs.Common.{inl, inr, ℕ, ℤ, List, Result, refl, sym, subst}
 use Rattle.node_images.specs.Makes.{CompletesInPlace}
 use Rattle.plan_rules.specs.Bulks.{row_ending}
-use Rattle.node_steps.specs.Wants.{wanting}
+use Rattle.step_parts.specs.Wants.{wanting}
 use Rattle.exec_bulk.specs.Rows.{numbers_in, parts_for}
 use Rattle.exec_bulk.proofs.Ended.{made-may, made-completes, made-ends}
 use Rattle.exec_bulk.proofs.Making.{whole-made}

@@ -1,7 +1,7 @@
 use Rattle.std.proofs.Common.{refl, subst}
 use Rattle.exec_recv.proofs.Places.{over-places}
-use Rattle.exec_start.specs.Starts.{IsStart}
-use Rattle.node_steps.proofs.Opened.{own-opens}
+use Rattle.home_items.specs.Starts.{IsStart}
+use Rattle.step_parts.proofs.Opened.{own-opens}
 use Rattle.exec_bulk.proofs.Emptied.{below-emptying}
 use Rattle.exec_bulk.proofs.Opened.{opens}
 use Rattle.exec_bulk.proofs.Places.{bulk-behind, bulk-child, bulk-parts}

@@ -1,7 +1,7 @@
 use Rattle.std.proofs.Common.{inl, inr, refl, ap, subst, ◌∙◌}
 use Rattle.std.specs.Prelude.{IsSome}
-use Rattle.exec_start.specs.Parcels.{Delivery}
-use Rattle.node_steps.specs.Wants.{wanting}
+use Rattle.home_items.specs.Parcels.{Delivery}
+use Rattle.step_parts.specs.Wants.{wanting}
 use Rattle.exec_bulk.proofs.Parted.{share-may, share-completes, its-bulk}
 use Rattle.exec_bulk.proofs.Places.{part-large}
 use Rattle.exec_bulk.proofs.parts.run_part.Goals as goal

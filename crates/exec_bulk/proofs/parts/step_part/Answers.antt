@@ -1,8 +1,8 @@
 use Rattle.std.proofs.Common.{sym, ◌∙◌}
 use Rattle.exec_recv.proofs.Places.{over-places}
-use Rattle.node_steps.proofs.Frames.{stepped-after}
+use Rattle.step_parts.proofs.Frames.{stepped-after}
 use Rattle.exec_bulk.proofs.Parted.{has-share, part-leaves, part-unbegun, part-rested, share-there}
-use Rattle.node_steps.proofs.Places.{inner-is}
+use Rattle.step_parts.proofs.Places.{inner-is}
 use Rattle.plan_rules.specs.declared.node.Node.TheVariants.{Part}
 use Rattle.exec_bulk.proofs.parts.step_part.Goals as goal
 

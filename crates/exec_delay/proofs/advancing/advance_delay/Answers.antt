@@ -1,7 +1,7 @@
 use Rattle.std.proofs.Common.{◌||◌, false, refl, sym, ap, ◌∙◌}
 use Rattle.std.proofs.lemmas.Bool.{both_ways}
-use Rattle.exec_start.specs.Entries.{asked_of}
-use Rattle.node_steps.proofs.Frames.{stepped-after}
+use Rattle.home_items.specs.Entries.{asked_of}
+use Rattle.step_parts.proofs.Frames.{stepped-after}
 use Rattle.exec_delay.proofs.Places.{delaying, inner-is}
 use Rattle.exec_delay.proofs.advancing.advance_delay.Goals as goal
 

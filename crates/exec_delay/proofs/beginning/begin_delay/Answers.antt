@@ -1,5 +1,5 @@
 use Rattle.std.proofs.lemmas.Bool.{both_ways}
-use Rattle.node_steps.proofs.Frames.{ready-is, stepped-after}
+use Rattle.step_parts.proofs.Frames.{ready-is, stepped-after}
 use Rattle.exec_delay.proofs.Begun.{look-stops, look-parks}
 use Rattle.exec_delay.proofs.beginning.begin_delay.Goals as goal
 

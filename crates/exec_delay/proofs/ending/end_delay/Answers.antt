@@ -1,7 +1,7 @@
 use Rattle.std.proofs.Common.{subst}
-use Rattle.exec_start.specs.Parcels.{Delivery}
-use Rattle.node_steps.specs.Completes.{IsCompleted}
-use Rattle.node_steps.proofs.Frames.{ready-is, stepped-after}
+use Rattle.home_items.specs.Parcels.{Delivery}
+use Rattle.step_parts.specs.Completes.{IsCompleted}
+use Rattle.step_parts.proofs.Frames.{ready-is, stepped-after}
 use Rattle.exec_delay.proofs.Ended.{end-may, end-is, end-completes}
 use Rattle.exec_delay.proofs.Withdrawn.{ran-sees}
 use Rattle.exec_delay.proofs.ending.end_delay.Goals as goal

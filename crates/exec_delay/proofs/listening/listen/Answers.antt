@@ -1,9 +1,9 @@
 use Rattle.std.proofs.Common.{Bool, refl, sym, ap, ◌∙◌, subst}
 use Rattle.std.specs.Prelude.{is_some}
 use Rattle.std.proofs.lemmas.Bool.{both_ways}
-use Rattle.node_steps.specs.Heard.{TellsRequest}
-use Rattle.node_steps.proofs.Asked.{arm-keeps, arm-tells, none-tells}
-use Rattle.node_steps.proofs.Frames.{keeps-here}
+use Rattle.step_parts.specs.Heard.{TellsRequest}
+use Rattle.step_parts.proofs.Asked.{arm-keeps, arm-tells, none-tells}
+use Rattle.step_parts.proofs.Frames.{keeps-here}
 use Rattle.exec_delay.specs.Listens.{hears_one}
 use Rattle.exec_delay.proofs.Begun.{near-is, can-arm}
 use Rattle.exec_delay.proofs.listening.listen.Goals as goal

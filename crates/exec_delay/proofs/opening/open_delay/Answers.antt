@@ -1,8 +1,8 @@
 use Rattle.std.proofs.Common.{sym, ap, subst}
-use Rattle.exec_start.specs.Starts.{IsStart}
+use Rattle.home_items.specs.Starts.{IsStart}
 use Rattle.exec_recv.proofs.Places.{over-places}
-use Rattle.node_steps.specs.declared.taken.AtHome.{AtHome}
-use Rattle.node_steps.specs.TakenOut.{item_at, start_at}
+use Rattle.step_parts.specs.declared.taken.AtHome.{AtHome}
+use Rattle.step_parts.specs.TakenOut.{item_at, start_at}
 use Rattle.exec_delay.specs.Opens.{has_begun}
 use Rattle.exec_delay.proofs.Opened.{delay-opens}
 use Rattle.exec_delay.proofs.Places.{delaying}

@@ -1,7 +1,7 @@
 use Rattle.std.proofs.Common.{refl, ap, ◌∙◌}
 use Rattle.std.specs.Prelude.{is_some}
 use Rattle.std.proofs.lemmas.Bool.{both_ways}
-use Rattle.node_steps.proofs.Frames.{keeps-here}
+use Rattle.step_parts.proofs.Frames.{keeps-here}
 use Rattle.exec_delay.specs.Listens.{hears_one}
 use Rattle.exec_delay.proofs.Begun.{near-is}
 use Rattle.exec_delay.proofs.withdrawing.withdraw_callback.Goals as goal

@@ -1,8 +1,8 @@
 use Rattle.std.proofs.Common.{refl, sym, ◌∙◌}
 use Rattle.std.proofs.lemmas.Bool.{both_ways}
 use Rattle.table_steps.specs.Callbacks.{is_registered}
-use Rattle.node_steps.proofs.Frames.{keeps-on}
-use Rattle.node_steps.proofs.Settled.{ready-after, read-keeps, may-withdraw, settled-keeps, can-read}
+use Rattle.step_parts.proofs.Frames.{keeps-on}
+use Rattle.step_parts.proofs.Settled.{ready-after, read-keeps, may-withdraw, settled-keeps, can-read}
 use Rattle.exec_delay.proofs.Withdrawn.{ran-seen}
 use Rattle.exec_delay.proofs.withdrawing.withdraw_registered.Goals as goal
 

@@ -1,18 +1,20 @@
-use Rattle.std.proofs.Common.{◌≡◌, Option, Some, refl, sym, ap, subst}
+use Rattle.std.proofs.Common.{◌≡◌, ◌||◌, Option, Some, refl, sym, ap, subst}
 use Rattle.std.specs.Prelude.{IfSome}
 use Rattle.plan_rules.specs.declared.node.Node.{Node}
-use Rattle.exec_start.specs.Below.{asked_below}
-use Rattle.exec_start.specs.Entries.{asked_of}
-use Rattle.exec_start.specs.Parcels.{Delivery}
+use Rattle.home_items.specs.Below.{asked_below}
+use Rattle.home_items.specs.Entries.{asked_of}
+use Rattle.home_items.specs.Parcels.{Delivery}
 use Rattle.start_laws.specs.Leaves.{IsStoppable}
 use Rattle.start_laws.specs.Nodes.{MayHaveSeen}
-use Rattle.node_steps.proofs.Frames.{ready-is, others-on, stepped-after}
-use Rattle.node_steps.proofs.Asked.{look-sees}
-use Rattle.node_steps.proofs.Places.{inner-is}
-use Rattle.exec_hop.specs.Hops.{LandsIn, EndsWith, HopsAs}
+use Rattle.step_parts.proofs.Frames.{ready-is, others-on, stepped-after}
+use Rattle.step_parts.proofs.Asked.{look-sees}
+use Rattle.step_parts.proofs.Places.{inner-is}
+use Rattle.step_parts.specs.Completes.{CompletesWith}
+use Rattle.step_parts.specs.Leaves.{IsLeftIn}
+use Rattle.exec_hop.specs.Hops.{StopsOr, HopsAs}
 use Rattle.exec_hop.specs.Kinds.{HopsOrShelters, hop_child}
 use Rattle.exec_hop.specs.Openings.{HasParcel}
-use Rattle.exec_hop.proofs.Did.{same-kept, none-kept, some-kept, same-below, none-below, some-below, starts-from}
+use Rattle.exec_hop.proofs.Did.{same-kept, none-kept, some-kept, same-below, none-below, some-below, stops-unseen, stops-by, looks-then, starts-from}
 use Rattle.exec_hop.proofs.Landed.{has-still, parcel-still, hop-kept, hop-lands, hop-starts}
 use Rattle.exec_hop.proofs.Places.{hopping}
 use Rattle.exec_hop.proofs.continues_on.step_continues_on.Goals as goal
@@ -86,8 +88,11 @@ returns-in-Some-clause-hops g c =
     (record {
       begins = λ can none unkept. absurd (some-below c.args.table.now c.args.name c.args.node.now c.open-env.result c.args.hand.now.me c.open-env.new.hand.me c.open-env.ensures.opens can c.args.child (ap hop_child c.requires.is) c.in-Some.parcel c.in-Some.is none);
       hops = λ can other full.
-          subst (λ (p : Delivery). LandsIn c.args.table.now c.args.name c.args.on (Some p) c.hop.result c.hop.new.hand.me)
-          (same-below c.args.table.now c.args.name c.args.node.now c.open-env.result c.args.hand.now.me c.open-env.new.hand.me c.open-env.ensures.opens can c.args.child (ap hop_child c.requires.is) c.in-Some.parcel c.in-Some.is other full) c.hop.ensures.lands;
+          stops-by c.args.table.now c.args.name c.args.node.now c.open-env.result c.args.hand.now.me c.open-env.new.hand.me c.open-env.ensures.opens can c.hop.result c.hop.new.hand.me
+          (IsLeftIn c.args.table.now c.args.name c.args.on (Some other) c.hop.result c.hop.new.hand.me)
+          (subst (λ (p : Delivery). StopsOr c.args.table.now c.args.name (asked_of c.open-env.result.env) c.hop.result c.hop.new.hand.me
+          (IsLeftIn c.args.table.now c.args.name c.args.on (Some p) c.hop.result c.hop.new.hand.me))
+          (same-below c.args.table.now c.args.name c.args.node.now c.open-env.result c.args.hand.now.me c.open-env.new.hand.me c.open-env.ensures.opens can c.args.child (ap hop_child c.requires.is) c.in-Some.parcel c.in-Some.is other full) c.hop.ensures.lands);
       ends = λ can other none kept. absurd (some-below c.args.table.now c.args.name c.args.node.now c.open-env.result c.args.hand.now.me c.open-env.new.hand.me c.open-env.ensures.opens can c.args.child (ap hop_child c.requires.is) c.in-Some.parcel c.in-Some.is none);
     })
 
@@ -106,8 +111,12 @@ returns-in-Some-kept-clause-hops g c =
       begins = λ can none unkept. absurd (some-kept c.args.table.now c.args.name c.args.node.now c.open-env.result c.args.hand.now.me c.open-env.new.hand.me c.open-env.ensures.opens can c.in-Some-kept.parcel c.in-Some-kept.is unkept);
       hops = λ can other full. absurd (none-below c.args.table.now c.args.name c.args.node.now c.open-env.result c.args.hand.now.me c.open-env.new.hand.me c.open-env.ensures.opens can c.args.child (ap hop_child c.requires.is) c.in-None.is other full);
       ends = λ can other none kept.
-          subst (λ (p : Delivery). EndsWith c.args.table.now c.args.name p.completion c.pass_unless_stopped.result c.pass_unless_stopped.new.hand.me)
-          (same-kept c.args.table.now c.args.name c.args.node.now c.open-env.result c.args.hand.now.me c.open-env.new.hand.me c.open-env.ensures.opens can c.in-Some-kept.parcel c.in-Some-kept.is other kept) c.pass_unless_stopped.ensures.ends;
+          looks-then c.args.table.now c.args.name c.args.node.now c.open-env.result c.args.hand.now.me c.open-env.new.hand.me c.open-env.ensures.opens can c.pass_unless_stopped.result c.pass_unless_stopped.new.hand.me
+          (CompletesWith c.args.table.now c.args.name other.completion c.pass_unless_stopped.result c.pass_unless_stopped.new.hand.me)
+          c.hear-saw.result c.hear-saw.new.hand.me c.hear-saw.ensures.looked c.pass_unless_stopped.ensures.stepped.aside
+          (subst (λ (p : Delivery). StopsOr c.args.table.now c.args.name (asked_of c.open-env.result.env || c.hear-saw.result) c.pass_unless_stopped.result c.pass_unless_stopped.new.hand.me
+          (CompletesWith c.args.table.now c.args.name p.completion c.pass_unless_stopped.result c.pass_unless_stopped.new.hand.me))
+          (same-kept c.args.table.now c.args.name c.args.node.now c.open-env.result c.args.hand.now.me c.open-env.new.hand.me c.open-env.ensures.opens can c.in-Some-kept.parcel c.in-Some-kept.is other kept) c.pass_unless_stopped.ensures.ends);
     })
 
 pub returns-in-None-kept-clause-stepped : goal.returns-in-None-kept-clause-stepped
@@ -120,8 +129,12 @@ returns-in-None-kept-clause-hops g c =
     subst (λ (n : Node). HopsAs c.args.table.now c.args.name (Some n) c.start_unless_stopped.result c.args.hand.now.me c.start_unless_stopped.new.hand.me)
     (sym c.requires.is)
     (record {
-      begins = λ can none unkept. starts-from c.args.table.now c.args.name c.start_unless_stopped.result c.start_unless_stopped.new.hand.me c.args.hand.now.me c.open-env.new.hand.me
-          c.open-env.result.env c.args.child c.open-env.ensures.opens.beside c.start_unless_stopped.ensures.begins;
+      begins = λ can none unkept.
+          stops-by c.args.table.now c.args.name c.args.node.now c.open-env.result c.args.hand.now.me c.open-env.new.hand.me c.open-env.ensures.opens can c.start_unless_stopped.result c.start_unless_stopped.new.hand.me _
+          (starts-from c.args.table.now c.args.name c.start_unless_stopped.result c.start_unless_stopped.new.hand.me c.args.hand.now.me c.open-env.new.hand.me
+          c.open-env.result.env c.args.child (asked_of c.open-env.result.env) c.open-env.ensures.opens.beside
+          (stops-unseen c.args.table.now c.args.name (asked_of c.open-env.result.env) c.start_unless_stopped.result c.start_unless_stopped.new.hand.me _
+          c.start_unless_stopped.ensures.begins));
       hops = λ can other full. absurd (none-below c.args.table.now c.args.name c.args.node.now c.open-env.result c.args.hand.now.me c.open-env.new.hand.me c.open-env.ensures.opens can c.args.child (ap hop_child c.requires.is) c.in-None.is other full);
       ends = λ can other none kept. absurd (none-kept c.args.table.now c.args.name c.args.node.now c.open-env.result c.args.hand.now.me c.open-env.new.hand.me c.open-env.ensures.opens can c.in-None-kept.is other kept);
     })

@@ -1,10 +1,10 @@
 use Rattle.std.proofs.Common.{ℕ, refl, sym, ap, subst}
 use Rattle.std.specs.Prelude.{Option}
-use Rattle.exec_start.specs.Items.{parcel_in}
-use Rattle.exec_start.specs.Starts.{IsStart}
+use Rattle.home_items.specs.Items.{parcel_in}
+use Rattle.home_items.specs.Starts.{IsStart}
 use Rattle.exec_recv.proofs.Places.{over-places}
-use Rattle.node_steps.specs.declared.taken.AtHome.{AtHome}
-use Rattle.node_steps.specs.TakenOut.{item_at, start_at, IsOnlyChild, TakesOut}
+use Rattle.step_parts.specs.declared.taken.AtHome.{AtHome}
+use Rattle.step_parts.specs.TakenOut.{item_at, start_at, IsOnlyChild, TakesOut}
 use Rattle.exec_hop.proofs.Opened.{hop-opens}
 use Rattle.exec_hop.proofs.Places.{hop-only}
 use Rattle.exec_hop.proofs.opening.open.Goals as goal

@@ -1,7 +1,7 @@
 use Rattle.std.proofs.Common.{Bool, sym, ap, ◌∙◌, subst}
 use Rattle.exec_value.specs.declared.outcome.Completion.{Completion}
-use Rattle.exec_start.specs.Parcels.{Delivery, MayDeliver}
-use Rattle.node_steps.specs.Completes.{MayComplete}
+use Rattle.home_items.specs.Parcels.{Delivery, MayDeliver}
+use Rattle.step_parts.specs.Completes.{MayComplete}
 use Rattle.exec_hop.proofs.passing.pass_on.Goals as goal
 
 pub of-own-requires : goal.of-own-requires

@@ -1,8 +1,10 @@
 use Rattle.std.proofs.Common.{Bool, ◌||◌, [], ap, ◌∙◌}
 use Rattle.exec_value.specs.declared.outcome.Completion.TheVariants.{Value}
 use Rattle.plan_rules.specs.Settle.{unless_asked}
-use Rattle.node_steps.proofs.Frames.{ready-is, stepped-after}
-use Rattle.node_steps.proofs.Asked.{look-sees}
+use Rattle.home_items.specs.Entries.{asked_of}
+use Rattle.exec_recv.proofs.Asiding.{aside-here}
+use Rattle.step_parts.proofs.Frames.{ready-is, stepped-after}
+use Rattle.step_parts.proofs.Asked.{look-sees, looked-within}
 use Rattle.exec_hop.proofs.Did.{schedule-ends}
 use Rattle.exec_hop.proofs.Landed.{has-still, schedule-may, schedule-completes}
 use Rattle.exec_hop.proofs.schedule.finish.Goals as goal
@@ -40,6 +42,14 @@ returns-clause-stepped g c =
 
 pub returns-clause-ends : goal.returns-clause-ends
 returns-clause-ends g c =
-    schedule-ends c.args.table.now c.args.name c.complete.result c.complete.new.hand.me c.either-found.result c.args.env c.hear-saw.result
-    c.put_scheduled.new.done c.put_scheduled.ensures c.of-parcel.result c.of-parcel.ensures c.hear-saw.new.hand.me
-    c.complete.ensures.completed
+    record {
+      saw = c.hear-saw.result;
+      looked = looked-within c.args.table.now c.args.name c.hear-saw.result c.args.hand.now.me c.args.hand.now.me c.hear-saw.new.hand.me
+          c.complete.new.hand.me (aside-here c.args.hand.now.me) c.complete.ensures.stepped.aside c.hear-saw.ensures.looked;
+      does = schedule-ends c.args.table.now c.args.name c.complete.result c.complete.new.hand.me (asked_of c.args.env || c.hear-saw.result)
+          c.args.env c.hear-saw.result c.put_scheduled.new.done
+          (c.put_scheduled.ensures
+          ∙ ap (λ (found : Bool). unless_asked found (Value []))
+          (c.either-found.ensures ∙ ap (λ (asked : Bool). asked || c.hear-saw.result) c.asked.ensures))
+          c.of-parcel.result c.of-parcel.ensures c.hear-saw.new.hand.me c.complete.ensures.completed;
+    }

@@ -1,11 +1,11 @@
 use Rattle.std.proofs.Common.{Some, sym, ap, subst}
 use Rattle.plan_rules.specs.declared.node.Node.{Node}
 use Rattle.start_laws.specs.Leaves.{IsStoppable}
-use Rattle.node_steps.proofs.Frames.{stepped-after}
-use Rattle.node_steps.proofs.Places.{inner-is}
+use Rattle.step_parts.proofs.Frames.{stepped-after}
+use Rattle.step_parts.proofs.Places.{inner-is}
 use Rattle.exec_hop.specs.Hops.{HopsAs}
 use Rattle.exec_hop.specs.Kinds.{HopsOrShelters, hop_child}
-use Rattle.exec_hop.proofs.Did.{is-unbegun, not-unbegun}
+use Rattle.exec_hop.proofs.Did.{is-unbegun, not-unbegun, stops-by, looks-from}
 use Rattle.exec_hop.proofs.Landed.{hop-bare}
 use Rattle.exec_hop.proofs.Places.{hopping}
 use Rattle.exec_hop.proofs.schedule.step_schedule.Goals as goal
@@ -44,7 +44,7 @@ returns-then-unbegun-clause-hops g c =
     subst (λ (n : Node). HopsAs c.args.table.now c.args.name (Some n) c.hop.result c.args.hand.now.me c.hop.new.hand.me)
     (sym c.requires.is)
     (record {
-      hops = λ can un. c.hop.ensures.lands;
+      hops = λ can un. stops-by c.args.table.now c.args.name c.args.node.now c.open-env.result c.args.hand.now.me c.open-env.new.hand.me c.open-env.ensures.opens can c.hop.result c.hop.new.hand.me _ c.hop.ensures.lands;
       ends = λ can begun. absurd (begun (is-unbegun c.args.table.now c.args.name c.args.node.now c.open-env.result c.args.hand.now.me c.open-env.new.hand.me c.open-env.ensures.opens can c.if-unbegun.true));
     })
 
@@ -59,5 +59,5 @@ returns-clause-hops g c =
     (sym c.requires.is)
     (record {
       hops = λ can un. absurd (not-unbegun c.args.table.now c.args.name c.args.node.now c.open-env.result c.args.hand.now.me c.open-env.new.hand.me c.open-env.ensures.opens can c.if-unbegun.false un);
-      ends = λ can begun. c.finish.ensures.ends;
+      ends = λ can begun. looks-from c.args.table.now c.args.name c.args.node.now c.open-env.result c.args.hand.now.me c.open-env.new.hand.me c.open-env.ensures.opens can c.finish.result c.finish.new.hand.me _ c.finish.ensures.ends;
     })

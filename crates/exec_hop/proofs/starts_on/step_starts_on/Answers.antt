@@ -1,18 +1,19 @@
-use Rattle.std.proofs.Common.{◌≡◌, Option, Some, refl, sym, ap, subst}
+use Rattle.std.proofs.Common.{◌≡◌, ◌||◌, Option, Some, refl, sym, ap, subst}
 use Rattle.std.specs.Prelude.{IfSome}
 use Rattle.plan_rules.specs.declared.node.Node.{Node}
-use Rattle.exec_start.specs.Below.{asked_below}
-use Rattle.exec_start.specs.Entries.{asked_of}
-use Rattle.exec_start.specs.Parcels.{Delivery}
+use Rattle.home_items.specs.Below.{asked_below}
+use Rattle.home_items.specs.Entries.{asked_of}
+use Rattle.home_items.specs.Parcels.{Delivery}
 use Rattle.start_laws.specs.Leaves.{IsStoppable}
 use Rattle.start_laws.specs.Nodes.{MayHaveSeen}
-use Rattle.node_steps.proofs.Frames.{ready-is, others-on, stepped-after}
-use Rattle.node_steps.proofs.Asked.{look-sees}
-use Rattle.node_steps.proofs.Places.{inner-is}
-use Rattle.exec_hop.specs.Hops.{EndsWith, HopsAs}
+use Rattle.step_parts.proofs.Frames.{ready-is, others-on, stepped-after}
+use Rattle.step_parts.proofs.Asked.{look-sees}
+use Rattle.step_parts.proofs.Places.{inner-is}
+use Rattle.step_parts.specs.Completes.{CompletesWith}
+use Rattle.exec_hop.specs.Hops.{StopsOr, HopsAs}
 use Rattle.exec_hop.specs.Kinds.{HopsOrShelters, hop_child}
 use Rattle.exec_hop.specs.Openings.{HasParcel}
-use Rattle.exec_hop.proofs.Did.{is-unbegun, not-unbegun, same-below, none-below, some-below, starts-from}
+use Rattle.exec_hop.proofs.Did.{is-unbegun, not-unbegun, same-below, none-below, some-below, stops-unseen, stops-by, looks-then, starts-from}
 use Rattle.exec_hop.proofs.Landed.{has-still, hop-bare, hop-lands, hop-starts}
 use Rattle.exec_hop.proofs.Places.{hopping}
 use Rattle.exec_hop.proofs.starts_on.step_starts_on.Goals as goal
@@ -79,7 +80,7 @@ returns-then-unbegun-clause-hops g c =
     subst (λ (n : Node). HopsAs c.args.table.now c.args.name (Some n) c.hop.result c.args.hand.now.me c.hop.new.hand.me)
     (sym c.requires.is)
     (record {
-      hops = λ can un. c.hop.ensures.lands;
+      hops = λ can un. stops-by c.args.table.now c.args.name c.args.node.now c.open-env.result c.args.hand.now.me c.open-env.new.hand.me c.open-env.ensures.opens can c.hop.result c.hop.new.hand.me _ c.hop.ensures.lands;
       begins = λ can begun none. absurd (begun (is-unbegun c.args.table.now c.args.name c.args.node.now c.open-env.result c.args.hand.now.me c.open-env.new.hand.me c.open-env.ensures.opens can c.if-unbegun.true));
       ends = λ can other begun full. absurd (begun (is-unbegun c.args.table.now c.args.name c.args.node.now c.open-env.result c.args.hand.now.me c.open-env.new.hand.me c.open-env.ensures.opens can c.if-unbegun.true));
     })
@@ -97,8 +98,13 @@ returns-in-Some-clause-hops g c =
       hops = λ can un. absurd (not-unbegun c.args.table.now c.args.name c.args.node.now c.open-env.result c.args.hand.now.me c.open-env.new.hand.me c.open-env.ensures.opens can c.if-unbegun.false un);
       begins = λ can begun none. absurd (some-below c.args.table.now c.args.name c.args.node.now c.open-env.result c.args.hand.now.me c.open-env.new.hand.me c.open-env.ensures.opens can c.args.child (ap hop_child c.requires.is) c.in-Some.parcel c.in-Some.is none);
       ends = λ can other begun full.
-          subst (λ (p : Delivery). EndsWith c.args.table.now c.args.name p.completion c.pass_unless_stopped.result c.pass_unless_stopped.new.hand.me)
-          (same-below c.args.table.now c.args.name c.args.node.now c.open-env.result c.args.hand.now.me c.open-env.new.hand.me c.open-env.ensures.opens can c.args.child (ap hop_child c.requires.is) c.in-Some.parcel c.in-Some.is other full) c.pass_unless_stopped.ensures.ends;
+          stops-by c.args.table.now c.args.name c.args.node.now c.open-env.result c.args.hand.now.me c.open-env.new.hand.me c.open-env.ensures.opens can c.pass_unless_stopped.result c.pass_unless_stopped.new.hand.me
+          (CompletesWith c.args.table.now c.args.name other.completion c.pass_unless_stopped.result c.pass_unless_stopped.new.hand.me)
+          (subst (λ (p : Delivery). StopsOr c.args.table.now c.args.name (asked_of c.open-env.result.env) c.pass_unless_stopped.result c.pass_unless_stopped.new.hand.me
+          (CompletesWith c.args.table.now c.args.name p.completion c.pass_unless_stopped.result c.pass_unless_stopped.new.hand.me))
+          (same-below c.args.table.now c.args.name c.args.node.now c.open-env.result c.args.hand.now.me c.open-env.new.hand.me c.open-env.ensures.opens can c.args.child (ap hop_child c.requires.is) c.in-Some.parcel c.in-Some.is other full)
+          (stops-unseen c.args.table.now c.args.name (asked_of c.open-env.result.env) c.pass_unless_stopped.result c.pass_unless_stopped.new.hand.me _
+          c.pass_unless_stopped.ensures.ends));
     })
 
 pub returns-in-None-clause-stepped : goal.returns-in-None-clause-stepped
@@ -114,8 +120,11 @@ returns-in-None-clause-hops g c =
     (sym c.requires.is)
     (record {
       hops = λ can un. absurd (not-unbegun c.args.table.now c.args.name c.args.node.now c.open-env.result c.args.hand.now.me c.open-env.new.hand.me c.open-env.ensures.opens can c.if-unbegun.false un);
-      begins = λ can begun none. starts-from c.args.table.now c.args.name c.start_unless_stopped.result c.start_unless_stopped.new.hand.me c.args.hand.now.me c.hear-saw.new.hand.me
-          c.open-env.result.env c.args.child (others-on c.args.table.now c.args.name c.args.hand.now.me c.open-env.new.hand.me c.hear-saw.new.hand.me
-          c.open-env.ensures.opens.beside c.hear-saw.ensures.keeps.beside) c.start_unless_stopped.ensures.begins;
+      begins = λ can begun none.
+          looks-then c.args.table.now c.args.name c.args.node.now c.open-env.result c.args.hand.now.me c.open-env.new.hand.me c.open-env.ensures.opens can c.start_unless_stopped.result c.start_unless_stopped.new.hand.me _ c.hear-saw.result c.hear-saw.new.hand.me
+          c.hear-saw.ensures.looked c.start_unless_stopped.ensures.stepped.aside
+          (starts-from c.args.table.now c.args.name c.start_unless_stopped.result c.start_unless_stopped.new.hand.me c.args.hand.now.me c.hear-saw.new.hand.me
+          c.open-env.result.env c.args.child (asked_of c.open-env.result.env || c.hear-saw.result) (others-on c.args.table.now c.args.name c.args.hand.now.me c.open-env.new.hand.me c.hear-saw.new.hand.me
+          c.open-env.ensures.opens.beside c.hear-saw.ensures.keeps.beside) c.start_unless_stopped.ensures.begins);
       ends = λ can other begun full. absurd (none-below c.args.table.now c.args.name c.args.node.now c.open-env.result c.args.hand.now.me c.open-env.new.hand.me c.open-env.ensures.opens can c.args.child (ap hop_child c.requires.is) c.in-None.is other full);
     })

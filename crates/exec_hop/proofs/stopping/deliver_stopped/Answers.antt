@@ -1,6 +1,6 @@
 use Rattle.std.proofs.Common.{sym, ap, subst}
-use Rattle.exec_start.specs.Parcels.{Delivery}
-use Rattle.node_steps.specs.Completes.{MayComplete}
+use Rattle.home_items.specs.Parcels.{Delivery}
+use Rattle.step_parts.specs.Completes.{MayComplete}
 use Rattle.exec_hop.proofs.stopping.deliver_stopped.Goals as goal
 
 pub of-parcel-requires : goal.of-parcel-requires

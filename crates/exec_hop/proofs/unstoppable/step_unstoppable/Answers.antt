@@ -2,13 +2,13 @@ use Rattle.std.proofs.Common.{◌≡◌, false, Option, Some, refl, sym, ap, ◌
 use Rattle.std.specs.Prelude.{IfSome}
 use Rattle.plan_rules.specs.declared.node.Node.{Node}
 use Rattle.plan_shape.specs.PlanTree.{is_unstoppable}
-use Rattle.exec_start.specs.Below.{asked_below}
-use Rattle.exec_start.specs.Entries.{asked_of}
-use Rattle.exec_start.specs.Parcels.{Delivery}
+use Rattle.home_items.specs.Below.{asked_below}
+use Rattle.home_items.specs.Entries.{asked_of}
+use Rattle.home_items.specs.Parcels.{Delivery}
 use Rattle.start_laws.specs.Nodes.{image_of, MayHaveSeen}
-use Rattle.node_steps.proofs.Frames.{stepped-after}
-use Rattle.node_steps.proofs.Places.{inner-is}
-use Rattle.node_steps.specs.Completes.{CompletesWith}
+use Rattle.step_parts.proofs.Frames.{stepped-after}
+use Rattle.step_parts.proofs.Places.{inner-is}
+use Rattle.step_parts.specs.Completes.{CompletesWith}
 use Rattle.exec_hop.specs.Hops.{HopsAs}
 use Rattle.exec_hop.specs.Kinds.{HopsOrShelters, hop_child}
 use Rattle.exec_hop.specs.Openings.{HasParcel}

@@ -2,11 +2,11 @@ use Rattle.std.specs.Prelude.{ℤ}
 use Rattle.std.proofs.Common.{inl, inr, Bool, List, [], sym, ap, ◌∙◌, subst}
 use Rattle.life_rules.specs.Views.{beside}
 use Rattle.table_steps.specs.Readings.{IsBegunAs}
-use Rattle.exec_start.specs.Entries.{start_below}
-use Rattle.exec_start.specs.Starts.{BeginsBelow}
-use Rattle.exec_start.specs.declared.entry.Entry.{Entry}
-use Rattle.node_steps.specs.Starts.{IsAwaiting}
-use Rattle.node_steps.proofs.Frames.{ready-is, others-on, stepped-after}
+use Rattle.home_items.specs.Entries.{start_below}
+use Rattle.home_items.specs.Starts.{BeginsBelow}
+use Rattle.home_items.specs.declared.entry.Entry.{Entry}
+use Rattle.step_parts.specs.Starts.{IsAwaiting}
+use Rattle.step_parts.proofs.Frames.{ready-is, others-on, stepped-after}
 use Rattle.exec_let.proofs.Begun.{beginning, body-begins, read-place, read-above, begun-after, begun-leaves, idle-after, body-awaits}
 use Rattle.exec_let.proofs.beginning.begin_body.Goals as goal
 

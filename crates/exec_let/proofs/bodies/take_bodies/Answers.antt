@@ -1,7 +1,7 @@
 use Rattle.std.specs.Prelude.{Option}
 use Rattle.std.proofs.Common.{ℕ, List, ◌∷◌, [], ◌++◌, take, get_or, sym, subst, arith}
 use Rattle.std.proofs.lemmas.List.{take_more, take_all}
-use Rattle.exec_start.specs.Parcels.{Delivery}
+use Rattle.home_items.specs.Parcels.{Delivery}
 use Rattle.op_slot.proofs.Staying.{stays-here, stays-on}
 use Rattle.exec_let.specs.Openings.{TakesBodies}
 use Rattle.exec_let.proofs.Emptied.{takes-nobody, takes-more, bodies-emptying}

@@ -1,7 +1,7 @@
 use Rattle.std.proofs.Common.{subst}
 use Rattle.exec_value.specs.declared.outcome.Completion.{Completion}
-use Rattle.node_steps.specs.Completes.{CompletesWith}
-use Rattle.node_steps.proofs.Frames.{ready-is, stepped-after}
+use Rattle.step_parts.specs.Completes.{CompletesWith}
+use Rattle.step_parts.proofs.Frames.{ready-is, stepped-after}
 use Rattle.exec_let.proofs.Ended.{body-ends}
 use Rattle.exec_let.proofs.completing.end_as_body.Goals as goal
 

@@ -1,6 +1,6 @@
 use Rattle.std.proofs.Common.{refl, sym, ap, ◌∙◌}
 use Rattle.std.proofs.lemmas.Bool.{both_ways}
-use Rattle.node_steps.specs.Wants.{wanting}
+use Rattle.step_parts.specs.Wants.{wanting}
 use Rattle.exec_let.specs.Kinds.{is_small}
 use Rattle.exec_let.proofs.Begun.{pick-leaves}
 use Rattle.exec_let.proofs.Ended.{pick-empty, pick-small}

@@ -1,9 +1,9 @@
 use Rattle.std.specs.Prelude.{IfSome}
 use Rattle.std.proofs.Common.{Option, ℕ, subst}
-use Rattle.exec_start.specs.Parcels.{Delivery}
-use Rattle.node_steps.specs.Starts.{StartsOne}
-use Rattle.node_steps.proofs.Frames.{stepped-after}
-use Rattle.node_steps.proofs.Places.{inner-is}
+use Rattle.home_items.specs.Parcels.{Delivery}
+use Rattle.step_parts.specs.Starts.{StartsOne}
+use Rattle.step_parts.proofs.Frames.{stepped-after}
+use Rattle.step_parts.proofs.Places.{inner-is}
 use Rattle.exec_let.specs.Openings.{HasParcel, HasBody}
 use Rattle.exec_let.proofs.Ended.{let-starts}
 use Rattle.exec_let.proofs.Going.{lets-body, lets-child, lets-neither}

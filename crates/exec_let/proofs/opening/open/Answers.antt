@@ -1,12 +1,12 @@
 use Rattle.std.proofs.Common.{◌≡◌, ℕ, true, List, None, refl, sym, ap, subst}
 use Rattle.std.specs.Prelude.{All}
 use Rattle.node_tree.specs.Tree.{is_child}
-use Rattle.exec_start.specs.Items.{parcel_in}
-use Rattle.exec_start.specs.Starts.{IsStart}
+use Rattle.home_items.specs.Items.{parcel_in}
+use Rattle.home_items.specs.Starts.{IsStart}
 use Rattle.exec_recv.proofs.Places.{over-places}
-use Rattle.node_steps.specs.declared.taken.AtHome.{AtHome}
-use Rattle.node_steps.specs.TakenOut.{item_at, start_at, TakesBelow}
-use Rattle.node_steps.proofs.Opened.{own-opens}
+use Rattle.step_parts.specs.declared.taken.AtHome.{AtHome}
+use Rattle.step_parts.specs.TakenOut.{item_at, start_at, TakesBelow}
+use Rattle.step_parts.proofs.Opened.{own-opens}
 use Rattle.exec_let.specs.Openings.{TakesBodies}
 use Rattle.exec_let.proofs.Emptied.{below-emptying, first-alone}
 use Rattle.exec_let.proofs.Opened.{let-opens}

@@ -3,7 +3,7 @@ use Rattle.std.proofs.Common.{sym, ap, ◌∙◌, subst}
 use Rattle.exec_value.specs.Place.{AreInPlace}
 use Rattle.exec_value.specs.declared.outcome.Completion.{Completion}
 use Rattle.start_laws.specs.Lets.{channel_of}
-use Rattle.node_steps.specs.Completes.{CompletesWith}
+use Rattle.step_parts.specs.Completes.{CompletesWith}
 use Rattle.exec_let.proofs.Ended.{pass-ends}
 use Rattle.exec_let.proofs.Going.{on-goes, off-goes, want-goes}
 use Rattle.exec_let.proofs.picking.go_on.Goals as goal

@@ -1,11 +1,13 @@
 use Rattle.std.proofs.Common.{◌≡◌, true, sym, subst}
 use Rattle.life_rules.specs.declared.event.Name.{Name}
+use Rattle.life_rules.specs.declared.event.SourceRef.TheVariants.{Node}
 use Rattle.node_tree.specs.Tree.{is_child, has_source}
 use Rattle.plan_rules.specs.Allowed.{IsFailure}
 use Rattle.table_steps.specs.Requests.{OwesFailed}
 use Rattle.table_steps.specs.Views.{IsPlaceIn}
-use Rattle.exec_start.specs.contracts.item.ItemCargo.TheImpl.{ghosts}
+use Rattle.home_items.specs.contracts.item.ItemCargo.TheImpl.{ghosts}
 use Rattle.exec_recv.specs.declared.next.Next.TheVariants.{Go}
+use Rattle.exec_recv.specs.Actions.{ListsActions}
 use Rattle.exec_recv.specs.Deliveries.{MarksFailed, IsDelivered}
 use Rattle.exec_recv.specs.Nexts.{IsStepped}
 use Rattle.exec_recv.proofs.Places.{over-places}
@@ -48,6 +50,8 @@ returns-in-Last-clause-delivered g c =
     (subst (λ (y : Name). has_source board.frame.tree y.node ≡ true → IsFailure c.args.parcel.completion → MarksFailed board y told.keeps.aside.fresh)
     c.parent_of-parent.ensures.name
     (λ source failed. told.marks source (c.has_failed-failed.ensures.off (subst IsFailure (sym c.completion.ensures) failed))))
+    (subst (λ (y : Name). ListsActions board board.frame.over.value (Node y) c.finish.new.hand.me c.tell_failure.new.hand.me)
+    c.parent_of-parent.ensures.name told.acts)
     c.in-Last.ensures.reported)
 
 pub returns-in-Last-clause-stepped : goal.returns-in-Last-clause-stepped
@@ -62,6 +66,8 @@ returns-in-Last-clause-stepped g c =
     (subst (IsPlaceIn board) name c.parent_of-parent.ensures.place)
     (over-places board c.args.plan.now _ c.requires.over (subst (IsPlaceIn board) name c.parent_of-parent.ensures.place))
     (subst (λ (y : Name). is_child board.frame.tree y.node c.args.name.node ≡ true) name c.parent_of-parent.ensures.below)
+    (subst (λ (y : Name). ListsActions board board.frame.over.value (Node y) c.finish.new.hand.me c.tell_failure.new.hand.me)
+    c.parent_of-parent.ensures.name c.tell_failure.ensures.told.acts)
     c.in-Last.ensures.reported)
 
 pub returns-in-Others-clause-delivered : goal.returns-in-Others-clause-delivered
@@ -74,6 +80,8 @@ returns-in-Others-clause-delivered g c =
     (subst (λ (y : Name). has_source board.frame.tree y.node ≡ true → IsFailure c.args.parcel.completion → MarksFailed board y told.keeps.aside.fresh)
     c.parent_of-parent.ensures.name
     (λ source failed. told.marks source (c.has_failed-failed.ensures.off (subst IsFailure (sym c.completion.ensures) failed))))
+    (subst (λ (y : Name). ListsActions board board.frame.over.value (Node y) c.finish.new.hand.me c.tell_failure.new.hand.me)
+    c.parent_of-parent.ensures.name told.acts)
     c.in-Others.ensures.reported
 
 pub returns-in-Others-clause-stepped : goal.returns-in-Others-clause-stepped
@@ -81,4 +89,8 @@ returns-in-Others-clause-stepped g c =
     let board = c.args.table.now in
     stepped-others board c.args.name c.args.parcel c.args.hand.now.me c.put_home.new.hand.me c.finish.new.hand.me c.requires.can
     (over-places board c.args.plan.now c.args.name c.requires.over c.requires.can.place) c.put_home.ensures.put
-    c.finish.ensures.finished c.tell_failure.new.hand.me c.tell_failure.ensures.told.keeps c.report.new.hand.me c.requires.starts c.in-Others.ensures.reported
+    c.finish.ensures.finished c.tell_failure.new.hand.me c.tell_failure.ensures.told.keeps c.report.new.hand.me c.requires.starts
+    (subst (IsPlaceIn board) c.parent_of-parent.ensures.name c.parent_of-parent.ensures.place)
+    (subst (λ (y : Name). ListsActions board board.frame.over.value (Node y) c.finish.new.hand.me c.tell_failure.new.hand.me)
+    c.parent_of-parent.ensures.name c.tell_failure.ensures.told.acts)
+    c.in-Others.ensures.reported

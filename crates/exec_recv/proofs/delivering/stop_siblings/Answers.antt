@@ -1,5 +1,10 @@
-use Rattle.std.proofs.Common.{true, [], refl, subst}
+use Rattle.std.proofs.Common.{true, [], refl, sym, ap, subst}
+use Rattle.plan_shape.specs.Blueprint.{Blueprint}
+use Rattle.exec_recv.specs.Actions.{ListsActions}
+use Rattle.exec_recv.proofs.Actions.{lists-here, asked-acts}
+use Rattle.life_rules.specs.declared.event.SourceRef.{SourceRef}
 use Rattle.life_rules.specs.declared.event.SourceRef.TheVariants.{Node}
+use Rattle.stop_calls.specs.declared.scanning.Scan.{Scan}
 use Rattle.stop_calls.specs.declared.requesting.Request.{Request}
 use Rattle.stop_calls.specs.Requests.{IsAskedFor}
 use Rattle.stop_calls.proofs.Keeping.{already-back}
@@ -38,6 +43,11 @@ returns-in-Made-clause-stopped g c =
     has-stopped c.args.table.now c.args.node _ c.args.hand.now c.fail_stop-request.new.hand makes.asked c.run_scan.new.hand.me
     (asked-back makes c.run_scan.new.hand.me c.run_scan.ensures.ended)
     c.run_scan.ensures.ended.passed.aside.steps
+    (subst (λ (plan : Blueprint). ListsActions c.args.table.now plan (Node c.args.node) c.args.hand.now.me c.run_scan.new.hand.me) (sym c.requires.over.over)
+    (asked-acts c.args.table.now c.args.plan.now (Node c.args.node) c.args.hand.now c.fail_stop-request.new.hand
+    (own-source c.args.table.now c.args.node c.requires.place c.requires.source) true _ makes.asked c.run_scan.new.hand.me
+    (subst (λ (s : SourceRef). ListsActions c.args.table.now c.args.plan.now s c.fail_stop-request.new.hand.me c.run_scan.new.hand.me)
+    (ap (λ (s : Scan). s.source) makes.asked.answer_is.1) c.run_scan.ensures.acts)))
 
 pub returns-in-Already-clause-stopped : goal.returns-in-Already-clause-stopped
 returns-in-Already-clause-stopped g c =
@@ -46,3 +56,6 @@ returns-in-Already-clause-stopped g c =
     has-stopped c.args.table.now c.args.node _ c.args.hand.now c.fail_stop-request.new.hand asked c.fail_stop-request.new.hand.me
     (already-back c.args.table.now c.args.hand.now c.fail_stop-request.new.hand (Node c.args.node) true asked)
     (record { made = []; is = refl })
+    (asked-acts c.args.table.now c.args.table.now.frame.over.value (Node c.args.node) c.args.hand.now c.fail_stop-request.new.hand
+    (own-source c.args.table.now c.args.node c.requires.place c.requires.source) true _ asked c.fail_stop-request.new.hand.me
+    (lists-here c.args.table.now c.args.table.now.frame.over.value (Node c.args.node) c.fail_stop-request.new.hand.me))

@@ -9,14 +9,15 @@ use Rattle.table_steps.specs.ScanSeals.{IsScanSealed}
 use Rattle.table_steps.specs.Sights.{IsSourceIn}
 use Rattle.table_steps.specs.Views.{IsPlaceIn}
 use Rattle.op_slot.proofs.Staying.{stays-here, stays-on}
+use Rattle.stop_calls.specs.declared.scanning.Scan.{Scan}
 use Rattle.stop_calls.specs.Asides.{ScansOn}
 use Rattle.stop_calls.specs.Nestings.{RunsInside, depth_of}
 use Rattle.stop_calls.proofs.Keeping.{already-back, roused-back}
 use Rattle.stop_calls.proofs.Nesting.{HasCome, HasGoneThrough, found-fewer}
 use Rattle.stop_calls.proofs.Passing.{MakesScan, own-source, scans-here, scans-on, asked-nests, asked-back, found-deeper, due-ends, due-on, found-inside, due-nests, through-on, sealed-ends}
-use Rattle.exec_recv.specs.Actions.{Acts}
+use Rattle.exec_recv.specs.Actions.{Acts, ListsActions}
 use Rattle.exec_recv.proofs.Sources.{all-source}
-use Rattle.exec_recv.proofs.Acting.{lists-others, lists-on, others-on}
+use Rattle.exec_recv.proofs.Acting.{AddsOthers, lists-others, lists-on, others-on}
 use Rattle.exec_recv.proofs.Running.{due-lists, through-others, sealed-others}
 use Rattle.exec_recv.proofs.Actions.{lists-here, other-acts, past-acts, delay-acts, all-acts}
 use Rattle.exec_recv.proofs.scans.+scanning.Goals as goal
@@ -91,7 +92,9 @@ act-returns-in-Made-clause-acts g t c =
     all-acts c.args.table.now c.args.plan.now c.args.place c.args.hand.now c.request_stop.new.hand
     (own-source c.args.table.now c.args.place c.requires.place
     (all-source c.args.table.now c.args.plan.now c.requires.over c.args.place.node c.in-WhenAll.children at)) c.in-WhenAll.children at
-    false _ c.in-Made.ensures.requested c.run_scan.new.hand.me c.run_scan.ensures.acts
+    false _ c.in-Made.ensures.requested c.run_scan.new.hand.me
+    (subst (λ (s : SourceRef). ListsActions c.args.table.now c.args.plan.now s c.request_stop.new.hand.me c.run_scan.new.hand.me)
+    (ap (λ (s : Scan). s.source) c.in-Made.ensures.requested.answer_is.1) c.run_scan.ensures.acts)
 
 pub act-returns-in-Already-clause-acts : goal.act-returns-in-Already-clause-acts
 act-returns-in-Already-clause-acts g t c =
@@ -100,7 +103,7 @@ act-returns-in-Already-clause-acts g t c =
     (own-source c.args.table.now c.args.place c.requires.place
     (all-source c.args.table.now c.args.plan.now c.requires.over c.args.place.node c.in-WhenAll.children at)) c.in-WhenAll.children at
     false _ c.in-Already.ensures.requested c.request_stop.new.hand.me
-    (lists-here c.args.table.now c.args.plan.now c.request_stop.new.hand.me)
+    (lists-here c.args.table.now c.args.plan.now (Node c.args.place) c.request_stop.new.hand.me)
 
 pub run_scan-loop-due-init : goal.run_scan-loop-due-init
 run_scan-loop-due-init g t c = record {
@@ -108,7 +111,7 @@ run_scan-loop-due-init g t c = record {
   source = refl;
   nests = c.requires.nests;
   on = scans-here c.args.scan.source c.args.hand.now.me;
-  acts = lists-here c.args.table.now c.args.plan.now c.args.hand.now.me;
+  acts = lists-here c.args.table.now c.args.plan.now c.args.scan.source c.args.hand.now.me;
 }
 
 pub run_scan-finish-requires-clause-needs : goal.run_scan-finish-requires-clause-needs
@@ -153,11 +156,12 @@ run_scan-loop-due-preserved g t c =
       on = scans-on c.args.scan.source c.args.hand.now.me c.loop-due.hand.me c.finish.new.hand.me at.on
           (subst (λ (s : SourceRef). ScansOn c.loop-due.hand.me c.finish.new.hand.me s) at.source
           (due-on come c.act.new.hand c.act.ensures.back c.finish.new.hand c.finish.ensures.over));
-      acts = lists-on board c.args.plan.now c.args.hand.now.me c.loop-due.hand.me c.finish.new.hand.me at.acts
+      acts = lists-on board c.args.plan.now c.args.scan.source c.args.hand.now.me c.loop-due.hand.me c.finish.new.hand.me at.acts
+          (subst (λ (s : SourceRef). ListsActions board c.args.plan.now s c.loop-due.hand.me c.finish.new.hand.me) at.source
           (due-lists board c.args.plan.now c.loop-due.scan c.next.new.self c.loop-due.hand c.next.new.hand c.act.new.hand c.finish.new.hand
           c.in-Some.due.place c.in-Some.ensures.place c.in-Some.ensures.scanned
           (subst (λ (x : Name). Acts board c.args.plan.now x c.next.new.hand.me c.act.new.hand.me) c.place-place.ensures c.act.ensures.acts)
-          c.finish.ensures.over);
+          c.finish.ensures.over));
     }
 
 pub run_scan-seal-requires-clause-source : goal.run_scan-seal-requires-clause-source
@@ -195,11 +199,14 @@ run_scan-returns-clause-acts g t c =
     let board = c.args.table.now in
     let at = c.loop-due.invariant in
     let is_one = subst (IsSourceIn board) (sym c.next.ensures.source) at.nests.makes.is_one in
-    lists-on board c.args.plan.now c.args.hand.now.me c.loop-due.hand.me c.seal.new.hand.me at.acts
-    (lists-others board c.args.plan.now c.loop-due.hand.me c.seal.new.hand.me
-    (others-on board c.loop-due.hand.me.0.steps c.next.new.hand.me.0.steps c.seal.new.hand.me.0.steps
+    let source = c.loop-due.scan.source in
+    lists-on board c.args.plan.now c.args.scan.source c.args.hand.now.me c.loop-due.hand.me c.seal.new.hand.me at.acts
+    (subst (λ (s : SourceRef). ListsActions board c.args.plan.now s c.loop-due.hand.me c.seal.new.hand.me) at.source
+    (lists-others board c.args.plan.now source c.loop-due.hand.me c.seal.new.hand.me
+    (others-on board source c.loop-due.hand.me.0.steps c.next.new.hand.me.0.steps c.seal.new.hand.me.0.steps
     (through-others board c.loop-due.scan c.next.new.self c.loop-due.hand c.next.new.hand c.in_default.ensures.scanned)
-    (sealed-others board c.next.new.self.source c.next.new.hand c.seal.new.hand is_one c.seal.ensures.sealed)))
+    (subst (λ (s : SourceRef). AddsOthers board s c.next.new.hand.me.0.steps c.seal.new.hand.me.0.steps) c.next.ensures.source
+    (sealed-others board c.next.new.self.source c.next.new.hand c.seal.new.hand is_one c.seal.ensures.sealed)))))
 
 -- the callback's action scans less deep
 pub run_scan-act-requires : goal.run_scan-act-requires

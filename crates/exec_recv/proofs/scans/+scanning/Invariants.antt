@@ -18,7 +18,7 @@ invariant-run_scan-loop-due g l = record {
   source : l.scan.source ≡ l.fn.scan.source;
   nests : Nests l.table l.scan l.hand.me;
   on : ScansOn l.fn.hand.me l.hand.me l.fn.scan.source;
-  acts : ListsActions l.table l.plan l.fn.hand.me l.hand.me;
+  acts : ListsActions l.table l.plan l.fn.scan.source l.fn.hand.me l.hand.me;
 }
 
 abbrev pub decreases-run_scan-loop-due : goal.decreases-run_scan-loop-due

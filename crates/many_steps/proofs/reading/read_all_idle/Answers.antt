@@ -1,6 +1,6 @@
 use Rattle.op_slot.proofs.Staying.{stays-here, stays-on}
-use Rattle.node_steps.proofs.Frames.{keeps-here, keeps-on}
-use Rattle.node_steps.proofs.Settled.{ready-after}
+use Rattle.step_parts.proofs.Frames.{keeps-here, keeps-on}
+use Rattle.step_parts.proofs.Settled.{ready-after}
 use Rattle.many_steps.proofs.ReadIdle.{all-idle-none, all-idle-more}
 use Rattle.many_steps.proofs.reading.read_all_idle.Goals as goal
 

@@ -1,5 +1,5 @@
 use Rattle.table_steps.specs.Views.{Stays}
-use Rattle.node_steps.specs.Midway.{KeepsReady}
+use Rattle.step_parts.specs.Midway.{KeepsReady}
 use Rattle.many_steps.specs.Kids.{KnowsAllIdle}
 use Rattle.many_steps.proofs.reading.read_all_idle.Given as goal
 

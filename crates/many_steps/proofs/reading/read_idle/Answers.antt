@@ -2,9 +2,9 @@ use Rattle.std.proofs.Common.{Bool, subst}
 use Rattle.life_rules.specs.Views.{beside}
 use Rattle.op_slot.proofs.Staying.{stays-here, stays-on}
 use Rattle.table_steps.specs.Readings.{IsBegunAs}
-use Rattle.node_steps.proofs.Frames.{keeps-here, keeps-on}
-use Rattle.node_steps.proofs.Settled.{ready-after}
-use Rattle.node_steps.proofs.Reading.{child-above, child-place, begun-keeps, idle-keeps, idle-known}
+use Rattle.step_parts.proofs.Frames.{keeps-here, keeps-on}
+use Rattle.step_parts.proofs.Settled.{ready-after}
+use Rattle.step_parts.proofs.Reading.{child-above, child-place, begun-keeps, idle-keeps, idle-known}
 use Rattle.many_steps.proofs.ReadIdle.{begun-idles, idle-idles, idles-here, idles-on}
 use Rattle.many_steps.proofs.reading.read_idle.Goals as goal
 

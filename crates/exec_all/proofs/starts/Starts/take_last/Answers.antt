@@ -1,5 +1,5 @@
 use Rattle.std.proofs.Common.{suc, sym, ap, ◌∙◌, subst}
-use Rattle.node_steps.specs.Starts.{child_start}
+use Rattle.step_parts.specs.Starts.{child_start}
 use Rattle.exec_all.specs.Starts.{AreStarts}
 use Rattle.exec_all.proofs.Made.{starts-last}
 use Rattle.exec_all.proofs.starts.Starts.take_last.Goals as goal

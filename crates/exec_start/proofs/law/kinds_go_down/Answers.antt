@@ -1,5 +1,0 @@
-use Rattle.exec_start.proofs.KindsBelow.{kinds-below}
-use Rattle.exec_start.proofs.law.kinds_go_down.Goals as goal
-
-pub returns : goal.returns
-returns c = λ e p node runnable has at seen under. kinds-below e p runnable has node at seen under

@@ -1,0 +1,188 @@
+-- How a node's callback is settled: what was read is noted, and a removal waits for the end of a run.
+use Rattle.std.proofs.Common.{◌≡◌, ℕ, zero, suc, true, false, List, [], ◌∷◌, arith, refl, sym, ap, ◌∙◌, subst}
+use Rattle.std.specs.Prelude.{Option, Some, None}
+use Rattle.std.specs.Option.{option_map_or}
+use Rattle.atomic_table.specs.declared.shared.Seat.{Seat}
+use Rattle.life_rules.specs.declared.event.Name.{Name}
+use Rattle.life_rules.specs.declared.event.SourceRef.{SourceRef}
+use Rattle.life_rules.specs.declared.event.SourceRef.TheVariants.{Node}
+use Rattle.life_rules.specs.declared.words.CallbackPhase.{CallbackPhase}
+use Rattle.life_rules.specs.declared.words.CallbackPhase.TheVariants.{Armed, Running as Runs, Ran as HasRun, Removed}
+use Rattle.life_rules.specs.States.{source_for}
+use Rattle.life_rules.specs.Views.{same_source}
+use Rattle.life_rules.specs.Words.{is_armed}
+use Rattle.listed_words.specs.Lists.{entry}
+use Rattle.node_tree.specs.Tree.{nearest}
+use Rattle.plan_shape.specs.Blueprint.{Blueprint}
+use Rattle.std.proofs.lemmas.Bool.{cond-false}
+use Rattle.table_rules.specs.declared.view.View.{View}
+use Rattle.table_rules.specs.declared.view.Held.{Held}
+use Rattle.table_rules.specs.declared.view.Scanning.{Scanning}
+use Rattle.table_rules.specs.Named.{count_by}
+use Rattle.table_rules.specs.ShownViews.{has_source_ref, scan_in}
+use Rattle.table_steps.specs.Views.{Board}
+use Rattle.table_steps.specs.Callbacks.{callback_index, is_registered, learns, left_by}
+use Rattle.table_steps.specs.Claims.{Seated, with_step}
+use Rattle.table_steps.specs.Finishes.{is_settled}
+use Rattle.table_steps.specs.Readings.{at_entry, notes_phase, Holds, IsPhaseAs}
+use Rattle.stop_calls.specs.declared.removing.Settled.{Settled}
+use Rattle.stop_calls.specs.declared.removing.Settled.TheVariants.{NeverRan, Ran, OwnHand}
+use Rattle.stop_calls.specs.Removals.{MayWithdraw, IsReadAs, IsLastTry, IsSettled, Waits}
+use Rattle.home_items.specs.declared.entry.Entry.{Entry}
+use Rattle.home_items.specs.declared.item.Item.{Item}
+use Rattle.exec_recv.specs.Asides.{aside_of}
+use Rattle.exec_recv.proofs.Moves.{moves-look, moves-callback}
+use Rattle.exec_recv.proofs.Asiding.{aside-one}
+use Rattle.step_parts.specs.Midway.{IsReady, KeepsReady}
+use Rattle.step_parts.specs.Settles.{HasSettled}
+use Rattle.step_parts.proofs.Frames.{keeps-here, keeps-on}
+use Rattle.step_parts.proofs.Noting.{NotesEntry, ChangesNotes, notes-held, notes-keeps, or-true}
+
+-- a source that came to a list of requests that were seen leaves the others there
+more-seen : (near : Option SourceRef) (seen : List SourceRef) (source : SourceRef) → has_source_ref seen source ≡ true →
+    has_source_ref (option_map_or (λ s. s ∷ seen) near seen) source ≡ true
+more-seen None seen source is = is
+more-seen (Some near) seen source is = or-true (same_source near source) (has_source_ref seen source) is
+
+-- a phase is noted
+abbrev pub with_phase : CallbackPhase → Held Entry → Held Entry
+with_phase phase e = record e { phase = Some phase }
+
+pub phase-slight : (phase : CallbackPhase) → ChangesNotes (with_phase phase)
+phase-slight phase =
+    record {
+      names = λ e. refl;
+      same = λ e. record { start = refl; named = refl; told = refl; told_children = refl; lot = refl };
+    }
+
+module _ (board : Board Blueprint) (x : Name) where
+  -- a phase that was read is noted
+  phase-notes : (phase : CallbackPhase) (m m' : Seated Item Entry) → IsPhaseAs board.frame x phase m m' → NotesEntry board x (with_phase phase) m m'
+  phase-notes phase m m' read =
+      record {
+        held = ap (λ (z : Seated Item Entry). z.0.held) read.2
+            ∙ ap (λ (p : CallbackPhase). at_entry (λ (e : Held Entry). e.name) (with_phase p) x m.0.held)
+            (sym read.1);
+        owed = ap (λ (z : Seated Item Entry). z.0.owed) read.2;
+        homes = ap (λ (z : Seated Item Entry). z.1) read.2;
+        aside = aside-one (entry (callback_index board x) read.0 read.0) m m' (ap (λ (z : Seated Item Entry). aside_of z.0) read.2)
+            (ap (λ (z : Seated Item Entry). z.0.steps) read.2) (ap (λ (z : Seated Item Entry). z.0.seen) read.2);
+        moves = moves-look board x (callback_index board x) read.0 m m' (ap (λ (z : Seated Item Entry). z.0.steps) read.2);
+      }
+
+  -- and so is that of a try to remove the callback: it was armed, and is removed
+  armed-notes : (old new : Seat (Option Item) (View Item Entry)) → IsReadAs board x old new Armed → NotesEntry board x (with_phase Removed) old.me new.me
+  armed-notes old new tried =
+      let is = tried.told.me_is in
+      record {
+        held = ap (λ (z : Seated Item Entry). z.0.held) is;
+        owed = ap (λ (z : Seated Item Entry). z.0.owed) is;
+        homes = ap (λ (z : Seated Item Entry). z.1) is;
+        aside = aside-one (entry (callback_index board x) tried.told.word _) old.me new.me
+            (ap (λ (z : Seated Item Entry). aside_of z.0) is) (ap (λ (z : Seated Item Entry). z.0.steps) is)
+            (ap (λ (z : Seated Item Entry). z.0.seen) is);
+        moves = moves-callback board x tried.told.word _ old.me new.me (ap (λ (z : Seated Item Entry). z.0.steps) is);
+      }
+
+  -- or it runs or ran, and the request on the source that the node hears was seen
+  module _ (phase : CallbackPhase) (unarmed : is_armed phase ≡ false) (old new : Seat (Option Item) (View Item Entry)) (tried : IsReadAs board x old new phase) where
+    ran-is : (left : ℕ) × (new.me ≡ (
+      with_step (callback_index board x) tried.told.word left (learns board.frame.tree x (notes_phase x phase old.me.0)),
+      old.me.1,
+    ))
+    ran-is = (
+      left_by x.generation tried.told.word,
+      tried.told.me_is
+          ∙ ap (λ (v : View Item Entry). (with_step (callback_index board x) tried.told.word (left_by x.generation tried.told.word) v, old.me.1))
+          (cond-false (is_armed phase) (notes_phase x Removed old.me.0)
+          (learns board.frame.tree x (notes_phase x phase old.me.0)) unarmed),
+    )
+
+    ran-notes : NotesEntry board x (with_phase phase) old.me new.me
+    ran-notes =
+        let is = ran-is.1 in
+        record {
+          held = ap (λ (z : Seated Item Entry). z.0.held) is;
+          owed = ap (λ (z : Seated Item Entry). z.0.owed) is;
+          homes = ap (λ (z : Seated Item Entry). z.1) is;
+          aside = record {
+            same = ap (λ (z : Seated Item Entry). aside_of z.0) is;
+            fresh = entry (callback_index board x) tried.told.word ran-is.0 ∷ [];
+            grown = ap (λ (z : Seated Item Entry). z.0.steps) is;
+            sees = λ source seen.
+                ap (λ (z : Seated Item Entry). has_source_ref z.0.seen source) is
+                ∙ more-seen (source_for x (nearest board.frame.tree x.node)) old.me.0.seen source seen;
+          };
+          moves = moves-callback board x tried.told.word ran-is.0 old.me new.me (ap (λ (z : Seated Item Entry). z.0.steps) is);
+        }
+
+  -- where a hand is ready it is so after calls that keep it
+  pub ready-after : (m m' : Seated Item Entry) → KeepsReady board x m m' → IsReady board x m → IsReady board x m'
+  ready-after m m' keeps is = record { start = is.start; ready = keeps.ready is.start 0 (λ _. None) is.ready }
+
+  -- tries that found a run of another hand
+  waits-keep : (count : ℕ) (old new : Seat (Option Item) (View Item Entry)) → Waits board x count old new →
+      KeepsReady board x old.me new.me
+  waits-keep zero old new waited = subst (λ (z : Seated Item Entry). KeepsReady board x old.me z) (sym waited) (keeps-here board x old.me)
+  waits-keep (suc count) old new waited =
+      keeps-on board x old.me waited.0.me new.me (waits-keep count old waited.0 waited.1)
+      (notes-keeps board x (with_phase Runs) (phase-slight Runs) waited.0.me new.me (ran-notes Runs refl waited.0 new waited.2))
+
+  -- the phase that was noted is what the hand has read
+  noted-settles : (phase : CallbackPhase) (m m' : Seated Item Entry) → NotesEntry board x (with_phase phase) m m' → IsReady board x m →
+      is_settled phase ≡ true → HasSettled x m'
+  noted-settles phase m m' notes is settled =
+      record {
+        held = record (is.ready.held) { phase = Some phase };
+        holds = notes-held board x (with_phase phase) (phase-slight phase) m m' notes is.ready.held is.ready.tends.holds;
+        settled = settled;
+      }
+
+  -- the last try: it never ran, or ran; this hand doesn't run it
+  last-keeps : (answer : Settled) (old new : Seat (Option Item) (View Item Entry)) → IsReady board x old.me →
+      IsLastTry board x old new answer → KeepsReady board x old.me new.me × HasSettled x new.me
+  last-keeps NeverRan old new is tried =
+      let notes = armed-notes old new tried in (
+        notes-keeps board x (with_phase Removed) (phase-slight Removed) old.me new.me notes,
+        noted-settles Removed old.me new.me notes is refl,
+      )
+  last-keeps Ran old new is tried =
+      let notes = ran-notes HasRun refl old new tried in (
+        notes-keeps board x (with_phase HasRun) (phase-slight HasRun) old.me new.me notes,
+        noted-settles HasRun old.me new.me notes is refl,
+      )
+  last-keeps OwnHand old new is tried =
+      let runs = tried.runs in
+      let none : count_by (λ (y : Name). y) old.me.0.runs x ≡ 0 =
+      ap (λ (l : List Name). count_by (λ (y : Name). y) l x) is.ready.unrun in
+      absurd (omega (arith, runs, none))
+
+  pub settled-keeps : (answer : Settled) (old new : Seat (Option Item) (View Item Entry)) → IsReady board x old.me →
+      IsSettled board x old new answer → KeepsReady board x old.me new.me × HasSettled x new.me
+  settled-keeps answer old new is settled =
+      let waited = waits-keep settled.count old settled.middle settled.waited in
+      let last = last-keeps answer settled.middle new (ready-after old.me settled.middle.me waited is) settled.last in
+      (keeps-on board x old.me settled.middle.me new.me waited last.0, last.1)
+
+  -- the hand can read the phase
+  pub can-read : (m : Seated Item Entry) → IsReady board x m → Holds m.0 x
+  can-read m is = record { held = is.ready.held; holds = is.ready.tends.holds }
+
+  -- and where it says that the callback may run still, remove it
+  module _ (phase : CallbackPhase) (m m' : Seated Item Entry) (is : IsReady board x m) (read : IsPhaseAs board.frame x phase m m') where
+    pub read-keeps : KeepsReady board x m m'
+    read-keeps = notes-keeps board x (with_phase phase) (phase-slight phase) m m' (phase-notes phase m m' read)
+
+    pub read-settles : is_settled phase ≡ true → HasSettled x m'
+    read-settles settled = noted-settles phase m m' (phase-notes phase m m' read) is settled
+
+    pub may-withdraw : is_registered phase ≡ true → MayWithdraw m'.0 x
+    may-withdraw registered =
+        record {
+          held = record (is.ready.held) { phase = Some phase };
+          holds = notes-held board x (with_phase phase) (phase-slight phase) m m' (phase-notes phase m m' read) is.ready.held is.ready.tends.holds;
+          known = phase;
+          known_is = refl;
+          registered = registered;
+          unscanned = λ runs. ap (λ (l : List Scanning). scan_in l (Node x)) (ready-after m m' read-keeps is).ready.calm;
+        }

@@ -1,0 +1,44 @@
+-- What a hand in the middle of a step knows of requests above its node.
+use Rattle.std.specs.Prelude.{◌≡◌, Bool, true, false, ◌||◌, MatchOption, is_some}
+use Rattle.std.specs.Option.{option_map_or}
+use Rattle.life_rules.specs.declared.event.Name.{Name}
+use Rattle.life_rules.specs.States.{source_for}
+use Rattle.node_tree.specs.Tree.{nearest}
+use Rattle.plan_shape.specs.Blueprint.{Blueprint}
+use Rattle.table_words.specs.Layouts.{index}
+use Rattle.table_rules.specs.declared.view.Held.{Held}
+use Rattle.table_steps.specs.Views.{Board}
+use Rattle.table_steps.specs.Claims.{Seated}
+use Rattle.table_steps.specs.Sights.{spot_of, says_requested}
+use Rattle.table_steps.specs.Slots.{has_seen, held_at}
+use Rattle.home_items.specs.declared.entry.Entry.{Entry}
+use Rattle.home_items.specs.declared.item.Item.{Item}
+use Rattle.exec_recv.specs.Since.{HasReadSince}
+
+-- whether the hand was told of a request on the source that x hears, when it came to hold x
+abbrev pub was_told : Name → Seated Item Entry → Bool
+was_told x m = option_map_or (λ (e : Held Entry). e.told) (held_at m.0 x) false
+
+-- it was, or it has seen one since
+abbrev pub has_heard : Board Blueprint → Name → Seated Item Entry → Bool
+has_heard board x m = has_seen board.frame.tree m.0 x || was_told x m
+
+-- a parcel of x may say so of what its node saw
+abbrev pub MaySee : Board Blueprint → Name → Bool → Seated Item Entry → Type 0
+MaySee board x saw m = has_heard board x m ≡ false → saw ≡ false
+
+-- the answer to a look at the source that x hears: the request was read, and so seen; or it wasn't,
+-- and where x hears a source the hand has heard of none
+pub record TellsRequest (board : Board Blueprint) (x : Name) (answer : Bool)
+    (m : Seated Item Entry) : Type 0 where
+  pub yes : answer ≡ true → has_seen board.frame.tree m.0 x ≡ true
+  pub no : answer ≡ false → is_some (source_for x (nearest board.frame.tree x.node)) ≡ true →
+      has_heard board x m ≡ false
+
+-- Since then the word of the source that x hears was read, and this is what it said of a request.
+-- Where x hears none, no request was found.
+abbrev pub Looked : Board Blueprint → Name → Bool → Seated Item Entry → Seated Item Entry → Type 0
+Looked board x saw m m' =
+    MatchOption (source_for x (nearest board.frame.tree x.node)) (saw ≡ false)
+    (λ source. HasReadSince (index board.frame.layout (spot_of source))
+    (λ word. says_requested source word ≡ saw) m m')

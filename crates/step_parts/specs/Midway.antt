@@ -1,0 +1,72 @@
+-- What a hand has in the middle of a step of a node x, and what a call within the step keeps of it.
+use Rattle.std.specs.Prelude.{◌≡◌, ℕ, ◌≤◌, true, false, List, [], Option, Some, None}
+use Rattle.life_rules.specs.declared.event.Name.{Name}
+use Rattle.node_tree.specs.Tree.{is_child}
+use Rattle.plan_shape.specs.Blueprint.{Blueprint}
+use Rattle.table_rules.specs.declared.view.Held.{Held}
+use Rattle.table_rules.specs.Named.{without}
+use Rattle.table_steps.specs.Views.{Board, IsPlaceIn}
+use Rattle.table_steps.specs.Claims.{Seated}
+use Rattle.table_steps.specs.Hearings.{HearsAs}
+use Rattle.op_slot.specs.Tends.{IsCalm, HasPlaces, Tends}
+use Rattle.home_items.specs.declared.entry.Entry.{Entry}
+use Rattle.home_items.specs.declared.item.Item.{Item}
+use Rattle.home_items.specs.Entries.{plan_of, node_of}
+use Rattle.home_items.specs.Fits.{FitsChild}
+use Rattle.home_items.specs.Starts.{NeedsNoRequest}
+use Rattle.exec_recv.specs.Areas.{MovesWithin}
+use Rattle.exec_recv.specs.Asides.{KeepsAside}
+use Rattle.exec_recv.specs.Beginnings.{AllCanStart}
+use Rattle.exec_recv.specs.Family.{AreOwedElsewhere}
+use Rattle.exec_recv.specs.Steppable.{IsDoneBelow}
+use Rattle.step_parts.specs.Heard.{has_heard}
+
+module _ (board : Board Blueprint) (x : Name) where
+  -- The hand holds x, makes no scan and runs no callback. The home of x is empty, and this lies in
+  -- those of its children: completions, as the hand found them. This is the start of x, which rests
+  -- on no request but one that the hand was told of. The last await of x named at least so many
+  -- children. Each start that the hand owes can begin, and has its home elsewhere.
+  pub record Emptying (start : List Entry) (least : ℕ) (kid : ℕ → Option Item)
+      (m : Seated Item Entry) : Type 0 where
+    pub place : IsPlaceIn board x
+    pub places : HasPlaces board.frame x
+    pub calm : IsCalm m
+    pub unrun : m.0.runs ≡ []
+    pub held : Held Entry
+    pub tends : Tends board.frame x held None kid m
+    pub shows : start ≡ held.start
+    pub node : node_of start ≡ x.node
+    pub kinds : FitsChild start
+    pub calmly : held.told ≡ false → NeedsNoRequest start
+    pub key : plan_of start ≡ board.frame.over.value
+    pub hears : HearsAs board.frame.tree m.0 x held.told held.told_children
+    pub named : least ≤ held.named
+    pub kids : (n : ℕ) (done : Item) → is_child board.frame.tree x.node n ≡ true →
+        kid n ≡ Some done → IsDoneBelow held n done
+    pub starts : AllCanStart board m
+    pub elsewhere : AreOwedElsewhere board x m
+
+  -- so, and the homes of its children are empty too
+  abbrev pub Ready : List Entry → ℕ → Seated Item Entry → Type 0
+  Ready start least m = Emptying start least (λ _. None) m
+
+  -- the same of some start
+  pub record IsReady (m : Seated Item Entry) : Type 0 where
+    pub start : List Entry
+    pub ready : Ready start 0 m
+
+  -- What the hand's view has beside x is as before, and no word was moved but those of places of
+  -- the block of x.
+  pub record KeepsOthers (m m' : Seated Item Entry) : Type 0 where
+    pub aside : KeepsAside m m'
+    pub moves : MovesWithin board x m m'
+    pub others : without (λ (e : Held Entry). e.name) m'.0.held x
+        ≡ without (λ (e : Held Entry). e.name) m.0.held x
+    pub owed : m'.0.owed ≡ m.0.owed
+
+  -- and so is what it has of x, as far as a step rests on it
+  pub record KeepsReady (m m' : Seated Item Entry) : Type 0 where
+    pub beside : KeepsOthers m m'
+    pub ready : (start : List Entry) (least : ℕ) (kid : ℕ → Option Item) →
+        Emptying start least kid m → Emptying start least kid m'
+    pub heard : has_heard board x m ≡ true → has_heard board x m' ≡ true
