@@ -12,9 +12,17 @@ KeepsDeck None (Some new) = ⊥
 KeepsDeck None None = ⊤
 
 pub deck-here : (deck : Deck) → IsSameDeck deck deck
-deck-here deck = record { place = refl; own = refl; share = refl; row = refl; queue = refl; queued = refl }
+deck-here deck = record {
+  place = refl;
+  own = refl;
+  share = refl;
+  row = refl;
+  queue = refl;
+  queued = refl;
+}
 
-pub deck-on : (first second third : Deck) → IsSameDeck first second → IsSameDeck second third → IsSameDeck first third
+pub deck-on : (first second third : Deck) → IsSameDeck first second → IsSameDeck second third →
+    IsSameDeck first third
 deck-on first second third one next =
     record {
       place = next.place ∙ one.place;
@@ -30,7 +38,8 @@ pub keeps-here : (deck : Option Deck) → KeepsDeck deck deck
 keeps-here (Some deck) = deck-here deck
 keeps-here None = tt
 
-pub keeps-on : (first second third : Option Deck) → KeepsDeck first second → KeepsDeck second third → KeepsDeck first third
+pub keeps-on : (first second third : Option Deck) → KeepsDeck first second →
+    KeepsDeck second third → KeepsDeck first third
 keeps-on (Some first) (Some second) (Some third) one next = deck-on first second third one next
 keeps-on (Some first) (Some second) None one next = absurd next
 keeps-on (Some first) None third one next = absurd one

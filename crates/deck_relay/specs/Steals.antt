@@ -24,8 +24,8 @@ abbrev pub AllMissed : ℕ → List Theft → List Theft → Type 0
 AllMissed passed old new = (k : ℕ) (before after : Theft) → k ≢ passed →
     slice_get old k ≡ Some before → slice_get new k ≡ Some after → Missed before after
 
--- The name was stolen from another deque than the one that is passed over, after the steal from each
--- deque before it missed. No other theft took anything.
+-- The name was stolen from another deque than the one that is passed over, after the steal from
+-- each deque before it missed. No other theft took anything.
 pub record StealsInTurn (passed : ℕ) (old new : List Theft) (name : Name) : Type 0 where
   pub from : ℕ
   pub other : from ≢ passed

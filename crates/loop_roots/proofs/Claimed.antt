@@ -8,7 +8,7 @@ use Rattle.atomic_table.specs.declared.shared.Seat.{Seat}
 use Rattle.life_rules.specs.declared.event.Name.{Name}
 use Rattle.life_rules.specs.Views.{same}
 use Rattle.life_rules.proofs.Names.{same-true, same-refl}
-use Rattle.listed_steps.specs.Lists.{entry}
+use Rattle.listed_words.specs.Lists.{entry}
 use Rattle.plan_shape.specs.Blueprint.{Blueprint}
 use Rattle.table_rules.specs.declared.view.View.{View}
 use Rattle.table_rules.specs.declared.view.Owed.{Owed}
@@ -25,18 +25,18 @@ use Rattle.op_slot.proofs.Found.{round-owes}
 use Rattle.op_slot.proofs.Leaving.{owes-fits, owes-puts}
 use Rattle.op_slot.proofs.Searching.{missed-from_same}
 use Rattle.op_slot.proofs.Tending.{swapped-home}
-use Rattle.exec_start.specs.contracts.item.ItemCargo.TheImpl.{ghosts}
-use Rattle.exec_start.specs.declared.entry.Entry.{Entry}
-use Rattle.exec_start.specs.declared.item.Item.{Item}
-use Rattle.exec_start.specs.declared.item.Item.TheVariants.{Start}
-use Rattle.exec_start.specs.Entries.{plan_of, node_of, whole_row}
-use Rattle.exec_start.specs.Fits.{FitsHome, FitsChild}
-use Rattle.exec_start.specs.Starts.{IsReceiver, IsReceiverStart}
+use Rattle.home_items.specs.contracts.item.ItemCargo.TheImpl.{ghosts}
+use Rattle.home_items.specs.declared.entry.Entry.{Entry}
+use Rattle.home_items.specs.declared.item.Item.{Item}
+use Rattle.home_items.specs.declared.item.Item.TheVariants.{Start}
+use Rattle.home_items.specs.Entries.{plan_of, node_of, whole_row}
+use Rattle.home_items.specs.Fits.{FitsHome, FitsChild}
+use Rattle.home_items.specs.Starts.{IsReceiver, IsReceiverStart}
 use Rattle.exec_recv.specs.Asides.{Aside, aside_of}
 use Rattle.exec_recv.specs.Beginnings.{CanStart, AllCanStart}
 use Rattle.exec_recv.specs.Over.{IsOver}
 use Rattle.loop_walk.specs.Resting.{IsAtRest, HasOnlyStarts}
-use Rattle.loop_roots.specs.Starts.{CanRun, IsPlaced, with_claimed}
+use Rattle.loop_roots.specs.Starts.{CanRun, IsStartPlaced, with_claimed}
 use Rattle.loop_roots.proofs.Growing.{Grows, grows-here, grows-one, grows-on, leaves-with}
 use Rattle.loop_roots.proofs.Tops.{root-number, root-place}
 
@@ -238,7 +238,7 @@ module _ (board : Board Blueprint) (b : Block) (env : List Entry) (old new : Sea
         }
 
     -- so the start is placed
-    pub is-placed : IsPlaced board b env old.me m2
+    pub is-placed : IsStartPlaced board b env old.me m2
     is-placed =
         record {
           within = did.found.within;

@@ -12,16 +12,16 @@ use Rattle.table_rules.specs.declared.view.Rooted.{Rooted}
 use Rattle.table_steps.specs.Views.{Board}
 use Rattle.table_steps.specs.Claims.{Seated}
 use Rattle.table_steps.specs.Slots.{noted_at}
-use Rattle.exec_start.specs.declared.entry.Entry.{Entry}
-use Rattle.exec_start.specs.declared.item.Item.{Item}
-use Rattle.exec_start.specs.declared.item.Item.TheVariants.{Rest, Start, Done}
-use Rattle.exec_start.specs.Below.{AllowedWith}
-use Rattle.exec_start.specs.Entries.{plan_of, node_of, record_number}
-use Rattle.exec_start.specs.Fits.{FitsHome, HasFailed, IsItemOf, KeepsParcel}
-use Rattle.exec_start.specs.Items.{start_in, saw_in, HasCompleted}
-use Rattle.exec_start.specs.Laws.{CollectedIsAllowed}
-use Rattle.exec_start.specs.Parcels.{Delivery, IsDelivery}
-use Rattle.exec_start.specs.Starts.{IsReceiverStart}
+use Rattle.home_items.specs.declared.entry.Entry.{Entry}
+use Rattle.home_items.specs.declared.item.Item.{Item}
+use Rattle.home_items.specs.declared.item.Item.TheVariants.{Rest, Start, Done}
+use Rattle.home_items.specs.Below.{AllowedWith}
+use Rattle.home_items.specs.Entries.{plan_of, node_of, record_number}
+use Rattle.home_items.specs.Fits.{FitsHome, HasFailed, IsItemOf, KeepsParcel}
+use Rattle.home_items.specs.Items.{start_in, saw_in, HasCompleted}
+use Rattle.home_items.specs.Laws.{CollectedIsAllowed}
+use Rattle.home_items.specs.Parcels.{Delivery, IsDelivery}
+use Rattle.home_items.specs.Starts.{IsReceiverStart}
 use Rattle.loop_roots.specs.declared.completing.Collected.{Collected}
 use Rattle.loop_roots.specs.Completes.{MayCollect, IsOfRoot, CompletesAs, IsFor}
 use Rattle.loop_roots.specs.Emptied.{LayAtRoot}

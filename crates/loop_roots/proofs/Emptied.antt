@@ -9,14 +9,14 @@ use Rattle.life_rules.specs.declared.event.Resting.TheVariants as rest
 use Rattle.life_rules.specs.declared.words.ControlWord.TheVariants.{Busy, Done as IsDone}
 use Rattle.life_rules.specs.Views.{same}
 use Rattle.life_rules.proofs.Names.{same-refl}
-use Rattle.listed_steps.specs.Lists.{entry}
+use Rattle.listed_words.specs.Lists.{entry}
 use Rattle.plan_shape.specs.Blueprint.{Blueprint}
 use Rattle.table_rules.specs.declared.view.Held.{Held}
 use Rattle.table_rules.specs.declared.view.Rooted.{Rooted}
 use Rattle.table_rules.specs.Named.{find_by, without}
 use Rattle.table_steps.specs.declared.block.Block.{Block}
 use Rattle.table_steps.specs.Views.{Board, aimed}
-use Rattle.table_steps.specs.Claims.{Seated, root_name, logged}
+use Rattle.table_steps.specs.Claims.{Seated, root_name, logged, word_index}
 use Rattle.table_steps.specs.Finishes.{is_settled, CanFinish, FinishesAt, RootedAt}
 use Rattle.table_steps.specs.Lefts.{LeavesControl}
 use Rattle.table_steps.specs.Releases.{CanRelease, ReleasesAt}
@@ -27,15 +27,17 @@ use Rattle.op_slot.specs.Puts.{IsTakenOut}
 use Rattle.op_slot.specs.Tends.{HasPlaces, Tends}
 use Rattle.op_slot.proofs.Leaving.{tends-home, root-finishes, rooted-releases}
 use Rattle.op_slot.proofs.Tending.{held_as, swapped-old, swapped-own, taken-tends}
-use Rattle.exec_start.specs.contracts.item.ItemCargo.TheImpl.{ghosts}
-use Rattle.exec_start.specs.declared.entry.Entry.{Entry}
-use Rattle.exec_start.specs.declared.item.Item.{Item}
-use Rattle.exec_start.specs.Entries.{plan_of}
+use Rattle.home_items.specs.contracts.item.ItemCargo.TheImpl.{ghosts}
+use Rattle.home_items.specs.declared.entry.Entry.{Entry}
+use Rattle.home_items.specs.declared.item.Item.{Item}
+use Rattle.home_items.specs.Entries.{plan_of}
+use Rattle.exec_recv.specs.Areas.{MovesWithin}
 use Rattle.exec_recv.specs.Asides.{Aside, aside_of, KeepsAside}
 use Rattle.exec_recv.specs.Over.{IsOver}
+use Rattle.exec_recv.proofs.Moves.{moves-look, moves-control, moves-on}
 use Rattle.exec_recv.proofs.Asiding.{aside-on, aside-one}
 use Rattle.loop_walk.specs.Resting.{IsAtRest}
-use Rattle.loop_roots.specs.Emptied.{HasEmptyRoot, IsSettledRoot, SettlesRoot, LayAtRoot, IsOut, IsGivenBack, IsEmptied, WasNotReady, with_released}
+use Rattle.loop_roots.specs.Emptied.{HasEmptyRoot, IsSettledRoot, SettlesRoot, LayAtRoot, IsOut, IsGivenBack, IsRootEmptied, WasNotReady, with_released}
 use Rattle.loop_roots.specs.Leaves.{LeavesAside}
 use Rattle.loop_roots.proofs.Growing.{Grows, grows-one, grows-on, leaves-with, aside-leaves, leaves-then}
 use Rattle.loop_roots.proofs.Tops.{root-is, root-hears, root-places}
@@ -76,10 +78,10 @@ pub record HasTaken (board : Board Blueprint) (b : Block) (m m' : Seated Item En
   pub within : b.index < board.frame.layout.blocks
   pub first : m.0.number ≡ 0
   pub rests : IsAtRest m.0
-  pub index : ℕ
   pub read : ℕ
   pub left : ℕ
-  pub took : TakenAt ghosts (aimed board.frame (root_name board b.index b.generation)) (board.frame.over.value ∷ []) index read left m m'
+  pub took : TakenAt ghosts (aimed board.frame (root_name board b.index b.generation)) (board.frame.over.value ∷ [])
+      (control_index board (root_name board b.index b.generation)) read left m m'
 
 module _ (board : Board Blueprint) (b : Block) (m m' : Seated Item Entry) (did : HasTaken board b m m') where
   abbrev pub x : Name
@@ -93,14 +95,14 @@ module _ (board : Board Blueprint) (b : Block) (m m' : Seated Item Entry) (did :
 
   pub took-tends : Tends board.frame x root_held (Some did.took.item) (λ _. None) m'
   took-tends =
-      taken-tends ghosts board.frame x m m' (board.frame.over.value ∷ []) did.index did.read did.left did.took taken-places
+      taken-tends ghosts board.frame x m m' (board.frame.over.value ∷ []) (control_index board x) did.read did.left did.took taken-places
 
   pub took-home : HasHome board.frame.layout m' x
   took-home = tends-home board.frame x m' root_held (Some did.took.item) (λ _. None) took-tends
 
   took-keeps : KeepsAside m m'
   took-keeps =
-      aside-one (entry did.index did.read did.left) m m' (ap (λ (z : Seated Item Entry). aside_of z.0) did.took.me_is)
+      aside-one (entry (control_index board x) did.read did.left) m m' (ap (λ (z : Seated Item Entry). aside_of z.0) did.took.me_is)
       (ap (λ (z : Seated Item Entry). z.0.steps) did.took.me_is) (ap (λ (z : Seated Item Entry). z.0.seen) did.took.me_is)
 
   -- what the item was there
@@ -127,6 +129,12 @@ module _ (board : Board Blueprint) (b : Block) (m m' : Seated Item Entry) (did :
         (aside-one (entry (control_index board x) out.word out.word) m' m2 (ap (λ (z : Seated Item Entry). aside_of z.0) out.me_is)
         (ap (λ (z : Seated Item Entry). z.0.steps) out.me_is) (ap (λ (z : Seated Item Entry). z.0.seen) out.me_is))
 
+    out-moves : MovesWithin board x m m2
+    out-moves =
+        moves-on board x m m' m2
+        (moves-control board x did.read did.left m m' (ap (λ (z : Seated Item Entry). z.0.steps) did.took.me_is))
+        (moves-look board x (control_index board x) out.word m' m2 (ap (λ (z : Seated Item Entry). z.0.steps) out.me_is))
+
     out-empty : HasEmptyRoot board x m2
     out-empty =
         record {
@@ -150,6 +158,7 @@ module _ (board : Board Blueprint) (b : Block) (m m' : Seated Item Entry) (did :
           owed = ap (λ (z : Seated Item Entry). z.0.owed) out.me_is ∙ ap (λ (z : Seated Item Entry). z.0.owed) did.took.me_is
               ∙ did.rests.owed;
           keeps = out-keeps;
+          moves = out-moves;
         }
 
 -- a root whose callback is settled can be finished
@@ -167,23 +176,22 @@ can-finish board x m settled = of settled.empty.held.phase refl settled.settled
 -- The root was finished.
 pub record HasFinished (board : Board Blueprint) (x : Name) (m m' : Seated Item Entry) : Type 0 where
   pub settled : IsSettledRoot board x m
-  pub index : ℕ
   pub read : ℕ
   pub left : ℕ
-  pub did : FinishesAt ghosts (aimed board.frame x) index read left m m'
+  pub did : FinishesAt ghosts (aimed board.frame x) (control_index board x) read left m m'
 
 pub has-finished : (board : Board Blueprint) (x : Name) (m m' : Seated Item Entry) → IsSettledRoot board x m →
     LeavesControl (aimed board.frame x) (Busy 0) IsDone (FinishesAt ghosts (aimed board.frame x)) m m' → HasFinished board x m m'
 has-finished board x m m' settled finished =
-    record { settled = settled; index = control_index board x; read = finished.read; left = finished.left; did = finished.did }
+    record { settled = settled; read = finished.read; left = finished.left; did = finished.did }
 
 module _ (board : Board Blueprint) (x : Name) (m m' : Seated Item Entry) (ended : HasFinished board x m m') where
-  abbrev rooted : RootedAt (aimed board.frame x) ended.index ended.read ended.left m m'
+  abbrev rooted : RootedAt (aimed board.frame x) (control_index board x) ended.read ended.left m m'
   rooted = ended.did.1 ended.settled.empty.root
 
   pub can-release : CanRelease board.frame.layout m' x
   can-release =
-      rooted-releases board.frame x m m' ended.index ended.read ended.left rooted ended.settled.empty.held (λ _. None)
+      rooted-releases board.frame x m m' (control_index board x) ended.read ended.left rooted ended.settled.empty.held (λ _. None)
       ended.settled.empty.places ended.settled.empty.tends
 
   held-name : same ended.settled.empty.held.name x ≡ true
@@ -217,7 +225,7 @@ module _ (board : Board Blueprint) (x : Name) (m m' : Seated Item Entry) (ended 
     given-grows : Grows m m2
     given-grows =
         grows-on m m' m2
-        (grows-one (entry ended.index ended.read ended.left) m m' (ap (λ (z : Seated Item Entry). z.0.steps) rooted.me_is)
+        (grows-one (entry (control_index board x) ended.read ended.left) m m' (ap (λ (z : Seated Item Entry). z.0.steps) rooted.me_is)
         (ap (λ (z : Seated Item Entry). z.0.seen) rooted.me_is))
         (grows-one (entry index opened free) m' m2 (ap (λ (z : Seated Item Entry). z.0.steps) gave.me_is)
         (ap (λ (z : Seated Item Entry). z.0.seen) gave.me_is))
@@ -226,13 +234,22 @@ module _ (board : Board Blueprint) (x : Name) (m m' : Seated Item Entry) (ended 
     given-leaves = leaves-with (with_released x (aside_of m.0)) m m2 given-aside given-grows
 
 pub is-given-back : (board : Board Blueprint) (b : Block) (m m' : Seated Item Entry) →
-    (ended : HasFinished board (root_name board b.index b.generation) m m') → (m2 : Seated Item Entry) (index opened free : ℕ) →
-    ReleasesAt (aimed board.frame (root_name board b.index b.generation)) index opened free m' m2 → IsGivenBack board b m m2
-is-given-back board b m m' ended m2 index opened free gave =
+    (ended : HasFinished board (root_name board b.index b.generation) m m') → (m2 : Seated Item Entry) (opened free : ℕ) →
+    ReleasesAt (aimed board.frame (root_name board b.index b.generation)) (word_index board b.index) opened free m' m2 → IsGivenBack board b m m2
+is-given-back board b m m' ended m2 opened free gave =
     let root = root_name board b.index b.generation in
+    let index : ℕ = word_index board b.index in
     record {
       held = given-held board root m m' ended m2 index opened free gave;
       owed = given-owed board root m m' ended m2 index opened free gave;
+      moves = record {
+        before = m';
+        moves = moves-control board root ended.read ended.left m m'
+            (ap (λ (z : Seated Item Entry). z.0.steps) (ended.did.1 ended.settled.empty.root).me_is);
+        read = opened;
+        left = free;
+        gave = ap (λ (z : Seated Item Entry). z.0.steps) gave.me_is;
+      };
       leaves = given-leaves board root m m' ended m2 index opened free gave;
     }
 
@@ -245,11 +262,12 @@ settled-out board b m between m' item out settles =
       empty = settles.is.empty;
       owed = settles.owed ∙ out.owed;
       keeps = aside-on m between m' out.keeps settles.keeps;
+      moves = moves-on board (root_name board b.index b.generation) m between m' out.moves settles.moves;
     }
 
 -- and when its block is given back, the hand is at rest
 pub emptied : (board : Board Blueprint) (b : Block) (m between m' : Seated Item Entry) (item : Item) → IsAtRest m.0 →
-    IsOut board b m between item → IsGivenBack board b between m' → IsEmptied board b m m' item
+    IsOut board b m between item → IsGivenBack board b between m' → IsRootEmptied board b m m' item
 emptied board b m between m' item rests out given =
     let leaves = leaves-then (with_released (root_name board b.index b.generation)) (aside_of m.0) m between m'
     (aside-leaves m between out.keeps) given.leaves in
@@ -263,25 +281,12 @@ emptied board b m between m' item rests out given =
         runs = ap (λ (a : Aside). a.runs) leaves.is ∙ rests.runs;
         scans = ap (λ (a : Aside). a.scans) leaves.is ∙ rests.scans;
       };
+      moves = record {
+        before = given.moves.before;
+        moves = moves-on board (root_name board b.index b.generation) m between given.moves.before out.moves given.moves.moves;
+        read = given.moves.read;
+        left = given.moves.left;
+        gave = given.moves.gave;
+      };
       leaves = leaves;
     }
-
--- a root that wasn't ready leaves a hand that was at rest so
-module _ (board : Board Blueprint) (b : Block) (m m' : Seated Item Entry) (read : WasNotReady board b m m') where
-  pub unready-rests : IsAtRest m.0 → IsAtRest m'.0
-  unready-rests rests =
-      record {
-        held = ap (λ (z : Seated Item Entry). z.0.held) read.is ∙ rests.held;
-        owed = ap (λ (z : Seated Item Entry). z.0.owed) read.is ∙ rests.owed;
-        reported = ap (λ (z : Seated Item Entry). z.0.reported) read.is ∙ rests.reported;
-        finished = ap (λ (z : Seated Item Entry). z.0.finished) read.is ∙ rests.finished;
-        runs = ap (λ (z : Seated Item Entry). z.0.runs) read.is ∙ rests.runs;
-        scans = ap (λ (z : Seated Item Entry). z.0.scans) read.is ∙ rests.scans;
-      }
-
-  -- and all else that its view says, but for its list of steps
-  pub unready-leaves : LeavesAside (aside_of m.0) m m'
-  unready-leaves =
-      leaves-with (aside_of m.0) m m' (ap (λ (z : Seated Item Entry). aside_of z.0) read.is)
-      (grows-one (entry (control_index board (root_name board b.index b.generation)) read.word read.word) m m'
-      (ap (λ (z : Seated Item Entry). z.0.steps) read.is) (ap (λ (z : Seated Item Entry). z.0.seen) read.is))

@@ -5,3 +5,4 @@ pub mod Started
 pub mod Settled
 pub mod Emptied
 pub mod Completed
+pub mod Unready

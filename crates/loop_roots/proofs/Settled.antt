@@ -12,7 +12,7 @@ use Rattle.life_rules.specs.declared.words.CallbackPhase.{CallbackPhase}
 use Rattle.life_rules.specs.declared.words.CallbackPhase.TheVariants.{Armed, Ran as HasRun, Removed}
 use Rattle.life_rules.specs.States.{source_for}
 use Rattle.life_rules.specs.Views.{same, same_source}
-use Rattle.listed_steps.specs.Lists.{entry}
+use Rattle.listed_words.specs.Lists.{entry}
 use Rattle.node_tree.specs.Tree.{nearest}
 use Rattle.plan_shape.specs.Blueprint.{Blueprint}
 use Rattle.table_rules.specs.declared.view.View.{View}
@@ -28,9 +28,11 @@ use Rattle.table_steps.specs.Readings.{at_entry, Holds, IsPhaseAs}
 use Rattle.table_steps.specs.Slots.{slot_of, kept}
 use Rattle.table_words.specs.Layouts.{place_number}
 use Rattle.stop_calls.specs.Removals.{MayWithdraw, IsReadAs, IsInside}
-use Rattle.exec_start.specs.declared.entry.Entry.{Entry}
-use Rattle.exec_start.specs.declared.item.Item.{Item}
+use Rattle.home_items.specs.declared.entry.Entry.{Entry}
+use Rattle.home_items.specs.declared.item.Item.{Item}
+use Rattle.exec_recv.specs.Areas.{MovesWithin}
 use Rattle.exec_recv.specs.Asides.{Aside, aside_of, KeepsAside}
+use Rattle.exec_recv.proofs.Moves.{moves-look, moves-callback, moves-on}
 use Rattle.exec_recv.proofs.Asiding.{aside-on, aside-one}
 use Rattle.loop_roots.specs.Emptied.{HasEmptyRoot, SettlesRoot}
 
@@ -92,8 +94,9 @@ module _ (board : Board Blueprint) (x : Name) (m m' : Seated Item Entry) (empty 
           alone = noted-alone;
         }
 
-    pub noted-settled : is_settled phase ≡ true → SettlesRoot board x m m'
-    noted-settled settled = record { keeps = aside; owed = owed; is = record { empty = noted-empty; settled = settled } }
+    pub noted-settled : MovesWithin board x m m' → is_settled phase ≡ true → SettlesRoot board x m m'
+    noted-settled moves settled =
+        record { keeps = aside; moves = moves; owed = owed; is = record { empty = noted-empty; settled = settled } }
 
   -- so it is where the phase was read
   module _ (phase : CallbackPhase) (read : IsPhaseAs board.frame x phase m m') where
@@ -101,6 +104,9 @@ module _ (board : Board Blueprint) (x : Name) (m m' : Seated Item Entry) (empty 
     read-aside =
         aside-one (entry (callback_index board x) read.0 read.0) m m' (ap (λ (z : Seated Item Entry). aside_of z.0) read.2)
         (ap (λ (z : Seated Item Entry). z.0.steps) read.2) (ap (λ (z : Seated Item Entry). z.0.seen) read.2)
+
+    pub read-moves : MovesWithin board x m m'
+    read-moves = moves-look board x (callback_index board x) read.0 m m' (ap (λ (z : Seated Item Entry). z.0.steps) read.2)
 
     pub read-held : m'.0.held ≡ at_entry at_held (with_phase phase) x m.0.held
     read-held =
@@ -114,7 +120,8 @@ module _ (board : Board Blueprint) (x : Name) (m m' : Seated Item Entry) (empty 
     read-empty = noted-empty phase read-aside read-held read-owed (ap (λ (z : Seated Item Entry). z.1) read.2)
 
     pub read-settled : is_settled phase ≡ true → SettlesRoot board x m m'
-    read-settled settled = noted-settled phase read-aside read-held read-owed (ap (λ (z : Seated Item Entry). z.1) read.2) settled
+    read-settled settled =
+        noted-settled phase read-aside read-held read-owed (ap (λ (z : Seated Item Entry). z.1) read.2) read-moves settled
 
     pub read-keeps : KeepsAside m m'
     read-keeps = read-aside
@@ -142,7 +149,8 @@ module _ (board : Board Blueprint) (x : Name) (old new : Seat (Option Item) (Vie
       noted-settled board x old.me new.me empty Removed
       (aside-one (entry (callback_index board x) tried.told.word _) old.me new.me (ap (λ (z : Seated Item Entry). aside_of z.0) is)
       (ap (λ (z : Seated Item Entry). z.0.steps) is) (ap (λ (z : Seated Item Entry). z.0.seen) is))
-      (ap (λ (z : Seated Item Entry). z.0.held) is) (ap (λ (z : Seated Item Entry). z.0.owed) is) (ap (λ (z : Seated Item Entry). z.1) is) refl
+      (ap (λ (z : Seated Item Entry). z.0.held) is) (ap (λ (z : Seated Item Entry). z.0.owed) is) (ap (λ (z : Seated Item Entry). z.1) is)
+      (moves-callback board x tried.told.word _ old.me new.me (ap (λ (z : Seated Item Entry). z.0.steps) is)) refl
 
   -- or it ran, and the request was seen
   pub ran-settled : IsReadAs board x old new HasRun → SettlesRoot board x old.me new.me
@@ -157,7 +165,8 @@ module _ (board : Board Blueprint) (x : Name) (old new : Seat (Option Item) (Vie
             ap (λ (z : Seated Item Entry). has_source_ref z.0.seen source) is
             ∙ more-seen (source_for x (nearest board.frame.tree x.node)) old.me.0.seen source seen;
       })
-      (ap (λ (z : Seated Item Entry). z.0.held) is) (ap (λ (z : Seated Item Entry). z.0.owed) is) (ap (λ (z : Seated Item Entry). z.1) is) refl
+      (ap (λ (z : Seated Item Entry). z.0.held) is) (ap (λ (z : Seated Item Entry). z.0.owed) is) (ap (λ (z : Seated Item Entry). z.1) is)
+      (moves-callback board x tried.told.word (left_by x.generation tried.told.word) old.me new.me (ap (λ (z : Seated Item Entry). z.0.steps) is)) refl
 
   -- the hand runs no callback
   pub not-inside : IsInside board x old new → ⊥
@@ -167,7 +176,12 @@ module _ (board : Board Blueprint) (x : Name) (old new : Seat (Option Item) (Vie
       omega (arith, runs, none)
 
 -- calls that follow each other
-pub settled-on : (board : Board Blueprint) (x : Name) (m between m' : Seated Item Entry) → KeepsAside m between → between.0.owed ≡ m.0.owed →
-    SettlesRoot board x between m' → SettlesRoot board x m m'
-settled-on board x m between m' first owed next =
-    record { keeps = aside-on m between m' first next.keeps; owed = next.owed ∙ owed; is = next.is }
+pub settled-on : (board : Board Blueprint) (x : Name) (m between m' : Seated Item Entry) → KeepsAside m between → MovesWithin board x m between →
+    between.0.owed ≡ m.0.owed → SettlesRoot board x between m' → SettlesRoot board x m m'
+settled-on board x m between m' first moves owed next =
+    record {
+      keeps = aside-on m between m' first next.keeps;
+      moves = moves-on board x m between m' moves next.moves;
+      owed = next.owed ∙ owed;
+      is = next.is;
+    }

@@ -5,7 +5,7 @@ use Rattle.std.proofs.lemmas.Bool.{cond-true}
 use Rattle.life_rules.specs.declared.event.Name.{Name}
 use Rattle.life_rules.specs.Views.{same}
 use Rattle.life_rules.proofs.Names.{same-refl}
-use Rattle.listed_steps.specs.Lists.{entry}
+use Rattle.listed_words.specs.Lists.{entry}
 use Rattle.plan_shape.specs.Blueprint.{Blueprint}
 use Rattle.table_rules.specs.declared.view.Owed.{Owed}
 use Rattle.table_rules.specs.Named.{find_by, without}
@@ -17,9 +17,9 @@ use Rattle.table_steps.specs.Owing.{Owes}
 use Rattle.table_steps.specs.Slots.{AreApart, home_at, kept, slot_of}
 use Rattle.table_steps.specs.Steps.{control_index}
 use Rattle.op_slot.proofs.Tending.{renewed-same}
-use Rattle.exec_start.specs.contracts.item.ItemCargo.TheImpl.{ghosts}
-use Rattle.exec_start.specs.declared.entry.Entry.{Entry}
-use Rattle.exec_start.specs.declared.item.Item.{Item}
+use Rattle.home_items.specs.contracts.item.ItemCargo.TheImpl.{ghosts}
+use Rattle.home_items.specs.declared.entry.Entry.{Entry}
+use Rattle.home_items.specs.declared.item.Item.{Item}
 use Rattle.exec_recv.specs.Asides.{Aside, aside_of, KeepsAside}
 use Rattle.exec_recv.specs.Beginnings.{OwesNoRoot}
 use Rattle.exec_recv.specs.Over.{IsOver}
@@ -28,7 +28,7 @@ use Rattle.exec_recv.proofs.Begun.{owed-after}
 use Rattle.exec_recv.proofs.BegunAside.{renewed-aside}
 use Rattle.loop_walk.proofs.Going.{begun-goes}
 use Rattle.loop_roots.specs.Leaves.{LeavesAside}
-use Rattle.loop_roots.specs.Starts.{IsPlaced, with_started, with_claimed}
+use Rattle.loop_roots.specs.Starts.{IsStartPlaced, with_started, with_claimed}
 use Rattle.loop_roots.proofs.Growing.{Grows, grows-one, grows-on, aside-grows, leaves-with, leaves-then, aside-leaves}
 use Rattle.loop_roots.proofs.Tops.{root-is, root-places}
 
@@ -38,7 +38,7 @@ none-some e is = cc
 abbrev at_owed : Owed Entry → Name
 at_owed e = e.name
 
-module _ (board : Board Blueprint) (b : Block) (env : List Entry) (m m' : Seated Item Entry) (placed : IsPlaced board b env m m') where
+module _ (board : Board Blueprint) (b : Block) (env : List Entry) (m m' : Seated Item Entry) (placed : IsStartPlaced board b env m m') where
   abbrev pub x : Name
   x = root_name board b.index b.generation
 
@@ -62,13 +62,13 @@ pub record HasBegun (board : Board Blueprint) (b : Block) (env : List Entry) (m 
   pub plan : Blueprint
   pub over : IsOver board plan
   pub middle : Seated Item Entry
-  pub placed : IsPlaced board b env m middle
+  pub placed : IsStartPlaced board b env m middle
   pub did : Begins ghosts (aimed board.frame (root_name board b.index b.generation)) middle m'
   pub apart : AreApart m'.1
 
 -- so it is where the node that began is the block's root by name
 pub has-begun : (board : Board Blueprint) (plan : Blueprint) (b : Block) (env : List Entry) (m middle m' : Seated Item Entry) (name : Name) →
-    IsOver board plan → IsPlaced board b env m middle → name ≡ root_name board b.index b.generation →
+    IsOver board plan → IsStartPlaced board b env m middle → name ≡ root_name board b.index b.generation →
     Begins ghosts (aimed board.frame name) middle m' → AreApart m'.1 → HasBegun board b env m m'
 has-begun board plan b env m middle m' name over placed is did apart =
     record {

@@ -9,20 +9,21 @@ use Rattle.table_steps.specs.declared.block.Block.{Block}
 use Rattle.table_steps.specs.Views.{Board}
 use Rattle.table_steps.specs.Claims.{Seated, root_name}
 use Rattle.table_steps.specs.Slots.{noted_at}
-use Rattle.exec_start.specs.declared.entry.Entry.{Entry}
-use Rattle.exec_start.specs.declared.item.Item.{Item}
-use Rattle.exec_start.specs.Below.{AllowedWith}
-use Rattle.exec_start.specs.Entries.{plan_of, record_number}
-use Rattle.exec_start.specs.Fits.{IsItemOf, MayRest}
-use Rattle.exec_start.specs.Items.{start_in, saw_in, HasCompleted}
-use Rattle.exec_start.specs.Starts.{IsReceiverStart}
+use Rattle.home_items.specs.declared.entry.Entry.{Entry}
+use Rattle.home_items.specs.declared.item.Item.{Item}
+use Rattle.home_items.specs.Below.{AllowedWith}
+use Rattle.home_items.specs.Entries.{plan_of, record_number}
+use Rattle.home_items.specs.Fits.{IsItemOf, MayRest}
+use Rattle.home_items.specs.Items.{start_in, saw_in, HasCompleted}
+use Rattle.home_items.specs.Starts.{IsReceiverStart}
 use Rattle.exec_recv.specs.Asides.{aside_of}
 use Rattle.loop_roots.specs.declared.completing.Collected.{Collected}
 use Rattle.loop_roots.specs.declared.completing.Ended.{Ended}
-use Rattle.loop_roots.specs.Emptied.{with_released}
+use Rattle.loop_roots.specs.Emptied.{with_released, MovesAndGivesBack}
 use Rattle.loop_roots.specs.Leaves.{LeavesAside}
 
--- The hand has noted the start with which the root of this block began: a start of the receiver node.
+-- The hand has noted the start with which the root of this block began: a start of the receiver
+-- node.
 pub record IsListed (board : Board Blueprint) (b : Block) (m : Seated Item Entry) : Type 0 where
   pub within : b.index < board.frame.layout.blocks
   pub start : List Entry
@@ -31,8 +32,8 @@ pub record IsListed (board : Board Blueprint) (b : Block) (m : Seated Item Entry
   pub receiver : IsReceiverStart start
 
 -- The completion is allowed for the child that a start of the receiver node names, with the start's
--- arguments and record number: where the request stood before the start, where one was seen, or where
--- there was none.
+-- arguments and record number: where the request stood before the start, where one was seen, or
+-- where there was none.
 abbrev pub AllowedAtTop : List Entry → Bool → Completion → Type 0
 AllowedAtTop [] saw completion = ⊥
 AllowedAtTop (e ∷ above) saw completion =
@@ -85,8 +86,10 @@ pub record CompletesNoted (board : Board Blueprint) (b : Block) (m : Seated Item
   pub key : plan_of ended.env ≡ board.frame.over.value
   pub is_for : IsForNoted board b m ended.collected
 
--- And the block was given back.
+-- And the block was given back. Beside its words none was moved.
 pub record EndsRoot (board : Board Blueprint) (b : Block) (m m' : Seated Item Entry)
     (ended : Ended) : Type 0 where
   pub completes : CompletesNoted board b m ended
-  pub leaves : LeavesAside (with_released (root_name board b.index b.generation) (aside_of m.0)) m m'
+  pub moves : MovesAndGivesBack board b m m'
+  pub leaves : LeavesAside
+      (with_released (root_name board b.index b.generation) (aside_of m.0)) m m'

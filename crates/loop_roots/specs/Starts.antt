@@ -10,21 +10,21 @@ use Rattle.table_rules.specs.declared.view.View.{View}
 use Rattle.table_steps.specs.Claims.{Seated, root_name, IsUnnoted}
 use Rattle.table_steps.specs.Slots.{home_at}
 use Rattle.op_slot.specs.Searches.{IsMissedFrom}
-use Rattle.exec_start.specs.contracts.item.ItemCargo.TheImpl.{ghosts}
-use Rattle.exec_start.specs.declared.entry.Entry.{Entry}
-use Rattle.exec_start.specs.declared.item.Item.{Item}
-use Rattle.exec_start.specs.declared.item.Item.TheVariants.{Start}
-use Rattle.exec_start.specs.Entries.{plan_of}
-use Rattle.exec_start.specs.Fits.{FitsChild}
-use Rattle.exec_start.specs.Starts.{IsReceiverStart}
+use Rattle.home_items.specs.contracts.item.ItemCargo.TheImpl.{ghosts}
+use Rattle.home_items.specs.declared.entry.Entry.{Entry}
+use Rattle.home_items.specs.declared.item.Item.{Item}
+use Rattle.home_items.specs.declared.item.Item.TheVariants.{Start}
+use Rattle.home_items.specs.Entries.{plan_of}
+use Rattle.home_items.specs.Fits.{FitsChild}
+use Rattle.home_items.specs.Starts.{IsReceiverStart}
 use Rattle.exec_recv.specs.Asides.{Aside, aside_of}
 use Rattle.exec_recv.specs.Nexts.{Doing}
 use Rattle.loop_walk.specs.Resting.{HasOnlyStarts}
 use Rattle.loop_walk.specs.Stepped.{HasStepped}
 use Rattle.loop_roots.specs.Leaves.{LeavesAside}
 
--- A start of the receiver node of the table's plan, with arguments of the kinds of the child that it
--- names.
+-- A start of the receiver node of the table's plan, with arguments of the kinds of the child that
+-- it names.
 pub record CanRun (board : Board Blueprint) (start : List Entry) : Type 0 where
   pub receiver : IsReceiverStart start
   pub plan : plan_of start ≡ board.frame.over.value
@@ -34,14 +34,20 @@ pub record CanRun (board : Board Blueprint) (start : List Entry) : Type 0 where
 abbrev pub with_claimed : Aside → Aside
 with_claimed aside = record aside { claimed = aside.claimed + 1 }
 
--- The block was claimed, and this start lies in the home of its root. Beside this start, which it owes
--- and can begin, the hand is at rest.
-pub record IsPlaced (board : Board Blueprint) (b : Block) (start : List Entry) (m m' : Seated Item Entry) : Type 0 where
+-- The block was claimed, and this start lies in the home of its root. Beside this start, which it
+-- owes and can begin, the hand is at rest.
+pub record IsStartPlaced (board : Board Blueprint) (b : Block) (start : List Entry)
+    (m m' : Seated Item Entry) : Type 0 where
   pub within : b.index < board.frame.layout.blocks
   pub unnoted : IsUnnoted m.0 (root_name board b.index b.generation)
-  pub owed : m'.0.owed ≡ record { name = root_name board b.index b.generation; above = []; lot = [] } ∷ []
+  pub owed : m'.0.owed ≡ record {
+    name = root_name board b.index b.generation;
+    above = [];
+    lot = [];
+  } ∷ []
   pub only : HasOnlyStarts board m'
-  pub home : home_at board.frame.layout m' (root_name board b.index b.generation) ≡ Some (Some (Start start))
+  pub home : home_at board.frame.layout m' (root_name board b.index b.generation) ≡ Some
+      (Some (Start start))
   pub leaves : LeavesAside (with_claimed (aside_of m.0)) m m'
 
 -- One block more was claimed, and its root has begun with this start.
@@ -52,22 +58,25 @@ with_started root start aside =
       claimed = aside.claimed + 1;
     }
 
--- An operation was started in this block: the hand has noted the start of its root, and had noted none.
+-- An operation was started in this block: the hand has noted the start of its root, and had noted
+-- none.
 pub record BeginsRoot (board : Board Blueprint) (b : Block) (start : List Entry)
     (m m' : Seated Item Entry) : Type 0 where
   pub within : b.index < board.frame.layout.blocks
   pub unnoted : IsUnnoted m.0 (root_name board b.index b.generation)
-  pub leaves : LeavesAside (with_started (root_name board b.index b.generation) start (aside_of m.0)) m m'
+  pub leaves : LeavesAside
+      (with_started (root_name board b.index b.generation) start (aside_of m.0)) m m'
 
 -- Each block was missed, at a step of its own: it wasn't free, or another hand moved it.
-abbrev pub MissesEach : Board Blueprint → ℕ → Seat (Option Item) (View Item Entry) → Seat (Option Item) (View Item Entry) → Type 0
+abbrev pub MissesEach : Board Blueprint → ℕ → Seat (Option Item) (View Item Entry) →
+    Seat (Option Item) (View Item Entry) → Type 0
 MissesEach board from old new = IsMissedFrom board from board.frame.layout.blocks old new
 
 -- The start was placed in the block, whose root the hand began and stepped; and it went on.
 pub record GoesOnWith (does : Doing) (board : Board Blueprint) (b : Block) (start : List Entry)
     (m m' : Seated Item Entry) : Type 0 where
   pub placed : Seated Item Entry
-  pub was_placed : IsPlaced board b start m placed
+  pub was_placed : IsStartPlaced board b start m placed
   pub begun : Seated Item Entry
   pub has_begun : Begins ghosts (aim_at board (root_name board b.index b.generation)) placed begun
   pub stepped : HasStepped does board (root_name board b.index b.generation) begun m'

@@ -1,13 +1,13 @@
 //! What an operation completed with, by what lay in the home of its root.
 ghost use Rattle.std.specs.Prelude.{◌≡◌, false, Some};
-ghost use Rattle.exec_start.specs.declared.item.Item.TheVariants.{Rest};
-ghost use Rattle.exec_start.specs.Items.{start_in};
+ghost use Rattle.home_items.specs.declared.item.Item.TheVariants.{Rest};
+ghost use Rattle.home_items.specs.Items.{start_in};
 ghost use Rattle.exec_value.specs.declared.outcome.Completion.TheVariants.{NoMemory};
 ghost use Rattle.loop_roots.specs.Completes.{IsOfRoot, CompletesAs};
 
 use exec_recv::{Env, Item, Parcel};
-use exec_start::collected_is_allowed;
 use exec_value::Completion;
+use home_items::collected_is_allowed;
 
 /// What an operation completed with.
 #[derive(Drop)]

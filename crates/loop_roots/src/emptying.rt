@@ -7,7 +7,7 @@ ghost use Rattle.table_steps.specs.Callbacks.{is_registered};
 ghost use Rattle.table_steps.specs.Finishes.{is_settled};
 ghost use Rattle.exec_recv.specs.Over.{IsOver};
 ghost use Rattle.loop_walk.specs.Resting.{IsAtRest};
-ghost use Rattle.loop_roots.specs.Emptied.{HasEmptyRoot, IsSettledIn, SettlesRoot, IsOut, IsGivenBack, IsEmptied, WasNotReady};
+ghost use Rattle.loop_roots.specs.Emptied.{HasEmptyRoot, IsSettledIn, SettlesRoot, IsOut, IsGivenBack, IsRootEmptied, WasNotReady};
 
 use exec_recv::{Gate, Item, Point};
 use life_rules::{CallbackPhase, Name};
@@ -105,7 +105,7 @@ pub(crate) fn empty_root<G: Gate, R: Wait + Sync>(
     requires block { block.index < table.now.frame.layout.blocks }
     ensures stays { Stays table.now hand.old hand.new }
     ensures none { IfNone result (WasNotReady table.now block hand.old.me hand.new.me) }
-    ensures emptied { IfSome result (IsEmptied table.now block hand.old.me hand.new.me) }
+    ensures emptied { IfSome result (IsRootEmptied table.now block hand.old.me hand.new.me) }
 {
     let item = take_root(table, hand, block)?;
     settle_root(table, hand, table.root(block));

@@ -19,10 +19,10 @@ use std::sync::Wait;
 /// Step: that of `take`, and where it took the root those of `take_home`, `finish` and `release`,
 /// before which the gate is passed. It wants no memory.
 /// Needs: hand 0, which is at rest, and has noted the start of the block's root.
-/// Afterwards: the hand is at rest, and has noted that start no more. The environment shows it. What
-/// the operation completed with is want of memory, or allowed for that start, and is of its number.
-/// Where it saw a stop request, the hand made the scope's. All else that its view says is as before,
-/// but for requests that it has seen and the list of its steps.
+/// Afterwards: the hand is at rest, and has noted that start no more. The environment shows it.
+/// What the operation completed with is want of memory, or allowed for that start, and is of its
+/// number. Where it saw a stop request, the hand made the scope's. All else that its view says is
+/// as before, but for requests that it has seen and the list of its steps.
 #[inline(always)]
 pub fn end_root<G: Gate, R: Wait + Sync>(
     rt: &R,

@@ -5,7 +5,7 @@ ghost use Rattle.plan_kinds.specs.Runnable.{IsRunnable};
 ghost use Rattle.table_steps.specs.Views.{IsHandOf, Stays, knows};
 ghost use Rattle.exec_recv.specs.Over.{IsOver};
 ghost use Rattle.loop_walk.specs.Resting.{IsAtRest};
-ghost use Rattle.loop_roots.specs.Starts.{CanRun, IsPlaced, MissesEach, BeginsRoot, GoesOnWith};
+ghost use Rattle.loop_roots.specs.Starts.{CanRun, IsStartPlaced, MissesEach, BeginsRoot, GoesOnWith};
 
 use exec_recv::{Env, Item, Stepper};
 use loop_walk::{Mail, go_on};
@@ -23,7 +23,7 @@ fn place(table: &OpTable<Item>, hand: &mut Hand<Item>, from: u32, env: Env) -> R
     requires rests { IsAtRest (knows hand.old) }
     requires start { CanRun table.now env }
     ensures stays { Stays table.now hand.old hand.new }
-    ensures placed { IfOk result (λ b. IsPlaced table.now b env hand.old.me hand.new.me) }
+    ensures placed { IfOk result (λ b. IsStartPlaced table.now b env hand.old.me hand.new.me) }
     ensures back { IfErr result (λ back. back ≡ env) }
     ensures none { IfErr result (λ _. MissesEach table.now from hand.old hand.new) }
 {

@@ -1,14 +1,13 @@
 -- What was read since an earlier moment, and is known later.
-use Rattle.std.proofs.Common.{◌≡◌, ℕ, List, [], ◌∷◌, ◌++◌, append_assoc, arith, refl, sym, ap, ◌∙◌, subst}
+use Rattle.std.proofs.Common.{◌≡◌, ℕ, List, [], ◌∷◌, ◌++◌, append_assoc, refl, sym, ap, ◌∙◌, subst}
 use Rattle.std.specs.Prelude.{◌≢◌, ◌<◌, Option, Some, None}
 use Rattle.std.proofs.lemmas.Bool.{cond-true, cond-false}
-use Rattle.std.proofs.lemmas.List.Elements.{Contains-append_left, Contains-append_right}
 use Rattle.common_lemmas.proofs.Bool.{either}
 use Rattle.atomic_table.specs.declared.shared.Seat.{Seat}
 use Rattle.life_rules.specs.declared.event.Name.{Name}
 use Rattle.life_rules.specs.declared.event.Resting.{Resting}
-use Rattle.listed_steps.specs.declared.seen.Seen.{Seen}
-use Rattle.listed_steps.specs.Lists.{entry}
+use Rattle.listed_words.specs.declared.seen.Seen.{Seen}
+use Rattle.listed_words.specs.Lists.{entry}
 use Rattle.node_tree.specs.declared.context.Context.{Context}
 use Rattle.plan_shape.specs.Blueprint.{Blueprint}
 use Rattle.table_rules.specs.declared.view.View.{View}
@@ -21,12 +20,14 @@ use Rattle.table_steps.specs.Claims.{Seated, logged}
 use Rattle.table_steps.specs.Looks.{is_ready_in, IsReadAs}
 use Rattle.table_steps.specs.Steps.{control_index}
 use Rattle.table_steps.specs.Takes.{rest_word}
-use Rattle.exec_start.specs.declared.entry.Entry.{Entry}
-use Rattle.exec_start.specs.declared.item.Item.{Item}
+use Rattle.home_items.specs.declared.entry.Entry.{Entry}
+use Rattle.home_items.specs.declared.item.Item.{Item}
 use Rattle.exec_recv.specs.Asides.{aside_of, KeepsAside}
 use Rattle.exec_recv.proofs.Asiding.{aside-here, aside-on, aside-one}
 use Rattle.loop_walk.specs.Resting.{IsAtRest}
-use Rattle.loop_serve.specs.Since.{HasMovedSince, HasReadSince, IsLook, OnlyLooks}
+use Rattle.exec_recv.specs.Since.{HasReadSince, IsLook}
+use Rattle.exec_recv.proofs.Since.{moved-one}
+use Rattle.loop_serve.specs.Since.{OnlyLooks}
 use Rattle.loop_serve.specs.Serving.{IsUnready, WasMissed, WasUnready}
 
 none-some : {A : Type 0} (e : A) → None ≡ Some e → ⊥
@@ -55,14 +56,7 @@ module _ (i word : ℕ) (m m' : Seated Item Entry) (is : m' ≡ (logged i word m
 
   pub looked-since : (says : ℕ → Type 0) → says word → HasReadSince i says m m'
   looked-since says said =
-      record {
-        fresh = entry i word word ∷ [];
-        grown = ap (λ (z : Seated Item Entry). z.0.steps) is;
-        word = word;
-        left = word;
-        there = (0, omega arith, refl);
-        said = said;
-      }
+      moved-one i word word (λ read left. says read) m m' (ap (λ (z : Seated Item Entry). z.0.steps) is) said
 
   pub looked-only : OnlyLooks m m'
   looked-only =
@@ -90,37 +84,6 @@ looks-on m between m' first next =
       each = each-append first.fresh next.fresh next.each first.each;
     }
 
--- a step of before is one still, seen from earlier and later
-module _ (i : ℕ) (says : ℕ → ℕ → Type 0) (m between m' : Seated Item Entry) where
-  pub moved-before : KeepsAside m between → HasMovedSince i says between m' → HasMovedSince i says m m'
-  moved-before aside moved =
-      record {
-        fresh = moved.fresh ++ aside.fresh;
-        grown = moved.grown ∙ ap (λ (l : List Seen). moved.fresh ++ l) aside.grown ∙ sym (append_assoc moved.fresh aside.fresh m.0.steps);
-        word = moved.word;
-        left = moved.left;
-        there = Contains-append_left moved.fresh aside.fresh (entry i moved.word moved.left) moved.there;
-        said = moved.said;
-      }
-
-  pub moved-after : HasMovedSince i says m between → KeepsAside between m' → HasMovedSince i says m m'
-  moved-after moved aside =
-      record {
-        fresh = aside.fresh ++ moved.fresh;
-        grown = aside.grown ∙ ap (λ (l : List Seen). aside.fresh ++ l) moved.grown ∙ sym (append_assoc aside.fresh moved.fresh m.0.steps);
-        word = moved.word;
-        left = moved.left;
-        there = Contains-append_right aside.fresh moved.fresh (entry i moved.word moved.left) moved.there;
-        said = moved.said;
-      }
-
-module _ (i : ℕ) (says : ℕ → Type 0) (m between m' : Seated Item Entry) where
-  pub since-before : KeepsAside m between → HasReadSince i says between m' → HasReadSince i says m m'
-  since-before aside read = moved-before i (λ word left. says word) m between m' aside read
-
-  pub since-after : HasReadSince i says m between → KeepsAside between m' → HasReadSince i says m m'
-  since-after read aside = moved-after i (λ word left. says word) m between m' read aside
-
 -- a look that answered none read that the node isn't ready
 pub read-unready : (board : Board Blueprint) (on : Context) (block node : ℕ) (answer : Option Name) (old new : Seat (Option Item) (View Item Entry)) →
     IsReadAs board block node (is_ready_in on) answer old new → answer ≡ None → WasUnready board old.me new.me on block node
@@ -147,3 +110,15 @@ pub lost-missed : (board : Board Blueprint) (from : Resting) (x : Name) (m m' : 
     ((found : ℕ) × (found ≢ rest_word x from) × (m' ≡ (logged (control_index board x) found m.0, m.1))) → WasMissed board m m' from x
 lost-missed board from x m m' lost =
     looked-since (control_index board x) lost.0 m m' lost.2 (λ word. word ≢ rest_word x from) lost.1
+
+-- and the name is of that place
+pub read-there : (board : Board Blueprint) (on : Context) (block node : ℕ) (answer : Option Name) (name : Name) (old new : Seat (Option Item) (View Item Entry)) →
+    IsReadAs board block node (is_ready_in on) answer old new → answer ≡ Some name → (name.block ≡ block) × (name.node ≡ node)
+read-there board on block node answer name old new read some =
+    let said = is_ready_in on (control_read read.word) in
+    either said
+    (λ t.
+    let is : record { block = block; generation = stamp_of read.word; node = node } ≡ name =
+    some-same _ name (sym (read.answer_is ∙ cond-true said _ None t) ∙ some) in
+    (ap (λ (x : Name). x.block) (sym is), ap (λ (x : Name). x.node) (sym is)))
+    (λ f. absurd (none-some name (sym (read.answer_is ∙ cond-false said _ None f) ∙ some)))

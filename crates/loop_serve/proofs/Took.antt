@@ -8,7 +8,7 @@ use Rattle.life_rules.specs.declared.event.Resting.TheVariants as rest
 use Rattle.life_rules.specs.Views.{same}
 use Rattle.life_rules.specs.Words.{may_be_taken, resting_at}
 use Rattle.life_rules.proofs.Names.{same-refl}
-use Rattle.listed_steps.specs.Lists.{entry}
+use Rattle.listed_words.specs.Lists.{entry}
 use Rattle.plan_shape.specs.Blueprint.{Blueprint}
 use Rattle.table_rules.specs.declared.view.Held.{Held}
 use Rattle.table_rules.specs.declared.view.Owed.{Owed}
@@ -21,9 +21,9 @@ use Rattle.table_steps.specs.Slots.{IsSeated}
 use Rattle.table_steps.specs.Steps.{control_index}
 use Rattle.table_steps.specs.Takes.{MayServe, TakenAt}
 use Rattle.op_slot.proofs.Tending.{held_as}
-use Rattle.exec_start.specs.contracts.item.ItemCargo.TheImpl.{ghosts}
-use Rattle.exec_start.specs.declared.entry.Entry.{Entry}
-use Rattle.exec_start.specs.declared.item.Item.{Item}
+use Rattle.home_items.specs.contracts.item.ItemCargo.TheImpl.{ghosts}
+use Rattle.home_items.specs.declared.entry.Entry.{Entry}
+use Rattle.home_items.specs.declared.item.Item.{Item}
 use Rattle.exec_recv.specs.Asides.{Aside, aside_of, KeepsAside}
 use Rattle.exec_recv.specs.Beginnings.{AllCanStart, OwesNoRoot}
 use Rattle.exec_recv.specs.Nexts.{Doing}
@@ -33,9 +33,11 @@ use Rattle.exec_recv.proofs.Asiding.{aside-on, aside-one}
 use Rattle.exec_recv.proofs.Places.{over-places}
 use Rattle.loop_walk.specs.Resting.{IsAtRest, CanGoOn}
 use Rattle.loop_walk.proofs.Going.{stepped-on}
-use Rattle.loop_serve.specs.Since.{HasMovedSince}
-use Rattle.loop_serve.specs.Serving.{ServesNode, TakesWord}
-use Rattle.loop_serve.proofs.Read.{moved-before, moved-after}
+use Rattle.exec_recv.specs.Since.{HasMovedSince}
+use Rattle.loop_serve.specs.Since.{OnlyLooks}
+use Rattle.loop_serve.specs.Serving.{OnlyServes, ServesNode, TakesWord}
+use Rattle.exec_recv.proofs.Since.{moved-before, moved-after}
+use Rattle.loop_serve.proofs.Read.{looks-on}
 
 none-some : {A : Type 0} (e : A) → None ≡ Some e → ⊥
 none-some e is = cc
@@ -120,4 +122,15 @@ module _ (does : Doing) (board : Board Blueprint) (from : Resting) (name : Name)
         took = one.took;
         taken = moved-after (control_index board name) (TakesWord from name) m between m' one.taken aside;
         stepped = stepped-on does board name one.held between m' one.stepped aside;
+      }
+
+  -- and after looks it is all that was done
+  pub only-before : OnlyLooks m between → OnlyServes does board from name between m' → OnlyServes does board from name m m'
+  only-before looks one =
+      record {
+        before = one.before;
+        looks = looks-on m between one.before looks one.looks;
+        held = one.held;
+        took = one.took;
+        steps = one.steps;
       }

@@ -13,13 +13,14 @@ use Rattle.table_steps.specs.Lefts.{SaysControl}
 use Rattle.table_steps.specs.Looks.{is_ready_in}
 use Rattle.table_steps.specs.Steps.{control_index}
 use Rattle.table_steps.specs.Takes.{IsTaken, rest_word}
-use Rattle.exec_start.specs.contracts.item.ItemCargo.TheImpl.{ghosts}
-use Rattle.exec_start.specs.declared.entry.Entry.{Entry}
-use Rattle.exec_start.specs.declared.item.Item.{Item}
+use Rattle.home_items.specs.contracts.item.ItemCargo.TheImpl.{ghosts}
+use Rattle.home_items.specs.declared.entry.Entry.{Entry}
+use Rattle.home_items.specs.declared.item.Item.{Item}
 use Rattle.exec_recv.specs.Asides.{KeepsAside}
 use Rattle.exec_recv.specs.Nexts.{Doing}
-use Rattle.loop_walk.specs.Stepped.{HasStepped}
-use Rattle.loop_serve.specs.Since.{HasMovedSince, HasReadSince}
+use Rattle.loop_walk.specs.Stepped.{HasStepped, OnlySteps}
+use Rattle.exec_recv.specs.Since.{HasMovedSince, HasReadSince}
+use Rattle.loop_serve.specs.Since.{OnlyLooks}
 
 -- The node was taken where it rested there, or wasn't.
 abbrev pub TakesUp : Board Blueprint → Name → Resting → Bool → Seated Item Entry → Seated Item Entry
@@ -40,6 +41,15 @@ pub record ServesNode (does : Doing) (board : Board Blueprint) (from : Resting) 
   pub took : TakesUp board name from true before held
   pub taken : HasMovedSince (control_index board name) (TakesWord from name) m m'
   pub stepped : HasStepped does board name held m'
+
+-- So it was taken and stepped, and the hand did nothing else, but looks before that.
+pub record OnlyServes (does : Doing) (board : Board Blueprint) (from : Resting) (name : Name)
+    (m m' : Seated Item Entry) : Type 0 where
+  pub before : Seated Item Entry
+  pub looks : OnlyLooks m before
+  pub held : Seated Item Entry
+  pub took : TakesUp board name from true before held
+  pub steps : OnlySteps does board name held m'
 
 -- The word says that its node isn't ready in the context.
 abbrev pub IsUnready : Context → ℕ → Type 0

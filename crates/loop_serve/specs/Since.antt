@@ -1,33 +1,15 @@
--- What a hand has read since an earlier moment.
-use Rattle.std.specs.Prelude.{◌≡◌, ℕ, List, ◌++◌, Contains}
-use Rattle.listed_steps.specs.declared.seen.Seen.{Seen}
-use Rattle.listed_steps.specs.Lists.{entry}
+-- A hand that only looked since an earlier moment.
+use Rattle.std.specs.Prelude.{◌≡◌, List, ◌++◌}
+use Rattle.listed_words.specs.declared.seen.Seen.{Seen}
 use Rattle.table_rules.specs.Named.{Each}
 use Rattle.table_steps.specs.Claims.{Seated}
-use Rattle.exec_start.specs.declared.entry.Entry.{Entry}
-use Rattle.exec_start.specs.declared.item.Item.{Item}
+use Rattle.home_items.specs.declared.entry.Entry.{Entry}
+use Rattle.home_items.specs.declared.item.Item.{Item}
 use Rattle.exec_recv.specs.Asides.{KeepsAside}
+use Rattle.exec_recv.specs.Since.{IsLook}
 
--- Among the steps made since is one on the word of this index, and what it read and left says this.
-pub record HasMovedSince (index : ℕ) (says : ℕ → ℕ → Type 0) (m m' : Seated Item Entry)
-    : Type 0 where
-  pub fresh : List Seen
-  pub grown : m'.0.steps ≡ fresh ++ m.0.steps
-  pub word : ℕ
-  pub left : ℕ
-  pub there : Contains fresh (entry index word left)
-  pub said : says word left
-
--- What it read says this.
-abbrev pub HasReadSince : ℕ → (ℕ → Type 0) → Seated Item Entry → Seated Item Entry → Type 0
-HasReadSince index says m m' = HasMovedSince index (λ word left. says word) m m'
-
--- The step left the word as it read it.
-abbrev pub IsLook : Seen → Type 0
-IsLook seen = seen.left ≡ seen.read
-
--- Each step made since is such a look: no node was taken, and no word was moved. All else that the view
--- says beside nodes and starts stays, but for requests that were seen.
+-- Each step made since is such a look: no node was taken, and no word was moved. All else that the
+-- view says beside nodes and starts stays, but for requests that were seen.
 pub record OnlyLooks (m m' : Seated Item Entry) : Type 0 where
   pub aside : KeepsAside m m'
   pub fresh : List Seen

@@ -8,7 +8,7 @@ ghost use Rattle.exec_recv.specs.Asides.{KeepsAside};
 ghost use Rattle.exec_recv.specs.Over.{IsOver};
 ghost use Rattle.loop_walk.specs.Resting.{IsAtRest};
 ghost use Rattle.loop_serve.specs.Since.{OnlyLooks};
-ghost use Rattle.loop_serve.specs.Serving.{ServesNode, TakesUp, WasMissed, WasUnready};
+ghost use Rattle.loop_serve.specs.Serving.{OnlyServes, ServesNode, TakesUp, WasMissed, WasUnready};
 
 use exec_recv::{Item, Point, Stepper};
 use life_rules::{Name, Resting};
@@ -49,8 +49,8 @@ fn take_up(table: &OpTable<Item>, hand: &mut Hand<Item>, name: Name, from: Resti
 /// Step: that of `take`, or of `take_parked`, and where it took the node those of `go_on`.
 /// Needs: the hand is at rest. What is parked or ready in the loop only hand 0 takes. The table is
 /// over the stepper's plan, whose kinds match.
-/// Afterwards: the hand is at rest. All else that its view says is as before, but for requests that
-/// it has seen and the list of its steps.
+/// Afterwards: the hand is at rest. It did nothing beside that. All else that its view says is as
+/// before, but for requests that it has seen and the list of its steps.
 pub fn serve<T: Stepper, M: Mail, R: Wait + Sync>(
     rt: &R,
     alloc: Global,
@@ -73,6 +73,8 @@ pub fn serve<T: Stepper, M: Mail, R: Wait + Sync>(
     ensures aside { KeepsAside hand.old.me hand.new.me }
     ensures served { result ≡ true →
         ServesNode (T.does stepper.now) table.now from name hand.old.me hand.new.me }
+    ensures only { result ≡ true →
+        OnlyServes (T.does stepper.now) table.now from name hand.old.me hand.new.me }
     ensures missed { result ≡ false → WasMissed table.now hand.old.me hand.new.me from name }
     ensures looks { result ≡ false → OnlyLooks hand.old.me hand.new.me }
     ensures mail { M.keeps mail.old mail.new }
@@ -86,8 +88,9 @@ pub fn serve<T: Stepper, M: Mail, R: Wait + Sync>(
 }
 
 /// Takes the node of the block, where it is ready in the context, and goes on with it. None only
-/// where its word that was read says that it isn't; and then the call moved no word. One that
-/// another hand took between the look and the take is looked at again.
+/// where its word that was read says that it isn't; and then the call moved no word. The name that
+/// is answered is that of this node. One that another hand took between the look and the take is
+/// looked at again.
 ///
 /// Step: one load of its word, and where that says that it is ready those of `serve`; so again,
 /// where another hand was first.
@@ -116,6 +119,9 @@ pub fn serve_place<T: Stepper, M: Mail, R: Wait + Sync>(
     ensures aside { KeepsAside hand.old.me hand.new.me }
     ensures served { IfSome result (λ name.
         ServesNode (T.does stepper.now) table.now (resting_in on) name hand.old.me hand.new.me) }
+    ensures only { IfSome result (λ name.
+        OnlyServes (T.does stepper.now) table.now (resting_in on) name hand.old.me hand.new.me) }
+    ensures there { IfSome result (λ name. (name.block ≡ block) × (name.node ≡ node)) }
     ensures unready { IfNone result (WasUnready table.now hand.old.me hand.new.me on block node) }
     ensures looks { IfNone result (OnlyLooks hand.old.me hand.new.me) }
     ensures mail { M.keeps mail.old mail.new }

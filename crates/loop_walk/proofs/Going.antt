@@ -5,7 +5,7 @@ use Rattle.std.proofs.lemmas.Bool.{cond-true, cond-false}
 use Rattle.common_lemmas.proofs.Bool.{either}
 use Rattle.life_rules.specs.declared.event.Name.{Name}
 use Rattle.life_rules.specs.Views.{same}
-use Rattle.listed_steps.specs.Lists.{entry}
+use Rattle.listed_words.specs.Lists.{entry}
 use Rattle.node_tree.specs.Tree.{IsTree, is_root, has_source}
 use Rattle.plan_shape.specs.Blueprint.{Blueprint}
 use Rattle.table_rules.specs.declared.view.Held.{Held}
@@ -20,9 +20,9 @@ use Rattle.table_steps.specs.Steps.{control_index}
 use Rattle.op_slot.specs.Tends.{HasPlaces}
 use Rattle.op_slot.proofs.Kept.{find-without}
 use Rattle.op_slot.proofs.Tending.{renewed-same}
-use Rattle.exec_start.specs.contracts.item.ItemCargo.TheImpl.{ghosts}
-use Rattle.exec_start.specs.declared.entry.Entry.{Entry}
-use Rattle.exec_start.specs.declared.item.Item.{Item}
+use Rattle.home_items.specs.contracts.item.ItemCargo.TheImpl.{ghosts}
+use Rattle.home_items.specs.declared.entry.Entry.{Entry}
+use Rattle.home_items.specs.declared.item.Item.{Item}
 use Rattle.exec_recv.specs.Asides.{aside_of, KeepsAside}
 use Rattle.exec_recv.specs.Beginnings.{OwesNoRoot}
 use Rattle.exec_recv.specs.declared.next.Next.{Next}
@@ -52,11 +52,7 @@ alone-in h e l rest y is none found =
     (λ f.
     absurd (no-some e (sym (cond-false (same h.name y) (Some h) None f) ∙ sym (ap (λ l. find_by at_held l y) all) ∙ found)))
 
--- the first step, with what followed
-pub stepped-aside : (does : Doing) (board : Board Blueprint) (x : Name) (m m' : Seated Item Entry) → HasStepped does board x m m' →
-    KeepsAside m m'
-stepped-aside does board x m m' is = aside-on m is.between m' is.stepped.aside is.after
-
+-- a node that was stepped is so still later
 pub stepped-on : (does : Doing) (board : Board Blueprint) (x : Name) (m m1 m' : Seated Item Entry) → HasStepped does board x m m1 →
     KeepsAside m1 m' → HasStepped does board x m m'
 stepped-on does board x m m1 m' is more =
@@ -66,6 +62,9 @@ stepped-on does board x m m1 m' is more =
       did = is.did;
       stepped = is.stepped;
       after = aside-on is.between m1 m' is.after more;
+      last = is.last;
+      walks = is.walks;
+      since = aside-on is.last m1 m' is.since more;
     }
 
 -- after a step

@@ -1,4 +1,5 @@
 pub mod Resting
+pub mod Walks
 pub mod Stepped
 -- the definitions that the public contracts cite
 pub use Rattle.table_steps.specs.Views

@@ -3,15 +3,17 @@ use Rattle.life_rules.specs.declared.event.Name.{Name}
 use Rattle.plan_shape.specs.Blueprint.{Blueprint}
 use Rattle.table_steps.specs.Views.{Board}
 use Rattle.table_steps.specs.Claims.{Seated}
-use Rattle.exec_start.specs.declared.entry.Entry.{Entry}
-use Rattle.exec_start.specs.declared.item.Item.{Item}
+use Rattle.home_items.specs.declared.entry.Entry.{Entry}
+use Rattle.home_items.specs.declared.item.Item.{Item}
 use Rattle.exec_recv.specs.declared.next.Next.{Next}
 use Rattle.exec_recv.specs.Asides.{KeepsAside}
 use Rattle.exec_recv.specs.Nexts.{Doing, IsStepped}
 use Rattle.loop_walk.specs.Resting.{CanGoOn}
+use Rattle.loop_walk.specs.Walks.{WalksOn}
 
--- The node x was stepped, which did what a step of its does. What the view has beside nodes and
--- starts is as that step left it, but for requests that the hand has seen and the list of its steps.
+-- The node x was stepped, which did what a step of its does, and the hand walked on. What the view
+-- has beside nodes and starts is as that step left it, but for requests that the hand has seen and
+-- the list of its steps.
 pub record HasStepped (does : Doing) (board : Board Blueprint) (x : Name)
     (m m' : Seated Item Entry) : Type 0 where
   pub next : Next
@@ -19,6 +21,19 @@ pub record HasStepped (does : Doing) (board : Board Blueprint) (x : Name)
   pub did : does board x next m between
   pub stepped : IsStepped board x m between next
   pub after : KeepsAside between m'
+  pub last : Seated Item Entry
+  pub walks : WalksOn does board next between last
+  pub since : KeepsAside last m'
+
+-- The node x was stepped, which did what a step of its does, and the hand walked on. It did nothing
+-- else.
+pub record OnlySteps (does : Doing) (board : Board Blueprint) (x : Name)
+    (m m' : Seated Item Entry) : Type 0 where
+  pub next : Next
+  pub between : Seated Item Entry
+  pub did : does board x next m between
+  pub stepped : IsStepped board x m between next
+  pub walks : WalksOn does board next between m'
 
 -- The hand could go on with x, and a step of x left it so.
 pub record WasStepped (board : Board Blueprint) (x : Name) (next : Next) (m : Seated Item Entry)

@@ -11,8 +11,8 @@
 //!                 |                               +--owes nothing-> at rest
 //!     go_after ---+
 //!
-//! The loop, the workers of the pool and futures go on in this way; `go_after` where a step was made
-//! without a stepper.
+//! The loop, the workers of the pool and futures go on in this way; `go_after` where a step was
+//! made without a stepper.
 #![tactic(auto)]
 
 mod mail;

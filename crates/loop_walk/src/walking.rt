@@ -6,7 +6,8 @@ ghost use Rattle.table_steps.specs.Views.{IsHandOf, Stays, knows};
 ghost use Rattle.exec_recv.specs.Asides.{KeepsAside};
 ghost use Rattle.exec_recv.specs.Over.{IsOver};
 ghost use Rattle.loop_walk.specs.Resting.{IsAtRest, OwesOnly, CanGoOn, GoesOn};
-ghost use Rattle.loop_walk.specs.Stepped.{HasStepped, WasStepped};
+ghost use Rattle.loop_walk.specs.Stepped.{HasStepped, OnlySteps, WasStepped};
+ghost use Rattle.loop_walk.specs.Walks.{FindsOwed, LeadsTo, StepsOnce, WalksOn};
 
 use crate::mail::Mail;
 use exec_recv::{Item, Next, Stepper};
@@ -16,6 +17,7 @@ use std::alloc::Global;
 use std::sync::Wait;
 
 // Begins a node whose start the hand owes. None exactly where it owes none.
+#[inline(always)]
 fn begin_owed<T: Stepper>(table: &OpTable<Item>, hand: &mut Hand<Item>, stepper: &T) -> Option<Name>
     requires hand { IsHandOf table.now hand.old }
     requires over { IsOver table.now (T.plan stepper.now) }
@@ -23,6 +25,7 @@ fn begin_owed<T: Stepper>(table: &OpTable<Item>, hand: &mut Hand<Item>, stepper:
     ensures stays { Stays table.now hand.old hand.new }
     ensures aside { KeepsAside hand.old.me hand.new.me }
     ensures next { GoesOn table.now result hand.new.me }
+    ensures finds { FindsOwed table.now result hand.old.me hand.new.me }
 {
     let _ = stepper;
     let name = table.owed(hand)?;
@@ -31,6 +34,7 @@ fn begin_owed<T: Stepper>(table: &OpTable<Item>, hand: &mut Hand<Item>, stepper:
 }
 
 // After a step of the node: the hand may step the node that is answered; with none it is at rest.
+#[inline(always)]
 fn find_next<T: Stepper, M: Mail, R: Wait + Sync>(
     rt: &R,
     table: &OpTable<Item>,
@@ -47,6 +51,7 @@ fn find_next<T: Stepper, M: Mail, R: Wait + Sync>(
     ensures stays { Stays table.now hand.old hand.new }
     ensures aside { KeepsAside hand.old.me hand.new.me }
     ensures next { GoesOn table.now result hand.new.me }
+    ensures follows { LeadsTo table.now next result hand.old.me hand.new.me }
     ensures mail { M.keeps mail.old mail.new }
 {
     match next {
@@ -61,6 +66,7 @@ fn find_next<T: Stepper, M: Mail, R: Wait + Sync>(
 }
 
 // Steps the node. Then the hand may step the node that is answered; with none it is at rest.
+#[inline(always)]
 fn step_once<T: Stepper, M: Mail, R: Wait + Sync>(
     rt: &R,
     alloc: Global,
@@ -76,7 +82,8 @@ fn step_once<T: Stepper, M: Mail, R: Wait + Sync>(
     requires kinds { IsRunnable (T.plan stepper.now) }
     requires can { CanGoOn table.now name hand.old.me }
     ensures stays { Stays table.now hand.old hand.new }
-    ensures first { HasStepped (T.does stepper.now) table.now name hand.old.me hand.new.me }
+    ensures steps { StepsOnce (T.does stepper.now) table.now name result hand.old.me hand.new.me }
+    ensures aside { KeepsAside hand.old.me hand.new.me }
     ensures next { GoesOn table.now result hand.new.me }
     ensures mail { M.keeps mail.old mail.new }
 {
@@ -92,8 +99,10 @@ fn step_once<T: Stepper, M: Mail, R: Wait + Sync>(
 /// Needs: the table is over the stepper's plan, whose kinds match. Before that step the hand might
 /// step the node, and had nothing besides but starts that it owed, none of a root; and the step
 /// ended as a step does.
-/// Afterwards: the hand is at rest. All else that its view says is as before, but for requests that
-/// it has seen and the list of its steps.
+/// Afterwards: each step since was one of the stepper's, and each node with which the hand went on
+/// was named by the last step, or began, where the hand owed its start. The hand is at rest. All
+/// else that its view says is as before, but for requests that it has seen and the list of its
+/// steps.
 pub fn go_after<T: Stepper, M: Mail, R: Wait + Sync>(
     rt: &R,
     alloc: Global,
@@ -110,6 +119,7 @@ pub fn go_after<T: Stepper, M: Mail, R: Wait + Sync>(
     requires kinds { IsRunnable (T.plan stepper.now) }
     requires after { WasStepped table.now name next hand.old.me }
     ensures stays { Stays table.now hand.old hand.new }
+    ensures walks { WalksOn (T.does stepper.now) table.now next hand.old.me hand.new.me }
     ensures rests { IsAtRest (knows hand.new) }
     ensures aside { KeepsAside hand.old.me hand.new.me }
     ensures mail { M.keeps mail.old mail.new }
@@ -132,8 +142,10 @@ pub fn go_after<T: Stepper, M: Mail, R: Wait + Sync>(
 /// Step: those of the steps, and of the begins.
 /// Needs: the table is over the stepper's plan, whose kinds match. The hand may step the node, and
 /// has nothing besides but starts that it owes, each of which can begin, and none of a root.
-/// Afterwards: the stepper has stepped the node. The hand is at rest. All else that its view says is
-/// as before, but for requests that it has seen and the list of its steps.
+/// Afterwards: the stepper has stepped the node, and each step since was one of the stepper's; each
+/// node with which the hand went on was named by the last step, or began, where the hand owed its
+/// start. It did nothing else. The hand is at rest. All else that its view says is as before, but
+/// for requests that it has seen and the list of its steps.
 pub fn go_on<T: Stepper, M: Mail, R: Wait + Sync>(
     rt: &R,
     alloc: Global,
@@ -150,6 +162,7 @@ pub fn go_on<T: Stepper, M: Mail, R: Wait + Sync>(
     requires can { CanGoOn table.now name hand.old.me }
     ensures stays { Stays table.now hand.old hand.new }
     ensures first { HasStepped (T.does stepper.now) table.now name hand.old.me hand.new.me }
+    ensures only { OnlySteps (T.does stepper.now) table.now name hand.old.me hand.new.me }
     ensures rests { IsAtRest (knows hand.new) }
     ensures aside { KeepsAside hand.old.me hand.new.me }
     ensures mail { M.keeps mail.old mail.new }

@@ -8,8 +8,8 @@ use Rattle.common_lemmas.proofs.Bool.{either}
 use Rattle.life_rules.specs.declared.event.Name.{Name}
 use Rattle.life_rules.specs.declared.event.Resting.TheVariants as rest
 use Rattle.life_rules.specs.Words.{is_parked}
-use Rattle.loop_delays.specs.declared.waiting.Waiting.{Waiting}
-use Rattle.loop_delays.specs.Delays.{DelayList, places, delay_at, is_known, is_of, seen_parked}
+use Rattle.timer_wheel.specs.declared.waiting.Waiting.{Waiting}
+use Rattle.timer_wheel.specs.Delays.{DelayList, places, delay_at, is_known, is_of, seen_parked}
 use Rattle.plan_shape.specs.Blueprint.{Blueprint}
 use Rattle.table_words.specs.Controls.{control_read}
 use Rattle.table_words.specs.Stamps.{stamp_of}
@@ -17,16 +17,17 @@ use Rattle.table_steps.specs.Views.{Board}
 use Rattle.table_steps.specs.Claims.{Seated}
 use Rattle.table_steps.specs.Steps.{control_index}
 use Rattle.table_steps.specs.Takes.{rest_word}
-use Rattle.exec_start.specs.declared.entry.Entry.{Entry}
-use Rattle.exec_start.specs.declared.item.Item.{Item}
+use Rattle.home_items.specs.declared.entry.Entry.{Entry}
+use Rattle.home_items.specs.declared.item.Item.{Item}
 use Rattle.exec_recv.specs.Asides.{KeepsAside}
 use Rattle.loop_walk.specs.Resting.{IsAtRest}
 use Rattle.loop_serve.specs.Since.{OnlyLooks}
 use Rattle.loop_serve.specs.Serving.{TakesWord}
-use Rattle.loop_serve.proofs.Read.{moved-before, moved-after, since-before, since-after, looked-rests, looked-only, looked-since}
+use Rattle.exec_recv.proofs.Since.{moved-before, moved-after, since-before, since-after}
+use Rattle.loop_serve.proofs.Read.{looked-rests, looked-only, looked-since}
 use Rattle.run_loop.specs.declared.delay_node.DelayNode.{DelayNode}
-use Rattle.run_loop.specs.DelayNodes.{IsDelay, nodes_of, place_of, name_at}
-use Rattle.run_loop.specs.Delayed.{SaysParked, word_at, IsSeenNow, WasTried, WasDue, Becomes, IsLookedAt, LooksAt, WasTakenOut}
+use Rattle.run_loop.specs.DelayNodes.{IsDelayNode, nodes_of, place_of, name_at}
+use Rattle.run_loop.specs.Delayed.{SaysParked, word_at, IsSeenNow, WasTried, WasDue, Becomes, IsLookedAt, LooksAtDelay, WasTakenOut}
 use Rattle.run_loop.proofs.DelayLists.{seen_one, seen-turn, seen-places, seen-other, seen-known, seen-new, seen-is-known, known-waits}
 
 abbrev as_name : ℕ → ℕ → ℕ → Name
@@ -194,7 +195,7 @@ module _ (board : Board Blueprint) (m between m' : Seated Item Entry) where
 
 -- a look at one place
 module _ (board : Board Blueprint) (block : ℕ) (delay : DelayNode) (m m' : Seated Item Entry) (before after : DelayList)
-    (looks : LooksAt board block delay m m' before after) where
+    (looks : LooksAtDelay board block delay m m' before after) where
   abbrev place : ℕ
   place = place_of board block delay.node
 
@@ -243,7 +244,7 @@ module _ (board : Board Blueprint) (block : ℕ) (delay : DelayNode) (m m' : Sea
       }
 
   -- and the place has the delay that it had, or this one
-  pub look-becomes : place < places before → block < board.frame.layout.blocks → IsDelay (nodes_of board) delay → (other : ℕ) →
+  pub look-becomes : place < places before → block < board.frame.layout.blocks → IsDelayNode (nodes_of board) delay → (other : ℕ) →
       Becomes board m m' after.turn 0 other (delay_at before other) (delay_at after other)
   look-becomes within in_blocks is other = elim (cases_eq other place) [
     | inl here ↦

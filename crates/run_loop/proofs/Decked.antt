@@ -11,7 +11,7 @@ use Rattle.loop_queue.specs.declared.entry.Drained.{Drained}
 use Rattle.loop_queue.specs.declared.entry.Drained.TheVariants.{Emptied, Most, NoMemory}
 use Rattle.loop_queue.specs.declared.post.LoopPost.{LoopPost}
 use Rattle.loop_queue.specs.Moves.{Moves, Drains}
-use Rattle.run_loop.specs.Longer.{IsLonger}
+use Rattle.run_loop.specs.Longer.{AreMoreNames}
 
 -- where it isn't touched
 pub keeps-same : (old new : Option Deck) → new ≡ old → KeepsDeck old new
@@ -23,22 +23,22 @@ keeps-some o o' deck deck' is is' same =
     subst (λ (t : Option Deck × Option Deck). KeepsDeck t.0 t.1) (λ j. (sym is j, sym is' j)) same
 
 -- a list is as long as itself, and longer with one name more, or where it isn't touched
-pub longer-here : (names : List Name) → IsLonger names names
+pub longer-here : (names : List Name) → AreMoreNames names names
 longer-here names = record { others = []; is = sym (append-nil names) }
 
-pub longer-same : (names longer after : List Name) → IsLonger names longer → after ≡ longer → IsLonger names after
+pub longer-same : (names longer after : List Name) → AreMoreNames names longer → after ≡ longer → AreMoreNames names after
 longer-same names longer after more is = record { others = more.others; is = is ∙ more.is }
 
-pub longer-one : (names longer after : List Name) (name : Name) → IsLonger names longer → after ≡ longer ++ name ∷ [] → IsLonger names after
+pub longer-one : (names longer after : List Name) (name : Name) → AreMoreNames names longer → after ≡ longer ++ name ∷ [] → AreMoreNames names after
 longer-one names longer after name more is =
     record { others = more.others ++ name ∷ []; is = is ∙ ap (λ l. l ++ name ∷ []) more.is ∙ append_assoc names more.others (name ∷ []) }
 
 -- what a drain leaves of a list
-moves-longer : (count : ℕ) (names longer : List Name) (old new : LoopPost) → Moves count names longer old new → IsLonger names longer
+moves-longer : (count : ℕ) (names longer : List Name) (old new : LoopPost) → Moves count names longer old new → AreMoreNames names longer
 moves-longer count names longer old new moves = record { others = _; is = moves.is }
 
 pub drains-longer : (answer : Drained) (names : List Name) (longer : Vec Name Global) (old new : LoopPost) → Drains answer names longer old new →
-    IsLonger names longer.items
+    AreMoreNames names longer.items
 drains-longer (Emptied count) names longer old new did = moves-longer count names longer.items old did.last did.moves
 drains-longer Most names longer old new did = moves-longer 4096 names longer.items old new did
 drains-longer (NoMemory count) names longer old new did = moves-longer count names longer.items old new did.moves

@@ -5,8 +5,8 @@ use Rattle.std.proofs.lemmas.Bool.{cases_lt, cond-true, cond-false, eq-eqb, eqb-
 use Rattle.std.proofs.lemmas.List.{get_or-set_same, get_or-set_other, get_or_past, length-set, length_push}
 use Rattle.std.proofs.lemmas.Option.{none-some, same_Some, slice_get_within}
 use Rattle.common_lemmas.proofs.Lists.{slice_get-append_left, slice_get-append_middle}
-use Rattle.loop_delays.specs.declared.waiting.Waiting.{Waiting}
-use Rattle.loop_delays.specs.Delays.{DelayList, places, delay_at, is_of, is_known, first_seen, seen_parked, forgotten}
+use Rattle.timer_wheel.specs.declared.waiting.Waiting.{Waiting}
+use Rattle.timer_wheel.specs.Delays.{DelayList, places, delay_at, is_of, is_known, first_seen, seen_parked, forgotten}
 use Rattle.plan_rules.specs.declared.node.Node.{Node as PlanNode}
 use Rattle.plan_rules.specs.declared.node.Node.TheVariants.{Delay}
 use Rattle.run_loop.specs.declared.delay_node.DelayNode.{DelayNode}

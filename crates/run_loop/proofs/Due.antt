@@ -3,20 +3,23 @@ use Rattle.std.proofs.Common.{◌≡◌, ◌≢◌, ◌⊎◌, inl, inr, ℕ, �
 use Rattle.std.specs.Prelude.{Some, None, slice_get}
 use Rattle.std.proofs.lemmas.Bool.{cases_eq}
 use Rattle.std.proofs.lemmas.List.{length-set}
-use Rattle.std.proofs.lemmas.Option.{none-some, slice_get_within}
-use Rattle.loop_delays.specs.Delays.{DelayList, delay_at, forgotten, at_next_turn, IsDue}
+use Rattle.std.proofs.lemmas.Option.{none-some, same_Some, slice_get_within}
+use Rattle.life_rules.specs.declared.event.Name.{Name}
+use Rattle.life_rules.specs.declared.event.Resting.{Resting}
+use Rattle.timer_wheel.specs.declared.waiting.Waiting.{Waiting}
+use Rattle.timer_wheel.specs.Delays.{DelayList, delay_at, forgotten, at_next_turn, IsDue}
 use Rattle.plan_rules.specs.declared.node.Node.TheVariants.{Delay}
 use Rattle.plan_shape.specs.Blueprint.{Blueprint}
 use Rattle.table_steps.specs.Views.{Board}
 use Rattle.table_steps.specs.Claims.{Seated}
-use Rattle.exec_start.specs.declared.entry.Entry.{Entry}
-use Rattle.exec_start.specs.declared.item.Item.{Item}
+use Rattle.home_items.specs.declared.entry.Entry.{Entry}
+use Rattle.home_items.specs.declared.item.Item.{Item}
 use Rattle.exec_recv.specs.Asides.{KeepsAside}
 use Rattle.exec_recv.specs.Over.{IsOver}
 use Rattle.run_loop.specs.declared.delay_node.DelayNode.{DelayNode}
 use Rattle.run_loop.specs.DelayNodes.{AreDelaysOf, nodes_of, place_of, name_at}
-use Rattle.run_loop.specs.Delayed.{Becomes, IsLookedAt, WasTried, WasTriedAt, WasTakenOut, LooksBelow, TakesOut, TakesDue, PassesTurn}
-use Rattle.run_loop.proofs.Becoming.{becomes-on, becomes-after, looked-before, looked-after, looked-out, tried-before, tried-after}
+use Rattle.run_loop.specs.Delayed.{Becomes, IsLookedAt, IsSeenNow, MayTakeDelay, MayTakeDue, MayTakeOf, WasDueNow, WasTried, WasTriedAt, WasTakenOut, LooksBelow, TakesOut, TakesDue, PassesTurn}
+use Rattle.run_loop.proofs.Becoming.{becomes-on, becomes-after, seen-before, seen-after, looked-before, looked-after, looked-out, tried-before, tried-after}
 use Rattle.run_loop.proofs.DelayLists.{forgotten-here, forgotten-other}
 use Rattle.run_loop.proofs.Looking.{delay-within}
 
@@ -26,6 +29,84 @@ pub tried-as : (board : Board Blueprint) (m m' : Seated Item Entry) (count place
     WasTried board m m' count (name_at board place generation)
 tried-as board m m' count place generation n is tried =
     subst (λ k. WasTried board m m' count (record { block = place / k; generation = generation; node = place % k })) is tried
+
+pub name-as : (board : Board Blueprint) (place generation n : ℕ) → n ≡ board.frame.layout.nodes →
+    record { block = place / n; generation = generation; node = place % n } ≡ name_at board place generation
+name-as board place generation n is = ap (λ k. let x : Name = record { block = place / k; generation = generation; node = place % k } in x) is
+
+-- a delay that is due in what is left of a list waited in the whole list
+pub delay-of : (board : Board Blueprint) (count : ℕ) (m m' : Seated Item Entry) (before middle : DelayList) (place generation : ℕ) →
+    TakesOut board count m m' before middle → IsDue middle place generation → (from : Resting) (name : Name) →
+    MayTakeDelay board place generation from name → MayTakeOf board before from name
+delay-of board count m m' before middle place generation takes due from name may = (
+  may.0,
+  record {
+    place = place;
+    waiting = due.waiting;
+    there = there (takes.each place);
+    due = let come = due.come in let turn = takes.turn in omega (arith, come, turn);
+    name_is = may.1 ∙ ap (name_at board place) (sym due.generation_is);
+  },
+)
+  where
+    there : (delay_at middle place ≡ delay_at before place) ⊎ ((delay_at middle place ≡ None)
+        × WasTakenOut board middle.turn count place m m' (delay_at before place)) → delay_at before place ≡ Some due.waiting
+    there (inl same) = sym same ∙ due.there
+    there (inr out) = absurd (none-some due.waiting (sym out.0 ∙ due.there))
+
+-- a delay that is due after the looks of a turn waited before, or was seen in the turn
+pub due-now : (board : Board Blueprint) (delays : List DelayNode) (m between m' : Seated Item Entry) (before middle : DelayList) (turn : ℕ) →
+    LooksBelow board delays board.frame.layout.blocks m between (at_next_turn before) middle → turn ≡ middle.turn → KeepsAside between m' →
+    (from : Resting) (name : Name) → MayTakeOf board middle from name → MayTakeDue board m m' turn before from name
+due-now board delays m between m' before middle turn looks is next from name may = (
+  may.0,
+  record {
+    place = may.1.place;
+    waiting = may.1.waiting;
+    came = came (looks.each may.1.place);
+    due = let due = may.1.due in omega (arith, due, is);
+    name_is = may.1.name_is;
+  },
+)
+  where
+    came : Becomes board m between middle.turn 0 may.1.place (delay_at before may.1.place) (delay_at middle may.1.place) →
+        (delay_at before may.1.place ≡ Some may.1.waiting) ⊎ IsSeenNow board m m' turn may.1.place may.1.waiting
+    came (inl same) = inl (sym same ∙ may.1.there)
+    came (inr (inl new)) =
+        inr
+        (subst (λ (w : Waiting). IsSeenNow board m m' turn may.1.place w) (same_Some new.0 may.1.waiting (sym new.1 ∙ may.1.there))
+        (subst (λ t. IsSeenNow board m m' t may.1.place new.0) (sym is)
+        (seen-after board m between m' middle.turn may.1.place new.0 new.2 next)))
+    came (inr (inr out)) = absurd (none-some may.1.waiting (sym out.0 ∙ may.1.there))
+
+-- what was due is so, seen from earlier and later
+pub due-before : (board : Board Blueprint) (m between m' : Seated Item Entry) (turn : ℕ) (before : DelayList) (name : Name) →
+    KeepsAside m between → WasDueNow board between m' turn before name → WasDueNow board m m' turn before name
+due-before board m between m' turn before name aside was =
+    record {
+      place = was.place;
+      waiting = was.waiting;
+      came = elim was.came [
+        | inl there ↦ inl there
+        | inr seen ↦ inr (seen-before board m between m' turn was.place was.waiting aside seen)
+      ];
+      due = was.due;
+      name_is = was.name_is;
+    }
+
+pub due-after : (board : Board Blueprint) (m between m' : Seated Item Entry) (turn : ℕ) (before : DelayList) (name : Name) →
+    WasDueNow board m between turn before name → KeepsAside between m' → WasDueNow board m m' turn before name
+due-after board m between m' turn before name was aside =
+    record {
+      place = was.place;
+      waiting = was.waiting;
+      came = elim was.came [
+        | inl there ↦ inl there
+        | inr seen ↦ inr (seen-after board m between m' turn was.place was.waiting seen aside)
+      ];
+      due = was.due;
+      name_is = was.name_is;
+    }
 
 -- none is taken out
 pub takes-none : (board : Board Blueprint) (count : ℕ) (m : Seated Item Entry) (list : DelayList) → TakesOut board count m m list list

@@ -1,4 +1,5 @@
 pub mod Decked
+mod Fetched
 pub mod Turned
 pub mod Meeting
 pub mod DelayLists

@@ -8,7 +8,7 @@ use Rattle.atomic_table.specs.declared.shared.Seat.{Seat}
 use Rattle.common_lemmas.proofs.Bool.{either}
 use Rattle.life_rules.specs.declared.event.Name.{Name}
 use Rattle.life_rules.specs.Words.{is_parked}
-use Rattle.loop_delays.specs.Delays.{DelayList, places, delay_at, seen_parked}
+use Rattle.timer_wheel.specs.Delays.{DelayList, places, delay_at, seen_parked}
 use Rattle.plan_rules.specs.declared.node.Node.TheVariants.{Delay}
 use Rattle.plan_shape.specs.Blueprint.{Blueprint}
 use Rattle.plan_shape.specs.declared.limits.TheConstants.{MOST_TURNS}
@@ -19,28 +19,28 @@ use Rattle.table_steps.specs.Looks.{IsReadAs}
 use Rattle.table_rules.specs.declared.view.View.{View}
 use Rattle.table_words.specs.Controls.{control_read}
 use Rattle.table_words.specs.Stamps.{stamp_of}
-use Rattle.exec_start.specs.declared.entry.Entry.{Entry}
-use Rattle.exec_start.specs.declared.item.Item.{Item}
+use Rattle.home_items.specs.declared.entry.Entry.{Entry}
+use Rattle.home_items.specs.declared.item.Item.{Item}
 use Rattle.exec_recv.specs.Asides.{KeepsAside}
 use Rattle.exec_recv.specs.Over.{IsOver}
 use Rattle.run_loop.specs.declared.delay_node.DelayNode.{DelayNode}
-use Rattle.run_loop.specs.DelayNodes.{IsDelay, AreDelaysOf, nodes_of, place_of, places_of}
-use Rattle.run_loop.specs.Delayed.{Becomes, IsLookedAt, LooksAt, LooksThrough, LooksBelow}
+use Rattle.run_loop.specs.DelayNodes.{IsDelayNode, AreDelaysOf, nodes_of, place_of, place_count}
+use Rattle.run_loop.specs.Delayed.{Becomes, IsLookedAt, LooksAtDelay, LooksThrough, LooksBelow}
 use Rattle.run_loop.proofs.Becoming.{becomes-on, looked-before, looked-after, look-turn, look-places, look-other, look-here, look-becomes}
 
 module _ (board : Board Blueprint) (over : IsOver board board.frame.over.value) where
   -- a delay of the plan has a place in each block, and waits few turns
-  pub delay-within : (delay : DelayNode) → IsDelay (nodes_of board) delay → delay.node < board.frame.layout.nodes
+  pub delay-within : (delay : DelayNode) → IsDelayNode (nodes_of board) delay → delay.node < board.frame.layout.nodes
   delay-within delay is =
       let within = slice_get_within (nodes_of board) delay.node _ is in
       let size = over.nodes ∙ ap length over.tree ∙ length-tree_of (nodes_of board) in
       omega (arith, within, size)
 
-  pub delay-few : (delay : DelayNode) → IsDelay (nodes_of board) delay → delay.turns ≤ MOST_TURNS
+  pub delay-few : (delay : DelayNode) → IsDelayNode (nodes_of board) delay → delay.turns ≤ MOST_TURNS
   delay-few delay is = (over.is_plan.forest.each delay.node (Delay delay.turns) is).made
 
   pub place-within : (block node : ℕ) → block < board.frame.layout.blocks → node < board.frame.layout.nodes →
-      place_of board block node < places_of board
+      place_of board block node < place_count board
   place-within block node in_blocks in_nodes =
       let nodes = board.frame.layout.nodes in
       let fits = row_fits block nodes board.frame.layout.blocks nodes in_blocks (omega arith) in
@@ -64,8 +64,8 @@ module _ (board : Board Blueprint) (over : IsOver board board.frame.over.value) 
     -- one more
     module _ (block count : ℕ) (m between m' : Seated Item Entry) (before middle after : DelayList) (delay : DelayNode)
         (at : slice_get delays count ≡ Some delay) (in_blocks : block < board.frame.layout.blocks)
-        (room : places_of board ≤ places middle) (first : LooksThrough board block delays count m between before middle)
-        (looks : LooksAt board block delay between m' middle after) (aside : KeepsAside m between) (next : KeepsAside between m') where
+        (room : place_count board ≤ places middle) (first : LooksThrough board block delays count m between before middle)
+        (looks : LooksAtDelay board block delay between m' middle after) (aside : KeepsAside m between) (next : KeepsAside between m') where
       within : place_of board block delay.node < places middle
       within = let place = place-within block delay.node in_blocks (in_nodes count delay at) in omega (arith, place, room)
 
@@ -160,7 +160,7 @@ module _ (board : Board Blueprint) (over : IsOver board board.frame.over.value) 
 -- a look that found no parked node
 pub look-none : (board : Board Blueprint) (block : ℕ) (delay : DelayNode) (answer : Option Name) (old new : Seat (Option Item) (View Item Entry))
     (list : DelayList) → IsReadAs board block delay.node is_parked answer old new → answer ≡ None →
-    LooksAt board block delay old.me new.me list list
+    LooksAtDelay board block delay old.me new.me list list
 look-none board block delay answer old new list read none =
     let parked = is_parked (control_read read.word) in
     record {
@@ -175,7 +175,7 @@ look-none board block delay answer old new list read none =
 pub look-some : (board : Board Blueprint) (block : ℕ) (delay : DelayNode) (answer : Option Name) (old new : Seat (Option Item) (View Item Entry))
     (name : Name) (place : ℕ) (list after : DelayList) → IsReadAs board block delay.node is_parked answer old new → answer ≡ Some name →
     place ≡ place_of board block delay.node → after ≡ seen_parked list place name.generation delay.turns →
-    LooksAt board block delay old.me new.me list after
+    LooksAtDelay board block delay old.me new.me list after
 look-some board block delay answer old new name place list after read some place_is noted =
     let parked = is_parked (control_read read.word) in
     let here : Name = record { block = block; generation = stamp_of read.word; node = delay.node } in

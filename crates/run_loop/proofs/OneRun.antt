@@ -13,8 +13,8 @@ use Rattle.table_steps.specs.declared.block.Block.{Block}
 use Rattle.table_steps.specs.Views.{Board}
 use Rattle.table_steps.specs.Claims.{Seated, root_name}
 use Rattle.table_steps.specs.Slots.{noted_at}
-use Rattle.exec_start.specs.declared.entry.Entry.{Entry}
-use Rattle.exec_start.specs.declared.item.Item.{Item}
+use Rattle.home_items.specs.declared.entry.Entry.{Entry}
+use Rattle.home_items.specs.declared.item.Item.{Item}
 use Rattle.exec_recv.specs.Asides.{Aside, aside_of, KeepsAside}
 use Rattle.loop_roots.specs.declared.completing.Collected.{Collected}
 use Rattle.run_loop.specs.declared.looped.Loop.{Loop as Looped}
@@ -24,8 +24,8 @@ use Rattle.loop_roots.specs.Emptied.{with_released}
 use Rattle.loop_roots.specs.Leaves.{LeavesAside}
 use Rattle.run_loop.specs.Loops.{KeepsCounts, Raises}
 use Rattle.loop_roots.specs.Starts.{CanRun, with_started}
-use Rattle.run_loop.specs.Starts.{Starts}
-use Rattle.run_loop.specs.Waits.{IsCollected, HasRun, with_used}
+use Rattle.run_loop.specs.Starts.{StartsIn}
+use Rattle.run_loop.specs.Waits.{IsCollected, HasRun, with_block_used}
 use Rattle.loop_roots.proofs.Growing.{aside-leaves, leaves-then}
 
 abbrev at_noted : Rooted Entry → Name
@@ -59,7 +59,7 @@ collected-later board b old between new c aside counts did =
       };
     }
 
-module _ (board : Board Blueprint) (b : Block) (start : List Entry) (old between : Looped) (did : Starts board b start old between) where
+module _ (board : Board Blueprint) (b : Block) (start : List Entry) (old between : Looped) (did : StartsIn board b start old between) where
   abbrev x : Name
   x = root_name board b.index b.generation
 
@@ -77,9 +77,9 @@ module _ (board : Board Blueprint) (b : Block) (start : List Entry) (old between
   started-listed run = record { within = did.within; start = start; noted = started-noted; receiver = run.receiver }
 
   -- its note is forgotten when the block is given back
-  forgotten : with_released x (with_started x start (aside_of old.hand.me.0)) ≡ with_used (aside_of old.hand.me.0)
+  forgotten : with_released x (with_started x start (aside_of old.hand.me.0)) ≡ with_block_used (aside_of old.hand.me.0)
   forgotten =
-      ap (λ (l : List (Rooted Entry)). record (with_used (aside_of old.hand.me.0)) { noted = l })
+      ap (λ (l : List (Rooted Entry)). record (with_block_used (aside_of old.hand.me.0)) { noted = l })
       (cond-true (same x x) old.hand.me.0.noted (root_noted ∷ without at_noted old.hand.me.0.noted x) (same-refl x))
 
   -- and when it is collected, all is as it was

@@ -1,6 +1,5 @@
 -- Nodes that were taken and stepped, one after the other.
-use Rattle.std.proofs.Common.{◌≡◌, ◌⊎◌, inl, inr, ℕ, zero, suc, ◌+◌, ◌≤◌, true, false, arith, refl, sym, ◌∙◌, subst}
-use Rattle.std.proofs.Math.Numerals.{add-one}
+use Rattle.std.proofs.Common.{◌≡◌, ℕ, zero, suc, ◌+◌, ◌-◌, ◌^◌, ◌≤◌, min, true, false, arith, refl, sym, ◌∙◌, subst}
 use Rattle.std.proofs.lemmas.Bool.{both_ways}
 use Rattle.std.specs.Prelude.{Option, Some, None, IfSome, IfNone, is_some}
 use Rattle.life_rules.specs.declared.event.Name.{Name}
@@ -8,60 +7,107 @@ use Rattle.life_rules.specs.declared.event.Resting.{Resting}
 use Rattle.plan_shape.specs.Blueprint.{Blueprint}
 use Rattle.table_steps.specs.Views.{Board}
 use Rattle.table_steps.specs.Claims.{Seated}
-use Rattle.exec_start.specs.declared.entry.Entry.{Entry}
-use Rattle.exec_start.specs.declared.item.Item.{Item}
-use Rattle.exec_recv.specs.Asides.{KeepsAside}
+use Rattle.home_items.specs.declared.entry.Entry.{Entry}
+use Rattle.home_items.specs.declared.item.Item.{Item}
 use Rattle.exec_recv.specs.Nexts.{Doing}
 use Rattle.loop_serve.specs.Since.{OnlyLooks}
-use Rattle.loop_serve.specs.Serving.{ServesNode}
-use Rattle.loop_serve.proofs.Read.{looks-on}
-use Rattle.loop_serve.proofs.Took.{serves-before as node-before, serves-after as node-after}
-use Rattle.run_loop.specs.Serves.{ServesOne, Serves}
+use Rattle.loop_serve.specs.Serving.{OnlyServes}
+use Rattle.loop_serve.proofs.Read.{looks-here, looks-on}
+use Rattle.run_loop.specs.Serves.{Taking, ServesOne, Serves, ServesMore}
 
 -- a place where none was taken
 pub none-taken : (answer : Option Name) (A : Type 0) → is_some answer ≡ false → IfNone answer A → A
 none-taken (Some name) A none fact = absurd (both_ways true none refl)
 none-taken None A none fact = fact
 
-module _ (does : Doing) (board : Board Blueprint) where
-  -- one that a place of the table had, and none
-  pub one-taken : (from : Resting) (answer : Option Name) (m m' : Seated Item Entry) → is_some answer ≡ true →
-      IfSome answer (λ name. ServesNode does board from name m m') → ServesOne does board m m'
-  one-taken from (Some name) m m' some one = record { name = name; from = from; serves = one }
-  one-taken from None m m' some one = absurd (both_ways false refl some)
+module _ (does : Doing) (board : Board Blueprint) (may : Taking) where
+  -- one that a place of the table had
+  pub one-taken : (from : Resting) (answer : Option Name) (m m' : Seated Item Entry) → ((name : Name) → may from name) →
+      is_some answer ≡ true → IfSome answer (λ name. OnlyServes does board from name m m') → ServesOne does board may m m'
+  one-taken from (Some name) m m' may_be some one = record { name = name; from = from; may_be = may_be name; serves = one }
+  one-taken from None m m' may_be some one = absurd (both_ways false refl some)
 
-  -- one after something else, and something else after one
-  pub one-later : (m between m' : Seated Item Entry) → KeepsAside m between → ServesOne does board between m' → ServesOne does board m m'
-  one-later m between m' aside one =
-      record { name = one.name; from = one.from; serves = node-before does board one.from one.name m between m' aside one.serves }
+  -- looks after several
+  looks-after : (count : ℕ) (m between m' : Seated Item Entry) → Serves does board may count m between → OnlyLooks between m' →
+      Serves does board may count m m'
+  looks-after zero m between m' serves looks = looks-on m between m' serves looks
+  looks-after (suc count) m between m' serves looks =
+      record {
+        between = serves.between;
+        before = serves.before;
+        served = serves.served;
+        one = serves.one;
+        looks = looks-on serves.served between m' serves.looks looks;
+      }
 
-  pub one-after : (m between m' : Seated Item Entry) → ServesOne does board m between → KeepsAside between m' → ServesOne does board m m'
-  one-after m between m' one aside =
-      record { name = one.name; from = one.from; serves = node-after does board one.from one.name m between m' one.serves aside }
+  -- and others after several
+  serves-then : (count more : ℕ) (m between m' : Seated Item Entry) → Serves does board may count m between →
+      Serves does board may more between m' → Serves does board may (count + more) m m'
+  serves-then count zero m between m' first next =
+      let is : count ≡ count + 0 = omega arith in
+      subst (λ n. Serves does board may n m m') is (looks-after count m between m' first next)
+  serves-then count (suc more) m between m' first next =
+      let is : suc (count + more) ≡ count + suc more = omega arith in
+      let all : Serves does board may (suc (count + more)) m m' =
+      record {
+        between = next.between;
+        before = serves-then count more m between next.between first next.before;
+        served = next.served;
+        one = next.one;
+        looks = next.looks;
+      }
+      in
+      subst (λ n. Serves does board may n m m') is all
 
-  -- looks after several, and before them
-  pub serves-after : (count : ℕ) (m between m' : Seated Item Entry) → Serves does board count m between → OnlyLooks between m' →
-      Serves does board count m m'
-  serves-after zero m between m' serves looks = looks-on m between m' serves looks
-  serves-after (suc count) m between m' serves looks = (serves.0, serves.1, one-after serves.0 between m' serves.2 looks.aside)
+  -- none more, where words were only looked at
+  pub more-none : (count : ℕ) (m m' : Seated Item Entry) → count ≤ 2 ^ 32 - 1 → OnlyLooks m m' → ServesMore does board may count count m m'
+  more-none count m m' few looks = record { count = 0; counted = omega (arith, few); serves = looks }
 
-  pub serves-later : (count : ℕ) (m between m' : Seated Item Entry) → OnlyLooks m between → Serves does board count between m' →
-      Serves does board count m m'
-  serves-later zero m between m' looks serves = looks-on m between m' looks serves
-  serves-later (suc count) m between m' looks serves = (serves.0, serves-later count m between serves.0 looks serves.1, serves.2)
+  -- one more
+  pub more-one : (count more : ℕ) (m m' : Seated Item Entry) → more ≡ min (count + 1) (2 ^ 32 - 1) → ServesOne does board may m m' →
+      ServesMore does board may count more m m'
+  more-one count more m m' is one =
+      record {
+        count = 1;
+        counted = is;
+        serves = record { between = m; before = looks-here m; served = m'; one = one; looks = looks-here m' };
+      }
 
-  -- something else after one or more
-  serves-then : (count : ℕ) (m between m' : Seated Item Entry) → 1 ≤ count → Serves does board count m between → KeepsAside between m' →
-      Serves does board count m m'
-  serves-then zero m between m' some serves aside = absurd (omega (arith, some))
-  serves-then (suc count) m between m' some serves aside = (serves.0, serves.1, one-after serves.0 between m' serves.2 aside)
+  -- more, and then more
+  pub more-on : (count more most : ℕ) (m between m' : Seated Item Entry) → ServesMore does board may count more m between →
+      ServesMore does board may more most between m' → ServesMore does board may count most m m'
+  more-on count more most m between m' first next =
+      record {
+        count = first.count + next.count;
+        counted = let one = first.counted in let two = next.counted in
+            let all : most ≡ min (count + (first.count + next.count)) (2 ^ 32 - 1) = omega (arith, one, two) in all;
+        serves = serves-then first.count next.count m between m' first.serves next.serves;
+      }
 
-  -- one more, where it was counted, and where the count stood at its limit
-  pub serves-more : (count more : ℕ) (m between m' : Seated Item Entry) → 1 ≤ more → (more ≡ count + 1) ⊎ (more ≡ count) → KeepsAside between m' →
-      Serves does board count m between → ServesOne does board between m' → Serves does board more m m'
-  serves-more count more m between m' some counted aside serves one =
-      elim counted [
-        | inl is ↦ subst (λ n. Serves does board n m m') (sym (is ∙ add-one count)) (between, serves, one)
-        | inr is ↦
-            subst (λ n. Serves does board n m m') (sym is) (serves-then count m between m' (omega (arith, some, is)) serves aside)
-      ]
+  -- none, where none was counted
+  pub more-first : (more : ℕ) (m between m' : Seated Item Entry) → ServesMore does board may 0 0 m between →
+      ServesMore does board may 0 more between m' → ServesMore does board may 0 more m m'
+  more-first more m between m' first next = more-on 0 0 more m between m' first next
+
+-- what may be taken by one rule may be by a wider one
+module _ (does : Doing) (board : Board Blueprint) (may wider : Taking) (is : (from : Resting) (name : Name) → may from name → wider from name) where
+  serves-by : (count : ℕ) (m m' : Seated Item Entry) → Serves does board may count m m' → Serves does board wider count m m'
+  serves-by zero m m' serves = serves
+  serves-by (suc count) m m' serves =
+      record {
+        between = serves.between;
+        before = serves-by count m serves.between serves.before;
+        served = serves.served;
+        one = record {
+          name = serves.one.name;
+          from = serves.one.from;
+          may_be = is serves.one.from serves.one.name serves.one.may_be;
+          serves = serves.one.serves;
+        };
+        looks = serves.looks;
+      }
+
+  pub more-by : (count more : ℕ) (m m' : Seated Item Entry) → ServesMore does board may count more m m' →
+      ServesMore does board wider count more m m'
+  more-by count more m m' serves =
+      record { count = serves.count; counted = serves.counted; serves = serves-by serves.count m m' serves.serves }

@@ -13,11 +13,11 @@ use Rattle.table_steps.specs.Views.{Board}
 use Rattle.table_steps.specs.Claims.{Seated}
 use Rattle.table_steps.specs.Steps.{control_index}
 use Rattle.table_steps.specs.Takes.{rest_word}
-use Rattle.exec_start.specs.declared.entry.Entry.{Entry}
-use Rattle.exec_start.specs.declared.item.Item.{Item}
+use Rattle.home_items.specs.declared.entry.Entry.{Entry}
+use Rattle.home_items.specs.declared.item.Item.{Item}
 use Rattle.exec_recv.specs.Asides.{KeepsAside}
 use Rattle.loop_serve.specs.Serving.{IsUnready}
-use Rattle.loop_serve.proofs.Read.{since-before, since-after}
+use Rattle.exec_recv.proofs.Since.{since-before, since-after}
 use Rattle.run_loop.specs.Turns.{WasPassed, ArePassed, ArePassedBelow, TakesNothing, IsInner, WasLeft, IsLeft, AreLeft}
 
 module _ (board : Board Blueprint) (helps : Bool) (block : ℕ) (m between m' : Seated Item Entry) where

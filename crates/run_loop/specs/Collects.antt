@@ -3,10 +3,10 @@ use Rattle.std.specs.Prelude.{◌≡◌, Some}
 use Rattle.plan_shape.specs.Blueprint.{Blueprint}
 use Rattle.table_rules.specs.declared.view.Rooted.{Rooted}
 use Rattle.table_steps.specs.declared.block.Block.{Block}
-use Rattle.table_steps.specs.Views.{Board}
+use Rattle.table_steps.specs.Views.{Board, knows}
 use Rattle.table_steps.specs.Claims.{root_name}
 use Rattle.table_steps.specs.Slots.{noted_at}
-use Rattle.exec_start.specs.declared.entry.Entry.{Entry}
+use Rattle.home_items.specs.declared.entry.Entry.{Entry}
 use Rattle.exec_recv.specs.Asides.{aside_of}
 use Rattle.loop_roots.specs.declared.completing.Collected.{Collected}
 use Rattle.loop_roots.specs.Completes.{IsFor}
@@ -16,10 +16,14 @@ use Rattle.run_loop.specs.declared.looped.Loop.{Loop as Looped}
 use Rattle.run_loop.specs.Loops.{KeepsDelays, Raises}
 
 -- The operation was collected, and its block given back.
-pub record Collects (board : Board Blueprint) (b : Block) (old new : Looped) (c : Collected) : Type 0 where
-  pub is_for : (e : Rooted Entry) → noted_at old.hand.me.0 (root_name board b.index b.generation) ≡ Some e →
-      IsFor e.start old.hand.me.0.requested c
-  pub leaves : LeavesAside (with_released (root_name board b.index b.generation) (aside_of old.hand.me.0)) old.hand.me new.hand.me
+pub record Collects (board : Board Blueprint) (b : Block) (old new : Looped)
+    (c : Collected) : Type 0 where
+  pub is_for : (e : Rooted Entry) →
+      noted_at (knows old.hand) (root_name board b.index b.generation) ≡ Some e →
+      IsFor e.start (knows old.hand).requested c
+  pub leaves : LeavesAside
+      (with_released (root_name board b.index b.generation) (aside_of (knows old.hand))) old.hand.me
+      new.hand.me
   pub helps : new.helps ≡ old.helps
   pub names : new.names ≡ old.names
   pub delays : KeepsDelays old new

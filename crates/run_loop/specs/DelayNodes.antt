@@ -9,14 +9,14 @@ use Rattle.table_words.specs.Layouts.{place_number, places_in}
 use Rattle.run_loop.specs.declared.delay_node.DelayNode.{DelayNode}
 
 -- The node of the plan is a delay of so many turns.
-abbrev pub IsDelay : List Node → DelayNode → Type 0
-IsDelay nodes delay = slice_get nodes delay.node ≡ Some (Delay delay.turns)
+abbrev pub IsDelayNode : List Node → DelayNode → Type 0
+IsDelayNode nodes delay = slice_get nodes delay.node ≡ Some (Delay delay.turns)
 
 -- The list names the delays among the first so many nodes, each and no other; and among all nodes.
 pub record AreDelaysBelow (nodes : List Node) (count : ℕ) (list : List DelayNode) : Type 0 where
   pub named : (n turns : ℕ) → n < count → slice_get nodes n ≡ Some (Delay turns)
       → (k : ℕ) × (slice_get list k ≡ Some (record { node = n; turns = turns }))
-  pub each : (k : ℕ) (delay : DelayNode) → slice_get list k ≡ Some delay → IsDelay nodes delay
+  pub each : (k : ℕ) (delay : DelayNode) → slice_get list k ≡ Some delay → IsDelayNode nodes delay
 
 abbrev pub AreDelaysOf : List Node → List DelayNode → Type 0
 AreDelaysOf nodes list = AreDelaysBelow nodes (length nodes) list
@@ -29,8 +29,8 @@ nodes_of board = board.frame.over.value.nodes
 abbrev pub place_of : Board Blueprint → ℕ → ℕ → ℕ
 place_of board block node = place_number board.frame.layout block node
 
-abbrev pub places_of : Board Blueprint → ℕ
-places_of board = places_in board.frame.layout
+abbrev pub place_count : Board Blueprint → ℕ
+place_count board = places_in board.frame.layout
 
 -- The name of the node of a place, at this generation.
 abbrev pub name_at : Board Blueprint → ℕ → ℕ → Name

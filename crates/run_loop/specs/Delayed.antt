@@ -3,8 +3,8 @@ use Rattle.std.specs.Prelude.{◌≡◌, ◌≢◌, ◌⊎◌, ℕ, ◌<◌, ◌
 use Rattle.life_rules.specs.declared.event.Name.{Name}
 use Rattle.life_rules.specs.declared.event.Resting.TheVariants as rest
 use Rattle.life_rules.specs.Words.{is_parked}
-use Rattle.loop_delays.specs.declared.waiting.Waiting.{Waiting}
-use Rattle.loop_delays.specs.Delays.{DelayList, places, delay_at, turn_due, is_known, seen_parked, turn_after, NoneIsDue}
+use Rattle.timer_wheel.specs.declared.waiting.Waiting.{Waiting}
+use Rattle.timer_wheel.specs.Delays.{DelayList, places, delay_at, turn_due, is_known, seen_parked, turn_after, NoneIsDue}
 use Rattle.plan_rules.specs.declared.node.Node.TheVariants.{Delay}
 use Rattle.plan_shape.specs.Blueprint.{Blueprint}
 use Rattle.table_words.specs.Controls.{control_read}
@@ -12,13 +12,15 @@ use Rattle.table_words.specs.Layouts.{OfControl, index}
 use Rattle.table_words.specs.Stamps.{stamp_of}
 use Rattle.table_steps.specs.Views.{Board}
 use Rattle.table_steps.specs.Claims.{Seated, logged}
-use Rattle.exec_start.specs.declared.entry.Entry.{Entry}
-use Rattle.exec_start.specs.declared.item.Item.{Item}
-use Rattle.loop_serve.specs.Since.{HasReadSince}
+use Rattle.home_items.specs.declared.entry.Entry.{Entry}
+use Rattle.home_items.specs.declared.item.Item.{Item}
+use Rattle.exec_recv.specs.Nexts.{Doing}
+use Rattle.exec_recv.specs.Since.{HasReadSince}
 use Rattle.loop_serve.specs.Serving.{WasMissed}
 use Rattle.run_loop.specs.declared.delay_node.DelayNode.{DelayNode}
 use Rattle.run_loop.specs.declared.looped.Loop.{Loop as Looped}
 use Rattle.run_loop.specs.DelayNodes.{nodes_of, place_of, name_at}
+use Rattle.run_loop.specs.Serves.{IsOpen, ServesMore, Taking}
 use Rattle.run_loop.specs.Turns.{WasTaken}
 
 -- The word says that its node is parked, at this generation.
@@ -30,8 +32,8 @@ abbrev pub word_at : Board Blueprint → ℕ → ℕ → ℕ
 word_at board block node = index board.frame.layout (OfControl block node)
 
 module _ (board : Board Blueprint) (m m' : Seated Item Entry) where
-  -- The delay that waits at the place is one of the plan, and was first seen in this turn: since then its
-  -- word was read, and said that it is parked, at its generation.
+  -- The delay that waits at the place is one of the plan, and was first seen in this turn: since
+  -- then its word was read, and said that it is parked, at its generation.
   pub record IsSeenNow (turn place : ℕ) (waiting : Waiting) : Type 0 where
     pub block : ℕ
     pub node : ℕ
@@ -41,7 +43,8 @@ module _ (board : Board Blueprint) (m m' : Seated Item Entry) where
     pub since : waiting.since ≡ turn
     pub read : HasReadSince (word_at board block node) (SaysParked waiting.generation) m m'
 
-  -- An exchange of the named node's word was tried, which lost; or where something was counted, it won.
+  -- An exchange of the named node's word was tried, which lost; or where something was counted, it
+  -- won.
   abbrev pub WasTried : ℕ → Name → Type 0
   WasTried count name =
       WasMissed board m m' rest.Parked name ⊎ ((1 ≤ count) × WasTaken board m m' rest.Parked name)
@@ -59,8 +62,8 @@ module _ (board : Board Blueprint) (m m' : Seated Item Entry) where
     pub due : turn_due waiting ≤ turn
     pub tried : WasTriedAt count place waiting.generation
 
-  -- The place has a delay that was first seen in this turn; or none more, since that which waited there
-  -- was due.
+  -- The place has a delay that was first seen in this turn; or none more, since that which waited
+  -- there was due.
   abbrev pub Changes : ℕ → ℕ → ℕ → Option Waiting → Option Waiting → Type 0
   Changes turn count place before after =
       ((waiting : Waiting) × (after ≡ Some waiting) × IsSeenNow turn place waiting)
@@ -71,8 +74,8 @@ module _ (board : Board Blueprint) (m m' : Seated Item Entry) where
   Becomes turn count place before after =
       (after ≡ before) ⊎ Changes turn count place before after
 
-  -- The node's word was read. Where it said that the node is parked, the list has it, at the generation
-  -- of the word, or it was taken out and tried.
+  -- The node's word was read. Where it said that the node is parked, the list has it, at the
+  -- generation of the word, or it was taken out and tried.
   pub record IsLookedAt (list : DelayList) (count block node : ℕ) : Type 0 where
     pub word : ℕ
     pub read : HasReadSince (word_at board block node) (λ w. w ≡ word) m m'
@@ -80,8 +83,8 @@ module _ (board : Board Blueprint) (m m' : Seated Item Entry) where
         → (is_known list (place_of board block node) (stamp_of word) ≡ true)
         ⊎ WasTried count (record { block = block; generation = stamp_of word; node = node })
 
-  -- One turn: the list goes on to the next turn. Each delay of the plan is looked at in each block, and
-  -- takes its place in the list. Each that is due is taken out, and tried.
+  -- One turn: the list goes on to the next turn. Each delay of the plan is looked at in each block,
+  -- and takes its place in the list. Each that is due is taken out, and tried.
   pub record PassesTurn (count : ℕ) (before after : DelayList) : Type 0 where
     pub turn : after.turn ≡ turn_after before.turn
     pub each : (place : ℕ)
@@ -90,13 +93,59 @@ module _ (board : Board Blueprint) (m m' : Seated Item Entry) where
         → slice_get (nodes_of board) node ≡ Some (Delay turns) → IsLookedAt after count block node
     pub none : NoneIsDue after
 
+-- The parked node of this name was due in the turn: its delay waited in the list before, or was
+-- seen in this turn.
+pub record WasDueNow (board : Board Blueprint) (m m' : Seated Item Entry) (turn : ℕ)
+    (before : DelayList) (name : Name) : Type 0 where
+  pub place : ℕ
+  pub waiting : Waiting
+  pub came : (delay_at before place ≡ Some waiting) ⊎ IsSeenNow board m m' turn place waiting
+  pub due : turn_due waiting ≤ turn
+  pub name_is : name ≡ name_at board place waiting.generation
+
+-- A delay that is due waits in the list at the named place, seen at the name's generation.
+pub record IsDueAt (board : Board Blueprint) (list : DelayList) (name : Name) : Type 0 where
+  pub place : ℕ
+  pub waiting : Waiting
+  pub there : delay_at list place ≡ Some waiting
+  pub due : turn_due waiting ≤ list.turn
+  pub name_is : name ≡ name_at board place waiting.generation
+
+-- What may be taken where delays are due: one of this place, those of this list, and those of this
+-- turn.
+abbrev pub MayTakeDelay : Board Blueprint → ℕ → ℕ → Taking
+MayTakeDelay board place generation =
+    λ from name. (from ≡ rest.Parked) × (name ≡ name_at board place generation)
+
+abbrev pub MayTakeOf : Board Blueprint → DelayList → Taking
+MayTakeOf board list = λ from name. (from ≡ rest.Parked) × IsDueAt board list name
+
+abbrev pub MayTakeDue : Board Blueprint → Seated Item Entry → Seated Item Entry → ℕ → DelayList →
+    Taking
+MayTakeDue board m m' turn before =
+    λ from name. (from ≡ rest.Parked) × WasDueNow board m m' turn before name
+
+-- What a turn of the loop may take: what rests in the loop, where it helps what rests in the pool,
+-- and what is parked where it was due.
+abbrev pub MayTakeIn : Board Blueprint → Looped → Looped → Taking
+MayTakeIn board old new =
+    λ from name. IsOpen old.helps from
+    ⊎ MayTakeDue board old.hand.me new.hand.me new.delays.turn old.delays from name
+
+-- So many nodes were taken and stepped, one after the other, each of which might be. Nothing else
+-- was done, but looks. The number counts up to 2 ^ 32 - 1.
+abbrev pub TakesSoMany : Doing → Board Blueprint → ℕ → Looped → Looped → Type 0
+TakesSoMany does board count old new =
+    ServesMore does board (MayTakeIn board old new) 0 count old.hand.me new.hand.me
+
 abbrev pub HasTurned : Board Blueprint → ℕ → Looped → Looped → Type 0
 HasTurned board count old new =
     PassesTurn board old.hand.me new.hand.me count old.delays new.delays
 
--- A look at one place: its word was read, and where that says that the node is parked, the list takes
--- note of it.
-pub record LooksAt (board : Board Blueprint) (block : ℕ) (delay : DelayNode) (m m' : Seated Item Entry)
+-- A look at one place: its word was read, and where that says that the node is parked, the list
+-- takes note of it.
+pub record LooksAtDelay (board : Board Blueprint) (block : ℕ) (delay : DelayNode)
+    (m m' : Seated Item Entry)
     (before after : DelayList) : Type 0 where
   pub word : ℕ
   pub me_is : m' ≡ (logged (word_at board block delay.node) word m.0, m.1)

@@ -1,11 +1,12 @@
 pub mod DelayNodes
 pub mod Longer
+pub mod Fetches
 pub mod Loops
 pub mod Starts
 pub mod Collects
+pub mod Serves
 pub mod Turns
 pub mod Delayed
-pub mod Serves
 pub mod Waits
 -- the definitions that the public contracts cite
 pub use Rattle.table_steps.specs.Views

@@ -3,6 +3,6 @@ use Rattle.std.specs.Prelude.{◌≡◌, List, ◌++◌}
 use Rattle.life_rules.specs.declared.event.Name.{Name}
 
 -- These are the names, and others after them.
-pub record IsLonger (names longer : List Name) : Type 0 where
+pub record AreMoreNames (names longer : List Name) : Type 0 where
   pub others : List Name
   pub is : longer ≡ names ++ others

@@ -1,26 +1,26 @@
 -- A loop as its callers see it, and what its calls leave of its hand's view.
-use Rattle.std.specs.Prelude.{◌≡◌, ℕ, ◌≤◌, false, List, [], ◌∷◌, ◌++◌, Option, Some, None}
+use Rattle.std.specs.Prelude.{◌≡◌, ℕ, ◌≤◌, false, List, [], ◌∷◌, Option, Some, None}
 use Rattle.life_rules.specs.declared.event.Name.{Name}
 use Rattle.atomic_table.specs.Seated.{TableId}
 use Rattle.atomic_table.specs.declared.shared.Seat.{Seat}
 use Rattle.deck_relay.specs.declared.deck.Deck.{Deck}
-use Rattle.loop_delays.specs.Delays.{DelayList, places, delay_at}
+use Rattle.timer_wheel.specs.Delays.{DelayList, places, delay_at}
 use Rattle.plan_shape.specs.Blueprint.{Blueprint}
 use Rattle.loop_roots.specs.declared.completing.Collected.{Collected}
 use Rattle.run_tally.specs.Gathered.{Gathered, gathered}
 use Rattle.table_rules.specs.declared.view.View.{View}
 use Rattle.table_steps.specs.Views.{Board, IsHandOf, knows}
-use Rattle.exec_start.specs.declared.entry.Entry.{Entry}
-use Rattle.exec_start.specs.declared.item.Item.{Item}
+use Rattle.home_items.specs.declared.entry.Entry.{Entry}
+use Rattle.home_items.specs.declared.item.Item.{Item}
 use Rattle.loop_walk.specs.Resting.{IsAtRest}
 use Rattle.run_loop.specs.declared.looped.Loop.{Loop as Looped}
 use Rattle.run_loop.specs.declared.delay_node.DelayNode.{DelayNode}
-use Rattle.run_loop.specs.DelayNodes.{AreDelaysOf, nodes_of, places_of}
+use Rattle.run_loop.specs.DelayNodes.{AreDelaysOf, nodes_of, place_count}
 
 -- The list of parked delays has room for one in each place, and these are the plan's delays.
 pub record HasDelays (board : Board Blueprint) (list : DelayList) (nodes : List DelayNode)
     : Type 0 where
-  pub room : places_of board ≤ places list
+  pub room : place_count board ≤ places list
   pub are : AreDelaysOf (nodes_of board) nodes
 
 -- No delay waits, and no turn is over.
@@ -37,7 +37,8 @@ decked deck loop = record loop { names = record loop.names { deck = Some deck } 
 
 -- A new loop on this hand knows no names, has no deck, doesn't help the pool, and has collected
 -- nothing. No delay waits, and no turn is over.
-pub record IsOpened (board : Board Blueprint) (hand : Seat (Option Item) (View Item Entry)) (loop : Looped)
+pub record IsOpened (board : Board Blueprint) (hand : Seat (Option Item) (View Item Entry))
+    (loop : Looped)
     : Type 0 where
   pub hand_is : loop.hand ≡ hand
   pub names : loop.names.list.items ≡ []
@@ -48,19 +49,17 @@ pub record IsOpened (board : Board Blueprint) (hand : Seat (Option Item) (View I
   pub waiting : HasNoDelay loop.delays
   pub deck : deck_of loop ≡ None
 
--- The names that it was told of, and with one more at the back.
+-- The names that it was told of.
 abbrev pub told : Looped → List Name
 told loop = loop.names.list.items
-
-abbrev pub told_also : Name → Looped → List Name
-told_also name loop = told loop ++ name ∷ []
 
 -- These are the names that it knows now. All else is as before.
 pub record IsTold (names : List Name) (old new : Looped) : Type 0 where
   pub names_are : told new ≡ names
   pub rest : new ≡ record old { names = new.names }
 
--- The loop's hand is hand 0 of this table, and at rest. It has room for the delays of the table's plan.
+-- The loop's hand is hand 0 of this table, and at rest. It has room for the delays of the table's
+-- plan.
 pub record IsReady (board : Board Blueprint) (loop : Looped) : Type 0 where
   pub hand : IsHandOf board loop.hand
   pub first : (knows loop.hand).number ≡ 0

@@ -3,14 +3,15 @@ use Rattle.std.specs.Prelude.{List}
 use Rattle.plan_shape.specs.Blueprint.{Blueprint}
 use Rattle.table_steps.specs.declared.block.Block.{Block}
 use Rattle.table_steps.specs.Views.{Board}
-use Rattle.exec_start.specs.declared.entry.Entry.{Entry}
+use Rattle.home_items.specs.declared.entry.Entry.{Entry}
 use Rattle.exec_recv.specs.Nexts.{Doing}
 use Rattle.loop_roots.specs.Starts.{BeginsRoot, GoesOnWith, MissesEach}
 use Rattle.run_loop.specs.declared.looped.Loop.{Loop as Looped}
 
--- An operation was started in this block: its hand has noted the start of the root, and had noted none.
-abbrev pub Starts : Board Blueprint → Block → List Entry → Looped → Looped → Type 0
-Starts board b start old new = BeginsRoot board b start old.hand.me new.hand.me
+-- An operation was started in this block: its hand has noted the start of the root, and had noted
+-- none.
+abbrev pub StartsIn : Board Blueprint → Block → List Entry → Looped → Looped → Type 0
+StartsIn board b start old new = BeginsRoot board b start old.hand.me new.hand.me
 
 -- No block was free, in a search from the one that was given back last.
 abbrev pub FindsNoBlock : Board Blueprint → Looped → Looped → Type 0

@@ -1,5 +1,5 @@
 -- What a turn tells of the nodes that it took, and of those that it didn't.
-use Rattle.std.specs.Prelude.{◌≡◌, ◌⊎◌, ℕ, ◌<◌, Bool, true, false, List, length, slice_get, Some}
+use Rattle.std.specs.Prelude.{◌≡◌, ◌⊎◌, ℕ, zero, suc, ◌<◌, Bool, true, false, List, length, slice_get, Some}
 use Rattle.life_rules.specs.declared.event.Name.{Name}
 use Rattle.life_rules.specs.declared.event.Resting.{Resting}
 use Rattle.life_rules.specs.declared.event.Resting.TheVariants as rest
@@ -9,21 +9,27 @@ use Rattle.plan_shape.specs.Blueprint.{Blueprint}
 use Rattle.table_steps.specs.Views.{Board, IsPlaceIn}
 use Rattle.table_steps.specs.Claims.{Seated}
 use Rattle.table_steps.specs.Steps.{control_index}
-use Rattle.exec_start.specs.declared.entry.Entry.{Entry}
-use Rattle.exec_start.specs.declared.item.Item.{Item}
+use Rattle.home_items.specs.declared.entry.Entry.{Entry}
+use Rattle.home_items.specs.declared.item.Item.{Item}
+use Rattle.exec_recv.specs.Asides.{KeepsAside}
 use Rattle.exec_recv.specs.Nexts.{Doing}
-use Rattle.loop_serve.specs.Since.{HasMovedSince}
-use Rattle.loop_serve.specs.Serving.{ServesNode, TakesWord, WasMissed, WasUnready}
+use Rattle.exec_recv.specs.Since.{HasMovedSince}
+use Rattle.loop_serve.specs.Since.{OnlyLooks}
+use Rattle.loop_serve.specs.Serving.{OnlyServes, TakesWord, WasMissed, WasUnready}
 use Rattle.run_loop.specs.declared.looped.Loop.{Loop as Looped}
+use Rattle.run_loop.specs.declared.names.Names.{Names}
+use Rattle.run_loop.specs.Fetches.{FetchesWhere}
+use Rattle.run_loop.specs.Longer.{AreMoreNames}
 use Rattle.run_loop.specs.Loops.{told}
+use Rattle.run_loop.specs.Serves.{IsOpen}
 
 -- Where nothing was counted, nothing was before, and this holds.
 abbrev pub CountsNothing : ℕ → ℕ → Type 0 → Type 0
 CountsNothing before counted fact = counted ≡ 0 → (before ≡ 0) × fact
 
 module _ (board : Board Blueprint) (m m' : Seated Item Entry) where
-  -- The word of the block's node was read, and said that it isn't ready in the loop; and where the loop
-  -- helps in the pool, too.
+  -- The word of the block's node was read, and said that it isn't ready in the loop; and where the
+  -- loop helps in the pool, too.
   pub record WasPassed (helps : Bool) (block node : ℕ) : Type 0 where
     pub loop : WasUnready board m m' Loop block node
     pub pool : helps ≡ true → WasUnready board m m' Pool block node
@@ -58,8 +64,8 @@ pub record IsInner (board : Board Blueprint) (name : Name) : Type 0 where
   pub below : is_root board.frame.tree name.node ≡ false
 
 module _ (board : Board Blueprint) (m m' : Seated Item Entry) where
-  -- The word of the named node was read, and didn't say that it rests in the loop, at its generation; and
-  -- where the loop helps in the pool, too.
+  -- The word of the named node was read, and didn't say that it rests in the loop, at its
+  -- generation; and where the loop helps in the pool, too.
   pub record WasLeft (helps : Bool) (name : Name) : Type 0 where
     pub loop : WasMissed board m m' rest.Loop name
     pub pool : helps ≡ true → WasMissed board m m' rest.Pool name
@@ -80,30 +86,62 @@ module _ (board : Board Blueprint) (m m' : Seated Item Entry) where
   abbrev pub AreAllLeft : Bool → List Name → Type 0
   AreAllLeft helps names = AreLeft helps names (length names)
 
-module _ (does : Doing) (board : Board Blueprint) (m m' : Seated Item Entry) where
-  -- the named node was taken where it rested, and stepped
-  abbrev pub WasServed : Name → Type 0
-  WasServed name = (from : Resting) × ServesNode does board from name m m'
+module _ (does : Doing) (board : Board Blueprint) (helps : Bool) where
+  -- The named node was taken where it rested in the loop, or where the loop helps in the pool, and
+  -- stepped. Nothing else was done, but looks before that.
+  pub record TakesNamed (name : Name) (m m' : Seated Item Entry) : Type 0 where
+    pub from : Resting
+    pub may_be : IsOpen helps from
+    pub serves : OnlyServes does board from name m m'
 
-  -- so it was, or it was left, where it is of a node of the table, but no root
-  abbrev pub IsMet : Bool → Name → Type 0
-  IsMet helps name = IsInner board name → WasServed name ⊎ WasLeft board m m' helps name
+  -- It was left, and words were only looked at.
+  pub record LeavesNamed (name : Name) (m m' : Seated Item Entry) : Type 0 where
+    pub left : IsLeft board m m' helps name
+    pub looks : OnlyLooks m m'
 
-  -- each of the first so many names was met, and all of them
-  abbrev pub AreMet : Bool → List Name → ℕ → Type 0
-  AreMet helps names count =
-      (k : ℕ) (name : Name) → k < count → slice_get names k ≡ Some name → IsMet helps name
+  -- the one or the other
+  abbrev pub Meets : Name → Seated Item Entry → Seated Item Entry → Type 0
+  Meets name m m' = TakesNamed name m m' ⊎ LeavesNamed name m m'
 
-  abbrev pub AreAllMet : Bool → List Name → Type 0
-  AreAllMet helps names = AreMet helps names (length names)
+  -- So the name at this place of the list was met, after this.
+  pub record MeetsAfter (names : List Name) (place : ℕ) (Before : Seated Item Entry → Type 0)
+      (m' : Seated Item Entry) : Type 0 where
+    pub between : Seated Item Entry
+    pub before : Before between
+    pub name : Name
+    pub there : slice_get names place ≡ Some name
+    pub meets : Meets name between m'
+
+  -- So the first so many names were, in their order: each from where the one before it left the
+  -- hand.
+  abbrev pub MeetsFirst : List Name → ℕ → Seated Item Entry → Seated Item Entry → Type 0
+  MeetsFirst names zero m m' = m' ≡ m
+  MeetsFirst names (suc count) m m' =
+      MeetsAfter names count (λ between. MeetsFirst names count m between) m'
+
+-- All of these names were met so by the loop, before all else that it did.
+pub record MeetsList (does : Doing) (board : Board Blueprint) (names : List Name)
+    (old new : Looped) : Type 0 where
+  pub last : Seated Item Entry
+  pub each : MeetsFirst does board old.helps names (length names) old.hand.me last
+  pub after : KeepsAside last new.hand.me
+
+-- The names that the loop was told of were, and others after them.
+pub record MeetsEach (does : Doing) (board : Board Blueprint) (old new : Looped) : Type 0 where
+  pub names : List Name
+  pub longer : AreMoreNames (told old) names
+  pub meets : MeetsList does board names old new
+
+-- The names that the loop was told of were, and after them those that it took of its hand's deck.
+pub record MeetsAll (does : Doing) (board : Board Blueprint) (old new : Looped) : Type 0 where
+  pub names : Names
+  pub fetches : FetchesWhere old.helps old.names names
+  pub longer : AreMoreNames (told old) names.list.items
+  pub meets : MeetsList does board names.list.items old new
 
 -- So each name was that the loop was told of.
 abbrev pub MissesAll : Board Blueprint → Looped → Looped → Type 0
 MissesAll board old new = AreAllLeft board old.hand.me new.hand.me old.helps (told old)
-
--- Each was taken and stepped, or left so.
-abbrev pub MeetsAll : Doing → Board Blueprint → Looped → Looped → Type 0
-MeetsAll does board old new = AreAllMet does board old.hand.me new.hand.me old.helps (told old)
 
 -- All nodes of the table were passed but the roots.
 abbrev pub FindsNothing : Board Blueprint → Looped → Looped → Type 0

@@ -3,10 +3,10 @@ use Rattle.std.specs.Prelude.{◌≡◌, ◌+◌, List, Some}
 use Rattle.plan_shape.specs.Blueprint.{Blueprint}
 use Rattle.table_rules.specs.declared.view.Rooted.{Rooted}
 use Rattle.table_steps.specs.declared.block.Block.{Block}
-use Rattle.table_steps.specs.Views.{Board}
+use Rattle.table_steps.specs.Views.{Board, knows}
 use Rattle.table_steps.specs.Claims.{root_name}
 use Rattle.table_steps.specs.Slots.{noted_at}
-use Rattle.exec_start.specs.declared.entry.Entry.{Entry}
+use Rattle.home_items.specs.declared.entry.Entry.{Entry}
 use Rattle.exec_recv.specs.Asides.{Aside, aside_of}
 use Rattle.loop_roots.specs.declared.completing.Collected.{Collected}
 use Rattle.run_loop.specs.declared.looped.Loop.{Loop as Looped}
@@ -24,24 +24,30 @@ pub record CountsOne (board : Board Blueprint) (old new : Looped) (c : Collected
   pub tally : Raises board c old.tally new.tally
 
 -- The operation in the block was collected, for the start that the hand noted of its root.
-pub record IsCollected (board : Board Blueprint) (b : Block) (old new : Looped) (c : Collected) : Type 0 where
-  pub is_for : (e : Rooted Entry) → noted_at old.hand.me.0 (root_name board b.index b.generation) ≡ Some e →
-      IsFor e.start old.hand.me.0.requested c
-  pub leaves : LeavesAside (with_released (root_name board b.index b.generation) (aside_of old.hand.me.0)) old.hand.me new.hand.me
+pub record IsCollected (board : Board Blueprint) (b : Block) (old new : Looped)
+    (c : Collected) : Type 0 where
+  pub is_for : (e : Rooted Entry) →
+      noted_at (knows old.hand) (root_name board b.index b.generation) ≡ Some e →
+      IsFor e.start (knows old.hand).requested c
+  pub leaves : LeavesAside
+      (with_released (root_name board b.index b.generation) (aside_of (knows old.hand))) old.hand.me
+      new.hand.me
   pub counts : CountsOne board old new c
 
 -- One block was claimed, and given back.
-abbrev pub with_used : Aside → Aside
-with_used aside = record aside { claimed = aside.claimed + 1; released = aside.released + 1 }
+abbrev pub with_block_used : Aside → Aside
+with_block_used aside = record aside { claimed = aside.claimed + 1; released = aside.released + 1 }
 
 -- An operation with this start was run, and completed so.
-pub record HasRun (board : Board Blueprint) (start : List Entry) (old new : Looped) (c : Collected) : Type 0 where
-  pub is_for : IsFor start old.hand.me.0.requested c
-  pub leaves : LeavesAside (with_used (aside_of old.hand.me.0)) old.hand.me new.hand.me
+pub record HasRun (board : Board Blueprint) (start : List Entry) (old new : Looped)
+    (c : Collected) : Type 0 where
+  pub is_for : IsFor start (knows old.hand).requested c
+  pub leaves : LeavesAside (with_block_used (aside_of (knows old.hand))) old.hand.me new.hand.me
   pub counts : CountsOne board old new c
 
 -- No block was free for it, and its start comes back.
-pub record HasNoBlock (board : Board Blueprint) (start : List Entry) (old new : Looped) (back : List Entry) : Type 0 where
+pub record FoundNoBlock (board : Board Blueprint) (start : List Entry) (old new : Looped)
+    (back : List Entry) : Type 0 where
   pub back_is : back ≡ start
   pub none : FindsNoBlock board old new
   pub counts : KeepsCounts old new
@@ -49,4 +55,4 @@ pub record HasNoBlock (board : Board Blueprint) (start : List Entry) (old new : 
 -- The one or the other.
 abbrev pub Waits : Board Blueprint → List Entry → Looped → Looped → Waited → Type 0
 Waits board start old new (Completed c) = HasRun board start old new c
-Waits board start old new (NoBlock back) = HasNoBlock board start old new back
+Waits board start old new (NoBlock back) = FoundNoBlock board start old new back

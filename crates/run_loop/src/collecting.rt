@@ -25,6 +25,7 @@ impl Loop {
     /// Afterwards: the loop is ready, and has the operation no more. What it completed with is want
     /// of memory, or allowed for that start, and is of its number. It stands in the tally, as an
     /// operation of this table and of its plan.
+    #[inline(always)]
     pub fn collect<G: Gate, R: Wait + Sync>(
         &mut self,
         rt: &R,

@@ -2,27 +2,28 @@
 ghost use Rattle.std.specs.Prelude.{◌≡◌, ◌<◌, ◌≤◌, length};
 ghost use Rattle.std.specs.Thread.{IsSync};
 ghost use Rattle.deck_relay.specs.SameDecks.{KeepsDeck};
-ghost use Rattle.loop_delays.specs.Delays.{places};
+ghost use Rattle.timer_wheel.specs.Delays.{places};
 ghost use Rattle.plan_kinds.specs.Runnable.{IsRunnable};
 ghost use Rattle.table_steps.specs.Views.{IsHandOf, Stays, knows};
 ghost use Rattle.exec_recv.specs.Asides.{KeepsAside};
 ghost use Rattle.exec_recv.specs.Over.{IsOver};
 ghost use Rattle.loop_walk.specs.Resting.{IsAtRest};
 ghost use Rattle.loop_serve.specs.Since.{OnlyLooks};
-ghost use Rattle.run_loop.specs.Delayed.{WasTriedAt, LooksAt, LooksThrough, LooksBelow, TakesDue, PassesTurn};
-ghost use Rattle.run_loop.specs.DelayNodes.{IsDelay, AreDelaysOf, nodes_of, place_of, places_of};
-ghost use Rattle.run_loop.specs.Serves.{ServesOn};
+ghost use Rattle.run_loop.specs.Delayed.{WasTriedAt, LooksAtDelay, LooksThrough, LooksBelow, TakesDue, PassesTurn};
+ghost use Rattle.run_loop.specs.Delayed.{MayTakeDelay, MayTakeDue, MayTakeOf};
+ghost use Rattle.run_loop.specs.DelayNodes.{IsDelayNode, AreDelaysOf, nodes_of, place_of, place_count};
+ghost use Rattle.run_loop.specs.Serves.{ServesMore};
 
 use crate::delay_node::DelayNode;
 use crate::names::Names;
 use crate::serving::one_more;
 use exec_recv::{Item, Stepper};
 use life_rules::{Name, Resting};
-use loop_delays::{Delays, DueDelay};
 use loop_serve::serve;
 use op_slot::{Hand, OpTable};
 use std::alloc::Global;
 use std::sync::Wait;
+use timer_wheel::{Delays, DueDelay};
 
 // The number of the node's place.
 fn place_at(table: &OpTable<Item>, block: u32, node: u32) -> u32
@@ -46,11 +47,12 @@ fn look_at(
 )
     requires hand { IsHandOf table.now hand.old }
     requires over { IsOver table.now table.now.frame.over.value }
-    requires places { places_of table.now ≤ places delays.old }
+    requires places { place_count table.now ≤ places delays.old }
     requires block { block < table.now.frame.layout.blocks }
-    requires delay { IsDelay (nodes_of table.now) delay }
+    requires delay { IsDelayNode (nodes_of table.now) delay }
     ensures stays { Stays table.now hand.old hand.new }
-    ensures looks { LooksAt table.now block delay hand.old.me hand.new.me delays.old delays.new }
+    ensures looks { LooksAtDelay table.now block delay hand.old.me hand.new.me
+        delays.old delays.new }
 {
     let Some(name) = table.parked_at(hand, block, delay.node) else {
         return;
@@ -69,7 +71,7 @@ fn look_through(
 )
     requires hand { IsHandOf table.now hand.old }
     requires over { IsOver table.now table.now.frame.over.value }
-    requires places { places_of table.now ≤ places delays.old }
+    requires places { place_count table.now ≤ places delays.old }
     requires block { block < table.now.frame.layout.blocks }
     requires nodes { AreDelaysOf (nodes_of table.now) nodes.now }
     requires rests { IsAtRest (knows hand.old) }
@@ -93,7 +95,7 @@ fn look_round(
 )
     requires hand { IsHandOf table.now hand.old }
     requires over { IsOver table.now table.now.frame.over.value }
-    requires places { places_of table.now ≤ places delays.old }
+    requires places { place_count table.now ≤ places delays.old }
     requires nodes { AreDelaysOf (nodes_of table.now) nodes.now }
     requires rests { IsAtRest (knows hand.old) }
     ensures stays { Stays table.now hand.old hand.new }
@@ -130,7 +132,8 @@ fn try_due<T: Stepper, R: Wait + Sync>(
     ensures stays { Stays table.now hand.old hand.new }
     ensures rests { IsAtRest (knows hand.new) }
     ensures aside { KeepsAside hand.old.me hand.new.me }
-    ensures served { ServesOn (T.does stepper.now) table.now taken result hand.old.me hand.new.me }
+    ensures served { ServesMore (T.does stepper.now) table.now
+        (MayTakeDelay table.now due.place due.generation) taken result hand.old.me hand.new.me }
     ensures more { taken ≤ result }
     ensures tried { WasTriedAt table.now hand.old.me hand.new.me result due.place due.generation }
     ensures deck { KeepsDeck names.old.deck names.new.deck }
@@ -180,7 +183,8 @@ fn take_due<T: Stepper, R: Wait + Sync>(
     ensures stays { Stays table.now hand.old hand.new }
     ensures rests { IsAtRest (knows hand.new) }
     ensures aside { KeepsAside hand.old.me hand.new.me }
-    ensures served { ServesOn (T.does stepper.now) table.now taken result hand.old.me hand.new.me }
+    ensures served { ServesMore (T.does stepper.now) table.now
+        (MayTakeOf table.now delays.old) taken result hand.old.me hand.new.me }
     ensures more { taken ≤ result }
     ensures due { TakesDue table.now result hand.old.me hand.new.me delays.old delays.new }
     ensures deck { KeepsDeck names.old.deck names.new.deck }
@@ -211,12 +215,14 @@ pub fn serve_delays<T: Stepper, R: Wait + Sync>(
     requires kinds { IsRunnable (T.plan stepper.now) }
     requires first { (knows hand.old).number ≡ 0 }
     requires rests { IsAtRest (knows hand.old) }
-    requires places { places_of table.now ≤ places delays.old }
+    requires places { place_count table.now ≤ places delays.old }
     requires nodes { AreDelaysOf (nodes_of table.now) nodes.now }
     ensures stays { Stays table.now hand.old hand.new }
     ensures rests { IsAtRest (knows hand.new) }
     ensures aside { KeepsAside hand.old.me hand.new.me }
-    ensures served { ServesOn (T.does stepper.now) table.now taken result hand.old.me hand.new.me }
+    ensures served { ServesMore (T.does stepper.now) table.now
+        (MayTakeDue table.now hand.old.me hand.new.me delays.new.turn delays.old)
+        taken result hand.old.me hand.new.me }
     ensures more { taken ≤ result }
     ensures places { places delays.new ≡ places delays.old }
     ensures turn { PassesTurn table.now hand.old.me hand.new.me result delays.old delays.new }

@@ -2,7 +2,7 @@
 //! operations, takes what is ready in the loop, and collects what they completed with.
 //!
 //! It stands on loop_roots, which starts and ends an operation, on loop_serve, by which it serves a
-//! node, and on loop_delays, which lists the delays that it saw parked. It keeps one promise: what
+//! node, and on timer_wheel, which lists the delays that it saw parked. It keeps one promise: what
 //! is collected is want of memory, or is allowed for the start with which its operation began, and
 //! it saw a stop request only where the scope's request stands.
 //!

@@ -2,7 +2,7 @@
 ghost use Rattle.std.specs.Prelude.{◌≡◌, ◌≤◌, IfOk};
 ghost use Rattle.timer_wheel.specs.declared.limits.TheConstants.{MOST_PLACES};
 ghost use Rattle.exec_recv.specs.Over.{IsOver};
-ghost use Rattle.run_loop.specs.DelayNodes.{AreDelaysOf, places_of};
+ghost use Rattle.run_loop.specs.DelayNodes.{AreDelaysOf, place_count};
 
 use crate::delay_node::DelayNode;
 use exec_recv::Item;
@@ -32,7 +32,7 @@ pub fn delays_of(alloc: Global, plan: &Plan) -> Result<Vec<DelayNode>, AllocErro
 pub fn room_of(table: &OpTable<Item>) -> u32
     ensures some { 1 ≤ result }
     ensures few { result ≤ MOST_PLACES }
-    ensures all { places_of table.now ≤ result }
+    ensures all { place_count table.now ≤ result }
 {
     (table.blocks() * table.tree().size()).max(1)
 }

@@ -1,10 +1,9 @@
 //! The loop itself.
 ghost use Rattle.std.specs.Prelude.{◌≡◌, IfOk, IfErr};
-ghost use Rattle.deck_relay.specs.SameDecks.{KeepsDeck};
 ghost use Rattle.plan_kinds.specs.Runnable.{IsRunnable};
 ghost use Rattle.table_steps.specs.Views.{IsHandOf, knows};
 ghost use Rattle.exec_recv.specs.Over.{IsOver};
-ghost use Rattle.run_loop.specs.Loops.{IsOpened, IsTold, told, told_also, deck_of, decked};
+ghost use Rattle.run_loop.specs.Loops.{IsOpened, deck_of, decked};
 
 use crate::delay_node::DelayNode;
 use crate::listing::{delays_of, room_of};
@@ -13,11 +12,11 @@ use crate::tally::Tally;
 use deck_relay::Deck;
 use exec_recv::Item;
 use life_rules::Name;
-use loop_delays::Delays;
 use op_slot::{Hand, OpTable};
 use plan_shape::Plan;
 use std::alloc::Global;
 use std::thread::yield_now;
+use timer_wheel::Delays;
 
 /// A loop on hand 0 of a table. Its type keeps no fact of the hand: each call that takes the table
 /// asks that the loop is ready, and leaves it so.
@@ -92,19 +91,6 @@ impl Loop {
         let mut decked = self;
         decked.names.deck = Some(deck);
         decked
-    }
-
-    /// Tells the loop of a node that may be ready. The name comes back on want of memory alone.
-    pub fn push_name(&mut self, name: Name) -> Result<(), Name>
-        ensures pushed { IfOk result (λ _. IsTold (told_also name self.old) self.old self.new) }
-        ensures same { IfErr result (λ _. IsTold (told self.old) self.old self.new) }
-        ensures back { IfErr result (λ back. back ≡ name) }
-        ensures deck { KeepsDeck (deck_of self.old) (deck_of self.new) }
-    {
-        match self.names.add(name) {
-            Ok(()) => Ok(()),
-            Err(_) => Err(name),
-        }
     }
 
     /// Whether turns from now on take nodes that are ready in the pool, too.

@@ -1,9 +1,10 @@
 //! The names of nodes that a loop was told of.
-ghost use Rattle.std.specs.Prelude.{◌≡◌, ◌≤◌, ◌∷◌, [], ◌++◌, IfOk, IfErr, None};
+ghost use Rattle.std.specs.Prelude.{◌≡◌, ◌≤◌, ◌∷◌, [], ◌++◌, ◌⊎◌, true, false, IfOk, IfErr, IfSome, IfNone, None, vec_capacity, vec_len};
 ghost use Rattle.std.specs.Thread.{IsSync};
 ghost use Rattle.deck_relay.specs.Decks.{IsSameDeck};
 ghost use Rattle.deck_relay.specs.SameDecks.{KeepsDeck};
-ghost use Rattle.run_loop.specs.Longer.{IsLonger};
+ghost use Rattle.run_loop.specs.Fetches.{FetchesNone, FetchesOne, FetchesWhere, FindsNoneOf, HearsName, IsNameListed, IsPushed, IsShared, TakesOf};
+ghost use Rattle.run_loop.specs.Longer.{AreMoreNames};
 
 use deck_relay::Deck;
 use life_rules::Name;
@@ -45,28 +46,19 @@ impl Names {
         ensures added { IfOk result
             (λ _. self.new.list.items ≡ self.old.list.items ++ name ∷ []) }
         ensures same { IfErr result (λ _. self.new.list.items ≡ self.old.list.items) }
+        ensures full { IfErr result (λ _. vec_capacity self.old.list ≤ vec_len self.old.list) }
+        ensures root { self.new.root ≡ self.old.root }
         ensures deck { self.new.deck ≡ self.old.deck }
     {
         self.list.push(name)?;
         Ok(())
     }
 
-    // Pushes a name to the deck. False where there is none.
-    fn share<R: Wait>(&mut self, rt: &R, name: Name) -> bool
-        ensures { KeepsDeck self.old.deck self.new.deck }
-    {
-        match &mut self.deck {
-            None => false,
-            Some(deck) => {
-                push(rt, deck, name);
-                true
-            }
-        }
-    }
-
     // Takes a name of the deck, where there is one.
     fn take<R: Wait>(&mut self, rt: &R) -> Option<Name>
         ensures list { self.new.list ≡ self.old.list }
+        ensures takes { IfSome result (λ name. TakesOf name self.old.deck self.new.deck) }
+        ensures none { IfNone result (FindsNoneOf self.old.deck self.new.deck) }
         ensures deck { KeepsDeck self.old.deck self.new.deck }
     {
         match &mut self.deck {
@@ -75,20 +67,71 @@ impl Names {
         }
     }
 
-    /// Where the loop helps the pool: moves names of the deck to the back of the list. A name for
-    /// which there is no memory is lost, and a scan finds its node.
+    // Moves a name of the deck to the back of the list. False where none was found, or there is no
+    // memory for one: then none is taken.
+    fn fetch_one<R: Wait>(&mut self, rt: &R) -> bool
+        ensures one { result ≡ true → FetchesOne self.old self.new }
+        ensures none { result ≡ false → FetchesNone self.old self.new }
+        ensures more { AreMoreNames self.old.list.items self.new.list.items }
+        ensures deck { KeepsDeck self.old.deck self.new.deck }
+    {
+        if self.list.reserve(1).is_err() {
+            return false;
+        }
+        let Some(name) = self.take(rt) else {
+            return false;
+        };
+        self.list.push_reserved(name);
+        true
+    }
+
+    /// Where the loop helps the pool: moves names of the deck to the back of the list, until none
+    /// is found, there is no memory for more, or 256 were moved.
     pub fn fetch<R: Wait>(&mut self, rt: &R, helps: bool)
-        ensures more { IsLonger self.old.list.items self.new.list.items }
+        ensures fetches { FetchesWhere helps self.old self.new }
+        ensures more { AreMoreNames self.old.list.items self.new.list.items }
         ensures deck { KeepsDeck self.old.deck self.new.deck }
     {
         if !helps {
             return;
         }
         for _fetched in 0..MOST_FETCHED {
-            let Some(name) = self.take(rt) else {
+            if !self.fetch_one(rt) {
                 return;
-            };
+            }
+        }
+    }
+
+    // Adds a name at the back, but of a root. Without memory it is lost, and a scan finds its node.
+    fn list_name(&mut self, name: Name)
+        ensures listed { IsNameListed name self.old self.new }
+        ensures deck { self.new.deck ≡ self.old.deck }
+    {
+        if name.node != self.root {
             let _lost = self.add(name);
+        }
+    }
+
+    // Pushes a name to the deck, or where there is none adds it at the back.
+    fn share<R: Wait>(&mut self, rt: &R, name: Name)
+        ensures shared { IsShared name self.old self.new self.old.deck self.new.deck }
+        ensures deck { KeepsDeck self.old.deck self.new.deck }
+    {
+        match &mut self.deck {
+            None => self.list_name(name),
+            Some(deck) => push(rt, deck, name),
+        }
+    }
+
+    /// Takes note of a node that is ready in this context: one that is ready in the pool is pushed
+    /// to the deck, where there is one; each other name is added at the back.
+    pub fn hear<R: Wait>(&mut self, rt: &R, name: Name, on: Context)
+        ensures hears { HearsName name on self.old self.new }
+        ensures deck { KeepsDeck self.old.deck self.new.deck }
+    {
+        match on {
+            Context::Loop => self.list_name(name),
+            Context::Pool => self.share(rt, name),
         }
     }
 
@@ -103,7 +146,8 @@ impl Names {
 // Pushes a name to the deck. Where that hands it back each hand is woken, and a look at each node
 // finds it.
 fn push<R: Wait>(rt: &R, deck: &mut Deck, name: Name)
-    ensures { IsSameDeck deck.old deck.new }
+    ensures pushed { IsPushed name deck.old deck.new }
+    ensures same { IsSameDeck deck.old deck.new }
 {
     match deck.push(rt, name) {
         Ok(()) => {}
@@ -121,13 +165,6 @@ impl Mail for Names {
     ghost on = { λ first second third. keeps-on first.deck second.deck third.deck };
 
     fn ready<R: Wait + Sync>(&mut self, rt: &R, name: Name, on: Context) {
-        let shared = match on {
-            Context::Loop => false,
-            Context::Pool => self.share(rt, name),
-        };
-        if !shared && name.node != self.root {
-            // without memory the name is lost, and a scan finds the node
-            let _lost = self.add(name);
-        }
+        self.hear(rt, name, on);
     }
 }

@@ -1,17 +1,23 @@
 //! How a loop that finds nothing to do sleeps, where its hand has a deck.
+ghost use Rattle.std.specs.Prelude.{◌≡◌, ◌==◌, not, is_some, vec_len};
+ghost use Rattle.run_loop.specs.Loops.{deck_of};
 
 use crate::looped::Loop;
 use std::sync::Wait;
 
 impl Loop {
     /// Whether its hand has a deck. Without one it doesn't sleep: nobody would wake it.
-    pub fn has_deck(&self) -> bool {
+    pub fn has_deck(&self) -> bool
+        ensures { result ≡ is_some (deck_of self.now) }
+    {
         self.names.deck.is_some()
     }
 
     /// Whether the plan has delays. Then each poll is a turn of them, and a loop that sleeps would
     /// let none of them come due.
-    pub fn has_delays(&self) -> bool {
+    pub fn has_delays(&self) -> bool
+        ensures { result ≡ not (vec_len self.now.delay_nodes == 0) }
+    {
         !self.delay_nodes.is_empty()
     }
 

@@ -7,7 +7,7 @@ ghost use Rattle.deck_relay.specs.SameDecks.{KeepsDeck};
 ghost use Rattle.exec_recv.specs.Asides.{KeepsAside};
 ghost use Rattle.exec_recv.specs.Over.{IsOver};
 ghost use Rattle.loop_walk.specs.Resting.{IsAtRest};
-ghost use Rattle.run_loop.specs.Serves.{Serves, ServesOn};
+ghost use Rattle.run_loop.specs.Serves.{MayHelp, ServesMore};
 ghost use Rattle.run_loop.specs.Turns.{CountsBlock, TakesNothing};
 
 use crate::names::Names;
@@ -39,7 +39,8 @@ fn scan_block<T: Stepper, R: Wait + Sync>(
     ensures stays { Stays table.now hand.old hand.new }
     ensures rests { IsAtRest (knows hand.new) }
     ensures aside { KeepsAside hand.old.me hand.new.me }
-    ensures served { ServesOn (T.does stepper.now) table.now taken result hand.old.me hand.new.me }
+    ensures served { ServesMore (T.does stepper.now) table.now (MayHelp helps) taken result
+        hand.old.me hand.new.me }
     ensures none { CountsBlock table.now hand.old.me hand.new.me helps block taken result }
     ensures deck { KeepsDeck names.old.deck names.new.deck }
 {
@@ -72,7 +73,8 @@ pub fn scan_blocks<T: Stepper, R: Wait + Sync>(
     ensures stays { Stays table.now hand.old hand.new }
     ensures rests { IsAtRest (knows hand.new) }
     ensures aside { KeepsAside hand.old.me hand.new.me }
-    ensures served { Serves (T.does stepper.now) table.now result hand.old.me hand.new.me }
+    ensures served { ServesMore (T.does stepper.now) table.now (MayHelp helps) 0 result
+        hand.old.me hand.new.me }
     ensures none { result ≡ 0 → TakesNothing table.now hand.old.me hand.new.me helps }
     ensures deck { KeepsDeck names.old.deck names.new.deck }
 {

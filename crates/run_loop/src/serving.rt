@@ -1,5 +1,5 @@
 //! How a node that is ready in a block is taken, and gone on with.
-ghost use Rattle.std.specs.Prelude.{◌≡◌, ◌⊎◌, ◌+◌, ◌<◌, ◌≤◌};
+ghost use Rattle.std.specs.Prelude.{◌≡◌, ◌+◌, ◌-◌, ◌^◌, ◌<◌, ◌≤◌, min};
 ghost use Rattle.std.specs.Thread.{IsSync};
 ghost use Rattle.plan_kinds.specs.Runnable.{IsRunnable};
 ghost use Rattle.table_steps.specs.Views.{IsHandOf, Stays, knows};
@@ -7,7 +7,7 @@ ghost use Rattle.deck_relay.specs.SameDecks.{KeepsDeck};
 ghost use Rattle.exec_recv.specs.Asides.{KeepsAside};
 ghost use Rattle.exec_recv.specs.Over.{IsOver};
 ghost use Rattle.loop_walk.specs.Resting.{IsAtRest};
-ghost use Rattle.run_loop.specs.Serves.{ServesOn};
+ghost use Rattle.run_loop.specs.Serves.{MayHelp, ServesMore};
 ghost use Rattle.run_loop.specs.Turns.{CountsNode};
 
 use crate::names::Names;
@@ -21,7 +21,7 @@ use std::sync::Wait;
 /// One more, as far as it can be counted.
 pub fn one_more(count: u32) -> u32
     ensures some { 1 ≤ result }
-    ensures one { (result ≡ count + 1) ⊎ (result ≡ count) }
+    ensures one { result ≡ min (count + 1) (2 ^ 32 - 1) }
 {
     if count < u32::MAX { count + 1 } else { count }
 }
@@ -51,7 +51,8 @@ pub fn take_node<T: Stepper, R: Wait + Sync>(
     ensures stays { Stays table.now hand.old hand.new }
     ensures rests { IsAtRest (knows hand.new) }
     ensures aside { KeepsAside hand.old.me hand.new.me }
-    ensures served { ServesOn (T.does stepper.now) table.now taken result hand.old.me hand.new.me }
+    ensures served { ServesMore (T.does stepper.now) table.now (MayHelp helps) taken result
+        hand.old.me hand.new.me }
     ensures none { CountsNode table.now hand.old.me hand.new.me helps block node taken result }
     ensures deck { KeepsDeck names.old.deck names.new.deck }
 {

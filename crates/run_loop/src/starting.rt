@@ -7,7 +7,7 @@ ghost use Rattle.deck_relay.specs.SameDecks.{KeepsDeck};
 ghost use Rattle.exec_recv.specs.Over.{IsOver};
 ghost use Rattle.run_loop.specs.Loops.{IsReady, KeepsCounts, KeepsDelays, deck_of};
 ghost use Rattle.loop_roots.specs.Starts.{CanRun};
-ghost use Rattle.run_loop.specs.Starts.{Starts, WentOn, FindsNoBlock};
+ghost use Rattle.run_loop.specs.Starts.{StartsIn, WentOn, FindsNoBlock};
 
 use crate::looped::Loop;
 use exec_recv::{Env, Item, Stepper};
@@ -28,6 +28,7 @@ impl Loop {
     /// Afterwards: the loop is ready. The block's root began with the start that the environment
     /// shows, and the stepper stepped it. The hand has noted that start, and had noted none of this
     /// root before.
+    #[inline(always)]
     pub fn start<T: Stepper, R: Wait + Sync>(
         &mut self,
         rt: &R,
@@ -45,7 +46,7 @@ impl Loop {
         ensures same { IsSameHand self.old.hand self.new.hand }
         ensures counts { KeepsCounts self.old self.new }
         ensures delays { KeepsDelays self.old self.new }
-        ensures started { IfOk result (λ b. Starts table.now b env self.old self.new) }
+        ensures started { IfOk result (λ b. StartsIn table.now b env self.old self.new) }
         ensures first { IfOk result
             (λ b. WentOn (T.does stepper.now) table.now b env self.old self.new) }
         ensures back { IfErr result (λ back. back ≡ env) }

@@ -1,6 +1,6 @@
 //! What loops collected.
 ghost use Rattle.std.specs.Prelude.{◌≡◌, [], ◌∷◌};
-ghost use Rattle.exec_start.specs.Entries.{plan_of};
+ghost use Rattle.home_items.specs.Entries.{plan_of};
 ghost use Rattle.run_tally.specs.Gathered.{capped, values_in, errors_in, stopped_in, no_memory_in};
 ghost use Rattle.run_loop.specs.Loops.{gathered_of};
 
@@ -34,7 +34,7 @@ struct Started<'a> {
 }
 
 impl<'a> Placed for Started<'a> {
-    ghost use Rattle.exec_start.specs.Entries.{plan_of};
+    ghost use Rattle.home_items.specs.Entries.{plan_of};
 
     ghost plan = { λ s. plan_of s.env.now };
 

@@ -1,5 +1,5 @@
 //! A turn of the loop.
-ghost use Rattle.std.specs.Prelude.{◌≡◌, true, false};
+ghost use Rattle.std.specs.Prelude.{◌≡◌, true, false, length};
 ghost use Rattle.std.specs.Thread.{IsSync};
 ghost use Rattle.plan_kinds.specs.Runnable.{IsRunnable};
 ghost use Rattle.table_steps.specs.Views.{IsHandOf, IsSameHand, Stays, knows};
@@ -8,10 +8,10 @@ ghost use Rattle.exec_recv.specs.Asides.{KeepsAside};
 ghost use Rattle.exec_recv.specs.Over.{IsOver};
 ghost use Rattle.loop_walk.specs.Resting.{IsAtRest};
 ghost use Rattle.loop_serve.specs.Since.{OnlyLooks};
-ghost use Rattle.run_loop.specs.Delayed.{HasTurned};
+ghost use Rattle.run_loop.specs.Delayed.{HasTurned, TakesSoMany};
 ghost use Rattle.run_loop.specs.Loops.{IsReady, KeepsCounts, KeepsDelays, deck_of};
-ghost use Rattle.run_loop.specs.Serves.{Serves};
-ghost use Rattle.run_loop.specs.Turns.{IsInner, WasServed, IsLeft, AreAllMet, AreAllLeft, MeetsAll, MissesAll, FindsNothing};
+ghost use Rattle.run_loop.specs.Serves.{MayHelp, ServesMore};
+ghost use Rattle.run_loop.specs.Turns.{IsInner, IsLeft, AreAllLeft, TakesNamed, MeetsFirst, MeetsAll, MissesAll, FindsNothing};
 
 use crate::delaying::serve_delays;
 use crate::looped::Loop;
@@ -58,7 +58,7 @@ fn serve_name<T: Stepper, R: Wait + Sync>(
     ensures rests { IsAtRest (knows hand.new) }
     ensures aside { KeepsAside hand.old.me hand.new.me }
     ensures served { result ≡ true →
-        WasServed (T.does stepper.now) table.now hand.old.me hand.new.me name }
+        TakesNamed (T.does stepper.now) table.now helps name hand.old.me hand.new.me }
     ensures left { result ≡ false → IsLeft table.now hand.old.me hand.new.me helps name }
     ensures looks { result ≡ false → OnlyLooks hand.old.me hand.new.me }
     ensures deck { KeepsDeck names.old.deck names.new.deck }
@@ -95,8 +95,10 @@ fn serve_each<T: Stepper, R: Wait + Sync>(
     ensures stays { Stays table.now hand.old hand.new }
     ensures rests { IsAtRest (knows hand.new) }
     ensures aside { KeepsAside hand.old.me hand.new.me }
-    ensures served { Serves (T.does stepper.now) table.now result hand.old.me hand.new.me }
-    ensures met { AreAllMet (T.does stepper.now) table.now hand.old.me hand.new.me helps told.now }
+    ensures served { ServesMore (T.does stepper.now) table.now (MayHelp helps) 0 result
+        hand.old.me hand.new.me }
+    ensures met { MeetsFirst (T.does stepper.now) table.now helps told.now (length told.now)
+        hand.old.me hand.new.me }
     ensures none { result ≡ 0 → AreAllLeft table.now hand.old.me hand.new.me helps told.now }
     ensures deck { KeepsDeck names.old.deck names.new.deck }
 {
@@ -128,7 +130,7 @@ impl Loop {
         ensures counts { KeepsCounts self.old self.new }
         ensures delays { KeepsDelays self.old self.new }
         ensures aside { KeepsAside self.old.hand.me self.new.hand.me }
-        ensures served { Serves (T.does stepper.now) table.now result
+        ensures served { ServesMore (T.does stepper.now) table.now (MayHelp self.old.helps) 0 result
             self.old.hand.me self.new.hand.me }
         ensures met { MeetsAll (T.does stepper.now) table.now self.old self.new }
         ensures none { result ≡ 0 → MissesAll table.now self.old self.new }
@@ -156,12 +158,15 @@ impl Loop {
     /// is due in the turn that comes so many turns after the one in which it was first seen parked,
     /// and is taken out of the list in none before; none that is due is left in it. What the nodes
     /// leave ready is told for the next call. Each node that it was told of, but of roots, is taken
-    /// and stepped, or its word, at its own step of this call, said that it isn't ready at the
-    /// name's generation in the loop, nor where the loop helps in the pool. The answer is how many
-    /// it took, each of which the stepper stepped; 0 only where it moved no word, and the word of
-    /// each node that it was told of, but of roots, at its own step of this call, said that it
-    /// isn't ready at the name's generation in the loop, nor where the loop helps in the pool.
-    /// A loop with a deck that helps the pool takes the nodes of names of its deck, too.
+    /// and stepped, in the order in which they were told, or its word, at its own step of this
+    /// call, said that it isn't ready at the name's generation in the loop, nor where the loop
+    /// helps in the pool. A loop that helps the pool does so with names of its deck, too, which it
+    /// takes before all else, and which come after the others. The answer is how many it took, as
+    /// far as it can be counted, each of which the stepper stepped: what was ready in the loop,
+    /// where it helps in the pool, and what was parked where it was due. Beside these it moved no
+    /// word. 0 only where the word of each node that it was told of, but of roots, at its own step
+    /// of this call, said that it isn't ready at the name's generation in the loop, nor where the
+    /// loop helps in the pool.
     ///
     /// Step: those of `take` for each name; for each delay of the plan in each block one load of
     /// its control word, and that of `take_parked` where it is due; and those of the steps of its
@@ -183,8 +188,7 @@ impl Loop {
         ensures same { IsSameHand self.old.hand self.new.hand }
         ensures counts { KeepsCounts self.old self.new }
         ensures aside { KeepsAside self.old.hand.me self.new.hand.me }
-        ensures served { Serves (T.does stepper.now) table.now result
-            self.old.hand.me self.new.hand.me }
+        ensures served { TakesSoMany (T.does stepper.now) table.now result self.old self.new }
         ensures met { MeetsAll (T.does stepper.now) table.now self.old self.new }
         ensures turn { HasTurned table.now result self.old self.new }
         ensures none { result ≡ 0 → MissesAll table.now self.old self.new }
@@ -206,9 +210,9 @@ impl Loop {
 
     /// One turn: polls, and where that took no node, looks at each node of the table but the roots,
     /// and goes on with each that it takes. What is said of `poll` is said of this. The answer is
-    /// how many it took, each of which the stepper stepped; 0 only where it moved no word, and the
-    /// word of each node but the roots, at its own step of this call, said that it isn't ready in
-    /// the loop, nor where the loop helps in the pool.
+    /// how many it took, each of which the stepper stepped; 0 only where the word of each node but
+    /// the roots, at its own step of this call, said that it isn't ready in the loop, nor where the
+    /// loop helps in the pool.
     ///
     /// Step: those of `poll`; then for each node one load of its control word, and where that says
     /// that it is ready, those of `take`; and those of the steps of its nodes.
@@ -229,8 +233,7 @@ impl Loop {
         ensures same { IsSameHand self.old.hand self.new.hand }
         ensures counts { KeepsCounts self.old self.new }
         ensures aside { KeepsAside self.old.hand.me self.new.hand.me }
-        ensures served { Serves (T.does stepper.now) table.now result
-            self.old.hand.me self.new.hand.me }
+        ensures served { TakesSoMany (T.does stepper.now) table.now result self.old self.new }
         ensures met { MeetsAll (T.does stepper.now) table.now self.old self.new }
         ensures turn { HasTurned table.now result self.old self.new }
         ensures none { result ≡ 0 → FindsNothing table.now self.old self.new }

@@ -5,8 +5,8 @@ use Rattle.exec_value.specs.declared.outcome.Completion.TheVariants.{Value, Erro
 use Rattle.atomic_table.specs.Seated.{TableId}
 use Rattle.plan_shape.specs.Blueprint.{Blueprint}
 
--- An operation that was collected: its plan, the table on which it ran, the number of its record, and
--- how it completed.
+-- An operation that was collected: its plan, the table on which it ran, the number of its record,
+-- and how it completed.
 pub record Gathered : Type 0 where
   pub plan : Blueprint
   pub table : TableId

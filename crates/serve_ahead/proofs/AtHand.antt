@@ -15,13 +15,13 @@ use Rattle.plan_kinds.specs.Runnable.{IsRunnable}
 use Rattle.plan_kinds.specs.Small.{IsSmall}
 use Rattle.table_steps.specs.Views.{Board}
 use Rattle.table_steps.specs.Claims.{Seated}
-use Rattle.exec_start.specs.declared.entry.Entry.{Entry}
-use Rattle.exec_start.specs.declared.item.Item.{Item}
-use Rattle.exec_start.specs.declared.item.Item.TheVariants.{Rest, Done}
-use Rattle.exec_start.specs.Below.{run_below, asked_below}
-use Rattle.exec_start.specs.Bounds.{least_of}
-use Rattle.exec_start.specs.Entries.{plan_of, node_of, asked_of}
-use Rattle.exec_start.specs.Parcels.{Delivery, MayDeliver}
+use Rattle.home_items.specs.declared.entry.Entry.{Entry}
+use Rattle.home_items.specs.declared.item.Item.{Item}
+use Rattle.home_items.specs.declared.item.Item.TheVariants.{Rest, Done}
+use Rattle.home_items.specs.Below.{run_below, asked_below}
+use Rattle.home_items.specs.Bounds.{least_of}
+use Rattle.home_items.specs.Entries.{plan_of, node_of, asked_of}
+use Rattle.home_items.specs.Parcels.{Delivery, MayDeliver}
 use Rattle.exec_recv.specs.declared.next.Next.{Next}
 use Rattle.exec_recv.specs.Nexts.{IsStepped}
 use Rattle.exec_recv.specs.Over.{IsOver}
@@ -29,14 +29,14 @@ use Rattle.start_laws.specs.Nodes.{start_node, IsStartOf, MakesImage}
 use Rattle.start_laws.proofs.Bounding.{few-begun}
 use Rattle.start_laws.proofs.ImageCases.{images-allowed}
 use Rattle.start_laws.proofs.Pairs.{none-some, below-plain}
-use Rattle.node_steps.specs.Completes.{MayComplete}
-use Rattle.node_steps.specs.Heard.{MaySee}
-use Rattle.node_steps.specs.Leaves.{MayLeave}
-use Rattle.node_steps.specs.Midway.{Ready, IsReady, KeepsReady}
-use Rattle.node_steps.specs.Starts.{RunsBelow, asked_for_child, MayRun}
-use Rattle.node_steps.proofs.Completed.{unheard-before}
-use Rattle.node_steps.proofs.Frames.{emptying-less, others-on, stepped-after}
-use Rattle.node_steps.proofs.Places.{inner-is}
+use Rattle.step_parts.specs.Completes.{MayComplete}
+use Rattle.step_parts.specs.Heard.{MaySee}
+use Rattle.step_parts.specs.Leaves.{MayLeave}
+use Rattle.step_parts.specs.Midway.{Ready, IsReady, KeepsReady}
+use Rattle.step_parts.specs.Starts.{RunsBelow, asked_for_child, MayRun}
+use Rattle.step_parts.proofs.Completed.{unheard-before}
+use Rattle.step_parts.proofs.Frames.{emptying-less, others-on, stepped-after}
+use Rattle.step_parts.proofs.Places.{inner-is}
 use Rattle.exec_ahead.specs.Openings.{HasParcel}
 use Rattle.exec_ahead.proofs.Opened.{IsAheadAt}
 use Rattle.exec_ahead.proofs.Parked.{ahead-leaves}

@@ -14,21 +14,21 @@ use Rattle.plan_rules.specs.Settle.{ahead_of}
 use Rattle.plan_shape.specs.Blueprint.{Blueprint}
 use Rattle.table_steps.specs.Views.{Board}
 use Rattle.table_steps.specs.Claims.{Seated}
-use Rattle.exec_start.specs.declared.entry.Entry.{Entry}
-use Rattle.exec_start.specs.declared.item.Item.{Item}
-use Rattle.exec_start.specs.Below.{AllowedWith}
-use Rattle.exec_start.specs.Entries.{plan_of, args_of, record_number, asked_of, child_of}
-use Rattle.exec_start.specs.Parcels.{Delivery, MayDeliver}
-use Rattle.exec_start.specs.Starts.{IsReceiverStart}
+use Rattle.home_items.specs.declared.entry.Entry.{Entry}
+use Rattle.home_items.specs.declared.item.Item.{Item}
+use Rattle.home_items.specs.Below.{AllowedWith}
+use Rattle.home_items.specs.Entries.{plan_of, args_of, record_number, asked_of, child_of}
+use Rattle.home_items.specs.Parcels.{Delivery, MayDeliver}
+use Rattle.home_items.specs.Starts.{IsReceiverStart}
 use Rattle.start_laws.proofs.ImageCases.{images-allowed}
 use Rattle.start_laws.proofs.Rooms.{room-there}
 use Rattle.start_laws.proofs.Together.{aheads-allowed}
-use Rattle.node_steps.specs.Heard.{has_heard, was_told, TellsRequest, MaySee}
-use Rattle.node_steps.proofs.Completed.{or-left, or-right}
+use Rattle.step_parts.specs.Heard.{has_heard, was_told, TellsRequest, MaySee}
+use Rattle.step_parts.proofs.Completed.{or-left, or-right}
 use Rattle.loop_roots.specs.declared.completing.Ended.{Ended}
 use Rattle.loop_roots.specs.Completes.{AllowedAtTop, MayCollect}
 use Rattle.serve_ahead.specs.declared.taking.AheadAt.{AheadAt}
-use Rattle.serve_ahead.specs.Spawned.{HasRoom, IsJoined, IsParcelOf, IsSpawnedFor, MayJoin}
+use Rattle.serve_ahead.specs.Spawned.{HasRoom, IsJoinedAhead, IsParcelOf, IsSpawnedFor, MayJoin}
 use Rattle.serve_ahead.specs.Takes.{HasAtHand}
 use Rattle.serve_ahead.proofs.AtHand.{no-value}
 
@@ -88,7 +88,7 @@ no-values NoMemory none = refl
 pub values-joined : (start : List Entry) (parcel : Delivery) (ended : Ended) (heard : Bool) (values : List Datum) →
     parcel.completion ≡ Value values → (saw : Bool) → saw ≡ (parcel.saw || ended.collected.saw) →
     (heard ≡ false → ended.collected.saw ≡ false) → (made : Option Delivery) →
-    IfSome made (IsParcelOf start saw (ahead_of ended.collected.completion (Value values))) → IfSome made (IsJoined start parcel ended heard)
+    IfSome made (IsParcelOf start saw (ahead_of ended.collected.completion (Value values))) → IfSome made (IsJoinedAhead start parcel ended heard)
 values-joined start parcel ended heard values value saw saw_is silent None is = tt
 values-joined start parcel ended heard values value saw saw_is silent (Some own) is = record {
   start_is = ap (λ (p : Delivery). p.start) is;
@@ -118,7 +118,7 @@ fails-same NoMemory NoMemory none = refl
 
 pub failure-joined : (start : List Entry) (parcel : Delivery) (ended : Ended) (heard : Bool) →
     ((x : List Datum) → parcel.completion ≡ Value x → ⊥) → (own : Delivery) → IsParcelOf start parcel.saw parcel.completion own →
-    IsJoined start parcel ended heard own
+    IsJoinedAhead start parcel ended heard own
 failure-joined start parcel ended heard none own is = record {
   start_is = ap (λ (p : Delivery). p.start) is;
   done_is = ap (λ (p : Delivery). p.completion) is ∙ fails-same ended.collected.completion parcel.completion none;
@@ -135,7 +135,7 @@ passes-failure start at parcel ended may none =
 -- what it saw, the hand has heard of
 pub joined-sees : (board : Board Blueprint) (at : AheadAt) (start : List Entry) (parcel own : Delivery) (ended : Ended) (heard : Bool)
     (m' : Seated Item Entry) → HasAtHand board at start (Some parcel) m' → TellsRequest board at.name heard m' →
-    IsJoined start parcel ended heard own → MaySee board at.name own.saw m'
+    IsJoinedAhead start parcel ended heard own → MaySee board at.name own.saw m'
 joined-sees board at start parcel own ended heard m' has tells joined none =
     let unheard : heard ≡ false =
     either heard

@@ -7,13 +7,13 @@ use Rattle.plan_shape.specs.Blueprint.{Blueprint}
 use Rattle.plan_kinds.specs.TreeLaws.{IsSpawned}
 use Rattle.table_steps.specs.Views.{Board}
 use Rattle.table_steps.specs.Claims.{Seated}
-use Rattle.exec_start.specs.declared.entry.Entry.{Entry}
-use Rattle.exec_start.specs.declared.item.Item.{Item}
-use Rattle.exec_start.specs.Entries.{plan_of, node_of, args_of, record_start}
-use Rattle.exec_start.specs.HasKinds.{HasKinds}
-use Rattle.exec_start.specs.Parcels.{Delivery}
-use Rattle.exec_start.specs.Starts.{IsReceiverStart}
-use Rattle.exec_start.proofs.Beginning.{spawned-kinds}
+use Rattle.home_items.specs.declared.entry.Entry.{Entry}
+use Rattle.home_items.specs.declared.item.Item.{Item}
+use Rattle.home_items.specs.Entries.{plan_of, node_of, args_of, record_start}
+use Rattle.home_items.specs.HasKinds.{HasKinds}
+use Rattle.home_items.specs.Parcels.{Delivery}
+use Rattle.home_items.specs.Starts.{IsReceiverStart}
+use Rattle.home_items.proofs.Beginning.{spawned-kinds}
 use Rattle.start_laws.proofs.Pairs.{start-kinds}
 use Rattle.loop_roots.specs.Starts.{CanRun}
 use Rattle.serve_ahead.specs.declared.taking.AheadAt.{AheadAt}

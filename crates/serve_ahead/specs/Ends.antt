@@ -7,20 +7,20 @@ use Rattle.plan_rules.specs.Settle.{ahead_of}
 use Rattle.plan_shape.specs.Blueprint.{Blueprint}
 use Rattle.table_steps.specs.Views.{Board}
 use Rattle.table_steps.specs.Claims.{Seated}
-use Rattle.exec_start.specs.declared.entry.Entry.{Entry}
-use Rattle.exec_start.specs.declared.item.Item.{Item}
-use Rattle.exec_start.specs.Parcels.{Delivery}
+use Rattle.home_items.specs.declared.entry.Entry.{Entry}
+use Rattle.home_items.specs.declared.item.Item.{Item}
+use Rattle.home_items.specs.Parcels.{Delivery}
 use Rattle.exec_recv.specs.declared.next.Next.{Next}
 use Rattle.exec_recv.specs.Asides.{KeepsAside}
-use Rattle.node_steps.specs.Completes.{CompletesWith}
-use Rattle.node_steps.specs.Leaves.{IsLeftAt}
-use Rattle.node_steps.specs.Starts.{ReadsAndStarts}
+use Rattle.step_parts.specs.Completes.{CompletesWith}
+use Rattle.step_parts.specs.Leaves.{IsLeftAt}
+use Rattle.step_parts.specs.Starts.{ReadsAndStarts}
 use Rattle.loop_roots.specs.declared.completing.Ended.{Ended}
 use Rattle.serve_ahead.specs.declared.taking.AheadAt.{AheadAt}
 
 module _ (board : Board Blueprint) (at : AheadAt) where
-  -- It was left parked, with its start and what its second child completed with, where it has; and the
-  -- hand went on.
+  -- It was left parked, with its start and what its second child completed with, where it has; and
+  -- the hand went on.
   pub record IsPutBack (start : List Entry) (kept : Option Delivery) (m m' : Seated Item Entry) :
       Type 0 where
     pub left : Seated Item Entry

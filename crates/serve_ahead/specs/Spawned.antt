@@ -8,11 +8,11 @@ use Rattle.plan_rules.specs.Images.{value_data}
 use Rattle.plan_rules.specs.Settle.{ahead_of}
 use Rattle.plan_shape.specs.Blueprint.{Blueprint}
 use Rattle.table_steps.specs.Views.{Board}
-use Rattle.exec_start.specs.declared.entry.Entry.{Entry}
-use Rattle.exec_start.specs.Entries.{plan_of, args_of, record_number, asked_of, child_of, record_start, start_naming}
-use Rattle.exec_start.specs.Fits.{IsChildOf}
-use Rattle.exec_start.specs.Parcels.{Delivery, IsDelivery}
-use Rattle.exec_start.specs.Starts.{IsReceiverStart}
+use Rattle.home_items.specs.declared.entry.Entry.{Entry}
+use Rattle.home_items.specs.Entries.{plan_of, args_of, record_number, asked_of, child_of, record_start, start_naming}
+use Rattle.home_items.specs.Fits.{IsChildOf}
+use Rattle.home_items.specs.Parcels.{Delivery, IsDelivery}
+use Rattle.home_items.specs.Starts.{IsReceiverStart}
 use Rattle.start_laws.specs.Nodes.{IsStartOf}
 use Rattle.loop_roots.specs.declared.completing.Ended.{Ended}
 use Rattle.loop_roots.specs.Completes.{MayCollect}
@@ -33,8 +33,8 @@ pub record IsSpawnedFor (start : List Entry) (first : ℕ) (other : List Entry) 
   pub asked : asked_of other ≡ asked_of start
   pub args : args_of other ≡ args_of start
 
--- An operation over the table's plan was ended: it completed with what is allowed for the child that
--- its start names, or with want of memory.
+-- An operation over the table's plan was ended: it completed with what is allowed for the child
+-- that its start names, or with want of memory.
 pub record IsOperation (board : Board Blueprint) (ended : Ended) : Type 0 where
   pub receiver : IsReceiverStart ended.env
   pub key : plan_of ended.env ≡ board.frame.over.value
@@ -59,9 +59,9 @@ abbrev pub IsParcelOf : List Entry → Bool → Completion → Delivery → Type
 IsParcelOf start saw done parcel =
     parcel ≡ record { start = start; completion = done; saw = saw }
 
--- The parcel of the `ahead` with what both came to. It saw a request only where its second child did,
--- or the hand heard of one.
-pub record IsJoined (start : List Entry) (parcel : Delivery) (ended : Ended) (heard : Bool)
+-- The parcel of the `ahead` with what both came to. It saw a request only where its second child
+-- did, or the hand heard of one.
+pub record IsJoinedAhead (start : List Entry) (parcel : Delivery) (ended : Ended) (heard : Bool)
     (own : Delivery) : Type 0 where
   pub start_is : own.start ≡ start
   pub done_is : own.completion ≡ ahead_of ended.collected.completion parcel.completion

@@ -6,17 +6,18 @@ use Rattle.plan_shape.specs.Blueprint.{Blueprint}
 use Rattle.table_steps.specs.Views.{Board}
 use Rattle.table_steps.specs.Claims.{Seated}
 use Rattle.table_steps.specs.Steps.{control_index}
-use Rattle.exec_start.specs.declared.entry.Entry.{Entry}
-use Rattle.exec_start.specs.declared.item.Item.{Item}
-use Rattle.exec_start.specs.Parcels.{Delivery}
+use Rattle.home_items.specs.declared.entry.Entry.{Entry}
+use Rattle.home_items.specs.declared.item.Item.{Item}
+use Rattle.home_items.specs.Parcels.{Delivery}
 use Rattle.exec_recv.specs.Asides.{KeepsAside}
 use Rattle.exec_recv.specs.Steppable.{CanStep}
 use Rattle.start_laws.specs.Nodes.{IsStartOf}
-use Rattle.node_steps.specs.Midway.{Ready, KeepsOthers}
-use Rattle.node_steps.specs.TakenOut.{newest_in}
+use Rattle.step_parts.specs.Midway.{Ready, KeepsOthers}
+use Rattle.step_parts.specs.TakenOut.{newest_in}
 use Rattle.exec_ahead.specs.Openings.{HasParcel}
 use Rattle.loop_walk.specs.Resting.{IsAtRest, CanGoOn}
-use Rattle.loop_serve.specs.Since.{HasMovedSince, OnlyLooks}
+use Rattle.exec_recv.specs.Since.{HasMovedSince}
+use Rattle.loop_serve.specs.Since.{OnlyLooks}
 use Rattle.loop_serve.specs.Serving.{TakesWord, WasMissed}
 use Rattle.serve_ahead.specs.declared.taking.AheadAt.{AheadAt}
 use Rattle.serve_ahead.specs.declared.taking.TakenUp.{TakenUp}
@@ -31,8 +32,8 @@ module _ (board : Board Blueprint) (at : AheadAt) where
   FindsSecond kept m =
       (can : CanStep board at.name m) → newest_in (can.kid at.second) can.item ≡ kept
 
-  -- The hand has emptied the homes of the `ahead` and of its second child: it has the start, and with
-  -- it a parcel of that child, or none.
+  -- The hand has emptied the homes of the `ahead` and of its second child: it has the start, and
+  -- with it a parcel of that child, or none.
   pub record OpensAhead (start : List Entry) (kept : Option Delivery) (m m' : Seated Item Entry) :
       Type 0 where
     pub beside : KeepsOthers board at.name m m'

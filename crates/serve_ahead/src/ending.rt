@@ -15,11 +15,11 @@ use crate::taking::AheadAt;
 use exec_recv::{Env, Item, Parcel, Stepper};
 use exec_value::Completion;
 use loop_walk::{Mail, go_after};
-use node_steps::{complete, deliver_no_memory};
 use op_slot::{Hand, OpTable};
 use plan_shape::Plan;
 use std::alloc::Global;
 use std::sync::Wait;
+use step_parts::{complete, deliver_no_memory};
 
 /// Whether it completed with a value.
 pub fn is_value(parcel: &Parcel) -> bool
@@ -31,10 +31,9 @@ pub fn is_value(parcel: &Parcel) -> bool
 /// Completes the `ahead` as its second child did, which has no value.
 ///
 /// Step: those of `complete`, and of `go_after`.
-/// Needs: the table is over the stepper's plan, whose kinds match. The hand has the `ahead` at hand,
-/// and nothing besides.
-/// Afterwards: the hand is at rest. All else that its view says is as before, but for requests that
-/// it has seen and the list of its steps.
+/// Needs: the table is over the stepper's plan, whose kinds match. The hand has the `ahead` at
+/// hand, and nothing besides. Afterwards: the hand is at rest. All else that its view says is as
+/// before, but for requests that it has seen and the list of its steps.
 pub fn fail_ahead<T: Stepper, M: Mail, R: Wait + Sync>(
     rt: &R,
     alloc: Global,

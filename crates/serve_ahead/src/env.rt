@@ -2,7 +2,7 @@
 ghost use Rattle.std.specs.Prelude.{◌≡◌, IfOk, IsOk};
 ghost use Rattle.exec_value.specs.Place.{AreInPlace};
 ghost use Rattle.plan_kinds.specs.TreeLaws.{IsSpawned};
-ghost use Rattle.exec_start.specs.Entries.{plan_of, args_of};
+ghost use Rattle.home_items.specs.Entries.{plan_of, args_of};
 ghost use Rattle.serve_ahead.specs.Spawned.{spawned_start};
 
 use exec_recv::Env;

@@ -7,11 +7,11 @@ ghost use Rattle.table_steps.specs.Views.{IsHandOf, Stays, knows};
 ghost use Rattle.exec_recv.specs.Asides.{KeepsAside};
 ghost use Rattle.exec_recv.specs.Over.{IsOver};
 ghost use Rattle.loop_walk.specs.Resting.{IsAtRest};
-ghost use Rattle.exec_start.specs.Entries.{plan_of, args_of, record_number, asked_of, child_of};
-ghost use Rattle.exec_start.specs.Parcels.{MayDeliver};
-ghost use Rattle.exec_start.specs.Starts.{IsReceiverStart};
+ghost use Rattle.home_items.specs.Entries.{plan_of, args_of, record_number, asked_of, child_of};
+ghost use Rattle.home_items.specs.Parcels.{MayDeliver};
+ghost use Rattle.home_items.specs.Starts.{IsReceiverStart};
 ghost use Rattle.serve_ahead.specs.Takes.{HasAtHand};
-ghost use Rattle.serve_ahead.specs.Spawned.{HasRoom, IsJoined, IsOperation, IsParcelOf, IsSpawnedFor, MayJoin};
+ghost use Rattle.serve_ahead.specs.Spawned.{HasRoom, IsJoinedAhead, IsOperation, IsParcelOf, IsSpawnedFor, MayJoin};
 ghost use Rattle.serve_ahead.specs.Ends.{Joins};
 
 use crate::ending::give_up;
@@ -21,12 +21,12 @@ use exec_value::{Completion, Data};
 use loop_roots::{Collected, Ended};
 use loop_walk::{Mail, go_after};
 use node_images::put_behind;
-use node_steps::{complete, hear};
 use op_slot::{Hand, OpTable};
 use plan_rules::NodeId;
 use plan_shape::Plan;
 use std::alloc::{AllocError, Global};
 use std::sync::Wait;
+use step_parts::{complete, hear};
 
 // Whether the operation of this environment runs this child.
 fn names_child(other: &Env, first: NodeId) -> bool
@@ -55,8 +55,8 @@ fn has_args(env: &Env, other: &Env) -> bool
     theirs == own
 }
 
-// Whether the first child's operation was started for this record, with these arguments. It was: but
-// no clause of the table says that a node's start stays while the node rests.
+// Whether the first child's operation was started for this record, with these arguments. It was:
+// but no clause of the table says that a node's start stays while the node rests.
 fn is_first_of(env: &Env, first: NodeId, other: &Env) -> bool
     requires receiver { IsReceiverStart other.now }
     requires plan { plan_of other.now ≡ plan_of env.now }
@@ -116,12 +116,12 @@ fn both_values(env: &Env, first: Completion, values: Data, saw: bool) -> Option<
     }
 }
 
-// What the `ahead` completes with, by what its second child and its first child's operation came to.
-// None where there is no memory for it; or where that operation was started for another record, or
-// saw a request that this hand hasn't heard of, which doesn't come.
+// What the `ahead` completes with, by what its second child and its first child's operation came
+// to. None where there is no memory for it; or where that operation was started for another record,
+// or saw a request that this hand hasn't heard of, which doesn't come.
 fn joined(env: &Env, at: AheadAt, parcel: Parcel, ended: Ended, heard: bool) -> Option<Parcel>
     requires may { MayJoin env.now at parcel ended }
-    ensures { IfSome result (IsJoined env.now parcel ended heard) }
+    ensures { IfSome result (IsJoinedAhead env.now parcel ended heard) }
 {
     let Ended {
         env: other,

@@ -12,19 +12,18 @@ ghost use Rattle.serve_ahead.specs.Ends.{IsPutBack, BeginsSecond};
 use crate::taking::{AheadAt, TakenUp};
 use exec_recv::{Env, Item, Stepper};
 use loop_walk::{Mail, go_after};
-use node_steps::{leave_parked, start_unbegun_child};
 use op_slot::{Hand, OpTable};
 use plan_shape::Plan;
 use std::alloc::Global;
 use std::sync::Wait;
+use step_parts::{leave_parked, start_unbegun_child};
 
 /// Parks the `ahead` again, with what the hand has of it.
 ///
 /// Step: those of `leave_parked`, and of `go_after`.
-/// Needs: the table is over the stepper's plan, whose kinds match. The hand has the `ahead` at hand,
-/// and nothing besides.
-/// Afterwards: the hand is at rest. All else that its view says is as before, but for requests that
-/// it has seen and the list of its steps.
+/// Needs: the table is over the stepper's plan, whose kinds match. The hand has the `ahead` at
+/// hand, and nothing besides. Afterwards: the hand is at rest. All else that its view says is as
+/// before, but for requests that it has seen and the list of its steps.
 pub fn put_back<T: Stepper, M: Mail, R: Wait + Sync>(
     rt: &R,
     alloc: Global,

@@ -1,16 +1,17 @@
-//! Serving an `ahead` that is parked (P3149, `spawn_future`): hand 0 takes it, and starts its second
-//! child, completes it, or parks it again.
+//! Serving an `ahead` that is parked (P3149, `spawn_future`): hand 0 takes it, and starts its
+//! second child, completes it, or parks it again.
 //!
-//! It stands on exec_ahead, whose step parks the node, on node_steps, of whose calls each of these
+//! It stands on exec_ahead, whose step parks the node, on step_parts, of whose calls each of these
 //! is made, on loop_walk, by which the hand goes on after it, and on the laws of start_laws. It
-//! keeps one promise: from a hand at rest to a hand at rest, what it delivers is allowed by the plan
-//! for the node's start, where what its first child's operation came to was allowed for that child.
+//! keeps one promise: from a hand at rest to a hand at rest, what it delivers is allowed by the
+//! plan for the node's start, where what its first child's operation came to was allowed for that
+//! child.
 //!
 //!     parked --take_ahead--> at hand --put_back-----> parked
 //!                              |  \---begin_second--> its second child has begun
 //!                              |   \--fail_ahead----> done, with the second child's failure
-//!                              +------join_both-----> done, with both values, or the first's failure
-//!                              +------give_up-------> done, with want of memory
+//!                              +------join_both-----> done, with both values, or the first's
+//!                              failure +------give_up-------> done, with want of memory
 //!
 //! Who spawns the first child's operation, and learns what it came to, is spawn_future's.
 #![tactic(auto)]

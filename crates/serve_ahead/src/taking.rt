@@ -66,8 +66,8 @@ fn take_up(plan: &Plan, table: &OpTable<Item>, hand: &mut Hand<Item>, at: AheadA
 /// Step: that of `take_parked`, before which the gate is passed, and where it took the node those
 /// of `take_home`.
 /// Needs: hand 0, which is at rest. The node is an `ahead` of the table's plan, whose kinds match.
-/// Afterwards: the hand has the `ahead` at hand, and nothing besides. All else that its view says is
-/// as before, but for the list of its steps.
+/// Afterwards: the hand has the `ahead` at hand, and nothing besides. All else that its view says
+/// is as before, but for the list of its steps.
 pub fn take_ahead<G: Gate, R: Wait + Sync>(
     rt: &R,
     plan: &Plan,

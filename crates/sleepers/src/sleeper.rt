@@ -44,6 +44,12 @@ impl Sleeper {
         self.room.searching.compare_exchange(0, 1).is_ok()
     }
 
+    /// No hand sleeps or searches, but perhaps the last: a name that this hand keeps for itself is
+    /// missed by none of them.
+    pub fn all_work(&self) -> bool {
+        self.room.searchers() == 0 && self.room.searching.load() == 0
+    }
+
     /// This hand, which is counted as searching, searches no more.
     pub fn leave_search(&self) {
         self.room.searching.fetch_sub(1);

@@ -13,8 +13,8 @@ use Rattle.table_steps.specs.Views.{Board}
 use Rattle.table_steps.specs.Claims.{Seated}
 use Rattle.op_slot.specs.Searches.{IsMissedFrom}
 use Rattle.op_slot.proofs.Searching.{missed-from_same}
-use Rattle.exec_start.specs.declared.entry.Entry.{Entry}
-use Rattle.exec_start.specs.declared.item.Item.{Item}
+use Rattle.home_items.specs.declared.entry.Entry.{Entry}
+use Rattle.home_items.specs.declared.item.Item.{Item}
 use Rattle.exec_recv.specs.Asides.{Aside, aside_of}
 use Rattle.loop_roots.specs.Emptied.{with_released}
 use Rattle.loop_roots.specs.Leaves.{LeavesAside}
@@ -22,7 +22,7 @@ use Rattle.loop_roots.specs.Starts.{BeginsRoot, with_started}
 use Rattle.loop_roots.proofs.Claimed.{missed-grows}
 use Rattle.loop_roots.proofs.Growing.{grows-on, leaves-grows, leaves-with}
 use Rattle.loop_roots.specs.Completes.{EndsRoot}
-use Rattle.spawn_future.specs.Keeping.{root_in, Enters, Ends}
+use Rattle.spawn_future.specs.Keeping.{block_root, Enters, Ends}
 use Rattle.loop_roots.specs.declared.completing.Ended.{Ended}
 use Rattle.spawn_future.proofs.Moved.{Moves, moved-leaves}
 
@@ -55,8 +55,8 @@ pub entered : (board : Board Blueprint) (b : Block) (start : List Entry) (m betw
 entered board b start m between m' moved did =
     record {
       within = did.within;
-      unnoted = sym (ap (λ (a : Aside). find_by (λ (e : Rooted Entry). e.name) a.noted (root_in board b)) (moved-leaves (m.0.made + 1) m between moved).is) ∙ did.unnoted;
-      leaves = moved-then (m.0.made + 1) m between m' moved (with_started (root_in board b) start) did.leaves;
+      unnoted = sym (ap (λ (a : Aside). find_by (λ (e : Rooted Entry). e.name) a.noted (block_root board b)) (moved-leaves (m.0.made + 1) m between moved).is) ∙ did.unnoted;
+      leaves = moved-then (m.0.made + 1) m between m' moved (with_started (block_root board b) start) did.leaves;
     }
 
 -- no block was free: the hand has the association still
@@ -93,5 +93,5 @@ pub ended : (board : Board Blueprint) (b : Block) (m between m' : Seated Item En
 ended board b m between m' c did left =
     record {
       completes = did.completes;
-      leaves = then-moved (with_released (root_in board b) (aside_of m.0)) m between m' did.leaves left;
+      leaves = then-moved (with_released (block_root board b) (aside_of m.0)) m between m' did.leaves left;
     }

@@ -15,15 +15,15 @@ use Rattle.table_steps.specs.declared.block.Block.{Block}
 use Rattle.table_steps.specs.Slots.{noted_at}
 use Rattle.table_steps.specs.Views.{Board, IsHandOf}
 use Rattle.table_steps.specs.Claims.{Seated}
-use Rattle.exec_start.specs.declared.entry.Entry.{Entry}
-use Rattle.exec_start.specs.declared.item.Item.{Item}
-use Rattle.exec_start.specs.Starts.{IsReceiverStart}
+use Rattle.home_items.specs.declared.entry.Entry.{Entry}
+use Rattle.home_items.specs.declared.item.Item.{Item}
+use Rattle.home_items.specs.Starts.{IsReceiverStart}
 use Rattle.exec_recv.specs.Asides.{Aside, aside_of}
 use Rattle.loop_walk.specs.Resting.{IsAtRest}
 use Rattle.loop_roots.specs.Completes.{IsListed}
 use Rattle.loop_roots.specs.Leaves.{LeavesAside}
 use Rattle.spawn_future.specs.declared.future.Future.{Future}
-use Rattle.spawn_future.specs.Keeping.{root_in, root_of, AreKept, IsKeeping, with_ended, Enters}
+use Rattle.spawn_future.specs.Keeping.{block_root, root_of, AreKept, IsKeeping, with_ended, Enters}
 use Rattle.spawn_future.specs.Slots.{Has, HasBlock}
 use Rattle.spawn_future.proofs.Slotted.{one-more, one-less, one-same, was-there, is-here, stays-there, has-within}
 
@@ -53,7 +53,7 @@ others-stay (e ∷ l) x y apart =
 module _ (board : Board Blueprint) where
   -- the note of a root stays, and so it is listed still
   listed-still : (b : Block) (m m' : Seated Item Entry) → IsListed board b m →
-      noted_at m'.0 (root_in board b) ≡ noted_at m.0 (root_in board b) → IsListed board b m'
+      noted_at m'.0 (block_root board b) ≡ noted_at m.0 (block_root board b) → IsListed board b m'
   listed-still b m m' listed same_note =
       record {
         within = listed.within;
@@ -215,5 +215,5 @@ module _ (board : Board Blueprint) where
               let first = had u p has_p in
               let next = had w q has_q in
               kept.apart u w first.0 next.0 first.1 next.1
-              (ap (root_in board) (sym first.2) ∙ at ∙ ap (root_in board) next.2);
+              (ap (block_root board) (sym first.2) ∙ at ∙ ap (block_root board) next.2);
         }

@@ -7,15 +7,15 @@ use Rattle.count_scope.specs.Leaves.{disassociated, Leaves}
 use Rattle.count_scope.specs.Seals.{seen_after, tried}
 use Rattle.life_rules.specs.declared.scope.Refused.{Refused}
 use Rattle.life_rules.specs.declared.event.SourceRef.{SourceRef}
-use Rattle.listed_steps.specs.declared.seen.Seen.{Seen}
-use Rattle.listed_steps.specs.Lists.{entry}
+use Rattle.listed_words.specs.declared.seen.Seen.{Seen}
+use Rattle.listed_words.specs.Lists.{entry}
 use Rattle.table_rules.specs.declared.view.View.{View}
 use Rattle.table_rules.specs.ShownViews.{has_source_ref}
 use Rattle.table_words.specs.ScopeNumbers.{scope_read}
 use Rattle.table_steps.specs.Claims.{with_step, Seated}
 use Rattle.table_steps.specs.ScopeEntries.{MayEnter}
-use Rattle.exec_start.specs.declared.entry.Entry.{Entry}
-use Rattle.exec_start.specs.declared.item.Item.{Item}
+use Rattle.home_items.specs.declared.entry.Entry.{Entry}
+use Rattle.home_items.specs.declared.item.Item.{Item}
 use Rattle.exec_recv.specs.Asides.{aside_of}
 use Rattle.loop_walk.specs.Resting.{IsAtRest}
 use Rattle.loop_roots.specs.Leaves.{LeavesAside}

@@ -10,8 +10,8 @@ use Rattle.table_rules.specs.declared.view.View.{View}
 use Rattle.table_steps.specs.declared.block.Block.{Block}
 use Rattle.table_steps.specs.Claims.{Seated}
 use Rattle.table_steps.specs.Views.{Board, IsHandOf}
-use Rattle.exec_start.specs.declared.entry.Entry.{Entry}
-use Rattle.exec_start.specs.declared.item.Item.{Item}
+use Rattle.home_items.specs.declared.entry.Entry.{Entry}
+use Rattle.home_items.specs.declared.item.Item.{Item}
 use Rattle.exec_recv.specs.Asides.{Aside, aside_of, KeepsAside}
 use Rattle.exec_recv.proofs.Asiding.{aside-here}
 use Rattle.loop_walk.specs.Resting.{IsAtRest}
@@ -25,8 +25,8 @@ use Rattle.spawn_future.specs.declared.future.Future.{Future}
 use Rattle.spawn_future.specs.declared.spawning.SpawnFault.{SpawnFault}
 use Rattle.spawn_future.specs.declared.spawning.SpawnFault.TheVariants.{Full, Scope, NoBlock}
 use Rattle.spawn_future.specs.Counts.{BeginsAndEnds}
-use Rattle.spawn_future.specs.Keeping.{root_in, AreKept, IsKeeping, KeepsAtHand, Ends}
-use Rattle.spawn_future.specs.Polls.{Abandons, AbandonsNone, EndsAt}
+use Rattle.spawn_future.specs.Keeping.{block_root, AreKept, IsKeeping, KeepsAtHand, Ends}
+use Rattle.spawn_future.specs.Polls.{Abandons, AbandonsNone, EndsSlotAt}
 use Rattle.spawn_future.specs.Slots.{Has, HasBlock, WaitsAt}
 use Rattle.spawn_future.specs.Spawns.{Spawns, Refuses}
 use Rattle.spawn_future.proofs.Counted.{counts-same, counts-begun, counts-ended, counts-marked}
@@ -79,8 +79,8 @@ ended-operation board slots t b m m' ended kept has ends =
       receiver = ends.completes.receiver;
       key = ends.completes.key;
       may = subst (λ (s : List Entry). MayCollect s ended.collected.saw ended.collected.completion)
-          (sym (ends.completes.shows (record { name = root_in board b; start = listed.start }) listed.noted))
-          (ends.completes.is_for (record { name = root_in board b; start = listed.start }) listed.noted).may;
+          (sym (ends.completes.shows (record { name = block_root board b; start = listed.start }) listed.noted))
+          (ends.completes.is_for (record { name = block_root board b; start = listed.start }) listed.noted).may;
     }
 
 -- one was abandoned, or none
@@ -131,7 +131,7 @@ refused-keeps board start slots hand hand' (NoBlock back) did =
 
 -- how an end counts
 pub ended-counts : (board : Board Blueprint) (t : ℕ) (b : Block) (old new : List (Option Future)) (m m' : Seated Item Entry) (ended : Ended) →
-    AreKept board old m → HasBlock old t b → EndsAt board t b old new m m' ended → BeginsAndEnds board old new m m'
+    AreKept board old m → HasBlock old t b → EndsSlotAt board t b old new m m' ended → BeginsAndEnds board old new m m'
 ended-counts board t b old new m m' ended kept has did =
     subst (λ (l : List (Option Future)). BeginsAndEnds board old l m m') (sym did.slots)
     (counts-ended board old t (has-within old t has.future has.has) m m' kept has.future has.has ended

@@ -11,15 +11,15 @@ use Rattle.table_steps.specs.declared.block.Block.{Block}
 use Rattle.table_steps.specs.Claims.{Seated}
 use Rattle.table_steps.specs.ScopeEntries.{MayEnter}
 use Rattle.table_steps.specs.Views.{Board, IsHandOf}
-use Rattle.exec_start.specs.declared.entry.Entry.{Entry}
-use Rattle.exec_start.specs.declared.item.Item.{Item}
-use Rattle.exec_start.specs.Starts.{IsReceiverStart}
+use Rattle.home_items.specs.declared.entry.Entry.{Entry}
+use Rattle.home_items.specs.declared.item.Item.{Item}
+use Rattle.home_items.specs.Starts.{IsReceiverStart}
 use Rattle.exec_recv.specs.Asides.{Aside, aside_of}
 use Rattle.loop_walk.specs.Resting.{IsAtRest}
 use Rattle.loop_roots.specs.declared.completing.Ended.{Ended}
 use Rattle.loop_roots.specs.Emptied.{WasNotReady}
 use Rattle.loop_roots.specs.Leaves.{LeavesAside}
-use Rattle.loop_roots.proofs.Emptied.{unready-leaves}
+use Rattle.loop_roots.proofs.Unready.{unready-leaves}
 use Rattle.spawn_future.specs.declared.future.Future.{Future}
 use Rattle.spawn_future.specs.declared.slots.Found.{Found}
 use Rattle.spawn_future.specs.declared.spawning.SpawnFault.{SpawnFault}

@@ -7,8 +7,8 @@ use Rattle.std.proofs.lemmas.List.Sums.{count_by-le-length}
 use Rattle.std.proofs.lemmas.List.Elements.{Contains-append_right}
 use Rattle.life_rules.specs.declared.event.Name.{Name}
 use Rattle.life_rules.specs.declared.event.Resting.TheVariants as rest
-use Rattle.listed_steps.specs.declared.seen.Seen.{Seen}
-use Rattle.listed_steps.specs.Lists.{entry}
+use Rattle.listed_words.specs.declared.seen.Seen.{Seen}
+use Rattle.listed_words.specs.Lists.{entry}
 use Rattle.plan_shape.specs.Blueprint.{Blueprint}
 use Rattle.table_rules.specs.declared.view.Rooted.{Rooted}
 use Rattle.table_rules.specs.Named.{find_by}
@@ -19,16 +19,16 @@ use Rattle.table_steps.specs.Steps.{control_index}
 use Rattle.table_steps.specs.Takes.{rest_word}
 use Rattle.table_steps.specs.Views.{Board}
 use Rattle.table_steps.specs.Claims.{Seated}
-use Rattle.exec_start.specs.declared.entry.Entry.{Entry}
-use Rattle.exec_start.specs.declared.item.Item.{Item}
+use Rattle.home_items.specs.declared.entry.Entry.{Entry}
+use Rattle.home_items.specs.declared.item.Item.{Item}
 use Rattle.exec_recv.specs.Asides.{Aside, aside_of}
 use Rattle.loop_roots.specs.declared.completing.Ended.{Ended}
-use Rattle.loop_serve.specs.Since.{HasReadSince}
+use Rattle.exec_recv.specs.Since.{HasReadSince}
 use Rattle.spawn_future.specs.declared.future.Future.{Future}
-use Rattle.spawn_future.specs.Keeping.{root_in, root_of, AreKept}
-use Rattle.spawn_future.specs.Polls.{EndsAt, IsIncomplete}
+use Rattle.spawn_future.specs.Keeping.{block_root, root_of, AreKept}
+use Rattle.spawn_future.specs.Polls.{EndsSlotAt, IsIncomplete}
 use Rattle.spawn_future.specs.Slots.{Has, kept_in, abandoned_block}
-use Rattle.spawn_future.specs.Sweeps.{EndsSlot, LeavesSlot, WasIncomplete, beside, EndsSome, SweepsTo}
+use Rattle.spawn_future.specs.Sweeps.{EndsSlot, LeavesSlot, WasIncomplete, beside_ended, EndsSome, SweepsTo}
 use Rattle.spawn_future.proofs.Kept.{others-stay}
 use Rattle.spawn_future.proofs.Slotted.{one-less, stays-there, has-within, abandoned-has, not-abandoned, put-there}
 
@@ -110,7 +110,7 @@ module _ (board : Board Blueprint) (slot count : ℕ) (old new : List (Option Fu
     -- the slot's future wasn't complete
     module _ (later : List (Option Future)) (m' : Seated Item Entry) (is : IsIncomplete board b new later m1 m') where
       abbrev step : Seen
-      step = entry (control_index board (root_in board b)) is.read.word is.read.word
+      step = entry (control_index board (block_root board b)) is.read.word is.read.word
 
       same_aside : aside_of m'.0 ≡ aside_of m1.0
       same_aside = ap (λ (z : Seated Item Entry). aside_of z.0) is.read.is
@@ -122,7 +122,7 @@ module _ (board : Board Blueprint) (slot count : ℕ) (old new : List (Option Fu
       was-read =
           subst
           (λ (x : Block).
-          HasReadSince (control_index board (root_in board x)) (λ word. word ≢ rest_word (root_in board x) rest.Loop) m m')
+          HasReadSince (control_index board (block_root board x)) (λ word. word ≢ rest_word (block_root board x) rest.Loop) m m')
           (sym in-block)
           (record {
             fresh = step ∷ before.ends.fresh;
@@ -141,7 +141,7 @@ module _ (board : Board Blueprint) (slot count : ℕ) (old new : List (Option Fu
           let made_is = ap (λ (a : Aside). a.made) same_aside in
           let released_is = ap (λ (a : Aside). a.released) same_aside in
           record {
-            aside = ap (beside (aside_of m.0)) same_aside ∙ ends.aside;
+            aside = ap (beside_ended (aside_of m.0)) same_aside ∙ ends.aside;
             made = omega (arith, made, made_is);
             released = omega (arith, released, released_is);
             noted = λ x apart. ap (λ (z : Seated Item Entry). noted_at z.0 x) is.read.is ∙ ends.noted x apart;
@@ -178,9 +178,9 @@ module _ (board : Board Blueprint) (slot count : ℕ) (old new : List (Option Fu
 
     -- or it was ended
     module _ (kept : AreKept board new m1) (later : List (Option Future)) (m' : Seated Item Entry) (c : Ended)
-        (did : EndsAt board slot b new later m1 m' c) where
+        (did : EndsSlotAt board slot b new later m1 m' c) where
       abbrev root : Name
-      root = root_in board b
+      root = block_root board b
 
       less : kept_in new ≡ kept_in (set new slot None) + 1
       less = one-less new slot within future has-future
@@ -196,13 +196,13 @@ module _ (board : Board Blueprint) (slot count : ℕ) (old new : List (Option Fu
           let made_is = ap (λ (a : Aside). a.made) leaves.is in
           let released_is = ap (λ (a : Aside). a.released) leaves.is in
           record {
-            aside = ap (beside (aside_of m.0)) leaves.is ∙ ends.aside;
+            aside = ap (beside_ended (aside_of m.0)) leaves.is ∙ ends.aside;
             made = omega (arith, made, made_is, has_made, some);
             released = omega (arith, released, released_is);
             noted = λ x apart.
                 ap (λ (a : Aside). find_by (λ (e : Rooted Entry). e.name) a.noted x) leaves.is
                 ∙ others-stay m1.0.noted root x
-                (λ at. apart slot future (before.stays slot future has-future) is-abandoned (ap (root_in board) in-block ∙ at))
+                (λ at. apart slot future (before.stays slot future has-future) is-abandoned (ap (block_root board) in-block ∙ at))
                 ∙ ends.noted x apart;
             fresh = leaves.fresh ++ ends.fresh;
             grown = leaves.grown ∙ ap (λ (l : List Seen). leaves.fresh ++ l) ends.grown

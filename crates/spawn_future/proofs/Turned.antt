@@ -20,12 +20,14 @@ use Rattle.table_words.specs.Stamps.{stamp_of}
 use Rattle.table_steps.specs.Looks.{IsReadAs}
 use Rattle.table_steps.specs.Views.{Board, IsPlaceIn}
 use Rattle.table_steps.specs.Claims.{Seated}
-use Rattle.exec_start.specs.declared.entry.Entry.{Entry}
-use Rattle.exec_start.specs.declared.item.Item.{Item}
+use Rattle.home_items.specs.declared.entry.Entry.{Entry}
+use Rattle.home_items.specs.declared.item.Item.{Item}
 use Rattle.exec_recv.specs.Asides.{KeepsAside}
 use Rattle.exec_recv.specs.Over.{IsOver}
-use Rattle.loop_serve.specs.Since.{HasReadSince, OnlyLooks}
-use Rattle.loop_serve.proofs.Read.{looked-aside, looked-only, looked-since, looks-here, looks-on, since-after, since-before}
+use Rattle.exec_recv.specs.Since.{HasReadSince}
+use Rattle.loop_serve.specs.Since.{OnlyLooks}
+use Rattle.exec_recv.proofs.Since.{since-after, since-before}
+use Rattle.loop_serve.proofs.Read.{looked-aside, looked-only, looked-since, looks-here, looks-on}
 use Rattle.serve_ahead.specs.declared.taking.AheadAt.{AheadAt}
 use Rattle.serve_ahead.specs.Takes.{IsAheadIn}
 use Rattle.spawn_future.specs.declared.future.Future.{Future}

@@ -3,14 +3,14 @@ use Rattle.std.specs.Prelude.{◌≡◌, ℕ, ◌+◌, false, List, ◌++◌, co
 use Rattle.std.specs.Option.{option_map_or}
 use Rattle.life_rules.specs.declared.event.Name.{Name}
 use Rattle.life_rules.specs.Views.{same}
-use Rattle.listed_steps.specs.declared.seen.Seen.{Seen}
+use Rattle.listed_words.specs.declared.seen.Seen.{Seen}
 use Rattle.plan_shape.specs.Blueprint.{Blueprint}
 use Rattle.table_rules.specs.declared.view.Rooted.{Rooted}
 use Rattle.table_steps.specs.Slots.{noted_at}
 use Rattle.table_steps.specs.Views.{Board}
 use Rattle.table_steps.specs.Claims.{Seated}
-use Rattle.exec_start.specs.declared.entry.Entry.{Entry}
-use Rattle.exec_start.specs.declared.item.Item.{Item}
+use Rattle.home_items.specs.declared.entry.Entry.{Entry}
+use Rattle.home_items.specs.declared.item.Item.{Item}
 use Rattle.exec_recv.specs.Asides.{Aside, aside_of, SeesMore}
 use Rattle.spawn_future.specs.declared.future.Future.{Future}
 use Rattle.spawn_future.specs.Keeping.{root_of}
@@ -49,8 +49,8 @@ pub record KeepsNotes (board : Board Blueprint) (old new : List (Option Future))
       notes_of x m' + futures_of board x old ≡ notes_of x m + futures_of board x new
 
 -- So many operations were begun, and so many ended: for each that was begun there is a future, an
--- association and a claimed block more, and for each that was ended a future and an association less,
--- and a block given back.
+-- association and a claimed block more, and for each that was ended a future and an association
+-- less, and a block given back.
 pub record BeginsAndEnds (board : Board Blueprint) (old new : List (Option Future))
     (m m' : Seated Item Entry) : Type 0 where
   pub begun : ℕ

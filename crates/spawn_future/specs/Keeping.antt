@@ -8,8 +8,8 @@ use Rattle.table_steps.specs.declared.block.Block.{Block}
 use Rattle.table_steps.specs.ScopeEntries.{MayEnter}
 use Rattle.table_steps.specs.Views.{Board, IsHandOf, knows}
 use Rattle.table_steps.specs.Claims.{Seated, root_name, IsUnnoted}
-use Rattle.exec_start.specs.declared.entry.Entry.{Entry}
-use Rattle.exec_start.specs.declared.item.Item.{Item}
+use Rattle.home_items.specs.declared.entry.Entry.{Entry}
+use Rattle.home_items.specs.declared.item.Item.{Item}
 use Rattle.exec_recv.specs.Asides.{Aside, aside_of}
 use Rattle.loop_walk.specs.Resting.{IsAtRest}
 use Rattle.loop_roots.specs.declared.completing.Ended.{Ended}
@@ -21,11 +21,11 @@ use Rattle.spawn_future.specs.declared.future.Future.{Future}
 use Rattle.spawn_future.specs.Slots.{Has, kept_in}
 
 -- The root of a block, and that of a future's.
-abbrev pub root_in : Board Blueprint → Block → Name
-root_in board b = root_name board b.index b.generation
+abbrev pub block_root : Board Blueprint → Block → Name
+block_root board b = root_name board b.index b.generation
 
 abbrev pub root_of : Board Blueprint → Future → Name
-root_of board f = root_in board f.block
+root_of board f = block_root board f.block
 
 -- The hand has an association for each future. Of each it noted the start of its block's root at
 -- the block's generation, a start of the receiver node; and no two are in one block.
@@ -73,11 +73,11 @@ with_ended root aside = record (with_released root aside) { made = aside.made - 
 pub record Enters (board : Board Blueprint) (b : Block) (start : List Entry)
     (m m' : Seated Item Entry) : Type 0 where
   pub within : b.index < board.frame.layout.blocks
-  pub unnoted : IsUnnoted m.0 (root_in board b)
-  pub leaves : LeavesAside (with_spawned (root_in board b) start (aside_of m.0)) m m'
+  pub unnoted : IsUnnoted m.0 (block_root board b)
+  pub leaves : LeavesAside (with_spawned (block_root board b) start (aside_of m.0)) m m'
 
 -- The operation in the block completed so. The block was given back, and then the association left.
 pub record Ends (board : Board Blueprint) (b : Block) (m m' : Seated Item Entry)
     (ended : Ended) : Type 0 where
   pub completes : CompletesNoted board b m ended
-  pub leaves : LeavesAside (with_ended (root_in board b) (aside_of m.0)) m m'
+  pub leaves : LeavesAside (with_ended (block_root board b) (aside_of m.0)) m m'

@@ -6,8 +6,8 @@ use Rattle.plan_shape.specs.Blueprint.{Blueprint}
 use Rattle.table_steps.specs.declared.block.Block.{Block}
 use Rattle.table_steps.specs.Views.{Board}
 use Rattle.table_steps.specs.Claims.{Seated}
-use Rattle.exec_start.specs.declared.entry.Entry.{Entry}
-use Rattle.exec_start.specs.declared.item.Item.{Item}
+use Rattle.home_items.specs.declared.entry.Entry.{Entry}
+use Rattle.home_items.specs.declared.item.Item.{Item}
 use Rattle.loop_roots.specs.declared.completing.Ended.{Ended}
 use Rattle.loop_roots.specs.Emptied.{WasNotReady}
 use Rattle.spawn_future.specs.declared.future.Future.{Future}
@@ -17,7 +17,7 @@ use Rattle.spawn_future.specs.Keeping.{Ends}
 use Rattle.spawn_future.specs.Slots.{is_waited, IsMarkedAt, WaitsAt, WaitsNowhere}
 
 -- The future of the slot completed so, and was ended: the slot is free.
-pub record EndsAt (board : Board Blueprint) (t : ℕ) (b : Block) (old new : List (Option Future))
+pub record EndsSlotAt (board : Board Blueprint) (t : ℕ) (b : Block) (old new : List (Option Future))
     (m m' : Seated Item Entry) (ended : Ended) : Type 0 where
   pub slots : new ≡ slice_set old t None
   pub ends : Ends board b m m' ended
@@ -38,7 +38,7 @@ module _ (board : Board Blueprint) (owner : Name) (old new : List (Option Future
     pub ended : Ended
     pub completion_is : ended.collected.completion ≡ completion
     pub saw_is : ended.collected.saw ≡ saw
-    pub ends : EndsAt board slot future.block old new m m' ended
+    pub ends : EndsSlotAt board slot future.block old new m m' ended
 
   -- it wasn't complete
   pub record StillWaits : Type 0 where

@@ -1,5 +1,5 @@
 -- What comes of an `ahead` that was parked and is served (P3149, spawn_future).
-use Rattle.std.specs.Prelude.{◌≡◌, ◌⊎◌, ℕ, true, false, List, Option, Some, None, is_some}
+use Rattle.std.specs.Prelude.{◌≡◌, ◌⊎◌, ℕ, true, false, List, Option, Some, None, IsSome, is_some}
 use Rattle.atomic_table.specs.declared.shared.Seat.{Seat}
 use Rattle.exec_value.specs.declared.outcome.Completion.TheVariants.{NoMemory}
 use Rattle.exec_value.specs.Place.{AreInPlace}
@@ -8,10 +8,10 @@ use Rattle.plan_shape.specs.Blueprint.{Blueprint}
 use Rattle.table_rules.specs.declared.view.View.{View}
 use Rattle.table_steps.specs.Views.{Board}
 use Rattle.table_steps.specs.Claims.{Seated}
-use Rattle.exec_start.specs.declared.entry.Entry.{Entry}
-use Rattle.exec_start.specs.declared.item.Item.{Item}
-use Rattle.exec_start.specs.Entries.{args_of}
-use Rattle.exec_start.specs.Parcels.{Delivery}
+use Rattle.home_items.specs.declared.entry.Entry.{Entry}
+use Rattle.home_items.specs.declared.item.Item.{Item}
+use Rattle.home_items.specs.Entries.{args_of}
+use Rattle.home_items.specs.Parcels.{Delivery}
 use Rattle.loop_roots.specs.declared.completing.Ended.{Ended}
 use Rattle.serve_ahead.specs.declared.taking.AheadAt.{AheadAt}
 use Rattle.serve_ahead.specs.declared.taking.TakenUp.{TakenUp}
@@ -20,22 +20,24 @@ use Rattle.serve_ahead.specs.Spawned.{spawned_start}
 use Rattle.serve_ahead.specs.Takes.{TakesAhead, MissesAhead}
 use Rattle.spawn_future.specs.declared.future.Future.{Future}
 use Rattle.spawn_future.specs.declared.spawning.SpawnFault.{SpawnFault}
-use Rattle.spawn_future.specs.Polls.{Abandons, AbandonsNone, EndsAt, StillWaits}
+use Rattle.spawn_future.specs.Polls.{Abandons, AbandonsNone, EndsSlotAt, StillWaits}
 use Rattle.spawn_future.specs.Slots.{WaitsAt, WaitsNowhere}
 use Rattle.spawn_future.specs.Spawns.{Spawns, Refuses}
 
 -- It is taken once more, while its first child's operation runs or was ended.
 module _ (board : Board Blueprint) (at : AheadAt) (m m' : Seated Item Entry) where
-  -- It was taken, and parked again.
-  pub record IsLeftParked : Type 0 where
+  -- It was taken, and parked again, with what its second child had come to.
+  pub record IsParkedWith (IsFound : Option Delivery → Type 0) : Type 0 where
     pub taken : TakenUp
+    pub found : IsFound taken.second
     pub held : Seated Item Entry
     pub took : TakesAhead board at m held taken
     pub back : IsPutBack board at taken.env taken.second held m'
 
-  -- It goes on later: it wasn't taken, or was parked again. Neither comes.
-  abbrev pub GoesOnLater : Type 0
-  GoesOnLater = MissesAhead board at m m' ⊎ IsLeftParked
+  -- It goes on later: it wasn't taken, or was parked again, since this was found of its second
+  -- child. Neither comes.
+  abbrev pub GoesOnLater : (Option Delivery → Type 0) → Type 0
+  GoesOnLater IsFound = MissesAhead board at m m' ⊎ IsParkedWith IsFound
 
   -- It was taken, and its second child started.
   pub record StartsSecond : Type 0 where
@@ -54,17 +56,20 @@ module _ (board : Board Blueprint) (at : AheadAt) (m m' : Seated Item Entry) whe
     pub took : TakesAhead board at m held taken
     pub joins : Joins board at parcel ended m'
 
+  -- so it was, unless its second child had completed
   abbrev pub StartsOrLater : Type 0
-  StartsOrLater = StartsSecond ⊎ GoesOnLater
+  StartsOrLater = StartsSecond ⊎ GoesOnLater (λ second. IsSome second)
 
+  -- so it did, unless its second child hadn't completed
   abbrev pub CompletesOrLater : Ended → Type 0
-  CompletesOrLater ended = CompletesBy ended ⊎ GoesOnLater
+  CompletesOrLater ended = CompletesBy ended ⊎ GoesOnLater (λ second. second ≡ None)
 
 -- It is at hand: this is its start.
 module _ (board : Board Blueprint) (at : AheadAt) (start : List Entry)
     (old new : List (Option Future)) (hand hand' : Seat (Option Item) (View Item Entry)) where
-  -- Its second child hasn't begun. It was parked again, its first child's operation spawned with its
-  -- arguments, record number and `asked`, and then it was taken again, and its second child started.
+  -- Its second child hasn't begun. It was parked again, its first child's operation spawned with
+  -- its arguments, record number and `asked`, and then it was taken again, and its second child
+  -- started.
   pub record SpawnsFirst : Type 0 where
     pub parked : Seat (Option Item) (View Item Entry)
     pub back : IsPutBack board at start None hand.me parked.me
@@ -132,7 +137,7 @@ module _ (board : Board Blueprint) (at : AheadAt) (taken : TakenUp)
     pub waits : WaitsAt at.name old slot future
     pub ended : Ended
     pub emptied : Seat (Option Item) (View Item Entry)
-    pub ends : EndsAt board slot future.block old new parked.me emptied.me ended
+    pub ends : EndsSlotAt board slot future.block old new parked.me emptied.me ended
     pub goes_on : CompletesOrLater board at emptied.me hand'.me ended
 
   abbrev pub AwaitsOrJoins : Type 0

@@ -9,8 +9,8 @@ use Rattle.life_rules.specs.declared.scope.Refused.{Refused}
 use Rattle.plan_shape.specs.Blueprint.{Blueprint}
 use Rattle.table_rules.specs.declared.view.View.{View}
 use Rattle.table_steps.specs.Views.{Board, knows}
-use Rattle.exec_start.specs.declared.entry.Entry.{Entry}
-use Rattle.exec_start.specs.declared.item.Item.{Item}
+use Rattle.home_items.specs.declared.entry.Entry.{Entry}
+use Rattle.home_items.specs.declared.item.Item.{Item}
 use Rattle.exec_recv.specs.Asides.{aside_of}
 use Rattle.loop_roots.specs.Leaves.{LeavesAside}
 use Rattle.loop_roots.specs.Starts.{MissesEach}

@@ -2,7 +2,7 @@
 use Rattle.std.specs.Prelude.{◌≡◌, ◌≢◌, ◌⊎◌, ℕ, ◌+◌, ◌<◌, true, false, List, ◌++◌, length, Option, Some, None, slice_index_or}
 use Rattle.life_rules.specs.declared.event.Name.{Name}
 use Rattle.life_rules.specs.declared.event.Resting.TheVariants.{Loop}
-use Rattle.listed_steps.specs.declared.seen.Seen.{Seen}
+use Rattle.listed_words.specs.declared.seen.Seen.{Seen}
 use Rattle.plan_shape.specs.Blueprint.{Blueprint}
 use Rattle.table_steps.specs.declared.block.Block.{Block}
 use Rattle.table_steps.specs.Slots.{noted_at}
@@ -10,14 +10,14 @@ use Rattle.table_steps.specs.Steps.{control_index}
 use Rattle.table_steps.specs.Takes.{rest_word}
 use Rattle.table_steps.specs.Views.{Board}
 use Rattle.table_steps.specs.Claims.{Seated}
-use Rattle.exec_start.specs.declared.entry.Entry.{Entry}
-use Rattle.exec_start.specs.declared.item.Item.{Item}
+use Rattle.home_items.specs.declared.entry.Entry.{Entry}
+use Rattle.home_items.specs.declared.item.Item.{Item}
 use Rattle.exec_recv.specs.Asides.{Aside, aside_of, SeesMore}
 use Rattle.loop_roots.specs.declared.completing.Ended.{Ended}
-use Rattle.loop_serve.specs.Since.{HasReadSince}
+use Rattle.exec_recv.specs.Since.{HasReadSince}
 use Rattle.spawn_future.specs.declared.future.Future.{Future}
 use Rattle.spawn_future.specs.Keeping.{root_of}
-use Rattle.spawn_future.specs.Polls.{EndsAt, IsIncomplete}
+use Rattle.spawn_future.specs.Polls.{EndsSlotAt, IsIncomplete}
 use Rattle.spawn_future.specs.Slots.{Has, kept_in, abandoned_block}
 
 -- The slot's future, which is in this block, was abandoned and complete, and was ended.
@@ -26,7 +26,7 @@ pub record EndsSlot (board : Board Blueprint) (t : ℕ) (old new : List (Option 
   pub block : Block
   pub found : abandoned_block (slice_index_or old t None) ≡ Some block
   pub ended : Ended
-  pub ends : EndsAt board t block old new m m' ended
+  pub ends : EndsSlotAt board t block old new m m' ended
 
 -- The slot has no future that is abandoned, and there was no step.
 pub record PassesSlot (t : ℕ) (old new : List (Option Future)) (m m' : Seated Item Entry)
@@ -54,8 +54,8 @@ WasIncomplete board m m' f =
     (λ word. word ≢ rest_word (root_of board f) Loop) m m'
 
 -- What a hand's view says beside notes, associations and blocks given back.
-abbrev pub beside : Aside → Aside → Aside
-beside before a = record a {
+abbrev pub beside_ended : Aside → Aside → Aside
+beside_ended before a = record a {
   noted = before.noted;
   made = before.made;
   released = before.released;
@@ -70,7 +70,7 @@ IsOfNone board slots x =
 -- so many blocks given back. Notes of other roots are as they were.
 pub record EndsSome (board : Board Blueprint) (old : List (Option Future)) (count : ℕ)
     (m m' : Seated Item Entry) : Type 0 where
-  pub aside : beside (aside_of m.0) (aside_of m'.0) ≡ aside_of m.0
+  pub aside : beside_ended (aside_of m.0) (aside_of m'.0) ≡ aside_of m.0
   pub made : m'.0.made + count ≡ m.0.made
   pub released : m'.0.released ≡ m.0.released + count
   pub noted : (x : Name) → IsOfNone board old x → noted_at m'.0 x ≡ noted_at m.0 x

@@ -9,9 +9,10 @@ use Rattle.table_words.specs.Controls.{control_read}
 use Rattle.table_words.specs.Layouts.{OfControl, index}
 use Rattle.table_steps.specs.Views.{Board}
 use Rattle.table_steps.specs.Claims.{Seated}
-use Rattle.exec_start.specs.declared.entry.Entry.{Entry}
-use Rattle.exec_start.specs.declared.item.Item.{Item}
-use Rattle.loop_serve.specs.Since.{HasReadSince, OnlyLooks}
+use Rattle.home_items.specs.declared.entry.Entry.{Entry}
+use Rattle.home_items.specs.declared.item.Item.{Item}
+use Rattle.exec_recv.specs.Since.{HasReadSince}
+use Rattle.loop_serve.specs.Since.{OnlyLooks}
 use Rattle.serve_ahead.specs.declared.taking.AheadAt.{AheadAt}
 use Rattle.serve_ahead.specs.Takes.{IsAheadIn}
 use Rattle.spawn_future.specs.declared.future.Future.{Future}

@@ -2,12 +2,12 @@
 //! an owner ahead of their results, each with an association of the scope, and polls or abandons
 //! later. The owners are the `ahead` nodes of operations, which `turn` serves.
 //!
-//! It stands on count_scope for the associations, on loop_roots, which starts and ends an operation,
-//! and on serve_ahead, which takes an `ahead` and goes on with it. It keeps one promise: each future
-//! that is kept has an association of its own and a block of its own, whose root's start the hand
-//! has noted, until `poll`, `sweep` or `turn` ends it. Then its block is given back, and after that
-//! its association is left. What `poll` gives is want of memory, or allowed for the child that the
-//! start names.
+//! It stands on count_scope for the associations, on loop_roots, which starts and ends an
+//! operation, and on serve_ahead, which takes an `ahead` and goes on with it. It keeps one promise:
+//! each future that is kept has an association of its own and a block of its own, whose root's
+//! start the hand has noted, until `poll`, `sweep` or `turn` ends it. Then its block is given back,
+//! and after that its association is left. What `poll` gives is want of memory, or allowed for the
+//! child that the start names.
 //!
 //!     spawn --associate--> association --begin_root-----------> kept for its owner
 //!        |                                                              |          |
@@ -24,6 +24,7 @@
 //! is at rest. No call after `open` wants memory but what a step of a node takes.
 #![tactic(auto)]
 
+mod again;
 mod entering;
 mod future;
 mod futures;

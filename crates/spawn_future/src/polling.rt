@@ -4,7 +4,7 @@ ghost use Rattle.std.specs.Thread.{IsSync};
 ghost use Rattle.table_steps.specs.Views.{IsSameHand};
 ghost use Rattle.exec_recv.specs.Over.{IsOver};
 ghost use Rattle.spawn_future.specs.Keeping.{IsKeeping};
-ghost use Rattle.spawn_future.specs.Polls.{EndsAt, IsIncomplete, Polls};
+ghost use Rattle.spawn_future.specs.Polls.{EndsSlotAt, IsIncomplete, Polls};
 ghost use Rattle.spawn_future.specs.Slots.{HasBlock};
 
 use crate::futures::Futures;
@@ -51,7 +51,7 @@ impl Futures {
         ensures none { IfNone result
             (IsIncomplete table.now block self.old self.new hand.old.me hand.new.me) }
         ensures ended { IfSome result
-            (EndsAt table.now slot block self.old self.new hand.old.me hand.new.me) }
+            (EndsSlotAt table.now slot block self.old self.new hand.old.me hand.new.me) }
     {
         let ended = end_root(rt, table, hand, block, gate)?;
         let future = take(&mut self.slots, slot);

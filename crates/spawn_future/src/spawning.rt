@@ -4,7 +4,7 @@ ghost use Rattle.std.specs.Thread.{IsSync};
 ghost use Rattle.plan_kinds.specs.Runnable.{IsRunnable};
 ghost use Rattle.table_steps.specs.Views.{IsSameHand};
 ghost use Rattle.exec_recv.specs.Over.{IsOver};
-ghost use Rattle.exec_start.specs.Entries.{child_of};
+ghost use Rattle.home_items.specs.Entries.{child_of};
 ghost use Rattle.loop_roots.specs.Starts.{CanRun};
 ghost use Rattle.spawn_future.specs.Keeping.{IsKeeping};
 ghost use Rattle.spawn_future.specs.Slots.{WaitsNowhere};

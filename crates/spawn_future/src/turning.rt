@@ -145,18 +145,18 @@ impl Futures {
     /// Serves each `ahead` that is parked, and answers how many it took. A new one's first child is
     /// spawned, and then its second started; where the spawn is refused, or there is no memory for
     /// it, the `ahead` is parked again. One whose second child has completed completes: with the
-    /// second's failure, and then the first's operation is abandoned; else once that is complete, by
-    /// what it came to. Until then it is parked again. 0 only where the word of each `ahead`, in
+    /// second's failure, and then the first's operation is abandoned; else once that is complete,
+    /// by what it came to. Until then it is parked again. 0 only where the word of each `ahead`, in
     /// each block, at a step of this call of its own, didn't say that it is parked.
     ///
     /// Step: for each `ahead` in each block one load of its word; and for each that is parked those
     /// of `take_parked`, `park`, `spawn`, `poll`, and of the steps of its nodes.
-    /// Needs: hand 0 keeps these futures, and is at rest. The table is over the stepper's plan, which
-    /// is this, and whose kinds match.
-    /// Afterwards: the same of the hand. For each operation that was begun there is a future, an
-    /// association and a claimed block more, and for each that was ended a future and an association
-    /// less, and a block given back. Notes of all other roots are as they were. What an `ahead`
-    /// completes with is allowed for its start, or want of memory.
+    /// Needs: hand 0 keeps these futures, and is at rest. The table is over the stepper's plan,
+    /// which is this, and whose kinds match. Afterwards: the same of the hand. For each operation
+    /// that was begun there is a future, an association and a claimed block more, and for each that
+    /// was ended a future and an association less, and a block given back. Notes of all other roots
+    /// are as they were. What an `ahead` completes with is allowed for its start, or want of
+    /// memory.
     pub fn turn<T: Stepper, M: Mail, R: Wait + Sync>(
         &mut self,
         rt: &R,

@@ -14,14 +14,15 @@ use Rattle.table_rules.specs.declared.view.View.{View}
 use Rattle.table_steps.specs.Views.{Board, IsSameHand}
 use Rattle.table_steps.specs.Claims.{Seated}
 use Rattle.count_scope.specs.Looks.{Reads}
-use Rattle.exec_start.specs.declared.entry.Entry.{Entry}
-use Rattle.exec_start.specs.declared.item.Item.{Item}
+use Rattle.home_items.specs.declared.entry.Entry.{Entry}
+use Rattle.home_items.specs.declared.item.Item.{Item}
 use Rattle.exec_recv.specs.Asides.{KeepsAside}
 use Rattle.exec_recv.specs.Nexts.{Doing}
 use Rattle.exec_recv.proofs.Asiding.{aside-here, aside-on}
 use Rattle.loop_serve.specs.Since.{OnlyLooks}
 use Rattle.loop_serve.specs.Serving.{IsUnready, ServesNode, WasUnready}
-use Rattle.loop_serve.proofs.Read.{looked-only, looked-since, looks-on, since-before, since-after}
+use Rattle.exec_recv.proofs.Since.{since-before, since-after}
+use Rattle.loop_serve.proofs.Read.{looked-only, looked-since, looks-on}
 use Rattle.loop_serve.proofs.Took.{serves-before}
 use Rattle.steal_pool.specs.declared.working.Worked.{Worked}
 use Rattle.steal_pool.specs.declared.working.Worked.TheVariants.{Took, Idle}

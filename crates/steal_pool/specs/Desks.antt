@@ -22,14 +22,20 @@ KeepsDesk None None = ⊤
 pub post-here : (post : LoopPost) → IsSamePost post post
 post-here post = record { number = refl; queue = refl; share = refl }
 
-pub post-on : (first second third : LoopPost) → IsSamePost first second → IsSamePost second third → IsSamePost first third
+pub post-on : (first second third : LoopPost) → IsSamePost first second → IsSamePost second third →
+    IsSamePost first third
 post-on first second third one next =
-    record { number = next.number ∙ one.number; queue = next.queue ∙ one.queue; share = next.share ∙ one.share }
+    record {
+      number = next.number ∙ one.number;
+      queue = next.queue ∙ one.queue;
+      share = next.share ∙ one.share;
+    }
 
 pub same-here : (desk : Desk) → IsSameDesk desk desk
 same-here desk = record { deck = deck-here desk.deck; post = post-here desk.post }
 
-pub same-on : (first second third : Desk) → IsSameDesk first second → IsSameDesk second third → IsSameDesk first third
+pub same-on : (first second third : Desk) → IsSameDesk first second → IsSameDesk second third →
+    IsSameDesk first third
 same-on first second third one next =
     record {
       deck = deck-on first.deck second.deck third.deck one.deck next.deck;
@@ -37,14 +43,15 @@ same-on first second third one next =
     }
 
 -- it stays where no name comes, and where names come after others
-pub keeps-here : (desk : Option Desk) → KeepsDesk desk desk
-keeps-here (Some desk) = same-here desk
-keeps-here None = tt
+pub desk-here : (desk : Option Desk) → KeepsDesk desk desk
+desk-here (Some desk) = same-here desk
+desk-here None = tt
 
-pub keeps-on : (first second third : Option Desk) → KeepsDesk first second → KeepsDesk second third → KeepsDesk first third
-keeps-on (Some first) (Some second) (Some third) one next = same-on first second third one next
-keeps-on (Some first) (Some second) None one next = absurd next
-keeps-on (Some first) None third one next = absurd one
-keeps-on None (Some second) third one next = absurd one
-keeps-on None None (Some third) one next = absurd next
-keeps-on None None None one next = tt
+pub desk-on : (first second third : Option Desk) → KeepsDesk first second →
+    KeepsDesk second third → KeepsDesk first third
+desk-on (Some first) (Some second) (Some third) one next = same-on first second third one next
+desk-on (Some first) (Some second) None one next = absurd next
+desk-on (Some first) None third one next = absurd one
+desk-on None (Some second) third one next = absurd one
+desk-on None None (Some third) one next = absurd next
+desk-on None None None one next = tt

@@ -10,12 +10,13 @@ use Rattle.table_words.specs.ScopeNumbers.{scope_read}
 use Rattle.table_rules.specs.declared.view.View.{View}
 use Rattle.table_steps.specs.Views.{Board, IsHandOf, knows}
 use Rattle.table_steps.specs.Claims.{Seated}
-use Rattle.exec_start.specs.declared.entry.Entry.{Entry}
-use Rattle.exec_start.specs.declared.item.Item.{Item}
+use Rattle.home_items.specs.declared.entry.Entry.{Entry}
+use Rattle.home_items.specs.declared.item.Item.{Item}
 use Rattle.exec_recv.specs.Asides.{KeepsAside}
 use Rattle.exec_recv.specs.Nexts.{Doing}
 use Rattle.loop_walk.specs.Resting.{IsAtRest}
-use Rattle.loop_serve.specs.Since.{HasReadSince, OnlyLooks}
+use Rattle.exec_recv.specs.Since.{HasReadSince}
+use Rattle.loop_serve.specs.Since.{OnlyLooks}
 use Rattle.loop_serve.specs.Serving.{ServesNode, WasUnready}
 use Rattle.steal_pool.specs.declared.working.Worked.{Worked}
 use Rattle.steal_pool.specs.declared.working.Worked.TheVariants.{Took, Idle}
@@ -75,8 +76,8 @@ WorksOn does board worked old new = Works does board worked old.me new.me
 abbrev pub SaysJoined : ℕ → Type 0
 SaysJoined word = (scope_read word).joined ≡ true
 
--- At last no node was ready, and the scope's word was read, which said that it is joined. Since then
--- nothing was done but looks.
+-- At last no node was ready, and the scope's word was read, which said that it is joined. Since
+-- then nothing was done but looks.
 pub record HasEnded (board : Board Blueprint) (m m' : Seated Item Entry) : Type 0 where
   pub before : Seated Item Entry
   pub kept : KeepsAside m before

@@ -11,35 +11,48 @@ use node_tree::Context;
 use pool_backends::Backend;
 use std::sync::Wait;
 
-/// A worker's backend, and its desk where it has one. What its hand leaves ready in the pool is
-/// pushed to its deck, and without a desk, or where that hands it back, submitted to the backend. A
-/// name that the backend hands back, or loses, is found by a look at the node's word. What is ready
-/// in the loop is posted to the loop; without a desk hand 0 finds it.
+/// How many names a worker takes of its deck for its backend, beside the first.
+const MOST_BESIDE: u32 = 2;
+
+/// A worker's backend, and its desk where it has one. The backend is what the worker takes names
+/// from: it is submitted what the worker takes of its deck, what it finds ready by a look at a
+/// node's word, and the first name that a step of its own leaves ready in the pool since it asked
+/// for one. The other names that its steps leave ready there are pushed to the deck, from which all
+/// hands take, and without a desk submitted to the backend too. Where the backend has lost a name
+/// the worker looks at each node's word. What is ready in the loop is posted to the loop; without a
+/// desk hand 0 finds it.
 #[derive(Drop)]
 pub struct Offers {
     pub backend: Box<dyn Backend + Send>,
     pub desk: Option<Desk>,
     /// How the worker looks for work.
     pub rest: Rest,
+    /// The backend was submitted a name that the worker's own step left ready, and wasn't asked for
+    /// a name since.
+    pub has_own: bool,
+    /// How many names the backend took and didn't hand out.
+    pub held: u32,
+    /// It had some of them, and said that it had none.
+    pub lost: bool,
     /// The backend handed out as many names as the table has places, of which none could be taken:
     /// it may never end, and names alone don't show any more that nothing is ready.
     pub endless: bool,
 }
 
 impl Mail for Offers {
-    ghost use Rattle.steal_pool.specs.Desks.{KeepsDesk, keeps-here, keeps-on};
+    ghost use Rattle.steal_pool.specs.Desks.{KeepsDesk, desk-here, desk-on};
 
     ghost keeps = { λ old new. KeepsDesk old.desk new.desk };
 
-    ghost none = { λ offers. keeps-here offers.desk };
+    ghost none = { λ offers. desk-here offers.desk };
 
-    ghost on = { λ first second third. keeps-on first.desk second.desk third.desk };
+    ghost on = { λ first second third. desk-on first.desk second.desk third.desk };
 
     fn ready<R: Wait + Sync>(&mut self, rt: &R, name: Name, on: Context) {
         match on {
             Context::Loop => self.tell(rt, name),
             Context::Pool => {
-                let _kept = self.submit(rt, name);
+                let _kept = self.keep(rt, name);
             }
         }
     }
@@ -82,29 +95,113 @@ impl Offers {
     {
         match self.push(rt, name) {
             Ok(()) => true,
-            Err(back) => self.backend.submit(back).is_ok(),
+            Err(back) => self.submit_to_backend(back).is_ok(),
         }
     }
 
-    /// Keeps the name, where it is to be kept.
+    // Keeps the name of a node that the worker's own step left ready in the pool: the first of them
+    // for the worker itself.
+    fn keep<R: Wait>(&mut self, rt: &R, name: Name) -> bool
+        ensures { KeepsDesk self.old.desk self.new.desk }
+    {
+        if self.has_own {
+            return self.submit(rt, name);
+        }
+        self.has_own = true;
+        self.give_backend(rt, name)
+    }
+
+    // Submits a name to the backend, or hands it back.
+    fn submit_to_backend(&mut self, name: Name) -> Result<(), Name>
+        ensures { self.new.desk ≡ self.old.desk }
+    {
+        self.backend.submit(name)?;
+        self.held = self.held.saturating_add(1);
+        Ok(())
+    }
+
+    // Asks the backend for a name.
+    fn ask_backend(&mut self) -> Option<Name>
+        ensures { self.new.desk ≡ self.old.desk }
+    {
+        let name = self.backend.next();
+        if name.is_some() {
+            self.held = self.held.saturating_sub(1);
+        } else if self.held != 0 {
+            self.held = 0;
+            self.lost = true;
+        }
+        name
+    }
+
+    // Submits a name to the backend; one that it hands back goes to the deck.
+    fn give_backend<R: Wait>(&mut self, rt: &R, name: Name) -> bool
+        ensures { KeepsDesk self.old.desk self.new.desk }
+    {
+        match self.submit_to_backend(name) {
+            Ok(()) => true,
+            Err(back) => self.push(rt, back).is_ok(),
+        }
+    }
+
+    /// Keeps the name for the worker itself, where it is to be kept.
     pub fn submit_where<R: Wait>(&mut self, rt: &R, submits: bool, name: Name) -> bool
         ensures desk { KeepsDesk self.old.desk self.new.desk }
         ensures none { submits ≡ false → result ≡ false }
     {
         if submits {
-            self.submit(rt, name)
+            self.give_backend(rt, name)
         } else {
             false
         }
     }
 
-    /// The next name: of the backend, or else of the deck.
+    /// The next name of the backend. Where it has none, names of the deck are submitted to it
+    /// first; one that it hands back is the next.
     pub fn next<R: Wait>(&mut self, rt: &R) -> Option<Name>
         ensures { KeepsDesk self.old.desk self.new.desk }
     {
-        match self.backend.next() {
+        self.has_own = false;
+        match self.ask_backend() {
             Some(name) => Some(name),
-            None => self.take(rt),
+            None => self.refill(rt),
+        }
+    }
+
+    // Submits names of the deck to the backend, and takes one of it.
+    fn refill<R: Wait>(&mut self, rt: &R) -> Option<Name>
+        ensures { KeepsDesk self.old.desk self.new.desk }
+    {
+        let first = self.take(rt)?;
+        match self.submit_to_backend(first) {
+            Ok(()) => {}
+            Err(back) => return Some(back),
+        }
+        self.take_beside(rt);
+        self.ask_backend()
+    }
+
+    // Takes some more names of the deck for the backend, as long as no other worker could take them
+    // at once.
+    fn take_beside<R: Wait>(&mut self, rt: &R)
+        ensures { KeepsDesk self.old.desk self.new.desk }
+    {
+        for _beside in 0..MOST_BESIDE {
+            if !self.all_work() {
+                return;
+            }
+            let Some(name) = self.take(rt) else {
+                return;
+            };
+            let _kept = self.give_backend(rt, name);
+        }
+    }
+
+    // Every worker works, as far as this one can tell.
+    fn all_work(&self) -> bool {
+        match &self.desk {
+            None => true,
+            Some(desk) => desk.deck.sleeper().all_work(),
         }
     }
 }

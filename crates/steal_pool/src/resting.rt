@@ -26,13 +26,18 @@ pub enum Rest {
 
 impl Offers {
     /// A look by names alone doesn't serve any more: the worker is about to sleep, or it never
-    /// sleeps, since it has no desk, or a backend that doesn't end.
-    pub fn looks_at_all(&self) -> bool {
-        self.desk.is_none() || self.rest == Rest::Lying || self.endless
+    /// sleeps, since it has no desk, or a backend that doesn't end; or the backend lost a name since
+    /// the last time.
+    pub fn looks_at_all(&mut self) -> bool
+        ensures { self.new.desk ≡ self.old.desk }
+    {
+        let lost = self.lost;
+        self.lost = false;
+        lost || self.desk.is_none() || self.rest == Rest::Lying || self.endless
     }
 
-    /// A look by names found nothing, and might have asked for so many more. Where it might for none,
-    /// the backend needn't ever end: then the worker would never come to lie down.
+    /// A look by names found nothing, and might have asked for so many more. Where it might for
+    /// none, the backend needn't ever end: then the worker would never come to lie down.
     pub fn doubt(&mut self, left: u32)
         ensures { self.new.desk ≡ self.old.desk }
     {

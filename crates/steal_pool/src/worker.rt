@@ -37,14 +37,17 @@ impl Worker {
                 backend: arranged,
                 desk: None,
                 rest: Rest::Awake,
+                has_own: false,
+                held: 0,
+                lost: false,
                 endless: false,
             },
         }
     }
 
-    /// A worker as `new` makes it, with a desk: it takes names of the deck after those of its
-    /// backend, pushes what it leaves ready in the pool to the deck, and posts what it leaves ready
-    /// in the loop. It wants no memory.
+    /// A worker as `new` makes it, with a desk: where its backend has no name it submits names of the
+    /// deck to it, and what it leaves ready goes to its backend, to the deck, or to the loop. It
+    /// wants no memory.
     pub fn with_deck(
         hand: Hand<Item>,
         backend: Box<dyn Backend + Send>,
@@ -65,6 +68,9 @@ impl Worker {
                 backend: arranged,
                 desk: Some(Desk { deck, post }),
                 rest: Rest::Awake,
+                has_own: false,
+                held: 0,
+                lost: false,
                 endless: false,
             },
         }
@@ -90,6 +96,9 @@ impl Worker {
             backend,
             desk,
             rest: _,
+            has_own: _,
+            held: _,
+            lost: _,
             endless: _,
         } = offers;
         drop(backend);

@@ -61,8 +61,7 @@ fn take_any<T: Stepper, R: Wait + Sync>(
 }
 
 // Submits the names of nodes that are ready in the pool, and takes one of them: by the names of the
-// backend, as many as the call may still ask for, and where it gives none by a further look. A
-// worker with a desk takes the first such node at once: other hands have names of the others.
+// backend, as many as the call may still ask for, and where it gives none by a further look.
 fn seek<T: Stepper, R: Wait + Sync>(
     rt: &R,
     alloc: Global,
@@ -84,9 +83,8 @@ fn seek<T: Stepper, R: Wait + Sync>(
     ensures works { WorksOn (T.does stepper.now) table.now result hand.old hand.new }
     ensures desk { KeepsDesk offers.old.desk offers.new.desk }
 {
-    let submits = offers.desk.is_none();
     let mut found = false;
-    match search(rt, alloc, table, hand, stepper, offers, submits, &mut found) {
+    match search(rt, alloc, table, hand, stepper, offers, true, &mut found) {
         Some(name) => return Worked::Took(name),
         None => {}
     }
@@ -102,9 +100,9 @@ fn seek<T: Stepper, R: Wait + Sync>(
 
 impl Worker {
     /// Takes one node that is ready in the pool, and goes on with it until the hand is at rest: by
-    /// a name of the backend or of the deck; else by a look at each node of the table, by which the
-    /// names of those that are ready are submitted, where the worker has no desk. Took tells the
-    /// node, which this hand took in this call, and the stepper stepped. Idle only where the word
+    /// a name of the backend, which is submitted those of the deck; else by a look at each node of
+    /// the table, by which the names of those that are ready are submitted. Took tells the node,
+    /// which this hand took in this call, and the stepper stepped. Idle only where the word
     /// of each node but the roots, at its own step of this call, said that it isn't ready in the
     /// pool, and it moved no word. It asks for at most as many names as the table has places.
     ///

@@ -6,7 +6,7 @@ use Rattle.table_steps.specs.Finishes.{CanFinish, FinishesAt}
 use Rattle.table_steps.specs.Lefts.{LeavesControl}
 use Rattle.table_steps.specs.Views.{aimed}
 use Rattle.op_slot.proofs.Staying.{stays-on}
-use Rattle.exec_start.specs.contracts.item.ItemCargo.TheImpl.{ghosts}
+use Rattle.home_items.specs.contracts.item.ItemCargo.TheImpl.{ghosts}
 use Rattle.loop_roots.proofs.Emptied.{can-finish, has-finished, can-release, is-given-back}
 use Rattle.loop_roots.proofs.emptying.give_back.Goals as goal
 
@@ -40,5 +40,5 @@ returns-clause-given g c =
     let ended = c.finish.new.hand.me in
     let finished = subst (λ (x : Name). LeavesControl (aimed board.frame x) (Busy 0) Done (FinishesAt ghosts (aimed board.frame x)) m ended)
     {y = root} c.root-root.ensures.name c.finish.ensures.finished in
-    is-given-back board c.args.block m ended (has-finished board root m ended c.requires.settled finished) c.release.new.hand.me _ _ _
+    is-given-back board c.args.block m ended (has-finished board root m ended c.requires.settled finished) c.release.new.hand.me _ _
     c.release.ensures.released.did

@@ -1,4 +1,4 @@
-use Rattle.loop_roots.proofs.Settled.{can-read, read-settled, read-empty, read-keeps, read-owed, may-withdraw, armed-settled, ran-settled, settled-on}
+use Rattle.loop_roots.proofs.Settled.{can-read, read-settled, read-empty, read-keeps, read-moves, read-owed, may-withdraw, armed-settled, ran-settled, settled-on}
 use Rattle.loop_roots.proofs.emptying.settle_root.Goals as goal
 
 pub phase_of-requires-clause-holds : goal.phase_of-requires-clause-holds
@@ -22,6 +22,7 @@ returns-in-NeverRan-clause-settles c =
     let read = c.phase_of.new.hand in
     let phase = c.phase_of.result in
     settled-on board x old read.me c.try_withdraw.new.hand.me (read-keeps board x old read.me c.requires.empty phase c.phase_of.ensures.phase)
+    (read-moves board x old read.me c.requires.empty phase c.phase_of.ensures.phase)
     (read-owed board x old read.me c.requires.empty phase c.phase_of.ensures.phase)
     (armed-settled board x read c.try_withdraw.new.hand
     (read-empty board x old read.me c.requires.empty phase c.phase_of.ensures.phase) c.in-NeverRan.ensures.tried)
@@ -34,6 +35,7 @@ returns-in-Ran-clause-settles c =
     let read = c.phase_of.new.hand in
     let phase = c.phase_of.result in
     settled-on board x old read.me c.try_withdraw.new.hand.me (read-keeps board x old read.me c.requires.empty phase c.phase_of.ensures.phase)
+    (read-moves board x old read.me c.requires.empty phase c.phase_of.ensures.phase)
     (read-owed board x old read.me c.requires.empty phase c.phase_of.ensures.phase)
     (ran-settled board x read c.try_withdraw.new.hand
     (read-empty board x old read.me c.requires.empty phase c.phase_of.ensures.phase) c.in-Ran.ensures.tried)

@@ -7,8 +7,8 @@ use Rattle.table_steps.specs.Swaps.{HasHome}
 use Rattle.table_steps.specs.Takes.{IsTaken}
 use Rattle.op_slot.specs.Puts.{IsTakenOut}
 use Rattle.op_slot.proofs.Staying.{stays-on}
-use Rattle.exec_start.specs.contracts.item.ItemCargo.TheImpl.{ghosts}
-use Rattle.exec_start.specs.declared.item.Item.{Item}
+use Rattle.home_items.specs.contracts.item.ItemCargo.TheImpl.{ghosts}
+use Rattle.home_items.specs.declared.item.Item.{Item}
 use Rattle.loop_roots.specs.Emptied.{IsOut, WasNotReady}
 use Rattle.loop_roots.proofs.Emptied.{HasTaken, took-home, out-is, is-out, lost-root}
 use Rattle.loop_roots.proofs.emptying.take_root.Goals as goal
@@ -35,7 +35,6 @@ take_home-requires-clause-home c κs =
       within = c.requires.block;
       first = c.requires.first;
       rests = c.requires.rests;
-      index = _;
       read = _;
       left = _;
       took = (taken.0 c.if-not-take.false).2;
@@ -60,7 +59,6 @@ returns-clause-none c =
       within = c.requires.block;
       first = c.requires.first;
       rests = c.requires.rests;
-      index = _;
       read = _;
       left = _;
       took = (taken.0 c.if-not-take.false).2;
@@ -82,7 +80,6 @@ returns-clause-out c =
       within = c.requires.block;
       first = c.requires.first;
       rests = c.requires.rests;
-      index = _;
       read = _;
       left = _;
       took = (taken.0 c.if-not-take.false).2;

@@ -1,9 +1,9 @@
 use Rattle.std.proofs.Common.{sym, ap, ◌∙◌, subst}
 use Rattle.table_steps.specs.Claims.{root_name}
-use Rattle.exec_start.specs.Entries.{plan_of}
-use Rattle.exec_start.specs.Starts.{IsReceiverStart}
+use Rattle.home_items.specs.Entries.{plan_of}
+use Rattle.home_items.specs.Starts.{IsReceiverStart}
 use Rattle.loop_roots.proofs.Completed.{is-of-root, is-for}
-use Rattle.loop_roots.proofs.Emptied.{unready-rests}
+use Rattle.loop_roots.proofs.Unready.{unready-rests}
 use Rattle.loop_roots.proofs.ending.end_root.Goals as goal
 
 pub completed-requires : goal.completed-requires
@@ -25,6 +25,7 @@ returns-clause-ends g c =
         is_for = is-for c.args.table.now (root_name c.args.table.now c.args.block.index c.args.block.generation) c.args.hand.now.me
             c.in_ok-item.item lay c.completed.result.collected c.completed.ensures.completes;
       };
+      moves = c.in_ok-item.ensures.emptied.moves;
       leaves = c.in_ok-item.ensures.emptied.leaves;
     }
 

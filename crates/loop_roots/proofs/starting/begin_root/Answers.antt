@@ -4,7 +4,7 @@ use Rattle.table_steps.specs.Begins.{Begins, CanBegin}
 use Rattle.table_steps.specs.Claims.{root_name}
 use Rattle.table_steps.specs.Views.{aimed}
 use Rattle.op_slot.proofs.Staying.{stays-on}
-use Rattle.exec_start.specs.contracts.item.ItemCargo.TheImpl.{ghosts}
+use Rattle.home_items.specs.contracts.item.ItemCargo.TheImpl.{ghosts}
 use Rattle.exec_recv.specs.Asides.{Aside}
 use Rattle.exec_recv.specs.Over.{IsOver}
 use Rattle.loop_walk.specs.Resting.{CanGoOn}

@@ -3,8 +3,8 @@ use Rattle.life_rules.specs.declared.event.Name.{Name}
 use Rattle.table_steps.specs.Claims.{root_name}
 use Rattle.op_slot.specs.Puts.{CanPut, IsPut}
 use Rattle.op_slot.proofs.Staying.{stays-on}
-use Rattle.exec_start.specs.contracts.item.ItemCargo.TheImpl.{ghosts}
-use Rattle.exec_start.specs.declared.item.Item.TheVariants.{Start}
+use Rattle.home_items.specs.contracts.item.ItemCargo.TheImpl.{ghosts}
+use Rattle.home_items.specs.declared.item.Item.TheVariants.{Start}
 use Rattle.loop_roots.proofs.Claimed.{HasClaimed, claimed-puts, is-placed}
 use Rattle.loop_roots.proofs.starting.place.Goals as goal
 

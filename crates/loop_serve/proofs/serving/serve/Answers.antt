@@ -4,7 +4,8 @@ use Rattle.table_steps.specs.Steps.{control_index}
 use Rattle.op_slot.proofs.Staying.{stays-on}
 use Rattle.exec_recv.proofs.Asiding.{aside-here, aside-on}
 use Rattle.loop_serve.specs.Serving.{TakesUp, TakesWord}
-use Rattle.loop_serve.proofs.Read.{looked-rests, looked-aside, looked-only, lost-missed, moved-after}
+use Rattle.exec_recv.proofs.Since.{moved-after}
+use Rattle.loop_serve.proofs.Read.{looked-rests, looked-aside, looked-only, looks-here, lost-missed}
 use Rattle.loop_serve.proofs.Took.{took-aside, took-can, took-moved}
 use Rattle.loop_serve.proofs.serving.serve.Goals as goal
 
@@ -18,6 +19,7 @@ returns-then-not-take_up g c =
       rests = looked-rests _ _ old new lost.2 c.requires.rests;
       aside = looked-aside _ _ old new lost.2;
       served = λ is. absurd (both_ways false refl is);
+      only = λ is. absurd (both_ways false refl is);
       missed = λ _. lost-missed c.args.table.now c.args.from c.args.name old new lost;
       looks = λ _. looked-only _ _ old new lost.2;
       mail = g.met.M.Mail.none c.args.mail.now;
@@ -39,6 +41,7 @@ returns g c =
     let won = c.take_up.ensures.taken.0 c.if-not-take_up.false in
     let seated = c.requires.hand.seated in
     let aside = took-aside board plan c.requires.over x c.requires.place _ _ _ old.me held.me won.2 seated c.requires.rests in
+    let took = subst (λ (answer : Bool). TakesUp board x c.args.from answer old.me held.me) c.if-not-take_up.false c.take_up.ensures.taken in
     let moved = took-moved board plan c.requires.over x c.requires.place _ _ _ old.me held.me won.2 seated c.requires.rests in
     record {
       stays = stays-on board old held new c.take_up.ensures.stays c.go_on.ensures.stays;
@@ -49,11 +52,12 @@ returns g c =
             before = old.me;
             kept = aside-here old.me;
             held = held.me;
-            took = subst (λ (answer : Bool). TakesUp board x c.args.from answer old.me held.me) c.if-not-take_up.false c.take_up.ensures.taken;
+            took = took;
             taken = moved-after (control_index board x) (TakesWord c.args.from x) old.me held.me new.me
                 (moved (TakesWord c.args.from x) (refl, won.1)) c.go_on.ensures.aside;
             stepped = c.go_on.ensures.first;
           };
+      only = λ _. record { before = old.me; looks = looks-here old.me; held = held.me; took = took; steps = c.go_on.ensures.only };
       missed = λ is. absurd (both_ways true is refl);
       looks = λ is. absurd (both_ways true is refl);
       mail = c.go_on.ensures.mail;

@@ -4,9 +4,10 @@ use Rattle.table_words.specs.Layouts.{OfControl, index}
 use Rattle.table_steps.specs.Takes.{MayServe}
 use Rattle.op_slot.proofs.Staying.{stays-here, stays-on}
 use Rattle.exec_recv.proofs.Asiding.{aside-on}
-use Rattle.loop_serve.specs.Serving.{IsUnready, ServesNode}
-use Rattle.loop_serve.proofs.Read.{looked-rests, looked-aside, looked-only, looks-here, looks-on, read-unready, read-place, since-before}
-use Rattle.loop_serve.proofs.Took.{serves-before, serves-still}
+use Rattle.loop_serve.specs.Serving.{IsUnready, OnlyServes, ServesNode}
+use Rattle.exec_recv.proofs.Since.{since-before}
+use Rattle.loop_serve.proofs.Read.{looked-rests, looked-aside, looked-only, looks-here, looks-on, read-unready, read-place, read-there}
+use Rattle.loop_serve.proofs.Took.{only-before, serves-before, serves-still}
 use Rattle.loop_serve.proofs.serving.serve_place.Goals as goal
 
 pub loop-init : goal.loop-init
@@ -74,6 +75,11 @@ returns-then-serve g c =
       aside = aside-on old.me between.me new.me before c.serve.ensures.aside;
       served = subst (λ (from : Resting). ServesNode does board from name old.me new.me) c.resting-from.ensures
           (serves-before does board c.resting-from.result name old.me between.me new.me before (c.serve.ensures.served c.if-serve.true));
+      only = subst (λ (from : Resting). OnlyServes does board from name old.me new.me) c.resting-from.ensures
+          (only-before does board c.resting-from.result name old.me between.me new.me (looks-on old.me round.me between.me c.loop.invariant.looks
+          (looked-only (index board.frame.layout (OfControl c.args.block c.args.node)) read.word round.me between.me read.me_is))
+          (c.serve.ensures.only c.if-serve.true));
+      there = read-there board c.args.on c.args.block c.args.node c.ready_at.result name round between read c.in-Some-ready_at.is;
       unready = tt;
       looks = tt;
       mail = g.met.M.Mail.on _ _ _ c.loop.invariant.mail c.serve.ensures.mail;
@@ -92,6 +98,8 @@ returns-in-None-ready_at g c =
       rests = looked-rests i read.word round.me new.me read.me_is c.loop.invariant.rests;
       aside = aside-on old.me round.me new.me c.loop.invariant.looks.aside (looked-aside i read.word round.me new.me read.me_is);
       served = tt;
+      only = tt;
+      there = tt;
       unready = since-before i (IsUnready c.args.on) old.me round.me new.me c.loop.invariant.looks.aside
           (read-unready board c.args.on c.args.block c.args.node c.ready_at.result round new read c.in-None-ready_at.is);
       looks = looks-on old.me round.me new.me c.loop.invariant.looks (looked-only i read.word round.me new.me read.me_is);

@@ -1,9 +1,10 @@
-use Rattle.std.proofs.Common.{sym, subst}
+use Rattle.std.proofs.Common.{refl, sym, subst}
 use Rattle.exec_recv.proofs.Asiding.{aside-here}
 use Rattle.exec_recv.proofs.Begun.{owed-still}
 use Rattle.exec_recv.proofs.BegunAside.{begun-aside}
 use Rattle.exec_recv.proofs.Places.{over-places}
 use Rattle.loop_walk.specs.Resting.{GoesOn}
+use Rattle.loop_walk.specs.Walks.{FindsOwed}
 use Rattle.loop_walk.proofs.Going.{only-rests, begun-goes}
 use Rattle.loop_walk.proofs.walking.begin_owed.Goals as goal
 
@@ -38,3 +39,11 @@ pub returns-in_err-name-clause-next : goal.returns-in_err-name-clause-next
 returns-in_err-name-clause-next g c =
     subst (λ r. GoesOn c.args.table.now r c.args.hand.now.me) (sym c.from_residual.ensures)
     (only-rests c.args.table.now c.args.hand.now.me c.requires.owes.has c.in_err-name.ensures.owes)
+
+pub returns-clause-finds : goal.returns-clause-finds
+returns-clause-finds g c = record { owes = c.in_ok-name.ensures.owes; begins = c.begin.ensures.begun }
+
+pub returns-in_err-name-clause-finds : goal.returns-in_err-name-clause-finds
+returns-in_err-name-clause-finds g c =
+    subst (λ r. FindsOwed c.args.table.now r c.args.hand.now.me c.args.hand.now.me) (sym c.from_residual.ensures)
+    (record { none = c.in_err-name.ensures.owes; same = refl })

@@ -1,6 +1,7 @@
-use Rattle.std.proofs.Common.{subst}
+use Rattle.std.proofs.Common.{Some, refl, sym, subst}
 use Rattle.exec_recv.specs.declared.next.Next.{Next}
 use Rattle.exec_recv.specs.Nexts.{IsNext}
+use Rattle.loop_walk.specs.Walks.{LeadsTo}
 use Rattle.loop_walk.proofs.Going.{goes-to, let-go}
 use Rattle.loop_walk.proofs.walking.find_next.Goals as goal
 
@@ -35,3 +36,23 @@ returns-in-Go-clause-next g c =
     let m = c.args.hand.now.me in
     let goes = subst (λ (n : Next). IsNext board c.args.name after.before m n) c.in-Go.is after.stepped.goes in
     goes-to board c.requires.over.is_tree c.args.name after.before m c.args.next after.can after.stepped c.in-Go.next goes
+
+pub returns-in-Ready-clause-follows : goal.returns-in-Ready-clause-follows
+returns-in-Ready-clause-follows g c =
+    subst (λ (n : Next). LeadsTo c.args.table.now n c.begin_owed.result c.args.hand.now.me c.begin_owed.new.hand.me) (sym c.in-Ready.is)
+    c.begin_owed.ensures.finds
+
+pub returns-in-Rest-clause-follows : goal.returns-in-Rest-clause-follows
+returns-in-Rest-clause-follows g c =
+    subst (λ (n : Next). LeadsTo c.args.table.now n c.begin_owed-in-Rest.result c.args.hand.now.me c.begin_owed-in-Rest.new.hand.me) (sym c.in-Rest.is)
+    c.begin_owed-in-Rest.ensures.finds
+
+pub returns-in-Parked-clause-follows : goal.returns-in-Parked-clause-follows
+returns-in-Parked-clause-follows g c =
+    subst (λ (n : Next). LeadsTo c.args.table.now n c.begin_owed-in-Parked.result c.args.hand.now.me c.begin_owed-in-Parked.new.hand.me) (sym c.in-Parked.is)
+    c.begin_owed-in-Parked.ensures.finds
+
+pub returns-in-Go-clause-follows : goal.returns-in-Go-clause-follows
+returns-in-Go-clause-follows g c =
+    subst (λ (n : Next). LeadsTo c.args.table.now n (Some c.in-Go.next) c.args.hand.now.me c.args.hand.now.me) (sym c.in-Go.is)
+    (record { going_is = refl; same = refl })

@@ -1,6 +1,7 @@
 use Rattle.table_steps.specs.Views.{Stays}
 use Rattle.exec_recv.specs.Asides.{KeepsAside}
 use Rattle.loop_walk.specs.Resting.{GoesOn}
+use Rattle.loop_walk.proofs.Walked.{Completes}
 use Rattle.loop_walk.proofs.walking.go_after.Given as goal
 
 abbrev pub invariant-loop : goal.invariant-loop
@@ -10,5 +11,6 @@ invariant-loop g l = record {
   stays : Stays l.table l.fn.hand l.hand;
   goes : GoesOn l.table l.going l.hand.me;
   aside : KeepsAside l.fn.hand.me l.hand.me;
+  walks : Completes (g.T.Stepper.does l.stepper) l.table l.fn.next l.fn.hand.me l.going l.hand.me;
   mail : g.M.Mail.keeps l.fn.mail l.mail;
 }

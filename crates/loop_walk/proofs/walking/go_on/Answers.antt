@@ -1,5 +1,5 @@
 use Rattle.op_slot.proofs.Staying.{stays-on}
-use Rattle.exec_recv.proofs.Asiding.{aside-on}
+use Rattle.exec_recv.proofs.Asiding.{aside-here, aside-on}
 use Rattle.loop_walk.proofs.walking.go_on.Goals as goal
 
 pub go_after-requires-clause-after : goal.go_after-requires-clause-after
@@ -20,6 +20,18 @@ returns-clause-first g c = record {
   did = c.step-next.ensures.does;
   stepped = c.step-next.ensures.stepped;
   after = c.go_after.ensures.aside;
+  last = c.go_after.new.hand.me;
+  walks = c.go_after.ensures.walks;
+  since = aside-here c.go_after.new.hand.me;
+}
+
+pub returns-clause-only : goal.returns-clause-only
+returns-clause-only g c = record {
+  next = c.step-next.result;
+  between = c.step-next.new.hand.me;
+  did = c.step-next.ensures.does;
+  stepped = c.step-next.ensures.stepped;
+  walks = c.go_after.ensures.walks;
 }
 
 pub returns-clause-aside : goal.returns-clause-aside

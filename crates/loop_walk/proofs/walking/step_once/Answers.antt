@@ -1,3 +1,4 @@
+use Rattle.exec_recv.proofs.Asiding.{aside-on}
 use Rattle.loop_walk.proofs.walking.step_once.Goals as goal
 
 pub find_next-requires-clause-after : goal.find_next-requires-clause-after
@@ -7,11 +8,15 @@ find_next-requires-clause-after g c κs within = record {
   stepped = c.step-next.ensures.stepped;
 }
 
-pub returns-clause-first : goal.returns-clause-first
-returns-clause-first g c = record {
+pub returns-clause-steps : goal.returns-clause-steps
+returns-clause-steps g c = record {
   next = c.step-next.result;
   between = c.step-next.new.hand.me;
   did = c.step-next.ensures.does;
   stepped = c.step-next.ensures.stepped;
-  after = c.find_next.ensures.aside;
+  follows = c.find_next.ensures.follows;
 }
+
+pub returns-clause-aside : goal.returns-clause-aside
+returns-clause-aside g c =
+    aside-on c.args.hand.now.me c.step-next.new.hand.me c.find_next.new.hand.me c.step-next.ensures.stepped.aside c.find_next.ensures.aside

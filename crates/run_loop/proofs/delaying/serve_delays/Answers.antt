@@ -1,12 +1,12 @@
-use Rattle.std.proofs.Common.{sym, ap, ◌∙◌, subst}
+use Rattle.std.proofs.Common.{sym, ap, ◌∙◌, subst, arith}
 use Rattle.op_slot.proofs.Staying.{stays-on}
 use Rattle.exec_recv.specs.Asides.{Aside}
 use Rattle.exec_recv.specs.Over.{IsOver}
 use Rattle.exec_recv.proofs.Asiding.{aside-on}
-use Rattle.loop_delays.specs.Delays.{DelayList}
-use Rattle.run_loop.specs.Delayed.{LooksBelow}
-use Rattle.run_loop.proofs.Due.{passes}
-use Rattle.run_loop.proofs.Served.{serves-after}
+use Rattle.timer_wheel.specs.Delays.{DelayList}
+use Rattle.run_loop.specs.Delayed.{LooksBelow, MayTakeDue, MayTakeOf}
+use Rattle.run_loop.proofs.Due.{due-now, passes}
+use Rattle.run_loop.proofs.Served.{more-none, more-on, more-by}
 use Rattle.run_loop.proofs.delaying.serve_delays.Goals as goal
 
 pub look_round-requires-clause-over : goal.look_round-requires-clause-over
@@ -24,10 +24,21 @@ returns-clause-aside g c =
     aside-on c.args.hand.now.me c.look_round.new.hand.me c.take_due.new.hand.me c.look_round.ensures.only.aside c.take_due.ensures.aside
 
 pub returns-clause-served : goal.returns-clause-served
-returns-clause-served g c first serves =
-    c.take_due.ensures.served first
-    (serves-after (g.T.Stepper.does c.args.stepper.now) c.args.table.now c.args.taken first c.args.hand.now.me c.look_round.new.hand.me
-    serves c.look_round.ensures.only)
+returns-clause-served g c =
+    let does = g.T.Stepper.does c.args.stepper.now in
+    let board = c.args.table.now in
+    let old = c.args.hand.now.me in
+    let between = c.look_round.new.hand.me in
+    let new = c.take_due.new.hand.me in
+    let may = MayTakeDue board old new c.take_due.new.delays.turn c.args.delays.now in
+    more-on does board may c.args.taken c.args.taken c.take_due.result old between new
+    (more-none does board may c.args.taken old between (omega arith) c.look_round.ensures.only)
+    (more-by does board (MayTakeOf board c.look_round.new.delays) may
+    (due-now board c.args.nodes.now old between new c.args.delays.now c.look_round.new.delays c.take_due.new.delays.turn
+    (subst (λ (d : DelayList). LooksBelow board c.args.nodes.now board.frame.layout.blocks old between d c.look_round.new.delays)
+    c.next_turn.ensures c.look_round.ensures.looks)
+    c.take_due.ensures.due.takes.turn c.take_due.ensures.aside)
+    c.args.taken c.take_due.result between new c.take_due.ensures.served)
 
 pub returns-clause-turn : goal.returns-clause-turn
 returns-clause-turn g c =

@@ -2,7 +2,10 @@ use Rattle.std.proofs.Common.{arith}
 use Rattle.op_slot.proofs.Staying.{stays-here, stays-on}
 use Rattle.exec_recv.proofs.Asiding.{aside-here, aside-on}
 use Rattle.deck_relay.specs.SameDecks.{keeps-here, keeps-on}
-use Rattle.run_loop.proofs.Due.{takes-none, takes-more}
+use Rattle.loop_serve.proofs.Read.{looks-here}
+use Rattle.run_loop.specs.Delayed.{MayTakeDelay, MayTakeOf}
+use Rattle.run_loop.proofs.Due.{delay-of, takes-none, takes-more}
+use Rattle.run_loop.proofs.Served.{more-none, more-on, more-by}
 use Rattle.run_loop.proofs.delaying.take_due.Goals as goal
 
 pub out-init : goal.out-init
@@ -11,7 +14,8 @@ out-init g c =
       stays = stays-here c.args.table.now c.args.hand.now c.requires.hand;
       rests = c.requires.rests;
       aside = aside-here c.args.hand.now.me;
-      served = λ first serves. serves;
+      served = more-none (g.T.Stepper.does c.args.stepper.now) c.args.table.now (MayTakeOf c.args.table.now c.args.delays.now) c.args.taken
+          c.args.hand.now.me c.args.hand.now.me (omega arith) (looks-here c.args.hand.now.me);
       more = omega arith;
       takes = takes-none c.args.table.now c.args.taken c.args.hand.now.me c.args.delays.now;
       deck = keeps-here c.args.names.now.deck;
@@ -19,6 +23,7 @@ out-init g c =
 
 pub out-preserved : goal.out-preserved
 out-preserved g c =
+    let does = g.T.Stepper.does c.args.stepper.now in
     let board = c.args.table.now in
     let before = c.out.invariant in
     let old = c.args.hand.now in
@@ -30,7 +35,12 @@ out-preserved g c =
       stays = stays-on board old between new before.stays c.try_due-taken.ensures.stays;
       rests = c.try_due-taken.ensures.rests;
       aside = aside-on old.me between.me new.me before.aside c.try_due-taken.ensures.aside;
-      served = λ first serves. c.try_due-taken.ensures.served first (before.served first serves);
+      served = more-on does board (MayTakeOf board c.args.delays.now) c.args.taken c.out.taken c.try_due-taken.result old.me between.me new.me
+          before.served
+          (more-by does board (MayTakeDelay board c.in-Some.out.place c.in-Some.out.generation) (MayTakeOf board c.args.delays.now)
+          (delay-of board c.out.taken old.me between.me c.args.delays.now c.out.delays c.in-Some.out.place c.in-Some.out.generation before.takes
+          c.in-Some.ensures.some)
+          c.out.taken c.try_due-taken.result between.me new.me c.try_due-taken.ensures.served);
       more = omega (arith, more, earlier);
       takes = takes-more board c.out.taken c.try_due-taken.result old.me between.me new.me c.args.delays.now c.out.delays c.due.new.self
           c.in-Some.out.place c.in-Some.out.generation more before.takes c.in-Some.ensures.some c.in-Some.ensures.taken

@@ -2,10 +2,10 @@ use Rattle.std.proofs.Common.{◌≤◌}
 use Rattle.table_steps.specs.Views.{Stays}
 use Rattle.deck_relay.specs.SameDecks.{KeepsDeck}
 use Rattle.exec_recv.specs.Asides.{KeepsAside}
-use Rattle.loop_delays.specs.Delays.{count_of}
+use Rattle.timer_wheel.specs.Delays.{count_of}
 use Rattle.loop_walk.specs.Resting.{IsAtRest}
-use Rattle.run_loop.specs.Delayed.{TakesOut}
-use Rattle.run_loop.specs.Serves.{ServesOn}
+use Rattle.run_loop.specs.Delayed.{MayTakeOf, TakesOut}
+use Rattle.run_loop.specs.Serves.{ServesMore}
 use Rattle.run_loop.proofs.delaying.take_due.Given as goal
 
 abbrev pub invariant-out : goal.invariant-out
@@ -13,7 +13,7 @@ invariant-out g l = record {
   stays : Stays l.table l.fn.hand l.hand;
   rests : IsAtRest l.hand.me.0;
   aside : KeepsAside l.fn.hand.me l.hand.me;
-  served : ServesOn (g.T.Stepper.does l.stepper) l.table l.fn.taken l.taken l.fn.hand.me l.hand.me;
+  served : ServesMore (g.T.Stepper.does l.stepper) l.table (MayTakeOf l.table l.fn.delays) l.fn.taken l.taken l.fn.hand.me l.hand.me;
   more : l.fn.taken ≤ l.taken;
   takes : TakesOut l.table l.taken l.fn.hand.me l.hand.me l.fn.delays l.delays;
   deck : KeepsDeck l.fn.names.deck l.names.deck;

@@ -1,19 +1,29 @@
-use Rattle.std.proofs.Common.{inl, inr, length, arith, ap}
+use Rattle.std.proofs.Common.{inl, inr, length, arith, refl, ap}
 use Rattle.life_rules.specs.declared.event.Resting.TheVariants as rest
 use Rattle.loop_serve.proofs.Took.{first-serves}
 use Rattle.deck_relay.specs.SameDecks.{keeps-here}
-use Rattle.run_loop.proofs.Due.{tried-as}
-use Rattle.run_loop.proofs.Served.{serves-after, serves-more}
+use Rattle.loop_serve.proofs.Read.{looks-here}
+use Rattle.run_loop.specs.Delayed.{MayTakeDelay}
+use Rattle.run_loop.proofs.Due.{name-as, tried-as}
+use Rattle.run_loop.proofs.Served.{more-none, more-one}
 use Rattle.run_loop.proofs.delaying.try_due.Goals as goal
 
 pub serve-requires-clause-serves : goal.serve-requires-clause-serves
 serve-requires-clause-serves g c κs within = first-serves rest.Parked c.args.hand.now.me.0 c.requires.first
 
 pub returns-then-serve-clause-served : goal.returns-then-serve-clause-served
-returns-then-serve-clause-served g c first serves =
-    serves-more (g.T.Stepper.does c.args.stepper.now) c.args.table.now c.args.taken c.one_more.result first c.args.hand.now.me
-    c.serve.new.hand.me c.one_more.ensures.some c.one_more.ensures.one c.serve.ensures.aside serves
-    (record { name = _; from = rest.Parked; serves = c.serve.ensures.served c.if-serve.true })
+returns-then-serve-clause-served g c =
+    let size = c.size-nodes.ensures.size in
+    let tree = ap length c.tree.ensures.tree in
+    let nodes = c.requires.over.nodes in
+    more-one (g.T.Stepper.does c.args.stepper.now) c.args.table.now (MayTakeDelay c.args.table.now c.args.due.place c.args.due.generation)
+    c.args.taken c.one_more.result c.args.hand.now.me c.serve.new.hand.me c.one_more.ensures.one
+    (record {
+      name = _;
+      from = rest.Parked;
+      may_be = (refl, name-as c.args.table.now c.args.due.place c.args.due.generation c.size-nodes.result (omega (arith, size, tree, nodes)));
+      serves = c.serve.ensures.only c.if-serve.true;
+    })
 
 pub returns-then-serve-clause-tried : goal.returns-then-serve-clause-tried
 returns-then-serve-clause-tried g c within =
@@ -25,9 +35,14 @@ returns-then-serve-clause-tried g c within =
     (inr (c.one_more.ensures.some, (c.serve.ensures.served c.if-serve.true).taken))
 
 pub returns-clause-served : goal.returns-clause-served
-returns-clause-served g c first serves =
-    serves-after (g.T.Stepper.does c.args.stepper.now) c.args.table.now c.args.taken first c.args.hand.now.me c.serve.new.hand.me serves
-    (c.serve.ensures.looks c.if-serve.false)
+returns-clause-served g c =
+    more-none (g.T.Stepper.does c.args.stepper.now) c.args.table.now (MayTakeDelay c.args.table.now c.args.due.place c.args.due.generation)
+    c.args.taken c.args.hand.now.me c.serve.new.hand.me (omega arith) (c.serve.ensures.looks c.if-serve.false)
+
+pub returns-then-name-blocks-clause-served : goal.returns-then-name-blocks-clause-served
+returns-then-name-blocks-clause-served g c =
+    more-none (g.T.Stepper.does c.args.stepper.now) c.args.table.now (MayTakeDelay c.args.table.now c.args.due.place c.args.due.generation)
+    c.args.taken c.args.hand.now.me c.args.hand.now.me (omega arith) (looks-here c.args.hand.now.me)
 
 pub returns-clause-tried : goal.returns-clause-tried
 returns-clause-tried g c within =

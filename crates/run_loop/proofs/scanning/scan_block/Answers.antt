@@ -3,6 +3,9 @@ use Rattle.op_slot.proofs.Staying.{stays-here, stays-on}
 use Rattle.exec_recv.specs.Asides.{Aside}
 use Rattle.exec_recv.proofs.Asiding.{aside-here, aside-on}
 use Rattle.deck_relay.specs.SameDecks.{keeps-here, keeps-on}
+use Rattle.loop_serve.proofs.Read.{looks-here}
+use Rattle.run_loop.specs.Serves.{MayHelp}
+use Rattle.run_loop.proofs.Served.{more-none, more-on}
 use Rattle.run_loop.proofs.Turned.{passed-more}
 use Rattle.run_loop.proofs.scanning.scan_block.Goals as goal
 
@@ -12,7 +15,8 @@ loop-node-init g c =
       stays = stays-here c.args.table.now c.args.hand.now c.requires.hand;
       rests = c.requires.rests;
       aside = aside-here c.args.hand.now.me;
-      served = λ first serves. serves;
+      served = more-none (g.T.Stepper.does c.args.stepper.now) c.args.table.now (MayHelp c.args.helps) c.args.taken c.args.hand.now.me
+          c.args.hand.now.me (omega arith) (looks-here c.args.hand.now.me);
       none = λ zero. (zero, λ node below inner. absurd (omega (arith, below)));
       deck = keeps-here c.args.names.now.deck;
     }
@@ -31,7 +35,8 @@ loop-node-preserved g c =
       stays = stays-on board old between new before.stays c.take_node-taken.ensures.stays;
       rests = c.take_node-taken.ensures.rests;
       aside = aside-on old.me between.me new.me before.aside c.take_node-taken.ensures.aside;
-      served = λ first serves. c.take_node-taken.ensures.served first (before.served first serves);
+      served = more-on (g.T.Stepper.does c.args.stepper.now) board (MayHelp c.args.helps) c.args.taken c.loop-node.taken
+          c.take_node-taken.result old.me between.me new.me before.served c.take_node-taken.ensures.served;
       none = λ zero.
           let here = c.take_node-taken.ensures.none zero in
           let earlier = before.none here.0 in (

@@ -2,7 +2,7 @@ use Rattle.table_steps.specs.Views.{Stays}
 use Rattle.deck_relay.specs.SameDecks.{KeepsDeck}
 use Rattle.exec_recv.specs.Asides.{KeepsAside}
 use Rattle.loop_walk.specs.Resting.{IsAtRest}
-use Rattle.run_loop.specs.Serves.{ServesOn}
+use Rattle.run_loop.specs.Serves.{MayHelp, ServesMore}
 use Rattle.run_loop.specs.Turns.{ArePassed, CountsNothing}
 use Rattle.run_loop.proofs.scanning.scan_block.Given as goal
 
@@ -11,7 +11,7 @@ invariant-loop-node g l = record {
   stays : Stays l.table l.fn.hand l.hand;
   rests : IsAtRest l.hand.me.0;
   aside : KeepsAside l.fn.hand.me l.hand.me;
-  served : ServesOn (g.T.Stepper.does l.stepper) l.table l.fn.taken l.taken l.fn.hand.me l.hand.me;
+  served : ServesMore (g.T.Stepper.does l.stepper) l.table (MayHelp l.helps) l.fn.taken l.taken l.fn.hand.me l.hand.me;
   none : CountsNothing l.fn.taken l.taken (ArePassed l.table l.fn.hand.me l.hand.me l.helps l.block l.node);
   deck : KeepsDeck l.fn.names.deck l.names.deck;
 }

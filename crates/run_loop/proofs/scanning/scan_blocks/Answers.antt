@@ -4,6 +4,8 @@ use Rattle.exec_recv.specs.Asides.{Aside}
 use Rattle.exec_recv.proofs.Asiding.{aside-here, aside-on}
 use Rattle.loop_serve.proofs.Read.{looks-here}
 use Rattle.deck_relay.specs.SameDecks.{keeps-here, keeps-on}
+use Rattle.run_loop.specs.Serves.{MayHelp}
+use Rattle.run_loop.proofs.Served.{more-none, more-on}
 use Rattle.run_loop.proofs.Turned.{blocks-more}
 use Rattle.run_loop.proofs.scanning.scan_blocks.Goals as goal
 
@@ -13,7 +15,8 @@ loop-block-init g c =
       stays = stays-here c.args.table.now c.args.hand.now c.requires.hand;
       rests = c.requires.rests;
       aside = aside-here c.args.hand.now.me;
-      served = looks-here c.args.hand.now.me;
+      served = more-none (g.T.Stepper.does c.args.stepper.now) c.args.table.now (MayHelp c.args.helps) 0 c.args.hand.now.me
+          c.args.hand.now.me (omega arith) (looks-here c.args.hand.now.me);
       none = λ zero block below. absurd (omega (arith, below));
       deck = keeps-here c.args.names.now.deck;
     }
@@ -32,7 +35,8 @@ loop-block-preserved g c =
       stays = stays-on board old between new before.stays c.scan_block-taken.ensures.stays;
       rests = c.scan_block-taken.ensures.rests;
       aside = aside-on old.me between.me new.me before.aside c.scan_block-taken.ensures.aside;
-      served = c.scan_block-taken.ensures.served old.me before.served;
+      served = more-on (g.T.Stepper.does c.args.stepper.now) board (MayHelp c.args.helps) 0 c.loop-block.taken c.scan_block-taken.result
+          old.me between.me new.me before.served c.scan_block-taken.ensures.served;
       none = λ zero.
           let here = c.scan_block-taken.ensures.none zero in
           blocks-more board c.args.helps c.loop-block.block old.me between.me new.me before.aside c.scan_block-taken.ensures.aside

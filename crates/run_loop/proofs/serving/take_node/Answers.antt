@@ -7,10 +7,12 @@ use Rattle.op_slot.proofs.Staying.{stays-on}
 use Rattle.exec_recv.proofs.Asiding.{aside-on}
 use Rattle.loop_serve.specs.Since.{OnlyLooks}
 use Rattle.loop_serve.specs.Serving.{IsUnready, WasUnready}
-use Rattle.loop_serve.proofs.Read.{looks-on, since-before, since-after}
+use Rattle.exec_recv.proofs.Since.{since-before, since-after}
+use Rattle.loop_serve.proofs.Read.{looks-on}
 use Rattle.loop_serve.proofs.Took.{first-serves}
 use Rattle.deck_relay.specs.SameDecks.{keeps-on}
-use Rattle.run_loop.proofs.Served.{none-taken, one-taken, one-later, serves-after, serves-more}
+use Rattle.run_loop.specs.Serves.{MayHelp}
+use Rattle.run_loop.proofs.Served.{none-taken, one-taken, more-none, more-one, more-on}
 use Rattle.run_loop.proofs.serving.take_node.Goals as goal
 
 pub serve_place-requires-clause-serves : goal.serve_place-requires-clause-serves
@@ -23,15 +25,14 @@ returns-then-is_some g c =
     let old = c.args.hand.now in
     let new = c.serve_place.new.hand in
     let some = c.one_more.ensures.some in
-    let one = one-taken does board rest.Loop c.serve_place.result old.me new.me (sym c.is_some.ensures ∙ c.if-is_some.true)
-    c.serve_place.ensures.served in
+    let one = one-taken does board (MayHelp c.args.helps) rest.Loop c.serve_place.result old.me new.me (λ name. tt)
+    (sym c.is_some.ensures ∙ c.if-is_some.true) c.serve_place.ensures.only in
     record {
       stays = c.serve_place.ensures.stays;
       rests = c.serve_place.ensures.rests;
       aside = c.serve_place.ensures.aside;
       deck = c.serve_place.ensures.mail;
-      served = λ first serves.
-          serves-more does board c.args.taken c.one_more.result first old.me new.me some c.one_more.ensures.one c.serve_place.ensures.aside serves one;
+      served = more-one does board (MayHelp c.args.helps) c.args.taken c.one_more.result old.me new.me c.one_more.ensures.one one;
       none = λ zero. absurd (omega (arith, some, zero));
     }
 
@@ -46,8 +47,7 @@ returns-then-not-helps g c =
       rests = c.serve_place.ensures.rests;
       aside = c.serve_place.ensures.aside;
       deck = c.serve_place.ensures.mail;
-      served = λ first serves.
-          serves-after does board c.args.taken first old.me new.me serves
+      served = more-none does board (MayHelp c.args.helps) c.args.taken old.me new.me (omega arith)
           (none-taken c.serve_place.result (OnlyLooks old.me new.me) (sym c.is_some.ensures ∙ c.if-is_some.false) c.serve_place.ensures.looks);
       none = λ zero. (
         zero,
@@ -68,16 +68,19 @@ returns-then-is_some-2 g c =
     let new = c.serve_place-2.new.hand in
     let some = c.one_more-then-is_some-2.ensures.some in
     let aside = aside-on old.me between.me new.me c.serve_place.ensures.aside c.serve_place-2.ensures.aside in
-    let one = one-taken does board rest.Pool c.serve_place-2.result between.me new.me (sym c.is_some-2.ensures ∙ c.if-is_some-2.true)
-    c.serve_place-2.ensures.served in
+    let may = MayHelp c.args.helps in
+    let looks = none-taken c.serve_place.result (OnlyLooks old.me between.me) (sym c.is_some.ensures ∙ c.if-is_some.false)
+    c.serve_place.ensures.looks in
+    let one = one-taken does board may rest.Pool c.serve_place-2.result between.me new.me (λ name. c.if-not-helps.false)
+    (sym c.is_some-2.ensures ∙ c.if-is_some-2.true) c.serve_place-2.ensures.only in
     record {
       stays = stays-on board old between new c.serve_place.ensures.stays c.serve_place-2.ensures.stays;
       rests = c.serve_place-2.ensures.rests;
       aside = aside;
       deck = keeps-on c.args.names.now.deck c.serve_place.new.mail.deck c.serve_place-2.new.mail.deck c.serve_place.ensures.mail c.serve_place-2.ensures.mail;
-      served = λ first serves.
-          serves-more does board c.args.taken c.one_more-then-is_some-2.result first old.me new.me some c.one_more-then-is_some-2.ensures.one aside
-          serves (one-later does board old.me between.me new.me c.serve_place.ensures.aside one);
+      served = more-on does board may c.args.taken c.args.taken c.one_more-then-is_some-2.result old.me between.me new.me
+          (more-none does board may c.args.taken old.me between.me (omega arith) looks)
+          (more-one does board may c.args.taken c.one_more-then-is_some-2.result between.me new.me c.one_more-then-is_some-2.ensures.one one);
       none = λ zero. absurd (omega (arith, some, zero));
     }
 
@@ -94,8 +97,7 @@ returns g c =
       rests = c.serve_place-2.ensures.rests;
       aside = aside;
       deck = keeps-on c.args.names.now.deck c.serve_place.new.mail.deck c.serve_place-2.new.mail.deck c.serve_place.ensures.mail c.serve_place-2.ensures.mail;
-      served = λ first serves.
-          serves-after (g.T.Stepper.does c.args.stepper.now) board c.args.taken first old.me new.me serves
+      served = more-none (g.T.Stepper.does c.args.stepper.now) board (MayHelp c.args.helps) c.args.taken old.me new.me (omega arith)
           (looks-on old.me between.me new.me
           (none-taken c.serve_place.result (OnlyLooks old.me between.me) (sym c.is_some.ensures ∙ c.if-is_some.false)
           c.serve_place.ensures.looks)

@@ -1,15 +1,15 @@
-use Rattle.std.proofs.Common.{inl, inr, ◌+◌, arith, sym, ap, ◌∙◌, subst}
+use Rattle.std.proofs.Common.{◌≡◌, inl, inr, ◌+◌, length, arith, refl, sym, ap, ◌∙◌, subst}
 use Rattle.std.proofs.lemmas.Option.{slice_get-get_or}
 use Rattle.op_slot.proofs.Staying.{stays-here, stays-on}
 use Rattle.exec_recv.specs.Asides.{Aside}
 use Rattle.exec_recv.proofs.Asiding.{aside-here, aside-on}
 use Rattle.loop_serve.proofs.Read.{looks-here}
 use Rattle.deck_relay.specs.SameDecks.{keeps-here, keeps-on}
-use Rattle.run_loop.specs.Serves.{Serves}
-use Rattle.run_loop.specs.Turns.{AreLeft}
-use Rattle.run_loop.proofs.Served.{serves-after, serves-more}
+use Rattle.run_loop.specs.Serves.{MayHelp, ServesMore}
+use Rattle.run_loop.specs.Turns.{AreLeft, MeetsFirst}
+use Rattle.run_loop.proofs.Served.{more-none, more-one, more-on}
 use Rattle.run_loop.proofs.Turned.{left-more}
-use Rattle.run_loop.proofs.Meeting.{met-more}
+use Rattle.run_loop.proofs.Meeting.{met-more, named-one}
 use Rattle.run_loop.proofs.turning.serve_each.Goals as goal
 use Rattle.run_loop.proofs.turning.serve_each.Goals.{then-serve_name, else-serve_name}
 
@@ -19,8 +19,10 @@ loop-name-init g c =
       stays = stays-here c.args.table.now c.args.hand.now c.requires.hand;
       rests = c.requires.rests;
       aside = aside-here c.args.hand.now.me;
-      served = looks-here c.args.hand.now.me;
-      met = λ k name below. absurd (omega (arith, below));
+      served = more-none (g.T.Stepper.does c.args.stepper.now) c.args.table.now (MayHelp c.args.helps) 0 c.args.hand.now.me
+          c.args.hand.now.me (omega arith) (looks-here c.args.hand.now.me);
+      within = omega arith;
+      met = refl;
       none = λ zero k name below. absurd (omega (arith, below));
       deck = keeps-here c.args.names.now.deck;
     }
@@ -31,6 +33,7 @@ serve_name-requires-clause-first g c κs within = ap (λ (a : Aside). a.number) 
 pub loop-name-preserved : goal.loop-name-preserved
 loop-name-preserved g c =
     let does = g.T.Stepper.does c.args.stepper.now in
+    let may = MayHelp c.args.helps in
     let board = c.args.table.now in
     let before = c.loop-name.invariant in
     let old = c.args.hand.now in
@@ -42,22 +45,22 @@ loop-name-preserved g c =
       aside = aside-on old.me between.me new.me before.aside c.serve_name.ensures.aside;
       served = elim c.if-serve_name.branch [
         | then-serve_name w ↦
-            subst (λ n. Serves does board n old.me new.me) (sym w.taken-is)
-            (let one = c.serve_name.ensures.served w.if-serve_name.true in
-            serves-more does board c.loop-name.taken w.one_more-taken.result old.me between.me new.me w.one_more-taken.ensures.some
-            w.one_more-taken.ensures.one c.serve_name.ensures.aside before.served
-            (record { name = _; from = one.0; serves = one.1 }))
+            subst (λ n. ServesMore does board may 0 n old.me new.me) (sym w.taken-is)
+            (more-on does board may 0 c.loop-name.taken w.one_more-taken.result old.me between.me new.me before.served
+            (more-one does board may c.loop-name.taken w.one_more-taken.result between.me new.me w.one_more-taken.ensures.one
+            (named-one does board c.args.helps _ between.me new.me (c.serve_name.ensures.served w.if-serve_name.true))))
         | else-serve_name w ↦
-            subst (λ n. Serves does board n old.me new.me) (sym w.taken-is)
-            (serves-after does board c.loop-name.taken old.me between.me new.me before.served
-            (c.serve_name.ensures.looks w.if-serve_name.false))
+            subst (λ n. ServesMore does board may 0 n old.me new.me) (sym w.taken-is)
+            (more-on does board may 0 c.loop-name.taken c.loop-name.taken old.me between.me new.me before.served
+            (more-none does board may c.loop-name.taken between.me new.me (omega arith) (c.serve_name.ensures.looks w.if-serve_name.false)))
       ];
-      met = met-more does board c.args.helps old.me between.me new.me c.args.told.now c.loop-name.name-index _
-          (slice_get-get_or c.args.told.now c.loop-name.name-index _ c.loop-name-test.true) before.aside c.serve_name.ensures.aside before.met
-          (λ inner.
-          elim c.if-serve_name.branch [
+      within = let below = c.loop-name-test.true in omega (arith, below);
+      met = met-more does board c.args.helps c.args.told.now c.loop-name.name-index _ old.me between.me new.me
+          (slice_get-get_or c.args.told.now c.loop-name.name-index _ c.loop-name-test.true) before.met
+          (elim c.if-serve_name.branch [
             | then-serve_name w ↦ inl (c.serve_name.ensures.served w.if-serve_name.true)
-            | else-serve_name w ↦ inr (c.serve_name.ensures.left w.if-serve_name.false inner)
+            | else-serve_name w ↦
+                inr (record { left = c.serve_name.ensures.left w.if-serve_name.false; looks = c.serve_name.ensures.looks w.if-serve_name.false })
           ]);
       none = λ zero.
           elim c.if-serve_name.branch [
@@ -79,5 +82,11 @@ returns-clause-none g c zero k name below =
     let past = c.loop-name-test.false in c.loop-name.invariant.none zero k name (omega (arith, below, past))
 
 pub returns-clause-met : goal.returns-clause-met
-returns-clause-met g c k name below =
-    let past = c.loop-name-test.false in c.loop-name.invariant.met k name (omega (arith, below, past))
+returns-clause-met g c =
+    let past = c.loop-name-test.false in
+    let within = c.loop-name.invariant.within in
+    let all : c.loop-name.name-index ≡ length c.args.told.now = omega (arith, past, within) in
+    subst
+    (λ n.
+    MeetsFirst (g.T.Stepper.does c.args.stepper.now) c.args.table.now c.args.helps c.args.told.now n c.args.hand.now.me c.loop-name.hand.me)
+    all c.loop-name.invariant.met

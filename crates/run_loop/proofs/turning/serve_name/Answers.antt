@@ -7,8 +7,9 @@ use Rattle.table_steps.specs.Takes.{rest_word}
 use Rattle.op_slot.proofs.Staying.{stays-here, stays-on}
 use Rattle.exec_recv.specs.Over.{IsOver}
 use Rattle.exec_recv.proofs.Asiding.{aside-here, aside-on}
-use Rattle.loop_serve.proofs.Read.{since-before, since-after, looks-here, looks-on}
-use Rattle.loop_serve.proofs.Took.{first-serves, serves-before}
+use Rattle.exec_recv.proofs.Since.{since-before, since-after}
+use Rattle.loop_serve.proofs.Read.{looks-here, looks-on}
+use Rattle.loop_serve.proofs.Took.{first-serves, only-before}
 use Rattle.deck_relay.specs.SameDecks.{keeps-here, keeps-on}
 use Rattle.run_loop.proofs.turning.serve_name.Goals as goal
 
@@ -61,17 +62,20 @@ pub returns-then-not-is_inner-clause-looks : goal.returns-then-not-is_inner-clau
 returns-then-not-is_inner-clause-looks g c looks = looks-here c.args.hand.now.me
 
 pub returns-then-serve-clause-served : goal.returns-then-serve-clause-served
-returns-then-serve-clause-served g c served = (rest.Loop, c.serve.ensures.served c.if-serve.true)
+returns-then-serve-clause-served g c served =
+    record { from = rest.Loop; may_be = tt; serves = c.serve.ensures.only c.if-serve.true }
 
 pub returns-then-not-helps-clause-looks : goal.returns-then-not-helps-clause-looks
 returns-then-not-helps-clause-looks g c looks = c.serve.ensures.looks c.if-serve.false
 
 pub returns-clause-served : goal.returns-clause-served
-returns-clause-served g c served = (
-  rest.Pool,
-  serves-before (g.T.Stepper.does c.args.stepper.now) c.args.table.now rest.Pool c.args.name c.args.hand.now.me c.serve.new.hand.me
-      c.serve-2.new.hand.me c.serve.ensures.aside (c.serve-2.ensures.served served),
-)
+returns-clause-served g c served =
+    record {
+      from = rest.Pool;
+      may_be = c.if-not-helps.false;
+      serves = only-before (g.T.Stepper.does c.args.stepper.now) c.args.table.now rest.Pool c.args.name c.args.hand.now.me c.serve.new.hand.me
+          c.serve-2.new.hand.me (c.serve.ensures.looks c.if-serve.false) (c.serve-2.ensures.only served);
+    }
 
 pub returns-clause-looks : goal.returns-clause-looks
 returns-clause-looks g c looks =

@@ -1,10 +1,10 @@
 use Rattle.std.proofs.Common.{Bool, Some, refl, sym, ap, ◌∙◌, subst}
 use Rattle.exec_value.specs.declared.outcome.Completion.{Completion}
 use Rattle.op_slot.proofs.Staying.{stays-on}
-use Rattle.exec_start.specs.Parcels.{Delivery, MayDeliver}
+use Rattle.home_items.specs.Parcels.{Delivery, MayDeliver}
 use Rattle.exec_recv.specs.Over.{IsOver}
 use Rattle.exec_recv.proofs.Asiding.{aside-on}
-use Rattle.node_steps.specs.Heard.{MaySee}
+use Rattle.step_parts.specs.Heard.{MaySee}
 use Rattle.serve_ahead.proofs.AtHand.{inner, has-stepped, may-complete, may-fail}
 use Rattle.serve_ahead.proofs.ending.fail_ahead.Goals as goal
 

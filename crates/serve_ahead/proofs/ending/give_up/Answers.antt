@@ -2,7 +2,7 @@ use Rattle.std.proofs.Common.{None, refl, sym, subst}
 use Rattle.op_slot.proofs.Staying.{stays-on}
 use Rattle.exec_recv.specs.Over.{IsOver}
 use Rattle.exec_recv.proofs.Asiding.{aside-on}
-use Rattle.node_steps.specs.Wants.{wanting}
+use Rattle.step_parts.specs.Wants.{wanting}
 use Rattle.serve_ahead.proofs.AtHand.{inner, large, has-stepped}
 use Rattle.serve_ahead.proofs.ending.give_up.Goals as goal
 

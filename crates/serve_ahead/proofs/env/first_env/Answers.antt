@@ -1,9 +1,9 @@
 use Rattle.std.proofs.Common.{List, ap, sym, ◌∙◌, subst}
 use Rattle.plan_shape.specs.Blueprint.{Blueprint}
 use Rattle.plan_kinds.specs.TreeLaws.{IsSpawned}
-use Rattle.exec_start.specs.declared.entry.Entry.{Entry}
-use Rattle.exec_start.specs.Entries.{plan_of, record_start}
-use Rattle.exec_start.specs.Starts.{IsReceiverStart}
+use Rattle.home_items.specs.declared.entry.Entry.{Entry}
+use Rattle.home_items.specs.Entries.{plan_of, record_start}
+use Rattle.home_items.specs.Starts.{IsReceiverStart}
 use Rattle.serve_ahead.proofs.Spawning.{record-receiver}
 use Rattle.serve_ahead.proofs.env.first_env.Goals as goal
 

@@ -1,6 +1,6 @@
 use Rattle.std.proofs.Common.{ap, sym, ◌∙◌, subst}
 use Rattle.exec_value.specs.declared.outcome.Completion.{Completion}
-use Rattle.exec_start.specs.Parcels.{Delivery, MayDeliver}
+use Rattle.home_items.specs.Parcels.{Delivery, MayDeliver}
 use Rattle.serve_ahead.proofs.joining.both_values.Goals as goal
 
 pub of-requires : goal.of-requires

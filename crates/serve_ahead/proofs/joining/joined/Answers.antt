@@ -3,8 +3,8 @@ use Rattle.std.specs.Prelude.{Option, IfSome}
 use Rattle.exec_value.specs.declared.outcome.Completion.{Completion}
 use Rattle.exec_value.specs.declared.outcome.Completion.TheVariants.{Value}
 use Rattle.plan_rules.specs.Settle.{ahead_of}
-use Rattle.exec_start.specs.Parcels.{Delivery, MayDeliver}
-use Rattle.serve_ahead.specs.Spawned.{IsJoined}
+use Rattle.home_items.specs.Parcels.{Delivery, MayDeliver}
+use Rattle.serve_ahead.specs.Spawned.{IsJoinedAhead}
 use Rattle.serve_ahead.proofs.Both.{may-join, has-room, values-joined, failure-joined, no-values, passes-failure}
 use Rattle.serve_ahead.proofs.joining.joined.Goals as goal
 

@@ -3,7 +3,8 @@ use Rattle.table_steps.specs.Steps.{control_index}
 use Rattle.life_rules.specs.declared.event.Resting.TheVariants.{Parked}
 use Rattle.exec_recv.proofs.Asiding.{aside-on}
 use Rattle.loop_serve.specs.Serving.{TakesWord}
-use Rattle.loop_serve.proofs.Read.{looked-rests, looked-only, lost-missed, moved-after}
+use Rattle.exec_recv.proofs.Since.{moved-after}
+use Rattle.loop_serve.proofs.Read.{looked-rests, looked-only, lost-missed}
 use Rattle.loop_serve.proofs.Took.{took-aside, took-can, took-moved}
 use Rattle.serve_ahead.proofs.taking.take_ahead.Goals as goal
 

@@ -1,10 +1,10 @@
 use Rattle.std.proofs.Common.{Option, None, sym, ap, ◌∙◌, subst}
 use Rattle.std.specs.Prelude.{IfSome}
 use Rattle.std.specs.Option.{option_map}
-use Rattle.exec_start.specs.declared.item.Item.{Item}
-use Rattle.exec_start.specs.declared.item.Item.TheVariants.{Done}
-use Rattle.exec_start.specs.Parcels.{Delivery}
-use Rattle.node_steps.specs.TakenOut.{newest_in}
+use Rattle.home_items.specs.declared.item.Item.{Item}
+use Rattle.home_items.specs.declared.item.Item.TheVariants.{Done}
+use Rattle.home_items.specs.Parcels.{Delivery}
+use Rattle.step_parts.specs.TakenOut.{newest_in}
 use Rattle.exec_ahead.specs.Openings.{HasParcel}
 use Rattle.serve_ahead.proofs.taking.take_up.Goals as goal
 

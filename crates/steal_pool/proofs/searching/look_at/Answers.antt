@@ -5,7 +5,7 @@ use Rattle.table_words.specs.Layouts.{OfControl, index}
 use Rattle.op_slot.proofs.Staying.{stays-on}
 use Rattle.exec_recv.proofs.Asiding.{aside-on}
 use Rattle.loop_serve.proofs.Read.{looked-rests, looked-aside, looked-only, read-unready}
-use Rattle.steal_pool.specs.Desks.{keeps-here, keeps-on}
+use Rattle.steal_pool.specs.Desks.{desk-here, desk-on}
 use Rattle.steal_pool.proofs.Searched.{finds-before, looks-before, served-before}
 use Rattle.steal_pool.proofs.searching.look_at.Goals as goal
 
@@ -24,7 +24,7 @@ returns-in-None g c =
       none = λ not. (not, read-unready board Pool c.args.block c.args.node c.ready_at.result old new read c.in-None.is);
       looks = looked-only i read.word old.me new.me read.me_is;
       still = λ not. refl {a = c.args.found.now};
-      desk = keeps-here c.args.offers.now.desk;
+      desk = desk-here c.args.offers.now.desk;
     }
 
 pub returns-then-submit_where : goal.returns-then-submit_where
@@ -68,7 +68,7 @@ returns-else-submit_where g c =
           c.serve_place.ensures.unready;
       looks = looks-before board old.me between.me new.me c.serve_place.result looked c.serve_place.ensures.looks;
       still = λ not. refl {a = c.args.found.now};
-      desk = keeps-on c.args.offers.now.desk c.submit_where.new.self.desk c.serve_place.new.mail.desk c.submit_where.ensures.desk
-          (keeps-on c.submit_where.new.self.desk c.get_up.new.self.desk c.serve_place.new.mail.desk c.get_up.ensures
+      desk = desk-on c.args.offers.now.desk c.submit_where.new.self.desk c.serve_place.new.mail.desk c.submit_where.ensures.desk
+          (desk-on c.submit_where.new.self.desk c.get_up.new.self.desk c.serve_place.new.mail.desk c.get_up.ensures
           c.serve_place.ensures.mail);
     }

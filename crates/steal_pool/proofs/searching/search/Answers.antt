@@ -4,7 +4,7 @@ use Rattle.op_slot.proofs.Staying.{stays-here, stays-on}
 use Rattle.exec_recv.proofs.Asiding.{aside-on}
 use Rattle.loop_serve.proofs.Read.{looks-here, looks-on}
 use Rattle.loop_serve.proofs.Took.{serves-before}
-use Rattle.steal_pool.specs.Desks.{keeps-here, keeps-on}
+use Rattle.steal_pool.specs.Desks.{desk-here, desk-on}
 use Rattle.steal_pool.proofs.Searched.{blocks-more}
 use Rattle.steal_pool.proofs.searching.search.Goals as goal
 
@@ -16,7 +16,7 @@ loop-block-init g c =
       looks = looks-here c.args.hand.now.me;
       none = λ not. (not, λ block below. absurd (omega (arith, below)));
       still = λ not. refl;
-      desk = keeps-here c.args.offers.now.desk;
+      desk = desk-here c.args.offers.now.desk;
     }
 
 pub loop-block-preserved : goal.loop-block-preserved
@@ -37,7 +37,7 @@ loop-block-preserved g c =
             blocks-more board old.me between.me new.me c.loop-block.block before.looks.aside c.search_block.ensures.aside earlier.1 here.1,
           );
       still = λ not. c.search_block.ensures.still not ∙ before.still not;
-      desk = keeps-on c.args.offers.now.desk c.loop-block.offers.desk c.search_block.new.offers.desk before.desk c.search_block.ensures.desk;
+      desk = desk-on c.args.offers.now.desk c.loop-block.offers.desk c.search_block.new.offers.desk before.desk c.search_block.ensures.desk;
     }
 
 pub returns-in-Some : goal.returns-in-Some
@@ -56,7 +56,7 @@ returns-in-Some g c =
       none = tt;
       looks = tt;
       still = λ not. c.search_block.ensures.still not ∙ before.still not;
-      desk = keeps-on c.args.offers.now.desk c.loop-block.offers.desk c.search_block.new.offers.desk before.desk c.search_block.ensures.desk;
+      desk = desk-on c.args.offers.now.desk c.loop-block.offers.desk c.search_block.new.offers.desk before.desk c.search_block.ensures.desk;
     }
 
 pub returns : goal.returns

@@ -4,7 +4,7 @@ use Rattle.op_slot.proofs.Staying.{stays-here, stays-on}
 use Rattle.exec_recv.proofs.Asiding.{aside-on}
 use Rattle.loop_serve.proofs.Read.{looks-here, looks-on}
 use Rattle.loop_serve.proofs.Took.{serves-before}
-use Rattle.steal_pool.specs.Desks.{keeps-here, keeps-on}
+use Rattle.steal_pool.specs.Desks.{desk-here, desk-on}
 use Rattle.steal_pool.proofs.Searched.{nodes-more, nodes-all}
 use Rattle.steal_pool.proofs.searching.search_block.Goals as goal
 
@@ -16,7 +16,7 @@ loop-node-init g c =
       looks = looks-here c.args.hand.now.me;
       none = λ not. (not, λ node below inner. absurd (omega (arith, below)));
       still = λ not. refl;
-      desk = keeps-here c.args.offers.now.desk;
+      desk = desk-here c.args.offers.now.desk;
     }
 
 pub loop-node-preserved : goal.loop-node-preserved
@@ -37,7 +37,7 @@ loop-node-preserved g c =
             nodes-more board old.me between.me new.me c.args.block c.loop-node.node before.looks.aside c.look_at.ensures.aside earlier.1 here.1,
           );
       still = λ not. c.look_at.ensures.still not ∙ before.still not;
-      desk = keeps-on c.args.offers.now.desk c.loop-node.offers.desk c.look_at.new.offers.desk before.desk c.look_at.ensures.desk;
+      desk = desk-on c.args.offers.now.desk c.loop-node.offers.desk c.look_at.new.offers.desk before.desk c.look_at.ensures.desk;
     }
 
 pub returns-in-Some : goal.returns-in-Some
@@ -56,7 +56,7 @@ returns-in-Some g c =
       none = tt;
       looks = tt;
       still = λ not. c.look_at.ensures.still not ∙ before.still not;
-      desk = keeps-on c.args.offers.now.desk c.loop-node.offers.desk c.look_at.new.offers.desk before.desk c.look_at.ensures.desk;
+      desk = desk-on c.args.offers.now.desk c.loop-node.offers.desk c.look_at.new.offers.desk before.desk c.look_at.ensures.desk;
     }
 
 pub returns : goal.returns

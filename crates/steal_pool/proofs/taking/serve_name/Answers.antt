@@ -3,7 +3,7 @@ use Rattle.std.proofs.lemmas.Bool.{both_ways}
 use Rattle.op_slot.proofs.Staying.{stays-here}
 use Rattle.exec_recv.proofs.Asiding.{aside-here}
 use Rattle.loop_serve.proofs.Read.{looks-here}
-use Rattle.steal_pool.specs.Desks.{keeps-here}
+use Rattle.steal_pool.specs.Desks.{desk-here}
 use Rattle.steal_pool.proofs.taking.serve_name.Goals as goal
 
 pub returns-then-not-is_place : goal.returns-then-not-is_place
@@ -14,5 +14,5 @@ returns-then-not-is_place g c =
       aside = aside-here c.args.hand.now.me;
       served = λ is. absurd (both_ways false refl is);
       looks = λ _. looks-here c.args.hand.now.me;
-      desk = keeps-here c.args.offers.now.desk;
+      desk = desk-here c.args.offers.now.desk;
     }

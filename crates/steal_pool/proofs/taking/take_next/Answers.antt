@@ -4,7 +4,7 @@ use Rattle.op_slot.proofs.Staying.{stays-here, stays-on}
 use Rattle.exec_recv.proofs.Asiding.{aside-on}
 use Rattle.loop_serve.proofs.Read.{looks-here, looks-on}
 use Rattle.loop_serve.proofs.Took.{serves-before}
-use Rattle.steal_pool.specs.Desks.{keeps-here, keeps-on}
+use Rattle.steal_pool.specs.Desks.{desk-here, desk-on}
 use Rattle.steal_pool.proofs.taking.take_next.Goals as goal
 
 pub asked-init : goal.asked-init
@@ -14,7 +14,7 @@ asked-init g c =
       rests = c.requires.rests;
       looks = looks-here c.args.hand.now.me;
       most = omega arith;
-      desk = keeps-here c.args.offers.now.desk;
+      desk = desk-here c.args.offers.now.desk;
     }
 
 pub asked-preserved : goal.asked-preserved
@@ -30,9 +30,9 @@ asked-preserved g c =
       rests = c.serve_name.ensures.rests;
       looks = looks-on old.me between.me new.me before.looks (c.serve_name.ensures.looks c.if-serve_name.false);
       most = omega (arith, most, fewer);
-      desk = keeps-on c.args.offers.now.desk c.asked.offers.desk c.serve_name.new.offers.desk before.desk
-          (keeps-on c.asked.offers.desk c.ask.new.offers.desk c.serve_name.new.offers.desk c.ask.ensures.desk
-          (keeps-on c.ask.new.offers.desk c.get_up.new.self.desk c.serve_name.new.offers.desk c.get_up.ensures c.serve_name.ensures.desk));
+      desk = desk-on c.args.offers.now.desk c.asked.offers.desk c.serve_name.new.offers.desk before.desk
+          (desk-on c.asked.offers.desk c.ask.new.offers.desk c.serve_name.new.offers.desk c.ask.ensures.desk
+          (desk-on c.ask.new.offers.desk c.get_up.new.self.desk c.serve_name.new.offers.desk c.get_up.ensures c.serve_name.ensures.desk));
     }
 
 pub returns-then-serve_name : goal.returns-then-serve_name
@@ -52,9 +52,9 @@ returns-then-serve_name g c =
       served = serves-before (g.T.Stepper.does c.args.stepper.now) board Pool c.in-Some.name old.me between.me new.me before.looks.aside
           (c.serve_name.ensures.served c.if-serve_name.true);
       looks = tt;
-      desk = keeps-on c.args.offers.now.desk c.asked.offers.desk c.serve_name.new.offers.desk before.desk
-          (keeps-on c.asked.offers.desk c.ask.new.offers.desk c.serve_name.new.offers.desk c.ask.ensures.desk
-          (keeps-on c.ask.new.offers.desk c.get_up.new.self.desk c.serve_name.new.offers.desk c.get_up.ensures c.serve_name.ensures.desk));
+      desk = desk-on c.args.offers.now.desk c.asked.offers.desk c.serve_name.new.offers.desk before.desk
+          (desk-on c.asked.offers.desk c.ask.new.offers.desk c.serve_name.new.offers.desk c.ask.ensures.desk
+          (desk-on c.ask.new.offers.desk c.get_up.new.self.desk c.serve_name.new.offers.desk c.get_up.ensures c.serve_name.ensures.desk));
     }
 
 pub returns : goal.returns
@@ -69,5 +69,5 @@ returns g c =
       most = omega (arith, most, fewer);
       served = tt;
       looks = last.looks;
-      desk = keeps-on c.args.offers.now.desk c.asked.offers.desk c.ask.new.offers.desk last.desk c.ask.ensures.desk;
+      desk = desk-on c.args.offers.now.desk c.asked.offers.desk c.ask.new.offers.desk last.desk c.ask.ensures.desk;
     }

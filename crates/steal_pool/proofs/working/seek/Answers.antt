@@ -4,7 +4,7 @@ use Rattle.op_slot.proofs.Staying.{stays-on}
 use Rattle.exec_recv.proofs.Asiding.{aside-on}
 use Rattle.loop_serve.proofs.Read.{looks-on}
 use Rattle.loop_serve.proofs.Took.{serves-before}
-use Rattle.steal_pool.specs.Desks.{keeps-on}
+use Rattle.steal_pool.specs.Desks.{desk-on}
 use Rattle.steal_pool.proofs.Searched.{works-before}
 use Rattle.steal_pool.proofs.working.seek.Goals as goal
 
@@ -43,7 +43,7 @@ returns-in-Some-take_next g c =
       most = c.take_next.ensures.most;
       works = serves-before (g.T.Stepper.does c.args.stepper.now) board Pool c.in-Some-take_next.name old.me between.me new.me
           c.search.ensures.aside c.in-Some-take_next.ensures.served;
-      desk = keeps-on c.args.offers.now.desk c.search.new.offers.desk c.take_next.new.offers.desk c.search.ensures.desk c.take_next.ensures.desk;
+      desk = desk-on c.args.offers.now.desk c.search.new.offers.desk c.take_next.new.offers.desk c.search.ensures.desk c.take_next.ensures.desk;
     }
 
 pub returns : goal.returns
@@ -61,7 +61,7 @@ returns g c =
       most = c.take_next.ensures.most;
       works = works-before board old.me between.me new.me (g.T.Stepper.does c.args.stepper.now) c.take_any.result looks
           c.take_any.ensures.works;
-      desk = keeps-on c.args.offers.now.desk c.take_next.new.offers.desk c.take_any.new.offers.desk
-          (keeps-on c.args.offers.now.desk c.search.new.offers.desk c.take_next.new.offers.desk c.search.ensures.desk c.take_next.ensures.desk)
+      desk = desk-on c.args.offers.now.desk c.take_next.new.offers.desk c.take_any.new.offers.desk
+          (desk-on c.args.offers.now.desk c.search.new.offers.desk c.take_next.new.offers.desk c.search.ensures.desk c.take_next.ensures.desk)
           c.take_any.ensures.desk;
     }

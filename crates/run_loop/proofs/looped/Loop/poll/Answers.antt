@@ -1,12 +1,14 @@
-use Rattle.std.proofs.Common.{arith, ap, ◌∙◌, subst}
+use Rattle.std.proofs.Common.{◌⊎◌, inl, inr, arith, ap, ◌∙◌, subst}
 use Rattle.exec_recv.specs.Asides.{Aside}
 use Rattle.exec_recv.proofs.Asiding.{aside-on}
-use Rattle.loop_delays.specs.Delays.{DelayList}
+use Rattle.timer_wheel.specs.Delays.{DelayList}
 use Rattle.deck_relay.specs.SameDecks.{keeps-on}
-use Rattle.run_loop.specs.Delayed.{PassesTurn}
+use Rattle.run_loop.specs.Delayed.{MayTakeDue, PassesTurn}
 use Rattle.run_loop.specs.Loops.{told, deck_of}
-use Rattle.run_loop.proofs.Due.{passes-before}
+use Rattle.run_loop.specs.Serves.{IsOpen, MayHelp, Taking}
+use Rattle.run_loop.proofs.Due.{due-before, passes-before}
 use Rattle.run_loop.proofs.Meeting.{met-later}
+use Rattle.run_loop.proofs.Served.{more-on, more-by}
 use Rattle.run_loop.proofs.Turned.{left-later}
 use Rattle.run_loop.proofs.looped.Loop.poll.Goals as goal
 
@@ -29,12 +31,32 @@ returns-clause-aside g c =
     c.serve_delays.ensures.aside
 
 pub returns-clause-served : goal.returns-clause-served
-returns-clause-served g c = c.serve_delays.ensures.served c.args.self.now.hand.me c.poll_names-taken.ensures.served
+returns-clause-served g c =
+    let does = g.T.Stepper.does c.args.stepper.now in
+    let board = c.args.table.now in
+    let old = c.args.self.now in
+    let between = c.poll_names-taken.new.self in
+    let new = c.serve_delays.new.hand.me in
+    let turn = c.serve_delays.new.delays.turn in
+    let may : Taking = λ from name. IsOpen old.helps from ⊎ MayTakeDue board old.hand.me new turn old.delays from name in
+    more-on does board may 0 c.poll_names-taken.result c.serve_delays.result old.hand.me between.hand.me new
+    (more-by does board (MayHelp old.helps) may (λ from name here. inl here) 0 c.poll_names-taken.result old.hand.me between.hand.me
+    c.poll_names-taken.ensures.served)
+    (more-by does board (MayTakeDue board between.hand.me new turn between.delays) may
+    (λ from name here.
+    inr
+    (subst (λ (d : DelayList). MayTakeDue board old.hand.me new turn d from name) c.poll_names-taken.ensures.delays.delays
+    (here.0, due-before board old.hand.me between.hand.me new turn between.delays name c.poll_names-taken.ensures.aside here.1)))
+    c.poll_names-taken.result c.serve_delays.result between.hand.me new c.serve_delays.ensures.served)
 
 pub returns-clause-met : goal.returns-clause-met
 returns-clause-met g c =
-    let old = c.args.self.now in
-    met-later (g.T.Stepper.does c.args.stepper.now) c.args.table.now old.helps old.hand.me c.poll_names-taken.new.self.hand.me c.serve_delays.new.hand.me (told old)
+    met-later (g.T.Stepper.does c.args.stepper.now) c.args.table.now c.args.self.now c.poll_names-taken.new.self
+    (record c.poll_names-taken.new.self {
+      hand = c.serve_delays.new.hand;
+      names = c.serve_delays.new.names;
+      delays = c.serve_delays.new.delays;
+    })
     c.poll_names-taken.ensures.met c.serve_delays.ensures.aside
 
 pub returns-clause-none : goal.returns-clause-none

@@ -1,8 +1,9 @@
-use Rattle.std.proofs.Common.{ap, ◌∙◌, subst}
+use Rattle.std.proofs.Common.{length, ap, ◌∙◌, subst}
 use Rattle.deck_relay.specs.SameDecks.{keeps-on}
 use Rattle.run_loop.specs.Loops.{told, deck_of}
-use Rattle.run_loop.specs.Turns.{AreAllMet, AreAllLeft}
-use Rattle.run_loop.proofs.Meeting.{met-fewer, left-fewer}
+use Rattle.exec_recv.proofs.Asiding.{aside-here}
+use Rattle.run_loop.specs.Turns.{AreAllLeft, MeetsFirst}
+use Rattle.run_loop.proofs.Meeting.{left-fewer}
 use Rattle.run_loop.proofs.looped.Loop.poll_names.Goals as goal
 
 pub returns-clause-none : goal.returns-clause-none
@@ -16,11 +17,20 @@ returns-clause-none g c zero =
 pub returns-clause-met : goal.returns-clause-met
 returns-clause-met g c =
     let does = g.T.Stepper.does c.args.stepper.now in
+    let board = c.args.table.now in
     let old = c.args.self.now in
     let new = c.serve_each-taken.new.hand in
-    met-fewer c.args.table.now old.helps old.hand.me new.me (told old) c.fetch.new.self.list.items c.fetch.ensures.more does
-    (subst (AreAllMet does c.args.table.now old.hand.me new.me old.helps)
-    (c.deref.ensures.value ∙ ap (λ list. list.items) c.swap.ensures.y_after) c.serve_each-taken.ensures.met)
+    record {
+      names = c.fetch.new.self;
+      fetches = c.fetch.ensures.fetches;
+      longer = c.fetch.ensures.more;
+      meets = record {
+        last = new.me;
+        each = subst (λ l. MeetsFirst does board old.helps l (length l) old.hand.me new.me)
+            (c.deref.ensures.value ∙ ap (λ list. list.items) c.swap.ensures.y_after) c.serve_each-taken.ensures.met;
+        after = aside-here new.me;
+      };
+    }
 
 pub returns-clause-deck : goal.returns-clause-deck
 returns-clause-deck g c =

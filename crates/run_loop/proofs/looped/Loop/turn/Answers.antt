@@ -1,12 +1,13 @@
-use Rattle.std.proofs.Common.{◌≡◌, arith, subst}
+use Rattle.std.proofs.Common.{◌≡◌, ◌⊎◌, inl, inr, arith, subst}
 use Rattle.exec_recv.proofs.Asiding.{aside-on}
 use Rattle.deck_relay.specs.SameDecks.{keeps-on}
-use Rattle.run_loop.specs.Loops.{told, deck_of}
-use Rattle.run_loop.specs.Serves.{Serves}
+use Rattle.run_loop.specs.Delayed.{MayTakeDue, MayTakeIn}
+use Rattle.run_loop.specs.Loops.{deck_of}
+use Rattle.run_loop.specs.Serves.{IsOpen, MayHelp, ServesMore, Taking}
 use Rattle.run_loop.specs.Turns.{TakesNothing}
-use Rattle.run_loop.proofs.Served.{serves-later}
+use Rattle.run_loop.proofs.Served.{more-by, more-first}
 use Rattle.run_loop.proofs.Turned.{nothing-later}
-use Rattle.run_loop.proofs.Due.{passes-after}
+use Rattle.run_loop.proofs.Due.{due-after, passes-after}
 use Rattle.run_loop.proofs.Meeting.{met-later}
 use Rattle.run_loop.proofs.looped.Loop.turn.Goals as goal
 
@@ -28,18 +29,32 @@ pub returns-clause-served : goal.returns-clause-served
 returns-clause-served g c =
     let does = g.T.Stepper.does c.args.stepper.now in
     let board = c.args.table.now in
-    let old = c.args.self.now.hand.me in
-    let between = c.poll-taken.new.self.hand.me in
+    let old = c.args.self.now in
+    let between = c.poll-taken.new.self in
+    let new = c.scan_blocks.new.hand.me in
+    let turn = between.delays.turn in
+    let may : Taking = λ from name. IsOpen old.helps from ⊎ MayTakeDue board old.hand.me new turn old.delays from name in
     let none = c.if-taken-gt0.false in
     let zero : c.poll-taken.result ≡ 0 = omega (arith, none) in
-    serves-later does board c.scan_blocks.result old between c.scan_blocks.new.hand.me
-    (subst (λ n. Serves does board n old between) zero c.poll-taken.ensures.served) c.scan_blocks.ensures.served
+    let first : ServesMore does board may 0 c.poll-taken.result old.hand.me between.hand.me =
+    more-by does board (MayTakeIn board old between) may
+    (λ from name here. elim here [
+      | inl ready ↦ inl ready
+      | inr due ↦ inr (due.0, due-after board old.hand.me between.hand.me new turn old.delays name due.1 c.scan_blocks.ensures.aside)
+    ])
+    0 c.poll-taken.result old.hand.me between.hand.me c.poll-taken.ensures.served
+    in
+    more-first does board may c.scan_blocks.result old.hand.me between.hand.me new
+    (subst (λ n. ServesMore does board may 0 n old.hand.me between.hand.me) zero first)
+    (more-by does board (MayHelp between.helps) may
+    (λ from name here. inl (subst (λ h. IsOpen h from) c.poll-taken.ensures.counts.helps here)) 0 c.scan_blocks.result between.hand.me new
+    c.scan_blocks.ensures.served)
 
 pub returns-clause-met : goal.returns-clause-met
 returns-clause-met g c =
-    let old = c.args.self.now in
-    met-later (g.T.Stepper.does c.args.stepper.now) c.args.table.now old.helps old.hand.me c.poll-taken.new.self.hand.me c.scan_blocks.new.hand.me (told old)
-    c.poll-taken.ensures.met c.scan_blocks.ensures.aside
+    met-later (g.T.Stepper.does c.args.stepper.now) c.args.table.now c.args.self.now c.poll-taken.new.self
+    (record c.poll-taken.new.self { hand = c.scan_blocks.new.hand; names = c.scan_blocks.new.names }) c.poll-taken.ensures.met
+    c.scan_blocks.ensures.aside
 
 pub returns-clause-turn : goal.returns-clause-turn
 returns-clause-turn g c =

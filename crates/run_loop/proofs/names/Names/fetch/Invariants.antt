@@ -1,9 +1,13 @@
+use Rattle.std.proofs.Common.{◌≤◌}
 use Rattle.deck_relay.specs.SameDecks.{KeepsDeck}
-use Rattle.run_loop.specs.Longer.{IsLonger}
+use Rattle.run_loop.specs.Fetches.{FetchesMany}
+use Rattle.run_loop.specs.Longer.{AreMoreNames}
 use Rattle.run_loop.proofs.names.Names.fetch.Given as goal
 
 abbrev pub invariant-loop-fetched : goal.invariant-loop-fetched
 invariant-loop-fetched g l = record {
-  more : IsLonger l.fn.self.list.items l.self.list.items;
+  within : l._fetched ≤ 256;
+  many : FetchesMany l._fetched l.fn.self l.self;
+  more : AreMoreNames l.fn.self.list.items l.self.list.items;
   deck : KeepsDeck l.fn.self.deck l.self.deck;
 }

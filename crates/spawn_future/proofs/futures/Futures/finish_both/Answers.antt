@@ -2,11 +2,11 @@ use Rattle.std.proofs.Common.{inl, inr, sym, subst}
 use Rattle.std.specs.Prelude.{List, Option}
 use Rattle.op_slot.proofs.Staying.{stays-on}
 use Rattle.exec_recv.specs.Over.{IsOver}
-use Rattle.loop_roots.proofs.Emptied.{unready-leaves}
+use Rattle.loop_roots.proofs.Unready.{unready-leaves}
 use Rattle.table_steps.specs.declared.block.Block.{Block}
 use Rattle.spawn_future.specs.declared.future.Future.{Future}
 use Rattle.spawn_future.specs.Counts.{BeginsAndEnds}
-use Rattle.spawn_future.specs.Polls.{EndsAt, IsIncomplete}
+use Rattle.spawn_future.specs.Polls.{EndsSlotAt, IsIncomplete}
 use Rattle.spawn_future.proofs.Counted.{counts-same, counts-on}
 use Rattle.spawn_future.proofs.Served.{holds-keeping, keeping-on, leaves-aside, ended-operation, ended-counts}
 use Rattle.spawn_future.proofs.Slotted.{found-block, found-waits}
@@ -83,7 +83,7 @@ returns-in-Some g c =
         waits = waits.1;
         ended = c.in-Some.ended;
         emptied = emptied;
-        ends = subst (λ (b : Block). EndsAt board found.slot b slots later parked.me emptied.me c.in-Some.ended) (sym waits.2)
+        ends = subst (λ (b : Block). EndsSlotAt board found.slot b slots later parked.me emptied.me c.in-Some.ended) (sym waits.2)
             c.in-Some.ensures.ended;
         goes_on = did.joins;
       });

@@ -1,6 +1,6 @@
 use Rattle.std.proofs.Common.{refl, sym, subst}
 use Rattle.table_steps.specs.declared.block.Block.{Block}
-use Rattle.spawn_future.specs.Polls.{EndsAt, IsIncomplete}
+use Rattle.spawn_future.specs.Polls.{EndsSlotAt, IsIncomplete}
 use Rattle.spawn_future.proofs.Slotted.{found-block, found-waits}
 use Rattle.spawn_future.proofs.futures.Futures.poll.Goals as goal
 
@@ -19,7 +19,7 @@ returns-in-Some-end-clause-polled g c =
       completion_is = refl;
       saw_is = refl;
       ends = subst
-          (λ (b : Block). EndsAt c.args.table.now found.slot b c.args.self.now c.end.new.self c.args.hand.now.me c.end.new.hand.me c.in-Some-end.ended)
+          (λ (b : Block). EndsSlotAt c.args.table.now found.slot b c.args.self.now c.end.new.self c.args.hand.now.me c.end.new.hand.me c.in-Some-end.ended)
           (sym waits.2) c.in-Some-end.ensures.ended;
     }
 

@@ -3,7 +3,7 @@ use Rattle.std.specs.Prelude.{Option}
 use Rattle.life_rules.specs.declared.event.Resting.TheVariants.{Parked}
 use Rattle.plan_kinds.specs.Runnable.{IsRunnable}
 use Rattle.op_slot.proofs.Staying.{stays-on}
-use Rattle.exec_start.specs.Parcels.{Delivery}
+use Rattle.home_items.specs.Parcels.{Delivery}
 use Rattle.exec_recv.specs.Over.{IsOver}
 use Rattle.loop_serve.proofs.Took.{first-serves}
 use Rattle.serve_ahead.specs.Takes.{HasAtHand}

@@ -2,8 +2,8 @@ use Rattle.std.proofs.Common.{List, None, inl, inr, refl, sym, ap, ◌∙◌, su
 use Rattle.std.specs.Prelude.{Option, IsOk}
 use Rattle.std.proofs.lemmas.Bool.{false≢true}
 use Rattle.op_slot.proofs.Staying.{stays-on}
-use Rattle.exec_start.specs.declared.entry.Entry.{Entry}
-use Rattle.exec_start.specs.Entries.{child_of}
+use Rattle.home_items.specs.declared.entry.Entry.{Entry}
+use Rattle.home_items.specs.Entries.{child_of}
 use Rattle.loop_roots.specs.Starts.{CanRun}
 use Rattle.serve_ahead.specs.Spawned.{spawned_start}
 use Rattle.serve_ahead.proofs.Spawning.{spawned-runs}

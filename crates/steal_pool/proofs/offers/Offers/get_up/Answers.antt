@@ -1,4 +1,4 @@
-use Rattle.steal_pool.specs.Desks.{keeps-on}
+use Rattle.steal_pool.specs.Desks.{desk-on}
 use Rattle.steal_pool.proofs.Kept.{keeps-same}
 use Rattle.steal_pool.proofs.offers.Offers.get_up.Goals as goal
 
@@ -7,11 +7,11 @@ returns-then-not-leave g c = keeps-same c.args.self.now.desk c.leave.new.self.de
 
 pub returns-in-None : goal.returns-in-None
 returns-in-None g c =
-    keeps-on c.args.self.now.desk c.leave.new.self.desk c.take_more.new.self.desk (keeps-same c.args.self.now.desk c.leave.new.self.desk c.leave.ensures)
+    desk-on c.args.self.now.desk c.leave.new.self.desk c.take_more.new.self.desk (keeps-same c.args.self.now.desk c.leave.new.self.desk c.leave.ensures)
     c.take_more.ensures
 
 pub returns-in-Some : goal.returns-in-Some
 returns-in-Some g c =
-    keeps-on c.args.self.now.desk c.take_more.new.self.desk c.submit-kept.new.self.desk
-    (keeps-on c.args.self.now.desk c.leave.new.self.desk c.take_more.new.self.desk (keeps-same c.args.self.now.desk c.leave.new.self.desk c.leave.ensures) c.take_more.ensures)
+    desk-on c.args.self.now.desk c.take_more.new.self.desk c.submit-kept.new.self.desk
+    (desk-on c.args.self.now.desk c.leave.new.self.desk c.take_more.new.self.desk (keeps-same c.args.self.now.desk c.leave.new.self.desk c.leave.ensures) c.take_more.ensures)
     c.submit-kept.ensures

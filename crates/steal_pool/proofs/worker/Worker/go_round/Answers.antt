@@ -1,4 +1,4 @@
-use Rattle.steal_pool.specs.Desks.{keeps-on}
+use Rattle.steal_pool.specs.Desks.{desk-on}
 use Rattle.steal_pool.proofs.Kept.{keeps-same}
 use Rattle.steal_pool.proofs.worker.Worker.go_round.Goals as goal
 
@@ -9,7 +9,9 @@ returns-in-Some g c =
       same = c.take_next.ensures.stays.same;
       aside = c.take_next.ensures.aside;
       ended = tt;
-      desk = c.take_next.ensures.desk;
+      desk = desk-on c.args.self.now.offers.desk c.looks_at_all.new.self.desk c.take_next.new.offers.desk
+          (keeps-same c.args.self.now.offers.desk c.looks_at_all.new.self.desk c.looks_at_all.ensures)
+          c.take_next.ensures.desk;
     }
 
 pub returns-in-None : goal.returns-in-None
@@ -19,6 +21,9 @@ returns-in-None g c =
       same = c.take_next.ensures.stays.same;
       aside = c.take_next.ensures.aside;
       ended = tt;
-      desk = keeps-on c.args.self.now.offers.desk c.take_next.new.offers.desk c.doubt.new.self.desk c.take_next.ensures.desk
+      desk = desk-on c.args.self.now.offers.desk c.take_next.new.offers.desk c.doubt.new.self.desk
+          (desk-on c.args.self.now.offers.desk c.looks_at_all.new.self.desk c.take_next.new.offers.desk
+          (keeps-same c.args.self.now.offers.desk c.looks_at_all.new.self.desk c.looks_at_all.ensures)
+          c.take_next.ensures.desk)
           (keeps-same c.take_next.new.offers.desk c.doubt.new.self.desk c.doubt.ensures);
     }

@@ -1,6 +1,6 @@
 use Rattle.std.proofs.Common.{false, refl}
 use Rattle.std.proofs.lemmas.Bool.{both_ways}
-use Rattle.steal_pool.specs.Desks.{keeps-on}
+use Rattle.steal_pool.specs.Desks.{desk-on}
 use Rattle.steal_pool.proofs.Kept.{keeps-same}
 use Rattle.steal_pool.proofs.worker.Worker.has_ended.Goals as goal
 
@@ -23,7 +23,7 @@ returns-in-Idle g c =
       same = round.same;
       aside = round.aside;
       ended = λ is. absurd (both_ways false refl is);
-      desk = keeps-on c.args.self.now.offers.desk c.go_round.new.self.offers.desk c.wait.new.self.desk round.desk
+      desk = desk-on c.args.self.now.offers.desk c.go_round.new.self.offers.desk c.wait.new.self.desk round.desk
           (keeps-same c.go_round.new.self.offers.desk c.wait.new.self.desk c.wait.ensures);
     }
 
@@ -35,6 +35,6 @@ returns-in-Ended g c =
       same = round.same;
       aside = round.aside;
       ended = λ _. c.in-Ended.ensures.ended;
-      desk = keeps-on c.args.self.now.offers.desk c.go_round.new.self.offers.desk c.leave-counted.new.self.desk round.desk
+      desk = desk-on c.args.self.now.offers.desk c.go_round.new.self.offers.desk c.leave-counted.new.self.desk round.desk
           (keeps-same c.go_round.new.self.offers.desk c.leave-counted.new.self.desk c.leave-counted.ensures);
     }

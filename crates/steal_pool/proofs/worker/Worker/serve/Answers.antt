@@ -1,6 +1,6 @@
 use Rattle.std.proofs.Common.{refl}
 use Rattle.exec_recv.proofs.Asiding.{aside-here, aside-on}
-use Rattle.steal_pool.specs.Desks.{keeps-here, keeps-on}
+use Rattle.steal_pool.specs.Desks.{desk-here, desk-on}
 use Rattle.steal_pool.proofs.Searched.{ended-before, same-on}
 use Rattle.steal_pool.proofs.worker.Worker.serve.Goals as goal
 
@@ -12,7 +12,7 @@ loop-init g c =
       ready = c.requires.ready;
       same = (refl, refl);
       aside = aside-here c.args.self.now.hand.me;
-      desk = keeps-here c.args.self.now.offers.desk;
+      desk = desk-here c.args.self.now.offers.desk;
     }
 
 pub loop-preserved : goal.loop-preserved
@@ -25,7 +25,7 @@ loop-preserved g c =
       ready = round.ready;
       same = same-on c.args.self.now.hand c.loop.self.hand c.has_ended.new.self.hand before.same round.same;
       aside = aside-on c.args.self.now.hand.me c.loop.self.hand.me c.has_ended.new.self.hand.me before.aside round.aside;
-      desk = keeps-on c.args.self.now.offers.desk c.loop.self.offers.desk c.has_ended.new.self.offers.desk before.desk round.desk;
+      desk = desk-on c.args.self.now.offers.desk c.loop.self.offers.desk c.has_ended.new.self.offers.desk before.desk round.desk;
     }
 
 pub returns-then-has_ended : goal.returns-then-has_ended
@@ -41,5 +41,5 @@ returns-then-has_ended g c =
       same = same-on c.args.self.now.hand c.loop.self.hand c.has_ended.new.self.hand before.same round.same;
       aside = aside-on old between new before.aside round.aside;
       ended = ended-before board old between new before.aside (round.ended c.if-has_ended.true);
-      desk = keeps-on c.args.self.now.offers.desk c.loop.self.offers.desk c.has_ended.new.self.offers.desk before.desk round.desk;
+      desk = desk-on c.args.self.now.offers.desk c.loop.self.offers.desk c.has_ended.new.self.offers.desk before.desk round.desk;
     }

@@ -1,6 +1,6 @@
 use Rattle.op_slot.proofs.Staying.{stays-on}
 use Rattle.exec_recv.proofs.Asiding.{aside-on}
-use Rattle.steal_pool.specs.Desks.{keeps-on}
+use Rattle.steal_pool.specs.Desks.{desk-on}
 use Rattle.steal_pool.proofs.Searched.{works-before}
 use Rattle.steal_pool.proofs.worker.Worker.work_once.Goals as goal
 
@@ -27,5 +27,5 @@ returns g c =
       aside = aside-on old.me between.me new.me c.take_next.ensures.aside c.seek.ensures.aside;
       works = works-before board old.me between.me new.me (g.T.Stepper.does c.args.stepper.now) c.seek.result c.in-None.ensures.looks
           c.seek.ensures.works;
-      desk = keeps-on c.args.self.now.offers.desk c.take_next.new.offers.desk c.seek.new.offers.desk c.take_next.ensures.desk c.seek.ensures.desk;
+      desk = desk-on c.args.self.now.offers.desk c.take_next.new.offers.desk c.seek.new.offers.desk c.take_next.ensures.desk c.seek.ensures.desk;
     }

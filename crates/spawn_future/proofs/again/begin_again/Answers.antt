@@ -1,15 +1,15 @@
-use Rattle.std.proofs.Common.{None, Some, inl, inr, sym, subst}
-use Rattle.std.specs.Prelude.{Option}
+use Rattle.std.proofs.Common.{None, Some, inl, inr, refl, sym, subst}
+use Rattle.std.specs.Prelude.{Option, IsSome}
 use Rattle.life_rules.specs.declared.event.Resting.TheVariants.{Parked}
 use Rattle.plan_kinds.specs.Runnable.{IsRunnable}
 use Rattle.op_slot.proofs.Staying.{stays-on}
-use Rattle.exec_start.specs.Parcels.{Delivery}
+use Rattle.home_items.specs.Parcels.{Delivery}
 use Rattle.exec_recv.specs.Over.{IsOver}
 use Rattle.exec_recv.proofs.Asiding.{aside-on}
 use Rattle.loop_serve.proofs.Took.{first-serves}
 use Rattle.serve_ahead.specs.Ends.{IsPutBack}
 use Rattle.serve_ahead.specs.Takes.{HasAtHand}
-use Rattle.spawn_future.proofs.serving.begin_again.Goals as goal
+use Rattle.spawn_future.proofs.again.begin_again.Goals as goal
 
 pub take_ahead-requires-clause-over : goal.take_ahead-requires-clause-over
 take_ahead-requires-clause-over g c κs within = subst (IsOver c.args.table.now) (sym c.requires.plan) c.requires.over
@@ -72,6 +72,7 @@ returns-in-Some-second g c =
       mail = c.put_back.ensures.mail;
       starts = inr (inr (record {
         taken = c.in-Some.taken;
+        found = subst (λ (o : Option Delivery). IsSome o) (sym c.in-Some-second.is) refl;
         held = held;
         took = took;
         back = subst (λ (o : Option Delivery). IsPutBack board c.args.at c.in-Some.taken.env o held new) (sym c.in-Some-second.is)
