@@ -20,11 +20,11 @@ use Rattle.record_loop.specs.Printing.{Finished, HoldsAllBut}
 use Rattle.record_loop.specs.ReadStarts.{ReadStart}
 use Rattle.record_loop.specs.Reading.{Reads}
 use Rattle.record_loop.specs.Tallies.{IsToldBy, TalliesWith}
-use Rattle.record_runs.specs.declared.account.Account.{Account}
-use Rattle.record_runs.specs.Accounts.{EndsRun, IsClosedFor}
-use Rattle.record_runs.specs.Endings.{IsUnbegun, Streams, streams, begins}
-use Rattle.run_rules.specs.Lawful.{Lawful}
-use Rattle.run_rules.specs.PlanTerms.{window_of}
+use Rattle.whole_run.specs.declared.account.Account.{Account}
+use Rattle.whole_run.specs.Accounts.{EndsRun, IsClosedFor}
+use Rattle.whole_run.specs.Endings.{IsUnbegun, Streams, streams, begins}
+use Rattle.line_rules.specs.Lawful.{Lawful}
+use Rattle.line_rules.specs.PlanTerms.{window_of}
 use Rattle.run_tally.specs.Gathered.{values_in, errors_in, stopped_in, no_memory_in}
 use Rattle.exec_status.specs.declared.status.Status.{Status}
 use Rattle.exec_status.specs.declared.status.Status.TheVariants.{NoMemory}
@@ -32,11 +32,11 @@ use Rattle.exec_engine.specs.declared.tally.Tally.{Tally}
 use Rattle.exec_engine.specs.declared.task.Origin.{Origin}
 use Rattle.exec_engine.specs.declared.task.Origin.TheVariants.{Source, Generated}
 use Rattle.exec_engine.specs.declared.task.Task.{Task}
-use Rattle.exec_engine.specs.Closes.{Closes, Runs}
+use Rattle.exec_engine.specs.Closes.{ClosesRun, Runs}
 use Rattle.exec_engine.specs.Says.{terms_for}
 use Rattle.exec_engine.specs.Statuses.{status_of}
 use Rattle.exec_engine.specs.Tallies.{IsNew, IsTallyOf}
-use Rattle.exec_engine.specs.Taken.{Takes, LeavesSource, ReadsCaughtUp}
+use Rattle.exec_engine.specs.Taken.{Takes, LeavesSource, OutCaughtUp}
 use Rattle.exec_engine.specs.Tasks.{form_for}
 
 -- the tally took over what the account tells
@@ -87,7 +87,7 @@ module _ (plan : Blueprint) (task : Task) (window : ℕ) (sized : window ≡ win
   closed-as : IsClosedFor plan (window_of plan task.window) account.tally account.closing
   closed-as = subst (λ w. IsClosedFor plan w account.tally account.closing) sized closed
 
-  pub source-closes : (before after : Streams) (form : Form) → task.origin ≡ Source form → EndsRun plan window form before after account → Closes plan task before after account.ending tally
+  pub source-closes : (before after : Streams) (form : Form) → task.origin ≡ Source form → EndsRun plan window form before after account → ClosesRun plan task before after account.ending tally
   source-closes before after form is run =
       let ends = subst (λ w. EndsRun plan w form before after account) sized run in
       let ran = ends.ran in
@@ -108,13 +108,13 @@ module _ (plan : Blueprint) (task : Task) (window : ℕ) (sized : window ≡ win
         still = ends.still;
         later = ends.later;
         leaves = subst (λ (o : Origin). LeavesSource o before after) of_task tt;
-        reads = subst (λ (o : Origin). ReadsCaughtUp o (begins plan account.closing.board.table_id (window_of plan task.window) (form_for o) before.sink) before after) of_task ends.reads;
+        reads = subst (λ (o : Origin). OutCaughtUp o (begins plan account.closing.board.table_id (window_of plan task.window) (form_for o) before.sink) before after) of_task ends.reads;
       }
 
   -- generated records, whatever the source and its reads are that weren't read
   pub generated-closes : (source : SourceView) (reads : Option (List ReadStart)) (first last : Streams) (count : ℕ) → task.origin ≡ Generated count → IsShownBy (generated_text plan.settings.input count) (generated_lines plan.settings.input count)
       → first.source ≡ steady_view (generated_text plan.settings.input count) → last.source.faults ≡ 0 → EndsRun plan window Summary first last account
-      → Closes plan task (streams source reads first.sink) (streams source reads last.sink) account.ending tally
+      → ClosesRun plan task (streams source reads first.sink) (streams source reads last.sink) account.ending tally
   generated-closes source reads first last count is shown begun still run =
       let ends = subst (λ w. EndsRun plan w Summary first last account) sized run in
       let ran = ends.ran in
@@ -140,7 +140,7 @@ module _ (plan : Blueprint) (task : Task) (window : ℕ) (sized : window ≡ win
         still = λ _. refl;
         later = omega arith;
         leaves = subst (λ (o : Origin). LeavesSource o (streams source reads first.sink) (streams source reads last.sink)) of_task (record { source_same = refl; reads_same = refl });
-        reads = subst (λ (o : Origin). ReadsCaughtUp o (begins plan account.closing.board.table_id (window_of plan task.window) (form_for o) first.sink) (streams source reads first.sink) (streams source reads last.sink)) of_task (record { source_same = refl; reads_same = refl });
+        reads = subst (λ (o : Origin). OutCaughtUp o (begins plan account.closing.board.table_id (window_of plan task.window) (form_for o) first.sink) (streams source reads first.sink) (streams source reads last.sink)) of_task (record { source_same = refl; reads_same = refl });
       }
 
 -- what a tally that was new told of a run's answer

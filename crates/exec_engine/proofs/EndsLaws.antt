@@ -4,7 +4,7 @@ use Rattle.exec_io.specs.Causes.{Rose}
 use Rattle.exec_io.specs.Views.{SourceView, SinkView}
 use Rattle.plan_reader.specs.declared.fault.PlanFault.{PlanFault}
 use Rattle.plan_shape.specs.Blueprint.{Blueprint}
-use Rattle.record_runs.specs.Endings.{IsUnbegun}
+use Rattle.whole_run.specs.Endings.{IsUnbegun}
 use Rattle.exec_status.specs.declared.file.FileFault.{FileFault}
 use Rattle.exec_status.specs.declared.file.FileFault.TheVariants.{ReadFault as NotRead}
 use Rattle.exec_status.specs.declared.status.Status.{Status}
@@ -17,10 +17,10 @@ use Rattle.exec_engine.specs.declared.tally.Tally.{Tally}
 use Rattle.exec_engine.specs.declared.task.Task.{Task}
 use Rattle.exec_engine.specs.Closes.{Runs}
 use Rattle.exec_engine.specs.Ends.{RunEnds}
-use Rattle.exec_engine.specs.Opening.{HasPlan, HasRefusal}
-use Rattle.exec_engine.specs.Refusals.{IsRefusedWith, refusal_of}
+use Rattle.exec_engine.specs.Opening.{HasPlan, HasPlanRefusal}
+use Rattle.exec_engine.specs.Refusals.{IsPlanRefusedWith, refusal_of}
 use Rattle.exec_engine.specs.Says.{Says}
-use Rattle.exec_engine.specs.Surroundings.{Surroundings, streams_of}
+use Rattle.exec_engine.specs.Surroundings.{Surroundings, streams_in}
 use Rattle.exec_engine.specs.Tallies.{IsNew}
 use Rattle.exec_engine.proofs.RefusedLaws.{opened-stands}
 use Rattle.exec_engine.proofs.SaysLaws.{says-run, says-fault, run-is, run-write, run-read, run-out_still, run-records_still, run-handed, run-out_later, run-records_later, run-leaves, same-leaves}
@@ -28,11 +28,11 @@ use Rattle.exec_engine.proofs.LimitLaws.{says-beyond, says-within, says-finished
 use Rattle.exec_engine.proofs.ValuesLaws.{says-values, says-small, says-small_lines}
 
 -- the end of a run whose plan was opened
-pub run-ends : (task : Task) (old new : Surroundings) (tally : Tally) {plan : Blueprint} (status result : Status) → HasPlan old.shelf.texts task.plan.now plan → Runs plan task (streams_of old) (streams_of new) tally status
+pub run-ends : (task : Task) (old new : Surroundings) (tally : Tally) {plan : Blueprint} (status result : Status) → HasPlan old.shelf.texts task.plan.now plan → Runs plan task (streams_in old) (streams_in new) tally status
     → Concludes status old.notes new.notes result → ReadsShelf {T = Blueprint} {C = PlanFault} task.plan.now old.shelf new.shelf (Ok plan) → old.notes.faults ≤ new.notes.faults → RunEnds task old new tally result
 run-ends task old new tally status result has runs concludes reads notes_later =
     let came = Says task old new tally in
-    let refused = IsRefusedWith old.shelf.texts task.plan.now in
+    let refused = IsPlanRefusedWith old.shelf.texts task.plan.now in
     let before : came status = says-run task old new tally status has runs in
     let says : came result = concluded came status result before (λ _. says-fault task old new tally status before) concludes in
     let noted = Noted-concluded came refused status result before (run-is status runs) concludes in
@@ -72,13 +72,13 @@ run-ends task old new tally status result has runs concludes reads notes_later =
     }
 
 -- the end of a run that had no plan
-pub missed-ends : (task : Task) (old new : Surroundings) (tally : Tally) (fault : FileFault PlanFault) (result : Status) → IsUnbegun (streams_of old) (streams_of new) → IsNew tally
-    → Misses (HasRefusal old.shelf.texts task.plan.now) fault → GivesUp refusal_of fault old.notes new.notes result → ReadsShelf {T = Blueprint} {C = PlanFault} task.plan.now old.shelf new.shelf (Err fault)
+pub missed-ends : (task : Task) (old new : Surroundings) (tally : Tally) (fault : FileFault PlanFault) (result : Status) → IsUnbegun (streams_in old) (streams_in new) → IsNew tally
+    → Misses (HasPlanRefusal old.shelf.texts task.plan.now) fault → GivesUp refusal_of fault old.notes new.notes result → ReadsShelf {T = Blueprint} {C = PlanFault} task.plan.now old.shelf new.shelf (Err fault)
     → old.notes.faults ≤ new.notes.faults → RunEnds task old new tally result
 missed-ends task old new tally fault result kept uncounted misses gives_up reads notes_later =
     let came = Says task old new tally in
-    let refused = IsRefusedWith old.shelf.texts task.plan.now in
-    let has = HasRefusal old.shelf.texts task.plan.now in
+    let refused = IsPlanRefusedWith old.shelf.texts task.plan.now in
+    let has = HasPlanRefusal old.shelf.texts task.plan.now in
     let says : came result = missed-status refusal_of old.notes new.notes came has fault result (λ cause is. ((cause, is), (kept, uncounted))) (inl (kept, uncounted)) (inl (kept, uncounted)) (inl (kept, uncounted)) misses gives_up in
     let noted = missed-noted refusal_of old.notes new.notes came refused has fault result (λ cause is. (cause, is, refl)) (inl (kept, uncounted)) (inl (kept, uncounted)) misses gives_up in
     let cause : fault ≡ NotRead → Rose old.shelf.faults new.shelf.faults = λ e. reads.cause (ap (λ (f : FileFault PlanFault). Err f) e) in
@@ -96,7 +96,7 @@ missed-ends task old new tally fault result kept uncounted misses gives_up reads
           reads.still (λ e. other (cc));
       records_still = λ _ _. records;
       out_still = λ _. out;
-      leaves = same-leaves task.origin (streams_of old) (streams_of new) kept;
+      leaves = same-leaves task.origin (streams_in old) (streams_in new) kept;
       beyond = says-beyond task old new tally result says;
       within = says-within task old new tally result says;
       out_handed_on = λ _. inr kept.untouched.sink_same;

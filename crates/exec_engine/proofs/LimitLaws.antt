@@ -20,7 +20,7 @@ use Rattle.exec_engine.specs.Complete.{IsFinished}
 use Rattle.exec_engine.specs.Opening.{Finds}
 use Rattle.exec_engine.specs.Surroundings.{Surroundings}
 use Rattle.exec_engine.specs.Says.{Lines, Says}
-use Rattle.exec_engine.specs.Taken.{Takes, PassesLimit, KeepsLimit, IsWithin}
+use Rattle.exec_engine.specs.Taken.{Takes, SourcePassesLimit, KeepsLimit, IsWithin}
 use Rattle.exec_engine.proofs.RefusedLaws.{refused-stands}
 
 -- bytes that pass a limit begin a source that does
@@ -36,7 +36,7 @@ within-reads (Some all) None bytes consumed at_end within = absurd consumed
 within-reads (Some all) (Some rest) bytes consumed at_end within =
     λ beyond. within (subst IsBeyond (consumed ∙ ap (λ bs. bytes ++ bs) at_end ∙ append-nil bytes) beyond)
 
-takes-beyond : (origin : Origin) (kind : Kind) (before after : SourceView) (records : List (List ℕ)) → Takes origin kind before after LimitEnd [] records → PassesLimit origin before
+takes-beyond : (origin : Origin) (kind : Kind) (before after : SourceView) (records : List (List ℕ)) → Takes origin kind before after LimitEnd [] records → SourcePassesLimit origin before
 takes-beyond (Source form) kind before after records takes =
     beyond-reads before.left after.left (takes.bytes ++ []) takes.reads.consumed (IsBeyond-append takes.bytes [] (takes.reads.beyond refl))
 takes-beyond (Generated count) kind before after records takes = absurd (let e : LimitEnd ≡ Ended = takes.ended in cc)
@@ -47,7 +47,7 @@ takes-within (Source form) kind before after records takes =
 takes-within (Generated count) kind before after records takes = tt
 
 -- no limit is passed within the limits
-not-beyond : (origin : Origin) (before : SourceView) → PassesLimit origin before → IsWithin origin before → ⊥
+not-beyond : (origin : Origin) (before : SourceView) → SourcePassesLimit origin before → IsWithin origin before → ⊥
 not-beyond (Source form) before beyond within = both before.left beyond within
   where
     both : (source : Option (List ℕ)) → IfSome source IsBeyond → IsSomeAnd source (λ all. ¬ IsBeyond all) → ⊥
@@ -60,7 +60,7 @@ module _ (task : Task) (old new : Surroundings) (tally : Tally) where
   lines-within lines = takes-within task.origin lines.plan.settings.input old.records new.records lines.records lines.takes
 
   -- a limit is answered where the records pass one
-  pub says-beyond : (status : Status) → Says task old new tally status → status ≡ Limit → PassesLimit task.origin old.records
+  pub says-beyond : (status : Status) → Says task old new tally status → status ≡ Limit → SourcePassesLimit task.origin old.records
   says-beyond status says is =
       let limit = subst (Says task old new tally) is says in
       let lines = limit.lines in

@@ -9,7 +9,7 @@ use Rattle.plan_reader.specs.declared.fault.PlanFault.{PlanFault}
 use Rattle.plan_reader.specs.declared.fault.PlanFault.TheVariants.{TooLong, NotJson, Form, UnknownName, Limit, Kinds, Excluded, NoMemory}
 use Rattle.plan_reader.specs.declared.read.TheConstants.{MOST_PLAN_BYTES}
 use Rattle.plan_reader.specs.PlanFile.{IsPlanOf, IsAccepted, IsRefused as IsRefusedFor}
-use Rattle.exec_engine.specs.Opening.{IsRefused, HasPlan, HasRefusal}
+use Rattle.exec_engine.specs.Opening.{IsRefused, HasPlan, HasPlanRefusal}
 
 -- a result has one answer
 one-ok : {A B : Type 0} {result : Result A B} {a b : A} → result ≡ Ok a → result ≡ Ok b → a ≡ b
@@ -55,6 +55,6 @@ module _ {texts : Option Texts} {name : List ℕ} where
       not-refused has.bytes plan fault has.opened.is (given-stands MOST_PLAN_BYTES texts name has.bytes (λ bytes. IsRefused bytes fault) has.given stands)
 
   -- and what was refused is no plan
-  pub refused-stands : (plan : Blueprint) (fault : PlanFault) → HasRefusal texts name fault → Stands MOST_PLAN_BYTES texts name (λ bytes. IsPlanOf bytes plan) → ⊥
+  pub refused-stands : (plan : Blueprint) (fault : PlanFault) → HasPlanRefusal texts name fault → Stands MOST_PLAN_BYTES texts name (λ bytes. IsPlanOf bytes plan) → ⊥
   refused-stands plan fault has stands =
       not-refused has.bytes plan fault (given-stands MOST_PLAN_BYTES texts name has.bytes (λ bytes. IsPlanOf bytes plan) has.given stands) has.refused

@@ -13,7 +13,7 @@ use Rattle.record_lines.specs.declared.ending.End.{End}
 use Rattle.record_lines.specs.declared.ending.End.TheVariants.{Ended, Fault, Limit as LimitEnd}
 use Rattle.record_loop.specs.declared.ending.Ending.{Ending}
 use Rattle.record_loop.proofs.PrintingLaws.{HoldsAllBut-whole}
-use Rattle.record_runs.specs.Endings.{IsUnbegun, Streams}
+use Rattle.whole_run.specs.Endings.{IsUnbegun, Streams}
 use Rattle.exec_status.specs.declared.status.Status.{Status}
 use Rattle.exec_status.specs.declared.status.Status.TheVariants.{AllValues, NotAllValues, Usage, PlanRefused, NoMemory, ReadFault, WriteFault, Limit}
 use Rattle.exec_status.proofs.Concluding.{IsOfRun}
@@ -21,15 +21,15 @@ use Rattle.exec_engine.specs.declared.task.Origin.{Origin}
 use Rattle.exec_engine.specs.declared.task.Origin.TheVariants.{Source, Generated}
 use Rattle.exec_engine.specs.declared.tally.Tally.{Tally}
 use Rattle.exec_engine.specs.declared.task.Task.{Task}
-use Rattle.exec_engine.specs.Closes.{Closes, Runs}
+use Rattle.exec_engine.specs.Closes.{ClosesRun, Runs}
 use Rattle.exec_engine.specs.Opening.{HasPlan}
 use Rattle.exec_engine.specs.Says.{AreValues, HasNoMemory, HasFailure, Lines, Prints, PrintsFront, Says}
-use Rattle.exec_engine.specs.Statuses.{status_by}
-use Rattle.exec_engine.specs.Surroundings.{Surroundings, streams_of}
+use Rattle.exec_engine.specs.Statuses.{status_at}
+use Rattle.exec_engine.specs.Surroundings.{Surroundings, streams_in}
 use Rattle.exec_engine.specs.Taken.{LeavesSource, Takes}
 
 module _ (task : Task) (old new : Surroundings) (tally : Tally) where
-  module _ {plan : Blueprint} (has : HasPlan old.shelf.texts task.plan.now plan) (ending : Ending) (closes : Closes plan task (streams_of old) (streams_of new) ending tally) where
+  module _ {plan : Blueprint} (has : HasPlan old.shelf.texts task.plan.now plan) (ending : Ending) (closes : ClosesRun plan task (streams_in old) (streams_in new) ending tally) where
     -- the lines of a run, by its end
     abbrev closed-lines : Lines task old new ending.end closes.rest closes.outcomes
     closed-lines = record { plan = plan; has = has; records = closes.records; takes = closes.takes; lawful = closes.lawful }
@@ -89,13 +89,13 @@ module _ (task : Task) (old new : Surroundings) (tally : Tally) where
         below m n le ne = omega arith
 
     -- what the status of a run says, by how it closed
-    says-by : (lost : Bool) (end : End) → ending.lost ≡ lost → ending.end ≡ end → Says task old new tally (status_by lost end ending.summary)
+    says-by : (lost : Bool) (end : End) → ending.lost ≡ lost → ending.end ≡ end → Says task old new tally (status_at lost end ending.summary)
     says-by true end gone is = inr (closed-front gone)
     says-by false Fault kept is = inr (closed-prints Fault (λ _. Rose old.records.faults new.records.faults) is kept (closes.cause is kept))
     says-by false LimitEnd kept is = closed-prints LimitEnd (λ _. Unit {0}) is kept tt
     says-by false Ended kept is = says-lines (nat_lt 0 ending.summary.no_memory) (ending.summary.values == ending.summary.lines) is kept refl refl
 
-  pub says-run : {plan : Blueprint} (status : Status) → HasPlan old.shelf.texts task.plan.now plan → Runs plan task (streams_of old) (streams_of new) tally status → Says task old new tally status
+  pub says-run : {plan : Blueprint} (status : Status) → HasPlan old.shelf.texts task.plan.now plan → Runs plan task (streams_in old) (streams_in new) tally status → Says task old new tally status
   says-run status has (inl short) = subst (Says task old new tally) (sym short.is) (inl (short.unbegun, short.uncounted))
   says-run status has (inr done) =
       subst (Says task old new tally) (sym done.2) (says-by has done.0 done.1 done.0.lost done.0.end refl refl)
@@ -137,7 +137,7 @@ same-leaves (Source form) before after same = tt
 same-leaves (Generated count) before after same = record { source_same = same.untouched.source_same; reads_same = same.unread }
 
 -- a status by how a run closed has a property that all of these have
-by-ending : (P : Status → Type 0) (lost : Bool) (end : End) (summary : Summary) → (lost ≡ true → P WriteFault) → (lost ≡ false → end ≡ Fault → P ReadFault) → P Limit → P NoMemory → P AllValues → P NotAllValues → P (status_by lost end summary)
+by-ending : (P : Status → Type 0) (lost : Bool) (end : End) (summary : Summary) → (lost ≡ true → P WriteFault) → (lost ≡ false → end ≡ Fault → P ReadFault) → P Limit → P NoMemory → P AllValues → P NotAllValues → P (status_at lost end summary)
 by-ending P true end summary write read limit memory all some = write refl
 by-ending P false Fault summary write read limit memory all some = read refl refl
 by-ending P false LimitEnd summary write read limit memory all some = limit
@@ -150,11 +150,11 @@ by-ending P false Ended summary write read limit memory all some =
     lines false false = some
 
 -- where no fault is answered none of the source's or out's calls failed
-not-write : (X : Type 0) (lost : Bool) (end : End) (summary : Summary) → (lost ≡ false → X) → status_by lost end summary ≢ WriteFault → X
+not-write : (X : Type 0) (lost : Bool) (end : End) (summary : Summary) → (lost ≡ false → X) → status_at lost end summary ≢ WriteFault → X
 not-write X true end summary kept other = absurd (other refl)
 not-write X false end summary kept other = kept refl
 
-not-fault : (X : Type 0) (lost : Bool) (end : End) (summary : Summary) → (end ≢ Fault → X) → status_by lost end summary ≢ ReadFault → status_by lost end summary ≢ WriteFault → X
+not-fault : (X : Type 0) (lost : Bool) (end : End) (summary : Summary) → (end ≢ Fault → X) → status_at lost end summary ≢ ReadFault → status_at lost end summary ≢ WriteFault → X
 not-fault X true end summary still read write = absurd (write refl)
 not-fault X false Fault summary still read write = absurd (read refl)
 not-fault X false LimitEnd summary still read write = still (λ e. cc)

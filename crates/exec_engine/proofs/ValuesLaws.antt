@@ -24,9 +24,9 @@ use Rattle.plan_shape.specs.Blueprint.{Blueprint, IsPlan}
 use Rattle.record_lines.specs.declared.ending.End.{End}
 use Rattle.record_lines.specs.declared.ending.End.TheVariants.{Ended}
 use Rattle.record_lines.specs.Records.{records_of}
-use Rattle.run_rules.specs.Lawful.{MayEnd, Lawful}
-use Rattle.run_rules.specs.PlanTerms.{AllowsRecord}
-use Rattle.run_rules.specs.StopStates.{stop_state}
+use Rattle.line_rules.specs.Lawful.{MayEnd, Lawful}
+use Rattle.line_rules.specs.PlanTerms.{AllowsRecord}
+use Rattle.line_rules.specs.StopStates.{stop_state}
 use Rattle.exec_status.specs.declared.status.Status.{Status}
 use Rattle.exec_status.specs.declared.status.Status.TheVariants.{AllValues, NoMemory}
 use Rattle.exec_engine.specs.declared.task.Origin.{Origin}

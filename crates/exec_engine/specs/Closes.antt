@@ -6,24 +6,24 @@ use Rattle.plan_shape.specs.Blueprint.{Blueprint}
 use Rattle.record_lines.specs.declared.ending.End.TheVariants.{Fault}
 use Rattle.record_loop.specs.declared.ending.Ending.{Ending}
 use Rattle.record_loop.specs.Printing.{Finished, HoldsAllBut}
-use Rattle.record_runs.specs.Endings.{IsUnbegun, Streams, begins}
-use Rattle.run_rules.specs.Lawful.{Lawful}
-use Rattle.run_rules.specs.PlanTerms.{window_of}
+use Rattle.whole_run.specs.Endings.{IsUnbegun, Streams, begins}
+use Rattle.line_rules.specs.Lawful.{Lawful}
+use Rattle.line_rules.specs.PlanTerms.{window_of}
 use Rattle.exec_status.specs.declared.status.Status.{Status}
 use Rattle.exec_status.specs.declared.status.Status.TheVariants.{NoMemory}
 use Rattle.exec_engine.specs.declared.tally.Tally.{Tally}
 use Rattle.exec_engine.specs.declared.task.Task.{Task}
 use Rattle.exec_engine.specs.Says.{terms_for, opening_for}
 use Rattle.exec_engine.specs.Statuses.{status_of}
-use Rattle.exec_engine.specs.Taken.{Takes, LeavesSource, ReadsCaughtUp}
+use Rattle.exec_engine.specs.Taken.{Takes, LeavesSource, OutCaughtUp}
 use Rattle.exec_engine.specs.Tallies.{IsNew, IsTallyOf}
 use Rattle.exec_engine.specs.Tasks.{form_for}
 
--- Records were taken until the end that the ending names, and their outcomes are lawful and written.
--- Where no write was lost, all was taken that was read, and a fault is the source's. No record was
--- begun after a lost write: those whose lines don't stand whole in out are a window at most. The
--- tally is that of the operations of these records.
-pub record Closes (plan : Blueprint) (task : Task) (before after : Streams) (ending : Ending)
+-- Records were taken until the end that the ending names, and their outcomes are lawful and
+-- written. Where no write was lost, all was taken that was read, and a fault is the source's. No
+-- record was begun after a lost write: those whose lines don't stand whole in out are a window at
+-- most. The tally is that of the operations of these records.
+pub record ClosesRun (plan : Blueprint) (task : Task) (before after : Streams) (ending : Ending)
     (tally : Tally) : Type 0 where
   pub outcomes : List Outcome
   pub records : List (List ℕ)
@@ -42,7 +42,7 @@ pub record Closes (plan : Blueprint) (task : Task) (before after : Streams) (end
   pub still : ending.end ≢ Fault → after.source.faults ≡ before.source.faults
   pub later : before.source.faults ≤ after.source.faults
   pub leaves : LeavesSource task.origin before after
-  pub reads : ReadsCaughtUp task.origin
+  pub reads : OutCaughtUp task.origin
       (opening_for task plan told.closing.board.table_id before.sink) before after
 
 -- There was no memory to begin with: nothing was read, written or counted.
@@ -55,5 +55,5 @@ pub record FindsNoMemory (before after : Streams) (tally : Tally) (status : Stat
 abbrev pub Runs : Blueprint → Task → Streams → Streams → Tally → Status → Type 0
 Runs plan task before after tally status =
     FindsNoMemory before after tally status
-    ⊎ ((ending : Ending) × Closes plan task before after ending tally
+    ⊎ ((ending : Ending) × ClosesRun plan task before after ending tally
     × (status ≡ status_of ending))

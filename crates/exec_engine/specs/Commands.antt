@@ -10,10 +10,10 @@ use Rattle.exec_status.specs.Notes.{note_of}
 use Rattle.exec_status.specs.Sinks.{Tells}
 use Rattle.trace_commands.specs.Answers.{Question, the_check, the_replay}
 use Rattle.trace_commands.specs.Ends.{Ends}
-use Rattle.record_runs.specs.Endings.{IsUnbegun}
+use Rattle.whole_run.specs.Endings.{IsUnbegun}
 use Rattle.exec_engine.specs.declared.tally.Tally.{Tally}
 use Rattle.exec_engine.specs.Ends.{RunEnds}
-use Rattle.exec_engine.specs.Surroundings.{Surroundings, outside_of, streams_of}
+use Rattle.exec_engine.specs.Surroundings.{Surroundings, outside_of, streams_in}
 use Rattle.exec_engine.specs.Tallies.{IsNew}
 use Rattle.exec_engine.specs.Tasks.{run_task, gen_task}
 
@@ -41,7 +41,7 @@ CommandEnds old new tally status (Check file) =
 pub record UsageEnds (old new : Surroundings) (tally : Tally) (status : Status) : Type 0 where
   pub is : status ≡ Usage
   pub shelf_same : new.shelf ≡ old.shelf
-  pub unbegun : IsUnbegun (streams_of old) (streams_of new)
+  pub unbegun : IsUnbegun (streams_in old) (streams_in new)
   pub uncounted : IsNew tally
   pub told : Tells old.notes new.notes (note_of Usage)
   pub notes_handed_on : ¬ Rose old.notes.faults new.notes.faults → IsHandedOn old.notes new.notes

@@ -8,8 +8,8 @@ use Rattle.plan_rules.specs.Calm.{Calm}
 use Rattle.plan_rules.specs.declared.stop.StopState.TheVariants.{Never}
 use Rattle.plan_settle.specs.Root.{settled_root}
 use Rattle.plan_shape.specs.Blueprint.{Blueprint}
-use Rattle.run_rules.specs.Lawful.{Terms, Lawful, datum_of}
-use Rattle.run_rules.specs.StopStates.{stop_state}
+use Rattle.line_rules.specs.Lawful.{Terms, Lawful, datum_of}
+use Rattle.line_rules.specs.StopStates.{stop_state}
 use Rattle.exec_status.specs.declared.status.Status.{Status}
 use Rattle.exec_status.specs.declared.status.Status.TheVariants.{AllValues, NotAllValues, NoMemory}
 use Rattle.exec_engine.specs.declared.task.Task.{Task}
@@ -25,8 +25,8 @@ AreNeverStopped terms records =
     (outcomes : List Outcome) (i : ℕ) → Lawful terms records outcomes → i < length records
     → stop_state terms.rules terms.window outcomes (i + 1) ≡ Never
 
--- The line is a record, plain evaluation of it meets no `when_all` of which a child fails, and gives a
--- value.
+-- The line is a record, plain evaluation of it meets no `when_all` of which a child fails, and
+-- gives a value.
 pub record SettlesToValue (plan : Blueprint) (number : ℕ) (line : List ℕ) : Type 0 where
   pub datum : Datum
   pub shows : datum_of plan.settings.input line ≡ Some datum

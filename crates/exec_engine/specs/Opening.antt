@@ -7,7 +7,7 @@ use Rattle.plan_reader.specs.declared.fault.PlanFault.{PlanFault}
 use Rattle.plan_reader.specs.declared.fault.PlanFault.TheVariants.{NoMemory}
 use Rattle.plan_reader.specs.declared.read.TheConstants.{MOST_PLAN_BYTES}
 use Rattle.plan_reader.specs.PlanFile.{IsPlanOf, IsFaultOf}
-use Rattle.run_rules.specs.PlanTerms.{MayRun}
+use Rattle.line_rules.specs.PlanTerms.{MayRun}
 use Rattle.exec_engine.specs.declared.task.Task.{Task}
 use Rattle.exec_engine.specs.Surroundings.{Surroundings}
 
@@ -33,7 +33,7 @@ pub record HasPlan (texts : Option Texts) (name : List ℕ) (plan : Blueprint) :
   pub opened : IsOpened bytes plan
 
 -- The shelf gave bytes under the name that are refused for this cause.
-pub record HasRefusal (texts : Option Texts) (name : List ℕ) (fault : PlanFault) : Type 0 where
+pub record HasPlanRefusal (texts : Option Texts) (name : List ℕ) (fault : PlanFault) : Type 0 where
   pub bytes : List ℕ
   pub given : Gives MOST_PLAN_BYTES texts name bytes
   pub refused : IsRefused bytes fault

@@ -3,7 +3,7 @@ use Rattle.std.specs.Prelude.{◌≡◌, ℕ, List, codes, Option}
 use Rattle.exec_io.specs.Shelves.{Texts}
 use Rattle.plan_reader.specs.declared.fault.PlanFault.{PlanFault}
 use Rattle.plan_reader.specs.declared.fault.PlanFault.TheVariants.{TooLong, NotJson, Form, UnknownName, Limit, Kinds, Excluded, NoMemory as NoPlanMemory}
-use Rattle.exec_engine.specs.Opening.{HasRefusal}
+use Rattle.exec_engine.specs.Opening.{HasPlanRefusal}
 
 -- What is told of a plan that is refused, by the first cause in this order.
 abbrev pub refusal_of : PlanFault → List ℕ
@@ -17,6 +17,6 @@ refusal_of Excluded = codes "plan refused: P7 settings exclude each other\n"
 refusal_of NoPlanMemory = codes "out of memory\n"
 
 -- The plan of this name is refused with this note.
-abbrev pub IsRefusedWith : Option Texts → List ℕ → List ℕ → Type 0
-IsRefusedWith texts name note =
-    (fault : PlanFault) × HasRefusal texts name fault × (note ≡ refusal_of fault)
+abbrev pub IsPlanRefusedWith : Option Texts → List ℕ → List ℕ → Type 0
+IsPlanRefusedWith texts name note =
+    (fault : PlanFault) × HasPlanRefusal texts name fault × (note ≡ refusal_of fault)

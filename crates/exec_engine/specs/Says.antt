@@ -13,16 +13,16 @@ use Rattle.record_lines.specs.declared.ending.End.{End}
 use Rattle.record_lines.specs.declared.ending.End.TheVariants.{Ended, Fault, Limit as LimitEnd}
 use Rattle.record_loop.specs.Printing.{HoldsAllBut, text_of}
 use Rattle.record_loop.specs.Standing.{Opening}
-use Rattle.record_runs.specs.Endings.{IsUnbegun, WantsMemory, begins}
-use Rattle.run_rules.specs.Lawful.{Terms, Lawful}
-use Rattle.run_rules.specs.PlanTerms.{terms_of, window_of}
+use Rattle.whole_run.specs.Endings.{IsUnbegun, WantsMemory, begins}
+use Rattle.line_rules.specs.Lawful.{Terms, Lawful}
+use Rattle.line_rules.specs.PlanTerms.{terms_of, window_of}
 use Rattle.exec_status.specs.declared.status.Status.{Status}
 use Rattle.exec_status.specs.declared.status.Status.TheVariants.{AllValues, NotAllValues, Usage, PlanRefused, NoMemory, ReadFault, WriteFault, Limit}
 use Rattle.exec_engine.specs.declared.tally.Tally.{Tally}
 use Rattle.exec_engine.specs.declared.task.Task.{Task}
-use Rattle.exec_engine.specs.Opening.{HasPlan, HasRefusal}
-use Rattle.exec_engine.specs.Surroundings.{Surroundings, streams_of}
-use Rattle.exec_engine.specs.Taken.{Takes, ReadsCaughtUp}
+use Rattle.exec_engine.specs.Opening.{HasPlan, HasPlanRefusal}
+use Rattle.exec_engine.specs.Surroundings.{Surroundings, streams_in}
+use Rattle.exec_engine.specs.Taken.{Takes, OutCaughtUp}
 use Rattle.exec_engine.specs.Tallies.{IsNew, IsTallyOf}
 use Rattle.exec_engine.specs.Tasks.{form_for}
 
@@ -49,8 +49,8 @@ opening_for task plan table sink =
     begins plan table (window_of plan task.window) (form_for task.origin) sink
 
 module _ (task : Task) (old new : Surroundings) where
-  -- The shelf gave a plan under the name, records were taken until this end, but for a rest that was
-  -- read, and the outcomes are lawful for them.
+  -- The shelf gave a plan under the name, records were taken until this end, but for a rest that
+  -- was read, and the outcomes are lawful for them.
   pub record Lines (end : End) (rest : List ℕ) (outcomes : List Outcome) : Type 0 where
     pub plan : Blueprint
     pub has : HasPlan old.shelf.texts task.plan.now plan
@@ -65,13 +65,13 @@ module _ (task : Task) (old new : Surroundings) where
   -- When a read began, each record whose line feed was read was answered.
   abbrev HasRead : Blueprint → TableId → Type 0
   HasRead plan table =
-      ReadsCaughtUp task.origin (opening_for task plan table old.out)
-      (streams_of old) (streams_of new)
+      OutCaughtUp task.origin (opening_for task plan table old.out)
+      (streams_in old) (streams_in new)
 
   module _ (tally : Tally) where
     -- All records that were read were taken, the lines of their outcomes, or the one line for all,
-    -- were written whole, and no call of out failed. The tally is that of these outcomes, and when a
-    -- read began, each record whose line feed was read was answered.
+    -- were written whole, and no call of out failed. The tally is that of these outcomes, and when
+    -- a read began, each record whose line feed was read was answered.
     pub record Prints (end : End) (P : List Outcome → Type 0) : Type 0 where
       pub outcomes : List Outcome
       pub lines : Lines end [] outcomes
@@ -81,11 +81,11 @@ module _ (task : Task) (old new : Surroundings) where
       pub told : IsTallyOf lines.plan (window_of lines.plan task.window) outcomes tally
       pub reads : HasRead lines.plan told.closing.board.table_id
 
-    -- A front of the lines of the records that were taken was written, all lines whole but of a window
-    -- of records at most: none was begun after a lost write. Where no call of out failed it is the
-    -- whole, all records that were read were taken, and the reading came to its end, to a limit, or to
-    -- a fault of the source. The tally is that of all outcomes, written or not, and when a read began,
-    -- each record whose line feed was read was answered.
+    -- A front of the lines of the records that were taken was written, all lines whole but of a
+    -- window of records at most: none was begun after a lost write. Where no call of out failed it
+    -- is the whole, all records that were read were taken, and the reading came to its end, to a
+    -- limit, or to a fault of the source. The tally is that of all outcomes, written or not, and
+    -- when a read began, each record whose line feed was read was answered.
     pub record PrintsFront : Type 0 where
       pub end : End
       pub rest : List ℕ
@@ -94,7 +94,8 @@ module _ (task : Task) (old new : Surroundings) where
       pub all : ¬ Rose old.out.faults new.out.faults → rest ≡ []
       pub front : AppendsFront old.out.written new.out.written
           (text_of (form_for task.origin) outcomes)
-      pub begun : HoldsAllBut (window_of lines.plan task.window) (form_for task.origin) old.out new.out
+      pub begun : HoldsAllBut (window_of lines.plan task.window)
+          (form_for task.origin) old.out new.out
           outcomes
       pub whole : ¬ Rose old.out.faults new.out.faults
           → Appends old.out.written new.out.written (text_of (form_for task.origin) outcomes)
@@ -105,7 +106,7 @@ module _ (task : Task) (old new : Surroundings) where
     -- Nothing was read of the records, nothing was done to out, no operation was collected and no
     -- table was opened.
     abbrev pub Untouched : Type 0
-    Untouched = IsUnbegun (streams_of old) (streams_of new) × IsNew tally
+    Untouched = IsUnbegun (streams_in old) (streams_in new) × IsNew tally
 
     -- What a status says where the words ask for a run.
     abbrev pub Says : Status → Type 0
@@ -113,7 +114,7 @@ module _ (task : Task) (old new : Surroundings) where
     Says NotAllValues = Prints Ended HasFailure
     Says Usage = ⊥
     Says PlanRefused =
-        ((fault : PlanFault) × HasRefusal old.shelf.texts task.plan.now fault) × Untouched
+        ((fault : PlanFault) × HasPlanRefusal old.shelf.texts task.plan.now fault) × Untouched
     Says NoMemory = Untouched ⊎ Prints Ended HasNoMemory
     Says ReadFault = Untouched ⊎ Prints Fault (λ _. SourceFailed)
     Says WriteFault = Untouched ⊎ PrintsFront

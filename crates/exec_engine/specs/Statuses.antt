@@ -14,11 +14,11 @@ status_of_lines summary =
     else (if summary.values == summary.lines then AllValues else NotAllValues)
 
 -- A lost write comes first.
-abbrev pub status_by : Bool → End → Summary → Status
-status_by true end summary = WriteFault
-status_by false Fault summary = ReadFault
-status_by false LimitEnd summary = Limit
-status_by false Ended summary = status_of_lines summary
+abbrev pub status_at : Bool → End → Summary → Status
+status_at true end summary = WriteFault
+status_at false Fault summary = ReadFault
+status_at false LimitEnd summary = Limit
+status_at false Ended summary = status_of_lines summary
 
 abbrev pub status_of : Ending → Status
-status_of ending = status_by ending.lost ending.end ending.summary
+status_of ending = status_at ending.lost ending.end ending.summary

@@ -10,7 +10,7 @@ use Rattle.record_loop.specs.Generated.{generated_lines}
 use Rattle.record_loop.specs.ReadStarts.{ReadsOnly}
 use Rattle.record_loop.specs.Reading.{Reads}
 use Rattle.record_loop.specs.Standing.{Opening}
-use Rattle.record_runs.specs.Endings.{Streams}
+use Rattle.whole_run.specs.Endings.{Streams}
 use Rattle.exec_engine.specs.declared.task.Origin.{Origin}
 use Rattle.exec_engine.specs.declared.task.Origin.TheVariants.{Source, Generated}
 
@@ -36,27 +36,27 @@ Takes (Generated count) kind before after end rest records =
     TakesGenerated kind count before after end rest records
 
 -- Nothing was read of the source.
-pub record IsUnread (before after : Streams) : Type 0 where
+pub record IsSourceUnread (before after : Streams) : Type 0 where
   pub source_same : after.source ≡ before.source
   pub reads_same : after.reads ≡ before.reads
 
 -- Of a source nothing is said here; for generated records nothing is read.
 abbrev pub LeavesSource : Origin → Streams → Streams → Type 0
 LeavesSource (Source form) before after = Unit {0}
-LeavesSource (Generated count) before after = IsUnread before after
+LeavesSource (Generated count) before after = IsSourceUnread before after
 
--- When a read of the source began, the outcome of each record whose line feed was read was written and
--- handed on, or kept for the one line for all, and no write was lost. For generated records nothing is
--- read.
-abbrev pub ReadsCaughtUp : Origin → Opening → Streams → Streams → Type 0
-ReadsCaughtUp (Source form) opening before after =
+-- When a read of the source began, the outcome of each record whose line feed was read was written
+-- and handed on, or kept for the one line for all, and no write was lost. For generated records
+-- nothing is read.
+abbrev pub OutCaughtUp : Origin → Opening → Streams → Streams → Type 0
+OutCaughtUp (Source form) opening before after =
     ReadsOnly (HasCaughtUp opening before.source.left) before.reads after.reads
-ReadsCaughtUp (Generated count) opening before after = IsUnread before after
+OutCaughtUp (Generated count) opening before after = IsSourceUnread before after
 
 -- A source that tells its bytes has more than a run takes. There are never too many generated ones.
-abbrev pub PassesLimit : Origin → SourceView → Type 0
-PassesLimit (Source form) before = IfSome before.left IsBeyond
-PassesLimit (Generated count) before = ⊥
+abbrev pub SourcePassesLimit : Origin → SourceView → Type 0
+SourcePassesLimit (Source form) before = IfSome before.left IsBeyond
+SourcePassesLimit (Generated count) before = ⊥
 
 -- A source that tells its bytes has no more than a run takes.
 abbrev pub KeepsLimit : Origin → SourceView → Type 0

@@ -5,20 +5,20 @@
 //!     a name without a plan --give_up--> notes; the status that stands then
 //!
 //! `run` is the top call of the program. It does all that the program does, over the shelf, the
-//! source and the sinks of the `System` that is handed in, and sets a `Tally`. Its clauses say what a
-//! command is and how it ends (`CommandEnds`, `RunEnds`):
+//! source and the sinks of the `System` that is handed in, and sets a `Tally`. Its clauses say what
+//! a command is and how it ends (`CommandEnds`, `RunEnds`):
 //!
 //! - the shelf is asked for the one file that the words name;
-//! - which lines are lawful for the records that were taken (`Lines`, over run_rules), and that each
-//!   completion that a line shows was collected for its record, as an operation of the plan, from
-//!   the one table whose closing the tally tells (`IsTallyOf`);
+//! - which lines are lawful for the records that were taken (`Lines`, over line_rules), and that
+//!   each completion that a line shows was collected for its record, as an operation of the plan,
+//!   from the one table whose closing the tally tells (`IsTallyOf`);
 //! - when a read began, all records whose line feed was read were answered (`ReadsCaughtUp`);
 //! - what each status says of lines and tally (`Says`) and of notes (`Noted`), and why it is
 //!   answered.
 //!
 //! They hold for any number of workers and any backends. A run's records, read or generated, are
-//! worked on by record_runs, over the running table with a crew of workers (run_crew). It stands on
-//! these, plan_reader, exec_words, exec_status and trace_commands.
+//! worked on by whole_run, over the running table with a crew of workers (run_workers). It stands
+//! on these, plan_reader, exec_words, exec_status and trace_commands.
 #![tactic(auto)]
 
 mod crewing;

@@ -1,7 +1,7 @@
 //! The plan of a run, from a shelf.
 ghost use Rattle.std.specs.Prelude.{IfOk, IfErr};
 ghost use Rattle.exec_status.specs.Files.{IsFaultOf, Misses, ReadsShelf};
-ghost use Rattle.exec_engine.specs.Opening.{HasPlan, HasRefusal, IsOpened, IsRefused};
+ghost use Rattle.exec_engine.specs.Opening.{HasPlan, HasPlanRefusal, IsOpened, IsRefused};
 
 use exec_io::{Shelf, ShelfFault};
 use exec_status::FileFault;
@@ -33,7 +33,7 @@ pub fn open_plan<F: Shelf>(
 ) -> Result<Plan, FileFault<PlanFault>>
     ensures reads { ReadsShelf name.now (F.told shelf.old) (F.told shelf.new) result }
     ensures plan { IfOk result (HasPlan (F.told shelf.old).texts name.now) }
-    ensures fault { IfErr result (Misses (HasRefusal (F.told shelf.old).texts name.now)) }
+    ensures fault { IfErr result (Misses (HasPlanRefusal (F.told shelf.old).texts name.now)) }
 {
     match shelf.read(alloc, name, MOST_PLAN_BYTES) {
         Ok(bytes) => plan_in(alloc, &bytes),

@@ -16,14 +16,14 @@ use crate::task::{Origin, Task};
 use exec_io::{Shelf, Sink};
 use exec_recv::Gate;
 use exec_status::{Status, conclude};
+use line_rules::at_once;
 use pool_backends::Backend;
 use record_loop::{Form, Generated, RecordSource};
-use record_runs::run_lines;
-use run_crew::Crew;
-use run_rules::at_once;
+use run_workers::Crew;
 use std::alloc::Global;
 use std::sync::Wait;
 use std::thread::Threads;
+use whole_run::run_lines;
 
 /// Opens the plan of a task, works on all its records, and gives the status that this ends with.
 /// Generated records are a source like any other, and then `records` isn't read. The tally, which

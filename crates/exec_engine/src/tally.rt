@@ -7,9 +7,9 @@ use crate::ending::status_of;
 use exec_recv::Item;
 use exec_status::Status;
 use op_table::Closing;
-use record_runs::Account;
 use run_loop::Tally as Collected;
 use std::alloc::AllocError;
+use whole_run::Account;
 
 /// The operations of a call of `run`: how many were collected with each kind of completion
 /// ([exec.recv]), and how the table was closed on which they ran. Contracts see each operation that

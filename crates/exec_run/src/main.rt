@@ -2,8 +2,8 @@
 //! trace, or replays a schedule.
 //!
 //! The program is `exec_engine::run` over the files of the system and its standard streams. The
-//! adapters of std_streams tell nothing of what these hold: that the system does as it says is taken
-//! on trust.
+//! adapters of std_streams tell nothing of what these hold: that the system does as it says is
+//! taken on trust.
 #![tactic(auto)]
 
 use exec_engine::{Backend, Status, System, Tally, run};

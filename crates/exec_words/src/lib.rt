@@ -20,6 +20,7 @@ mod words;
 
 pub use command::{Command, Options, Order};
 pub use law::{limits_of_words, options_stand_in_any_place};
-pub use number::{MOST_GENERATED, MOST_WINDOW, MOST_WORKERS};
+pub use number::{MOST_GENERATED, MOST_WINDOW, MOST_WORKERS, number_between};
+pub use reading::is_name;
 pub use usage::usage_lines;
-pub use words::read_words;
+pub use words::{only_name, read_words};

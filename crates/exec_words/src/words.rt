@@ -45,8 +45,8 @@ fn read_on<'a>(reading: Reading<'a>, words: &[&'a str]) -> Option<Reading<'a>>
     read_on(next, rest)
 }
 
-// The one word there is, which is a name.
-fn only_name<'a>(words: &[&'a str]) -> Option<&'a str>
+/// The one word there is, which is a name.
+pub fn only_name<'a>(words: &[&'a str]) -> Option<&'a str>
     ensures { result ≡ only_name words.now }
 {
     match words {

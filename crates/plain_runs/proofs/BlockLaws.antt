@@ -16,13 +16,13 @@ use Rattle.plan_rules.specs.Settle.{stop_state}
 use Rattle.plan_settle.specs.Root.{settled_root}
 use Rattle.plan_kinds.specs.Small.{IsSmall}
 use Rattle.plan_shape.specs.Blueprint.{Blueprint}
-use Rattle.run_rules.specs.PlanTerms.{AllowsRecord}
-use Rattle.run_rules.proofs.PlanLaws.{plan-covers, settled-allows}
+use Rattle.line_rules.specs.PlanTerms.{AllowsRecord}
+use Rattle.line_rules.proofs.PlanLaws.{plan-covers, settled-allows}
 use Rattle.plain_runs.specs.declared.started.Started.{Started}
-use Rattle.plain_runs.specs.PlainWork.{Completes, WantsMemory, Plain, begun_of, no_table, work_of, IsSound}
+use Rattle.plain_runs.specs.PlainWork.{Completes, WantsMemory, Plain, begun_of, no_table, plain_work, IsSoundPlain}
 use Rattle.plan_rules.specs.Seen.{seen_state}
 use Rattle.run_tally.specs.Gathered.{gathered}
-use Rattle.record_loop.specs.Works.{Begun, Work, Collects, MayComplete}
+use Rattle.record_loop.specs.Works.{Begun, Work, CollectsTicket, MayCompleteWork}
 
 -- what is settled is allowed, under what the operation may have seen
 seen-allows : (plan : Blueprint) (number : ℕ) (datum : Datum) (asked requested : Bool) (done : Completion) → done ≡ settled_root plan datum number asked → AllowsRecord plan number datum (seen_state asked requested) done
@@ -33,7 +33,7 @@ seen-allows plan number datum false true done is =
     (plan-covers WantsMemory plan 0 number datum (stop_state false) (settled_root plan datum number false) (settled-allows plan number datum false))
 
 -- an operation completes as its evaluation did
-evaluated-may : (work : Work) (started : Started) (completion : Completion) → Completes work.plan started completion → MayComplete WantsMemory work (begun_of started) completion
+evaluated-may : (work : Work) (started : Started) (completion : Completion) → Completes work.plan started completion → MayCompleteWork WantsMemory work (begun_of started) completion
 evaluated-may work started completion (inl settled) = inr (seen-allows work.plan started.number started.datum started.asked work.requested completion settled)
 evaluated-may work started completion (inr wants) = inl (wants.0, inr wants.1)
 
@@ -41,7 +41,7 @@ abbrev one : Option Started → ℕ
 one block = cond (is_some block) 1 0
 
 -- one operation more runs where a free block has one now, and one less where a block is free now
-pub more-run : (old new : Plain) (at : ℕ) (started : Started) → new.blocks ≡ set old.blocks at (Some started) → at < length old.blocks → true ≡ is_none (get_or old.blocks at None) → (work_of new).running ≡ (work_of old).running + 1
+pub more-run : (old new : Plain) (at : ℕ) (started : Started) → new.blocks ≡ set old.blocks at (Some started) → at < length old.blocks → true ≡ is_none (get_or old.blocks at None) → (plain_work new).running ≡ (plain_work old).running + 1
 more-run old new at started blocks within free =
     omega (arith, ap (sum_by one) blocks, sum_by-set one old.blocks at (Some started) None within, ap one (none-of (get_or old.blocks at None) (sym free)))
   where
@@ -49,17 +49,17 @@ more-run old new at started blocks within free =
     none-of None is = refl
     none-of (Some other) is = cc
 
-fewer-run : (old new : Plain) (at : ℕ) (started : Started) → new.blocks ≡ set old.blocks at None → at < length old.blocks → get_or old.blocks at None ≡ Some started → (work_of old).running ≡ (work_of new).running + 1
+fewer-run : (old new : Plain) (at : ℕ) (started : Started) → new.blocks ≡ set old.blocks at None → at < length old.blocks → get_or old.blocks at None ≡ Some started → (plain_work old).running ≡ (plain_work new).running + 1
 fewer-run old new at started blocks within is =
     omega (arith, ap (sum_by one) blocks, sum_by-set one old.blocks at None None within, ap one is)
 
 -- none runs in free blocks
-pub none-run : (plain : Plain) (blocks : ℕ) → plain.blocks ≡ replicate blocks None → (work_of plain).running ≡ 0
+pub none-run : (plain : Plain) (blocks : ℕ) → plain.blocks ≡ replicate blocks None → (plain_work plain).running ≡ 0
 none-run plain blocks free = ap (sum_by one) free ∙ sum_by-replicate one blocks None ∙ omega arith
 
 -- the operation of a block is collected, and the block is free
 pub collects-at : (old new : Plain) (at next : ℕ) (small : Bool) (started : Started) (completion : Completion) → new.plan ≡ old.plan → new.requested ≡ old.requested → new.collected ≡ gathered old.plan no_table started.number completion ∷ old.collected → new.blocks ≡ set old.blocks at None → at < length old.blocks
-    → get_or old.blocks at None ≡ Some started → Completes old.plan started completion → Collects WantsMemory (work_of old) (work_of new) at completion
+    → get_or old.blocks at None ≡ Some started → Completes old.plan started completion → CollectsTicket WantsMemory (plain_work old) (plain_work new) at completion
 collects-at old new at next small started completion plan requested counted blocks within is completes = record {
   plan = plan;
   table = refl;
@@ -73,12 +73,12 @@ collects-at old new at next small started completion plan requested counted bloc
       ap (λ (bs : List (Option Started)). option_map begun_of (get_or bs b None)) blocks ∙ ap (option_map begun_of) (get_or-set_other old.blocks at b None None apart) ∙ has;
   ends = λ begun has.
       let same : begun_of started ≡ begun = let e : Some (begun_of started) ≡ Some begun = sym (ap (option_map begun_of) is) ∙ has in cc in
-      subst (λ (x : Begun). MayComplete WantsMemory (work_of old) x completion) same (evaluated-may (work_of old) started completion completes);
+      subst (λ (x : Begun). MayCompleteWork WantsMemory (plain_work old) x completion) same (evaluated-may (plain_work old) started completion completes);
 }
 
 -- the blocks are sound with what one of them has now
-sound-set : {plan : Blueprint} {next later : ℕ} {small : Bool} (blocks : List (Option Started)) (at : ℕ) (block : Option Started) → IsSound plan blocks next small → at < length blocks
-    → ((started : Started) → block ≡ Some started → HasKind started.datum plan.settings.input) → later < length blocks → IsSound plan (set blocks at block) later small
+sound-set : {plan : Blueprint} {next later : ℕ} {small : Bool} (blocks : List (Option Started)) (at : ℕ) (block : Option Started) → IsSoundPlain plan blocks next small → at < length blocks
+    → ((started : Started) → block ≡ Some started → HasKind started.datum plan.settings.input) → later < length blocks → IsSoundPlain plan (set blocks at block) later small
 sound-set {plan = plan} blocks at block sound within kind fits = record {
   matching = sound.matching;
   kinds = λ b other is. kinds b other is;
@@ -94,16 +94,16 @@ sound-set {plan = plan} blocks at block sound within kind fits = record {
     ]
 
 -- an operation more
-pub sound-puts : {plan : Blueprint} {items : List (Option Started)} {next later : ℕ} {small : Bool} (blocks : List (Option Started)) (at : ℕ) (started : Started) → items ≡ set blocks at (Some started) → IsSound plan blocks next small → at < length blocks
-    → HasKind started.datum plan.settings.input → later < length blocks → IsSound plan items later small
+pub sound-puts : {plan : Blueprint} {items : List (Option Started)} {next later : ℕ} {small : Bool} (blocks : List (Option Started)) (at : ℕ) (started : Started) → items ≡ set blocks at (Some started) → IsSoundPlain plan blocks next small → at < length blocks
+    → HasKind started.datum plan.settings.input → later < length blocks → IsSoundPlain plan items later small
 sound-puts {plan = plan} {later = later} {small = small} blocks at started is sound within kind fits =
-    subst (λ (bs : List (Option Started)). IsSound plan bs later small) (sym is)
+    subst (λ (bs : List (Option Started)). IsSoundPlain plan bs later small) (sym is)
     (sound-set blocks at (Some started) sound within (λ other same. let e : started ≡ other = cc in subst (λ (x : Started). HasKind x.datum plan.settings.input) e kind) fits)
 
 -- and one less
-pub sound-frees : {plan : Blueprint} {items : List (Option Started)} {next : ℕ} {small : Bool} (blocks : List (Option Started)) (at : ℕ) → items ≡ set blocks at None → IsSound plan blocks next small → at < length blocks → IsSound plan items next small
+pub sound-frees : {plan : Blueprint} {items : List (Option Started)} {next : ℕ} {small : Bool} (blocks : List (Option Started)) (at : ℕ) → items ≡ set blocks at None → IsSoundPlain plan blocks next small → at < length blocks → IsSoundPlain plan items next small
 sound-frees {plan = plan} {next = next} {small = small} blocks at is sound within =
-    subst (λ (bs : List (Option Started)). IsSound plan bs next small) (sym is)
+    subst (λ (bs : List (Option Started)). IsSoundPlain plan bs next small) (sym is)
     (sound-set blocks at None sound within (λ other same. cc) sound.within)
 
 -- a free block more
@@ -113,7 +113,7 @@ free-more free is are =
     ∙ ap (λ n. replicate n None) (sym (ap length is ∙ length-append free (None ∷ [])))
 
 -- free blocks are sound
-pub sound-free : (plan : Blueprint) (blocks : ℕ) (small : Bool) (items : List (Option Started)) → items ≡ replicate blocks None → 0 < blocks → blocks ≤ 2 ^ 16 → KindsMatch plan.nodes plan.settings.input → (small ≡ false → ¬ IsSmall plan) → IsSound plan items 0 small
+pub sound-free : (plan : Blueprint) (blocks : ℕ) (small : Bool) (items : List (Option Started)) → items ≡ replicate blocks None → 0 < blocks → blocks ≤ 2 ^ 16 → KindsMatch plan.nodes plan.settings.input → (small ≡ false → ¬ IsSmall plan) → IsSoundPlain plan items 0 small
 sound-free plan blocks small items free some few kinds wants = record {
   matching = kinds;
   kinds = λ b started is. absurd (let e : None ≡ Some started = sym (ap (λ (bs : List (Option Started)). get_or bs b None) free ∙ get_or-replicate_same blocks b None) ∙ is in cc);
@@ -130,7 +130,7 @@ pub length-sets : {items : List (Option Started)} (blocks : List (Option Started
 length-sets blocks at block is = ap length is ∙ simp length-set
 
 -- a block that has an operation is there
-pub within-begun : (plain : Plain) (at : ℕ) → IsSome ((work_of plain).tickets at) → at < length plain.blocks
+pub within-begun : (plain : Plain) (at : ℕ) → IsSome ((plain_work plain).tickets at) → at < length plain.blocks
 within-begun plain at begun = elim (cases_lt at (length plain.blocks)) [
   | inl less ↦ less
   | inr more ↦ absurd (

@@ -49,10 +49,10 @@ no_table = record {
   slot_names = [];
 }
 
--- The operations of the blocks. The ticket of one is the number of its block, and each block that isn't
--- free has one that runs.
-abbrev pub work_of : Plain → Work
-work_of plain = record {
+-- The operations of the blocks. The ticket of one is the number of its block, and each block that
+-- isn't free has one that runs.
+abbrev pub plain_work : Plain → Work
+plain_work plain = record {
   plan = plain.plan;
   table = no_table;
   tickets = λ b. option_map begun_of (slice_index_or plain.blocks b None);
@@ -63,7 +63,8 @@ work_of plain = record {
 
 -- The kinds of the plan match, and each block has a datum of the input's kind. A plan that isn't
 -- noted as small isn't so, and the block that is next to be taken is there.
-pub record IsSound (plan : Blueprint) (blocks : List (Option Started)) (next : ℕ) (small : Bool)
+pub record IsSoundPlain (plan : Blueprint) (blocks : List (Option Started)) (next : ℕ)
+    (small : Bool)
     : Type 0 where
   pub matching : KindsMatch plan.nodes plan.settings.input
   pub kinds : (b : ℕ) (started : Started) → slice_index_or blocks b None ≡ Some started

@@ -3,7 +3,7 @@ ghost use Rattle.std.specs.Prelude.{◌≡◌, ◌<◌, ◌≤◌, ◌^◌, true
 ghost use Rattle.std.specs.Thread.{IsSync};
 ghost use Rattle.plan_kinds.specs.Reached.{KindsMatch};
 ghost use Rattle.plan_kinds.specs.Small.{IsSmall};
-ghost use Rattle.plain_runs.specs.PlainWork.{work_of, AreFree, WantsMemory};
+ghost use Rattle.plain_runs.specs.PlainWork.{plain_work, AreFree, WantsMemory};
 ghost use Rattle.record_loop.specs.Works.{IsIdle};
 
 use crate::evaluate::evaluate;
@@ -48,7 +48,7 @@ pub struct PlainRuns<'a> {
 }
 
 impl<'a> Model for PlainRuns<'a> {
-    ghost use Rattle.plain_runs.specs.PlainWork.{Plain, IsSound};
+    ghost use Rattle.plain_runs.specs.PlainWork.{Plain, IsSoundPlain};
 
     ghost Value = { Plain };
 
@@ -59,7 +59,7 @@ impl<'a> Model for PlainRuns<'a> {
       collected = s.counts;
     } };
 
-    ghost invariant = { λ s. IsSound s.plan.now s.blocks.items s.next s.small };
+    ghost invariant = { λ s. IsSoundPlain s.plan.now s.blocks.items s.next s.small };
 }
 
 /// So many free blocks.
@@ -94,7 +94,7 @@ impl<'a> PlainRuns<'a> {
         requires few { blocks ≤ 2 ^ 16 }
         requires kinds { KindsMatch plan.now.nodes plan.now.settings.input }
         ensures plan { IfOk result (λ runs. runs.plan ≡ plan.now) }
-        ensures idle { IfOk result (λ runs. IsIdle (work_of runs)) }
+        ensures idle { IfOk result (λ runs. IsIdle (plain_work runs)) }
         ensures blocks { IfOk result (λ runs. runs.blocks ≡ replicate blocks None) }
     {
         Ok(PlainRuns {
@@ -117,7 +117,7 @@ impl<'a> PlainRuns<'a> {
 }
 
 impl<'a> Operations for PlainRuns<'a> {
-    ghost state = { work_of };
+    ghost state = { plain_work };
 
     ghost WantsMemory = { WantsMemory };
 

@@ -9,9 +9,9 @@ use Rattle.exec_value.specs.declared.kinds.Kind.{Kind}
 use Rattle.plan_rules.specs.declared.settings.Settings.{Settings}
 use Rattle.plan_shape.specs.Blueprint.{Blueprint}
 use Rattle.record_lines.specs.Lines.{text_of}
-use Rattle.run_rules.specs.Lawful.{datum_of}
-use Rattle.run_rules.specs.Moments.{Moment, is_asked, IsCaused}
-use Rattle.record_loop.specs.Slots.{BeginsSlot, is_running, running_in}
+use Rattle.line_rules.specs.Lawful.{datum_of}
+use Rattle.line_rules.specs.Moments.{Moment, is_asked_before, IsCaused}
+use Rattle.record_loop.specs.Slots.{BeginsSlot, has_operation, running_in}
 use Rattle.record_loop.specs.declared.in_flight.InFlight.{InFlight}
 use Rattle.record_loop.specs.declared.printer.Printer.{Printer}
 use Rattle.record_loop.specs.declared.slot.Slot.{Slot}
@@ -19,8 +19,8 @@ use Rattle.record_loop.specs.declared.slot.Slot.TheVariants.{Running, Bad, NoMem
 use Rattle.record_loop.specs.Flights.{read_of}
 use Rattle.record_loop.specs.Printing.{Printed}
 use Rattle.exec_io.specs.Views.{SinkView}
-use Rattle.record_loop.specs.Standing.{Opening, terms_at, StandsFor, StandForAll, Standing, Counted}
-use Rattle.record_loop.specs.Works.{Begun, Work, Keeps}
+use Rattle.record_loop.specs.Standing.{Opening, terms_at, StandsFor, StandForAll, Standing, CountedNext}
+use Rattle.record_loop.specs.Works.{Begun, Work, KeepsWork}
 use Rattle.record_loop.proofs.PrintingLaws.{HoldsAllBut-all}
 use Rattle.record_loop.proofs.SlotLaws.{StandForAll-kept, StandForAll-push}
 use Rattle.record_loop.proofs.StandingLaws.{read-lines, read-count}
@@ -30,7 +30,7 @@ use Rattle.record_loop.proofs.TallyLaws.{TalliesWith-kept, told-kept}
 record BeginsAt (old new : Work) (slot : Slot) : Type 0 where
   plan : new.plan ≡ old.plan
   table : new.table ≡ old.table
-  running : new.running ≡ old.running + cond (is_running slot) 1 0
+  running : new.running ≡ old.running + cond (has_operation slot) 1 0
   requested : new.requested ≡ old.requested
   collected : new.collected ≡ old.collected
   tickets : (t : ℕ) (begun : Begun) → old.tickets t ≡ Some begun → new.tickets t ≡ Some begun
@@ -38,7 +38,7 @@ record BeginsAt (old new : Work) (slot : Slot) : Type 0 where
 abbrev one : Bool → ℕ
 one b = cond b 1 0
 
-kept-at : {old new : Work} (slot : Slot) → is_running slot ≡ false → Keeps old new → BeginsAt old new slot
+kept-at : {old new : Work} (slot : Slot) → has_operation slot ≡ false → KeepsWork old new → BeginsAt old new slot
 kept-at slot none keeps = record {
   plan = keeps.plan;
   table = keeps.table;
@@ -61,7 +61,7 @@ begun-at old new kind number text Bad begins = kept-at Bad refl begins.1
 begun-at old new kind number text NoMemory begins = kept-at NoMemory refl begins.1
 
 -- the record is asked exactly where the request was made, since the moment comes no later
-asked-now : (moment : Option Moment) (number : ℕ) → ((m : Moment) → moment ≡ Some m → m.first ≤ number) → is_some moment ≡ is_asked moment number
+asked-now : (moment : Option Moment) (number : ℕ) → ((m : Moment) → moment ≡ Some m → m.first ≤ number) → is_some moment ≡ is_asked_before moment number
 asked-now None number early = refl
 asked-now (Some m) number early = by (nat_le m.first number) refl
   where
@@ -70,7 +70,7 @@ asked-now (Some m) number early = by (nat_le m.first number) refl
     by false is = absurd (omega (arith, leb-false m.first number is, early m refl))
 
 module _ {Wants : Blueprint → Type 0} {opening : Opening} {lines : List (List ℕ)} {old : Work} {now : SinkView} {flight : InFlight} (new : Work) (next : InFlight) (line : List ℕ) (slot : Slot) (kind : Kind) (number : ℕ) (text : Option (List ℕ))
-    (counted : Counted Wants opening lines old now flight) (begins : BeginsSlot old new kind number text slot)
+    (counted : CountedNext Wants opening lines old now flight) (begins : BeginsSlot old new kind number text slot)
     (kind_is : kind ≡ flight.settings.input) (number_is : number ≡ read_of flight + 1) (text_is : text ≡ text_of line) where
   kind-is : kind ≡ opening.plan.settings.input
   kind-is = kind_is ∙ ap (λ (s : Settings). s.input) counted.standing.settings_are
@@ -81,7 +81,7 @@ module _ {Wants : Blueprint → Type 0} {opening : Opening} {lines : List (List 
   shows-as : option_and_then (record_of kind) text ≡ datum_of opening.plan.settings.input line
   shows-as = ap (λ (k : Kind). option_and_then (record_of k) text) kind-is ∙ ap (option_and_then (record_of opening.plan.settings.input)) text_is
 
-  asked-is : old.requested ≡ is_asked counted.standing.moment number
+  asked-is : old.requested ≡ is_asked_before counted.standing.moment number
   asked-is = counted.standing.requested ∙ asked-now counted.standing.moment number (λ m is. omega (arith, counted.early m is, number-is))
 
   -- the slot stands for the record
@@ -118,7 +118,7 @@ module _ {Wants : Blueprint → Type 0} {opening : Opening} {lines : List (List 
         printed = subst (λ (p : Printer). Printed opening.form opening.sink now p standing.outcomes) (sym printer) standing.printed;
         tallied = TalliesWith-kept keeps.collected printer standing.tallied;
         told = told-kept keeps.collected standing.told;
-        running = omega (arith, keeps.running, standing.running, ap running_in items, sum_by_push (λ (s : Slot). cond (is_running s) 1 0) flight.slots.items slot);
+        running = omega (arith, keeps.running, standing.running, ap running_in items, sum_by_push (λ (s : Slot). cond (has_operation s) 1 0) flight.slots.items slot);
         requested = keeps.requested ∙ standing.requested;
         known = requested ∙ standing.known;
         plan_is = keeps.plan ∙ standing.plan_is;

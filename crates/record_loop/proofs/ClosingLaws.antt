@@ -11,17 +11,17 @@ use Rattle.record_lines.specs.declared.line_end.LineEnd.{LineEnd}
 use Rattle.record_lines.specs.Lines.{whole_lines, rest_of, without_cr}
 use Rattle.record_lines.specs.Records.{records_of, last_line}
 use Rattle.record_lines.specs.Cutters.{Held, StandsAfter, EndsStream}
-use Rattle.run_rules.specs.Lawful.{Lawful}
-use Rattle.run_rules.specs.Moments.{IsCaused, Licensed}
-use Rattle.run_rules.proofs.LicenseLaws.{Lawful-from_licensed}
-use Rattle.run_rules.proofs.PlanLaws.{plan-covers}
+use Rattle.line_rules.specs.Lawful.{Lawful}
+use Rattle.line_rules.specs.Moments.{IsCaused, Licensed}
+use Rattle.line_rules.proofs.LicenseLaws.{Lawful-from_licensed}
+use Rattle.line_rules.proofs.PlanLaws.{plan-covers}
 use Rattle.record_loop.specs.declared.ending.Ending.{Ending}
 use Rattle.record_loop.specs.declared.in_flight.InFlight.{InFlight}
 use Rattle.record_loop.specs.declared.session.Session.{Session}
 use Rattle.record_loop.specs.Flights.{read_of}
 use Rattle.record_loop.specs.Printing.{AppendsAtLeast, Printed, Finished}
 use Rattle.record_loop.specs.Ran.{Ran}
-use Rattle.record_loop.specs.Reading.{SessionState, on, HasRoom, TakenAt, IsThrough, Halts, HasHalted, Reads, AllTaken}
+use Rattle.record_loop.specs.Reading.{SessionState, on, HasRoom, HasTaken, IsThrough, Halts, HasHalted, Reads, AllTaken}
 use Rattle.exec_io.specs.Views.{SinkView}
 use Rattle.exec_io.specs.Views.{SourceView}
 use Rattle.record_loop.specs.Slots.{running_in}
@@ -99,7 +99,7 @@ module _ {Wants : Blueprint → Type 0} {opening : Opening} {source left : Optio
   AllTaken-ended Limit flight is halts takes = cc
 
 -- a last line comes after fewer than the most records
-pub last-few : {Wants : Blueprint → Type 0} {opening : Opening} {bytes : List ℕ} (place : SessionState) (new : Held) (end : LineEnd) → TakenAt Wants opening bytes place → EndsStream new bytes end → read_of place.session.flight < MOST_RECORDS
+pub last-few : {Wants : Blueprint → Type 0} {opening : Opening} {bytes : List ℕ} (place : SessionState) (new : Held) (end : LineEnd) → HasTaken Wants opening bytes place → EndsStream new bytes end → read_of place.session.flight < MOST_RECORDS
 unfolding last_line
 last-few {bytes = bytes} place new end taken ends = by taken.room
   where

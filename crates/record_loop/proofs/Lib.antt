@@ -10,3 +10,4 @@ pub mod StandingLaws
 pub mod TallyLaws
 pub mod WorkLaws
 pub mod WritingLaws
+pub mod SourceLaws

@@ -1,26 +1,24 @@
 -- How a session takes the bytes of a source.
-use Rattle.std.proofs.Common.{◌≡◌, ◌≢◌, ℕ, ◌+◌, ◌<◌, ◌≤◌, Bool, true, false, List, [], ◌∷◌, ◌++◌, length, take, drop, Option, Some, None, refl, sym, ap, ◌∙◌, subst, inl, inr, length-append, append_assoc, append-nil, length-drop, arith}
-use Rattle.std.proofs.lemmas.List.Elements.{All-nil}
+use Rattle.std.proofs.Common.{◌≡◌, ℕ, ◌+◌, ◌<◌, ◌≤◌, Bool, true, false, List, [], ◌∷◌, ◌++◌, length, take, drop, Option, Some, None, refl, sym, ap, ◌∙◌, subst, inl, inr, length-append, append_assoc, append-nil, length-drop, arith}
 use Rattle.std.specs.Option.{unwrap_or}
 use Rattle.std.specs.Io.KnownBytes.{Consumes, Keeps, IsAtEnd}
 use Rattle.std.proofs.lemmas.List.{take-append-drop}
 use Rattle.plan_shape.specs.Blueprint.{Blueprint}
 use Rattle.record_lines.specs.declared.ending.End.{End}
 use Rattle.record_lines.specs.declared.ending.End.TheVariants.{Ended, Fault, Limit}
-use Rattle.record_lines.specs.declared.limits.TheConstants.{LINE_FEED, MOST_RECORDS, MOST_BYTES}
+use Rattle.record_lines.specs.declared.limits.TheConstants.{MOST_RECORDS, MOST_BYTES}
 use Rattle.record_lines.specs.declared.line_end.LineEnd.{LineEnd}
-use Rattle.record_lines.specs.Lines.{whole_lines, rest_of, cut}
+use Rattle.record_lines.specs.Lines.{whole_lines}
 use Rattle.record_lines.specs.LineEnds.{through}
 use Rattle.record_lines.specs.Records.{IsBeyond}
 use Rattle.record_lines.specs.Cutters.{Held, StandsAfter, GoesOn, HasLine, EndsLine, line_after}
-use Rattle.record_lines.proofs.LineLaws.{rest_of-line}
 use Rattle.record_lines.proofs.LimitLaws.{limited_lines-full}
 use Rattle.record_lines.proofs.RecordLaws.{IsBeyond-append, IsBeyond-none, full_from_IsBeyond, limit_passed}
 use Rattle.record_loop.specs.Cutting.{IsCutting}
 use Rattle.record_loop.specs.declared.in_flight.InFlight.{InFlight}
 use Rattle.record_loop.specs.declared.session.Session.{Session}
 use Rattle.record_loop.specs.Flights.{read_of}
-use Rattle.record_loop.specs.Reading.{SessionState, on, run_of, HasRoom, TakenAt, StaysTaking, Advances, PassesLimit, BreaksOff, StandsAfterPiece, Going, Halts, Goes}
+use Rattle.record_loop.specs.Reading.{SessionState, on, run_of, HasRoom, HasTaken, StaysTaking, Advances, PassesLimit, BreaksOff, StandsAfterPiece, Going, Halts, Goes}
 use Rattle.record_loop.specs.CaughtUp.{HasCaughtUp}
 use Rattle.record_loop.specs.Printing.{Wrote, text_so_far}
 use Rattle.record_loop.specs.ReadStarts.{start_of}
@@ -28,37 +26,7 @@ use Rattle.exec_io.specs.Views.{SinkView, SourceView}
 use Rattle.record_loop.specs.Standing.{Opening, RunState, at, StandsAt}
 use Rattle.record_loop.specs.Works.{Work}
 use Rattle.record_loop.proofs.StandingLaws.{read-count, read-lines}
-
--- no bytes have no line
-whole_lines-nil : whole_lines [] ≡ []
-unfolding whole_lines cut
-whole_lines-nil = refl
-
-rest_of-nil : rest_of [] ≡ []
-unfolding rest_of cut
-rest_of-nil = refl
-
--- one part of a source is read after another
-Consumes-trans : (source left rest : Option (List ℕ)) (bytes more : List ℕ) → Consumes source left bytes → Consumes left rest more → Consumes source rest (bytes ++ more)
-Consumes-trans None left rest bytes more first second = tt
-Consumes-trans (Some xs) None rest bytes more first second = absurd first
-Consumes-trans (Some xs) (Some ys) None bytes more first second = absurd second
-Consumes-trans (Some xs) (Some ys) (Some zs) bytes more first second = first ∙ ap (λ bs. bytes ++ bs) second ∙ sym (append_assoc bytes more zs)
-
--- the rest is empty behind a line feed
-rest_of-through : (bytes front : List ℕ) → rest_of (bytes ++ (front ++ LINE_FEED ∷ [])) ≡ []
-rest_of-through bytes front = ap rest_of (sym (append_assoc bytes front (LINE_FEED ∷ []))) ∙ rest_of-line (bytes ++ front) [] (All-nil (λ b. b ≢ LINE_FEED))
-
--- what a source tells stays as it was
-Consumes-kept : (source left rest : Option (List ℕ)) (bytes : List ℕ) → Consumes source left bytes → Keeps left rest → Consumes source rest bytes
-Consumes-kept None left rest bytes consumed kept = tt
-Consumes-kept (Some xs) None rest bytes consumed kept = absurd consumed
-Consumes-kept (Some xs) (Some ys) None bytes consumed kept = absurd kept
-Consumes-kept (Some xs) (Some ys) (Some zs) bytes consumed kept = consumed ∙ ap (λ bs. bytes ++ bs) (sym kept)
-
-pub Keeps-nil : (left : Option (List ℕ)) → Keeps left left
-Keeps-nil None = tt
-Keeps-nil (Some xs) = refl
+use Rattle.record_loop.proofs.SourceLaws.{whole_lines-nil, rest_of-nil, Consumes-trans, rest_of-through, Consumes-kept}
 
 module _ {Wants : Blueprint → Type 0} {opening : Opening} where
   -- a run stands with these lines, which are those
@@ -66,7 +34,7 @@ module _ {Wants : Blueprint → Type 0} {opening : Opening} where
   stands-as run same standing = subst (λ (lines : List (List ℕ)). StandsAt Wants opening lines run) same standing
 
   -- a session that has taken no bytes
-  pub TakenAt-nil : (work : Work) (sink : SinkView) (flight : InFlight) (session : Session) → IsCutting flight session → StandsAt Wants opening [] (at work sink flight) → TakenAt Wants opening [] (on work sink session)
+  pub TakenAt-nil : (work : Work) (sink : SinkView) (flight : InFlight) (session : Session) → IsCutting flight session → StandsAt Wants opening [] (at work sink flight) → HasTaken Wants opening [] (on work sink session)
   TakenAt-nil work sink flight session cutting standing = record {
     standing = stands-as (at work sink session.flight) (sym whole_lines-nil)
         (subst (λ (f : InFlight). StandsAt Wants opening [] (at work sink f)) (sym cutting.flight_is) standing);
@@ -76,11 +44,11 @@ module _ {Wants : Blueprint → Type 0} {opening : Opening} where
   }
 
   -- as many records were read as lines ended
-  pub taken-count : {bytes : List ℕ} {place : SessionState} → TakenAt Wants opening bytes place → read_of place.session.flight ≡ length (whole_lines bytes)
+  pub taken-count : {bytes : List ℕ} {place : SessionState} → HasTaken Wants opening bytes place → read_of place.session.flight ≡ length (whole_lines bytes)
   taken-count taken = read-count taken.standing
 
   -- a piece without a line feed is taken
-  pub Advances-goes_on : (piece : List ℕ) {bytes : List ℕ} {work : Work} {sink : SinkView} {old new : Session} → TakenAt Wants opening bytes (on work sink old) → read_of old.flight < MOST_RECORDS → GoesOn piece new.cutter bytes → new.flight ≡ old.flight → new.taken ≡ old.taken + length piece → Advances Wants opening bytes piece [] (on work sink new)
+  pub Advances-goes_on : (piece : List ℕ) {bytes : List ℕ} {work : Work} {sink : SinkView} {old new : Session} → HasTaken Wants opening bytes (on work sink old) → read_of old.flight < MOST_RECORDS → GoesOn piece new.cutter bytes → new.flight ≡ old.flight → new.taken ≡ old.taken + length piece → Advances Wants opening bytes piece [] (on work sink new)
   Advances-goes_on piece {bytes = bytes} {work = work} {sink = sink} {old = old} {new = new} at_old few goes flight taken = record {
     front = piece;
     split = sym (append-nil piece);
@@ -94,7 +62,7 @@ module _ {Wants : Blueprint → Type 0} {opening : Opening} where
   }
 
   -- a line is ended and taken
-  pub Advances-ends : (piece : List ℕ) (end : LineEnd) {bytes : List ℕ} {before after : Work} {now later : SinkView} {old new : Session} → TakenAt Wants opening bytes (on before now old) → read_of old.flight < MOST_RECORDS → EndsLine new.cutter bytes end → piece ≡ through end ++ end.rest.now
+  pub Advances-ends : (piece : List ℕ) (end : LineEnd) {bytes : List ℕ} {before after : Work} {now later : SinkView} {old new : Session} → HasTaken Wants opening bytes (on before now old) → read_of old.flight < MOST_RECORDS → EndsLine new.cutter bytes end → piece ≡ through end ++ end.rest.now
       → ((lines : List (List ℕ)) (line : List ℕ) → HasLine new.cutter end line → StandsAt Wants opening lines (at before now old.flight) → StandsAt Wants opening (lines ++ line ∷ []) (at after later new.flight))
       → new.taken + length end.rest.now ≡ old.taken + length piece → Advances Wants opening bytes piece end.rest.now (on after later new)
   Advances-ends piece end {bytes = bytes} {after = after} {later = later} {new = new} at_old few ends split takes taken = record {
@@ -112,15 +80,15 @@ module _ {Wants : Blueprint → Type 0} {opening : Opening} where
   }
 
   -- nothing of the piece is taken yet
-  pub Advances-none : (bytes piece : List ℕ) {place : SessionState} → TakenAt Wants opening bytes place → Advances Wants opening bytes piece piece place
+  pub Advances-none : (bytes piece : List ℕ) {place : SessionState} → HasTaken Wants opening bytes place → Advances Wants opening bytes piece piece place
   Advances-none bytes piece {place = place} taken = record {
     front = [];
     split = refl;
-    taken = subst (λ (bs : List ℕ). TakenAt Wants opening bs place) (sym (append-nil bytes)) taken;
+    taken = subst (λ (bs : List ℕ). HasTaken Wants opening bs place) (sym (append-nil bytes)) taken;
   }
 
   -- the records in flight went on meanwhile
-  pub Advances-stays : {bytes piece left : List ℕ} {place next : SessionState} → ((bs : List ℕ) → TakenAt Wants opening bs place → TakenAt Wants opening bs next) → Advances Wants opening bytes piece left place → Advances Wants opening bytes piece left next
+  pub Advances-stays : {bytes piece left : List ℕ} {place next : SessionState} → ((bs : List ℕ) → HasTaken Wants opening bs place → HasTaken Wants opening bs next) → Advances Wants opening bytes piece left place → Advances Wants opening bytes piece left next
   Advances-stays {bytes = bytes} stays advances = record {
     front = advances.front;
     split = advances.split;
@@ -129,20 +97,20 @@ module _ {Wants : Blueprint → Type 0} {opening : Opening} where
 
   -- one part of a piece after another
   pub Advances-trans : (bytes piece left more : List ℕ) {place next : SessionState} → Advances Wants opening bytes piece left place
-      → ((bs : List ℕ) → TakenAt Wants opening bs place → Advances Wants opening bs left more next)
+      → ((bs : List ℕ) → HasTaken Wants opening bs place → Advances Wants opening bs left more next)
       → Advances Wants opening bytes piece more next
   Advances-trans bytes piece left more {next = next} first goes =
       let second = goes (bytes ++ first.front) first.taken in
       record {
         front = first.front ++ second.front;
         split = first.split ∙ ap (λ bs. first.front ++ bs) second.split ∙ sym (append_assoc first.front second.front more);
-        taken = subst (λ (bs : List ℕ). TakenAt Wants opening bs next) (append_assoc bytes first.front second.front) second.taken;
+        taken = subst (λ (bs : List ℕ). HasTaken Wants opening bs next) (append_assoc bytes first.front second.front) second.taken;
       }
 
   -- all of a piece is taken
-  pub TakenAt-all : (bytes piece left : List ℕ) {place : SessionState} → Advances Wants opening bytes piece left place → length left ≡ 0 → TakenAt Wants opening (bytes ++ piece) place
+  pub TakenAt-all : (bytes piece left : List ℕ) {place : SessionState} → Advances Wants opening bytes piece left place → length left ≡ 0 → HasTaken Wants opening (bytes ++ piece) place
   TakenAt-all bytes piece [] {place = place} advances none =
-      subst (λ (bs : List ℕ). TakenAt Wants opening (bytes ++ bs) place) (sym (advances.split ∙ append-nil advances.front)) advances.taken
+      subst (λ (bs : List ℕ). HasTaken Wants opening (bytes ++ bs) place) (sym (advances.split ∙ append-nil advances.front)) advances.taken
   TakenAt-all bytes piece (b ∷ left) advances none = absurd (omega arith)
 
   -- a byte that is left after the most records passes the limit
@@ -164,13 +132,13 @@ module _ {Wants : Blueprint → Type 0} {opening : Opening} where
   }
 
   -- a byte after the most bytes passes the limit
-  PassesLimit-bytes : (bytes : List ℕ) (b : ℕ) (more : List ℕ) {place : SessionState} → TakenAt Wants opening bytes place → length bytes ≡ MOST_BYTES → length (whole_lines bytes) ≤ MOST_RECORDS → PassesLimit Wants opening (bytes ++ b ∷ more) (run_of place)
+  PassesLimit-bytes : (bytes : List ℕ) (b : ℕ) (more : List ℕ) {place : SessionState} → HasTaken Wants opening bytes place → length bytes ≡ MOST_BYTES → length (whole_lines bytes) ≤ MOST_RECORDS → PassesLimit Wants opening (bytes ++ b ∷ more) (run_of place)
   PassesLimit-bytes bytes b more {place = place} taken size few =
       let passed = limit_passed bytes b more (omega (arith, size)) few (inl (omega (arith, size))) in
       record { beyond = passed.0; standing = stands-as (run_of place) (sym passed.1) taken.standing }
 
   -- what is taken passes no limit
-  pub taken-within : {bytes : List ℕ} {place : SessionState} → TakenAt Wants opening bytes place → IsBeyond bytes → ⊥
+  pub taken-within : {bytes : List ℕ} {place : SessionState} → HasTaken Wants opening bytes place → IsBeyond bytes → ⊥
   taken-within {bytes = bytes} {place = place} taken = IsBeyond-none bytes (omega (arith, place.session.few_bytes, taken.taken)) taken.room
 
   -- a write was lost, and what is left of a piece is not taken
@@ -198,7 +166,7 @@ module _ {Wants : Blueprint → Type 0} {opening : Opening} where
   }
 
   -- the records in flight went on, and no bytes were taken
-  pub TakenAt-stays : {bytes : List ℕ} {before after : Work} {now later : SinkView} {old new : Session} → ((lines : List (List ℕ)) → StandsAt Wants opening lines (at before now old.flight) → StandsAt Wants opening lines (at after later new.flight)) → new.cutter ≡ old.cutter → new.taken ≡ old.taken → TakenAt Wants opening bytes (on before now old) → TakenAt Wants opening bytes (on after later new)
+  pub TakenAt-stays : {bytes : List ℕ} {before after : Work} {now later : SinkView} {old new : Session} → ((lines : List (List ℕ)) → StandsAt Wants opening lines (at before now old.flight) → StandsAt Wants opening lines (at after later new.flight)) → new.cutter ≡ old.cutter → new.taken ≡ old.taken → HasTaken Wants opening bytes (on before now old) → HasTaken Wants opening bytes (on after later new)
   TakenAt-stays {bytes = bytes} stays cutter same taken = record {
     standing = stays (whole_lines bytes) taken.standing;
     stands = subst (λ (held : Held). StandsAfter held bytes) (sym cutter) taken.stands;
@@ -207,7 +175,7 @@ module _ {Wants : Blueprint → Type 0} {opening : Opening} where
   }
 
   -- a piece is read and taken
-  pub Going-more : {source left rest : Option (List ℕ)} (piece : List ℕ) {place next : SessionState} → Consumes left rest piece → ((bytes : List ℕ) → TakenAt Wants opening bytes place → TakenAt Wants opening (bytes ++ piece) next) → Going Wants opening source left place → Going Wants opening source rest next
+  pub Going-more : {source left rest : Option (List ℕ)} (piece : List ℕ) {place next : SessionState} → Consumes left rest piece → ((bytes : List ℕ) → HasTaken Wants opening bytes place → HasTaken Wants opening (bytes ++ piece) next) → Going Wants opening source left place → Going Wants opening source rest next
   Going-more {source = source} {left = left} {rest = rest} piece consumed takes going = record {
     bytes = going.bytes ++ piece;
     consumed = Consumes-trans source left rest going.bytes piece going.consumed consumed;
@@ -215,7 +183,7 @@ module _ {Wants : Blueprint → Type 0} {opening : Opening} where
   }
 
   -- the records in flight went on
-  pub Going-stays : {source left : Option (List ℕ)} {place next : SessionState} → ((bytes : List ℕ) → TakenAt Wants opening bytes place → TakenAt Wants opening bytes next) → Going Wants opening source left place → Going Wants opening source left next
+  pub Going-stays : {source left : Option (List ℕ)} {place next : SessionState} → ((bytes : List ℕ) → HasTaken Wants opening bytes place → HasTaken Wants opening bytes next) → Going Wants opening source left place → Going Wants opening source left next
   Going-stays stays going = record { bytes = going.bytes; consumed = going.consumed; taken = stays going.bytes going.taken }
 
   -- nothing more is read, since a write was lost or the source failed
@@ -245,7 +213,7 @@ module _ {Wants : Blueprint → Type 0} {opening : Opening} where
   }
 
   -- nothing is read yet
-  pub Going-nil : (source : Option (List ℕ)) {place : SessionState} → TakenAt Wants opening [] place → Going Wants opening source source place
+  pub Going-nil : (source : Option (List ℕ)) {place : SessionState} → HasTaken Wants opening [] place → Going Wants opening source source place
   Going-nil source taken = record { bytes = []; consumed = consumed source; taken = taken }
     where
       consumed : (known : Option (List ℕ)) → Consumes known known []
@@ -274,7 +242,7 @@ StandsAfterPiece-cut Wants opening bytes piece room result place longer full los
     (StandsAfterPiece-over Wants opening (bytes ++ take room piece) (drop room piece) result place (omega (arith, length-drop room piece)) full lost takes)
 
 -- a piece is read and taken as far as it can be
-pub Goes-piece : (Wants : Blueprint → Type 0) (opening : Opening) (end : Option End) (source left rest : Option (List ℕ)) (piece : List ℕ) (place next : SessionState) → Consumes left rest piece → ((bytes : List ℕ) → TakenAt Wants opening bytes place → StandsAfterPiece Wants opening end (bytes ++ piece) next) → Going Wants opening source left place → Goes Wants opening end source rest next
+pub Goes-piece : (Wants : Blueprint → Type 0) (opening : Opening) (end : Option End) (source left rest : Option (List ℕ)) (piece : List ℕ) (place next : SessionState) → Consumes left rest piece → ((bytes : List ℕ) → HasTaken Wants opening bytes place → StandsAfterPiece Wants opening end (bytes ++ piece) next) → Going Wants opening source left place → Goes Wants opening end source rest next
 Goes-piece Wants opening None source left rest piece place next consumed takes going = Going-more piece consumed takes going
 Goes-piece Wants opening (Some Limit) source left rest piece place next consumed takes going = record {
   bytes = going.bytes ++ piece;

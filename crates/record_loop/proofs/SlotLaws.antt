@@ -6,17 +6,17 @@ use Rattle.exec_value.specs.declared.outcome.Outcome.{Outcome}
 use Rattle.exec_value.specs.declared.outcome.Outcome.TheVariants.{Done, BadRecord}
 use Rattle.plan_rules.specs.declared.stop.StopState.{StopState}
 use Rattle.plan_shape.specs.Blueprint.{Blueprint}
-use Rattle.run_rules.specs.Lawful.{Terms, MayEnd}
-use Rattle.run_rules.specs.Moments.{Moment, license, is_asked}
-use Rattle.run_rules.specs.PlanTerms.{terms_of, AllowsRecord}
-use Rattle.run_rules.specs.StopStates.{state_between}
-use Rattle.run_rules.proofs.LicenseLaws.{late-license}
+use Rattle.line_rules.specs.Lawful.{Terms, MayEnd}
+use Rattle.line_rules.specs.Moments.{Moment, license, is_asked_before}
+use Rattle.line_rules.specs.PlanTerms.{terms_of, AllowsRecord}
+use Rattle.line_rules.specs.StopStates.{state_between}
+use Rattle.line_rules.proofs.LicenseLaws.{late-license}
 use Rattle.record_loop.specs.declared.slot.Slot.{Slot}
 use Rattle.record_loop.specs.declared.slot.Slot.TheVariants.{Running, Bad, NoMemory}
-use Rattle.record_loop.specs.Slots.{HasOperation, Settles, is_running}
+use Rattle.record_loop.specs.Slots.{HasOperation, SettlesSlot, has_operation}
 use Rattle.record_loop.specs.Standing.{StandsFor, StandForAll}
 use Rattle.plan_rules.specs.Seen.{seen_state}
-use Rattle.record_loop.specs.Works.{Begun, Work, Keeps, MayComplete}
+use Rattle.record_loop.specs.Works.{Begun, Work, KeepsWork, MayCompleteWork}
 
 -- each slot stands for one record
 pub StandForAll-length : (terms : Terms) (work : Work) (moment : Option Moment) (before : ℕ) (slots : List Slot) (lines : List (List ℕ)) → StandForAll terms work moment before slots lines → length slots ≡ length lines
@@ -67,7 +67,7 @@ StandForAll-others terms old new moment ticket first before (slot ∷ slots) (li
 )
 
 -- records that were started before the request weren't asked
-not-asked : (moment : Moment) (number : ℕ) → number < moment.first → is_asked None number ≡ is_asked (Some moment) number
+not-asked : (moment : Moment) (number : ℕ) → number < moment.first → is_asked_before None number ≡ is_asked_before (Some moment) number
 not-asked moment number early = by (nat_le moment.first number) refl
   where
     by : (b : Bool) → nat_le moment.first number ≡ b → false ≡ b
@@ -113,7 +113,7 @@ StandsFor-operation terms work moment number line Bad stands = tt
 StandsFor-operation terms work moment number line NoMemory stands = tt
 
 -- what an operation may have seen is what the moment licenses, where its line is the next one
-seen-licensed : (moment : Option Moment) (number : ℕ) (requested : Bool) → requested ≡ is_some moment → ((m : Moment) → moment ≡ Some m → m.written < number) → seen_state (is_asked moment number) requested ≡ license moment number
+seen-licensed : (moment : Option Moment) (number : ℕ) (requested : Bool) → requested ≡ is_some moment → ((m : Moment) → moment ≡ Some m → m.written < number) → seen_state (is_asked_before moment number) requested ≡ license moment number
 seen-licensed None number requested is late = ap (seen_state false) is
 seen-licensed (Some m) number requested is late =
     ap (seen_state (nat_le m.first number)) is ∙ by (nat_le m.first number) ∙ late-license m number (late m refl) (nat_le m.first number) refl
@@ -125,16 +125,16 @@ seen-licensed (Some m) number requested is late =
 module _ (Wants : Blueprint → Type 0) (plan : Blueprint) (window : ℕ) (old new : Work) (of : old.plan ≡ plan) (moment : Option Moment) (number : ℕ) (line : List ℕ) where
   -- a record ends as its slot settles
   pub MayEnd-settles : (slot : Slot) (outcome : Outcome) → old.requested ≡ is_some moment → ((m : Moment) → moment ≡ Some m → m.written < number)
-      → StandsFor (terms_of Wants plan window) old moment number line slot → Settles Wants old new slot outcome
+      → StandsFor (terms_of Wants plan window) old moment number line slot → SettlesSlot Wants old new slot outcome
       → MayEnd (terms_of Wants plan window) number (license moment number) line outcome
   MayEnd-settles (Running ticket) (Done completion) requested late stands collects = ends (collects.ends _ stands.begun)
     where
-      ends : MayComplete Wants old (record { number = number; datum = stands.datum; asked = is_asked moment number }) completion → MayEnd (terms_of Wants plan window) number (license moment number) line (Done completion)
+      ends : MayCompleteWork Wants old (record { number = number; datum = stands.datum; asked = is_asked_before moment number }) completion → MayEnd (terms_of Wants plan window) number (license moment number) line (Done completion)
       ends (inl wants) =
           let P : Blueprint → Type 0 = λ p. (terms_of Wants p window).wants in
           inl (wants.0, subst P of wants.1)
       ends (inr allowed) =
-          let P : Blueprint → Type 0 = λ p. AllowsRecord p number stands.datum (seen_state (is_asked moment number) old.requested) completion in
+          let P : Blueprint → Type 0 = λ p. AllowsRecord p number stands.datum (seen_state (is_asked_before moment number) old.requested) completion in
           let Q : StopState → Type 0 = λ stop. AllowsRecord plan number stands.datum stop completion in
           inr (record { datum = stands.datum; shows = stands.shows; allowed = subst Q (seen-licensed moment number old.requested requested late) (subst P of allowed) })
   MayEnd-settles (Running ticket) BadRecord requested late stands collects = absurd collects
@@ -150,13 +150,13 @@ module _ (Wants : Blueprint → Type 0) (plan : Blueprint) (window : ℕ) (old n
 pub record SettlesAt (old new : Work) (slot : Slot) : Type 0 where
   pub plan : new.plan ≡ old.plan
   pub table : new.table ≡ old.table
-  pub running : old.running ≡ cond (is_running slot) 1 0 + new.running
+  pub running : old.running ≡ cond (has_operation slot) 1 0 + new.running
   pub requested : new.requested ≡ old.requested
 
 abbrev one : Bool → ℕ
 one b = cond b 1 0
 
-kept-at : {old new : Work} (slot : Slot) → is_running slot ≡ false → Keeps old new → SettlesAt old new slot
+kept-at : {old new : Work} (slot : Slot) → has_operation slot ≡ false → KeepsWork old new → SettlesAt old new slot
 kept-at slot none keeps = record {
   plan = keeps.plan;
   table = keeps.table;
@@ -164,7 +164,7 @@ kept-at slot none keeps = record {
   requested = keeps.requested;
 }
 
-pub settled-at : (Wants : Blueprint → Type 0) (old new : Work) (slot : Slot) (outcome : Outcome) → Settles Wants old new slot outcome → SettlesAt old new slot
+pub settled-at : (Wants : Blueprint → Type 0) (old new : Work) (slot : Slot) (outcome : Outcome) → SettlesSlot Wants old new slot outcome → SettlesAt old new slot
 settled-at Wants old new (Running ticket) (Done completion) collects = record {
   plan = collects.plan;
   table = collects.table;
@@ -176,7 +176,7 @@ settled-at Wants old new Bad outcome settles = kept-at Bad refl settles.1
 settled-at Wants old new NoMemory outcome settles = kept-at NoMemory refl settles.1
 
 -- and the other slots stand for their records
-pub StandForAll-settles : (Wants : Blueprint → Type 0) (terms : Terms) (old new : Work) (moment : Option Moment) (before : ℕ) (slot : Slot) (line : List ℕ) (outcome : Outcome) (slots : List Slot) (lines : List (List ℕ)) → Settles Wants old new slot outcome
+pub StandForAll-settles : (Wants : Blueprint → Type 0) (terms : Terms) (old new : Work) (moment : Option Moment) (before : ℕ) (slot : Slot) (line : List ℕ) (outcome : Outcome) (slots : List Slot) (lines : List (List ℕ)) → SettlesSlot Wants old new slot outcome
     → StandsFor terms old moment (before + 1) line slot → StandForAll terms old moment (before + 1) slots lines → StandForAll terms new moment (before + 1) slots lines
 StandForAll-settles Wants terms old new moment before (Running ticket) line (Done completion) slots lines collects stands stand =
     StandForAll-others terms old new moment ticket _ (before + 1) slots lines stands.begun (omega arith) collects.others stand

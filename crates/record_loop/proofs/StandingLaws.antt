@@ -7,11 +7,11 @@ use Rattle.node_tree.specs.declared.scope_kind.ScopeKind.TheVariants.{Simple, Co
 use Rattle.plan_rules.specs.declared.settings.Settings.{Settings}
 use Rattle.plan_rules.specs.Exclusion.{is_simple, has_stop_rule}
 use Rattle.plan_shape.specs.Blueprint.{Blueprint}
-use Rattle.run_rules.specs.Moments.{Moment, IsCaused, IsQuiet, Licensed}
-use Rattle.run_rules.specs.PlanTerms.{MayRun}
-use Rattle.run_rules.specs.StopStates.{StopRules, rules_of}
-use Rattle.run_rules.proofs.LicenseLaws.{Licensed-nil, Licensed-asks}
-use Rattle.run_rules.proofs.MomentLaws.{quiet-nil, quiet-read, timely-read, timely-more}
+use Rattle.line_rules.specs.Moments.{Moment, IsCaused, IsQuiet, Licensed}
+use Rattle.line_rules.specs.PlanTerms.{MayRun}
+use Rattle.line_rules.specs.StopStates.{StopRules, rules_of}
+use Rattle.line_rules.proofs.LicenseLaws.{Licensed-nil, Licensed-asks}
+use Rattle.line_rules.proofs.MomentLaws.{quiet-nil, quiet-read, timely-read, timely-more}
 use Rattle.record_loop.specs.Flights.{IsFresh, read_of}
 use Rattle.record_loop.specs.declared.in_flight.InFlight.{InFlight}
 use Rattle.record_loop.specs.declared.printer.Printer.{Printer}
@@ -19,7 +19,7 @@ use Rattle.record_loop.specs.declared.slot.Slot.{Slot}
 use Rattle.record_loop.specs.Printing.{AppendsAtLeast, Printed}
 use Rattle.exec_io.specs.Views.{SinkView}
 use Rattle.record_loop.specs.Slots.{running_in}
-use Rattle.record_loop.specs.Standing.{Opening, terms_at, StandForAll, Standing, Counted}
+use Rattle.record_loop.specs.Standing.{Opening, terms_at, StandForAll, Standing, CountedNext}
 use Rattle.record_loop.specs.Works.{Work, IsIdle, Requests}
 use Rattle.record_loop.proofs.PrintingLaws.{AtLeast-nil, HoldsAllBut-none, HoldsAllBut-grows}
 use Rattle.record_loop.proofs.SlotLaws.{StandForAll-length, StandForAll-kept, StandForAll-asks}
@@ -138,7 +138,7 @@ early-moment rules window read outcomes (Some n) timely m is = let same : n ≡ 
 
 -- the next record is counted, and no stop is requested after it
 pub Standing-counts : {Wants : Blueprint → Type 0} {opening : Opening} {lines : List (List ℕ)} {work : Work} {now : SinkView} {flight : InFlight}
-    → (flight.settings.stop_after ≡ Some (read_of flight + 1) → ⊥) → Standing Wants opening (length lines) lines work now flight → Counted Wants opening lines work now flight
+    → (flight.settings.stop_after ≡ Some (read_of flight + 1) → ⊥) → Standing Wants opening (length lines) lines work now flight → CountedNext Wants opening lines work now flight
 Standing-counts {Wants = Wants} {opening = opening} {lines = lines} {flight = flight} other standing = record {
   standing = record {
     outcomes = standing.outcomes;
@@ -174,7 +174,7 @@ module _ {Wants : Blueprint → Type 0} {opening : Opening} {lines : List (List 
   counted-with : (moment : Option Moment) → Licensed (terms_at Wants opening) moment standing.front standing.outcomes
       → StandForAll (terms_at Wants opening) new moment (length standing.outcomes) flight.slots.items standing.back
       → IsCaused (terms_at Wants opening).rules opening.window (length lines + 1) standing.outcomes moment
-      → is_some moment ≡ true → new.requested ≡ true → new.plan ≡ old.plan → new.table ≡ old.table → new.running ≡ old.running → new.collected ≡ old.collected → ((m : Moment) → moment ≡ Some m → m.first ≤ length lines + 1) → Counted Wants opening lines new now next
+      → is_some moment ≡ true → new.requested ≡ true → new.plan ≡ old.plan → new.table ≡ old.table → new.running ≡ old.running → new.collected ≡ old.collected → ((m : Moment) → moment ≡ Some m → m.first ≤ length lines + 1) → CountedNext Wants opening lines new now next
   counted-with moment licensed waiting caused some requested plan table running tally early = record {
     early = early;
     standing = record {
@@ -203,13 +203,13 @@ module _ {Wants : Blueprint → Type 0} {opening : Opening} {lines : List (List 
   }
 
   -- the next record is counted, and a stop is requested after it
-  pub Standing-asks : flight.settings.stop_after ≡ Some (read_of flight + 1) → Counted Wants opening lines new now next
+  pub Standing-asks : flight.settings.stop_after ≡ Some (read_of flight + 1) → CountedNext Wants opening lines new now next
   Standing-asks due = by standing.moment refl
     where
       rules : (rules_of opening.plan.settings).after ≡ Some (length lines + 1)
       rules = sym (ap (λ (s : Settings). s.stop_after) standing.settings_are) ∙ due ∙ ap (λ n. Some (n + 1)) (read-count standing)
 
-      by : (moment : Option Moment) → standing.moment ≡ moment → Counted Wants opening lines new now next
+      by : (moment : Option Moment) → standing.moment ≡ moment → CountedNext Wants opening lines new now next
       by (Some m) is =
           let same = again (standing.known ∙ ap is_some is) in
           let timely = timely-more (rules_of opening.plan.settings) opening.window (length lines) standing.outcomes m (subst (IsCaused (rules_of opening.plan.settings) opening.window (length lines) standing.outcomes) is standing.caused) in
@@ -234,6 +234,6 @@ module _ {Wants : Blueprint → Type 0} {opening : Opening} {lines : List (List 
           (λ n same_moment. let e : moment ≡ n = cc in omega (arith, ap (λ (x : Moment). x.first) e))
 
 -- the records are of the plan's kind
-pub kind-counted : {Wants : Blueprint → Type 0} {opening : Opening} {lines : List (List ℕ)} {work : Work} {now : SinkView} {flight : InFlight} → Counted Wants opening lines work now flight → flight.settings.input ≡ work.plan.settings.input
+pub kind-counted : {Wants : Blueprint → Type 0} {opening : Opening} {lines : List (List ℕ)} {work : Work} {now : SinkView} {flight : InFlight} → CountedNext Wants opening lines work now flight → flight.settings.input ≡ work.plan.settings.input
 kind-counted counted =
     ap (λ (s : Settings). s.input) counted.standing.settings_are ∙ sym (ap (λ (p : Blueprint). p.settings.input) counted.standing.plan_is)

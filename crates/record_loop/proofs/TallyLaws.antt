@@ -14,13 +14,13 @@ use Rattle.line_summary.specs.Counting.{Summarizes}
 use Rattle.line_summary.specs.declared.summary.Summary.{Summary}
 use Rattle.outcome_lines.specs.Summary.{is_value, is_error, is_stopped, is_out_of_memory}
 use Rattle.plan_shape.specs.Blueprint.{Blueprint}
-use Rattle.run_rules.specs.Lawful.{Terms}
-use Rattle.run_rules.specs.Moments.{Moment}
+use Rattle.line_rules.specs.Lawful.{Terms}
+use Rattle.line_rules.specs.Moments.{Moment}
 use Rattle.run_tally.specs.Gathered.{Gathered, gathered, ended, ends_in_value, ends_in_error, ends_stopped, wants_memory}
 use Rattle.record_loop.specs.declared.printer.Printer.{Printer}
 use Rattle.record_loop.specs.declared.slot.Slot.{Slot}
 use Rattle.record_loop.specs.declared.slot.Slot.TheVariants.{Running, Bad, NoMemory}
-use Rattle.record_loop.specs.Slots.{Settles}
+use Rattle.record_loop.specs.Slots.{SettlesSlot}
 use Rattle.record_loop.specs.Standing.{StandsFor}
 use Rattle.record_loop.specs.Tallies.{TalliesWith, IsToldAs, IsToldBy, of_record}
 use Rattle.record_loop.specs.Works.{Work}
@@ -145,7 +145,7 @@ told-with {plan = plan} {table = table} {outcomes = outcomes} {all = all} comple
 
 module _ (Wants : Blueprint → Type 0) (terms : Terms) (old new : Work) (moment : Option Moment) (outcomes : List Outcome) (line : List ℕ) where
   -- a slot is settled, and its line counted
-  pub TalliesWith-settles : {before after : Summary} (slot : Slot) (outcome : Outcome) → StandsFor terms old moment (length outcomes + 1) line slot → Settles Wants old new slot outcome → Summarizes before outcomes → Summarizes after (outcomes ++ outcome ∷ []) → TalliesWith old.collected before → TalliesWith new.collected after
+  pub TalliesWith-settles : {before after : Summary} (slot : Slot) (outcome : Outcome) → StandsFor terms old moment (length outcomes + 1) line slot → SettlesSlot Wants old new slot outcome → Summarizes before outcomes → Summarizes after (outcomes ++ outcome ∷ []) → TalliesWith old.collected before → TalliesWith new.collected after
   TalliesWith-settles {after = after} (Running ticket) (Done completion) stands collects counted more tallies =
       subst (λ (all : List Gathered). TalliesWith all after) (sym (collects.collected _ stands.begun)) (TalliesWith-raised old.plan old.table (length outcomes + 1) completion (Grows-more counted more) tallies)
   TalliesWith-settles (Running ticket) BadRecord stands settles counted more tallies = absurd settles
@@ -157,7 +157,7 @@ module _ (Wants : Blueprint → Type 0) (terms : Terms) (old new : Work) (moment
       (TalliesWith-lacking (subst (Grows before after) settles.0 (Grows-more counted more)) tallies)
 
   -- and told
-  pub told-settles : (slot : Slot) (outcome : Outcome) → StandsFor terms old moment (length outcomes + 1) line slot → Settles Wants old new slot outcome → IsToldBy old.plan old.table outcomes old.collected → IsToldBy old.plan old.table (outcomes ++ outcome ∷ []) new.collected
+  pub told-settles : (slot : Slot) (outcome : Outcome) → StandsFor terms old moment (length outcomes + 1) line slot → SettlesSlot Wants old new slot outcome → IsToldBy old.plan old.table outcomes old.collected → IsToldBy old.plan old.table (outcomes ++ outcome ∷ []) new.collected
   told-settles (Running ticket) (Done completion) stands collects told =
       subst (λ (all : List Gathered). IsToldBy old.plan old.table (outcomes ++ Done completion ∷ []) all) (sym (collects.collected _ stands.begun)) (told-with completion told)
   told-settles (Running ticket) BadRecord stands settles told = absurd settles

@@ -5,12 +5,12 @@ use Rattle.exec_value.specs.declared.data.Datum.{Datum}
 use Rattle.exec_value.specs.declared.outcome.Completion.{Completion}
 use Rattle.plan_shape.specs.Blueprint.{Blueprint}
 use Rattle.run_tally.specs.Gathered.{Gathered, gathered}
-use Rattle.record_loop.specs.Works.{Begun, Work, Keeps, Begins, Collects, MayComplete}
+use Rattle.record_loop.specs.Works.{Begun, Work, KeepsWork, BeginsTicket, CollectsTicket, MayCompleteWork}
 
-pub Keeps-nil : (work : Work) → Keeps work work
+pub Keeps-nil : (work : Work) → KeepsWork work work
 Keeps-nil work = record { plan = refl; table = refl; running = refl; requested = refl; collected = refl; tickets = λ t begun is. is }
 
-pub Keeps-trans : {old mid new : Work} → Keeps old mid → Keeps mid new → Keeps old new
+pub Keeps-trans : {old mid new : Work} → KeepsWork old mid → KeepsWork mid new → KeepsWork old new
 Keeps-trans first second = record {
   plan = second.plan ∙ first.plan;
   table = second.table ∙ first.table;
@@ -21,7 +21,7 @@ Keeps-trans first second = record {
 }
 
 -- an operation is begun after turns
-pub Begins-after : {old mid new : Work} {number ticket : ℕ} {datum : Datum} → Keeps old mid → Begins mid new number datum ticket → Begins old new number datum ticket
+pub Begins-after : {old mid new : Work} {number ticket : ℕ} {datum : Datum} → KeepsWork old mid → BeginsTicket mid new number datum ticket → BeginsTicket old new number datum ticket
 Begins-after {number = number} {datum = datum} first begins = record {
   plan = begins.plan ∙ first.plan;
   table = begins.table ∙ first.table;
@@ -33,7 +33,7 @@ Begins-after {number = number} {datum = datum} first begins = record {
 }
 
 -- a ticket that has an operation has it after turns
-pub some-kept : {old new : Work} (ticket : ℕ) → Keeps old new → IsSome (old.tickets ticket) → IsSome (new.tickets ticket)
+pub some-kept : {old new : Work} (ticket : ℕ) → KeepsWork old new → IsSome (old.tickets ticket) → IsSome (new.tickets ticket)
 some-kept {old = old} {new = new} ticket keeps some = by (old.tickets ticket) refl some
   where
     found : {x : Begun} (o : Option Begun) → o ≡ Some x → IsSome o
@@ -45,7 +45,7 @@ some-kept {old = old} {new = new} ticket keeps some = by (old.tickets ticket) re
     by (Some begun) is some = found (new.tickets ticket) (keeps.tickets ticket begun is)
 
 -- an operation is collected after turns
-pub Collects-after : {Wants : Blueprint → Type 0} {old mid new : Work} {ticket : ℕ} {completion : Completion} → Keeps old mid → Collects Wants mid new ticket completion → Collects Wants old new ticket completion
+pub Collects-after : {Wants : Blueprint → Type 0} {old mid new : Work} {ticket : ℕ} {completion : Completion} → KeepsWork old mid → CollectsTicket Wants mid new ticket completion → CollectsTicket Wants old new ticket completion
 Collects-after {Wants = Wants} {old = old} {mid = mid} {ticket = ticket} {completion = completion} first collects = record {
   plan = collects.plan ∙ first.plan;
   table = collects.table ∙ first.table;
@@ -61,11 +61,11 @@ Collects-after {Wants = Wants} {old = old} {mid = mid} {ticket = ticket} {comple
   ends = λ begun is. same first.plan first.requested begun (collects.ends begun (first.tickets ticket begun is));
 }
   where
-    same : mid.plan ≡ old.plan → mid.requested ≡ old.requested → (begun : Begun) → MayComplete Wants mid begun completion → MayComplete Wants old begun completion
+    same : mid.plan ≡ old.plan → mid.requested ≡ old.requested → (begun : Begun) → MayCompleteWork Wants mid begun completion → MayCompleteWork Wants old begun completion
     same plan requested begun may = here old.plan old.requested (sym plan) (sym requested)
       where
-        here : (p : Blueprint) (r : Bool) → p ≡ mid.plan → r ≡ mid.requested → MayComplete Wants (record { plan = p; table = old.table; tickets = old.tickets; running = old.running; requested = r; collected = old.collected }) begun completion
+        here : (p : Blueprint) (r : Bool) → p ≡ mid.plan → r ≡ mid.requested → MayCompleteWork Wants (record { plan = p; table = old.table; tickets = old.tickets; running = old.running; requested = r; collected = old.collected }) begun completion
         here p r is asked =
-            let P : Blueprint → Type 0 = λ q. MayComplete Wants (record { plan = q; table = old.table; tickets = old.tickets; running = old.running; requested = mid.requested; collected = old.collected }) begun completion in
-            let Q : Bool → Type 0 = λ q. MayComplete Wants (record { plan = p; table = old.table; tickets = old.tickets; running = old.running; requested = q; collected = old.collected }) begun completion in
+            let P : Blueprint → Type 0 = λ q. MayCompleteWork Wants (record { plan = q; table = old.table; tickets = old.tickets; running = old.running; requested = mid.requested; collected = old.collected }) begun completion in
+            let Q : Bool → Type 0 = λ q. MayCompleteWork Wants (record { plan = p; table = old.table; tickets = old.tickets; running = old.running; requested = q; collected = old.collected }) begun completion in
             subst Q (sym asked) (subst P (sym is) may)

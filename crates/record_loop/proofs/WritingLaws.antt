@@ -7,16 +7,16 @@ use Rattle.exec_value.specs.declared.outcome.Outcome.{Outcome}
 use Rattle.outcome_lines.specs.Summary.{is_error}
 use Rattle.plan_rules.specs.declared.settings.Settings.{Settings}
 use Rattle.plan_shape.specs.Blueprint.{Blueprint}
-use Rattle.run_rules.specs.Lawful.{Terms}
-use Rattle.run_rules.specs.Moments.{Moment, IsCaused, IsTimely, IsQuiet, Licensed}
-use Rattle.run_rules.specs.StopStates.{rules_of}
-use Rattle.run_rules.proofs.LicenseLaws.{Licensed-more, Licensed-asks}
-use Rattle.run_rules.proofs.MomentLaws.{quiet-write, timely-write, timely-written}
+use Rattle.line_rules.specs.Lawful.{Terms}
+use Rattle.line_rules.specs.Moments.{Moment, IsCaused, IsTimely, IsQuiet, Licensed}
+use Rattle.line_rules.specs.StopStates.{rules_of}
+use Rattle.line_rules.proofs.LicenseLaws.{Licensed-more, Licensed-asks}
+use Rattle.line_rules.proofs.MomentLaws.{quiet-write, timely-write, timely-written}
 use Rattle.run_tally.specs.Gathered.{Gathered}
 use Rattle.record_loop.specs.declared.in_flight.InFlight.{InFlight}
 use Rattle.record_loop.specs.declared.slot.Slot.{Slot}
 use Rattle.record_loop.specs.Printing.{AppendsAtLeast, Printed}
-use Rattle.record_loop.specs.Slots.{HasOperation, Settles, is_running, running_in}
+use Rattle.record_loop.specs.Slots.{HasOperation, SettlesSlot, has_operation, running_in}
 use Rattle.exec_io.specs.Views.{SinkView}
 use Rattle.record_loop.specs.Standing.{Opening, terms_at, StandsFor, StandForAll, Standing}
 use Rattle.record_loop.specs.Tallies.{TalliesWith, IsToldBy}
@@ -33,7 +33,7 @@ record First (terms : Terms) (work : Work) (moment : Option Moment) (before : �
   split : lines ≡ line ∷ rest
   stands : StandsFor terms work moment (before + 1) line slot
   others : StandForAll terms work moment (before + 1) (drop 1 slots) rest
-  running : running_in slots ≡ cond (is_running slot) 1 0 + running_in (drop 1 slots)
+  running : running_in slots ≡ cond (has_operation slot) 1 0 + running_in (drop 1 slots)
   fewer : length (drop 1 slots) + 1 ≡ length slots
 
 first-of : (terms : Terms) (work : Work) (moment : Option Moment) (before : ℕ) (slot : Slot) (slots : List Slot) (lines : List (List ℕ)) → slice_get slots 0 ≡ Some slot → StandForAll terms work moment before slots lines → First terms work moment before slot slots lines
@@ -45,7 +45,7 @@ first-of terms work moment before slot (s ∷ slots) (line ∷ rest) is stand = 
   split = refl;
   stands = subst (λ (x : Slot). StandsFor terms work moment (before + 1) line x) (let same : s ≡ slot = cc in same) stand.0;
   others = stand.1;
-  running = sum_by-cons (λ (x : Slot). cond (is_running x) 1 0) s slots ∙ ap (λ (x : Slot). cond (is_running x) 1 0 + running_in slots) (let same : s ≡ slot = cc in same);
+  running = sum_by-cons (λ (x : Slot). cond (has_operation x) 1 0) s slots ∙ ap (λ (x : Slot). cond (has_operation x) 1 0 + running_in slots) (let same : s ≡ slot = cc in same);
   fewer = omega arith;
 }
 
@@ -56,7 +56,7 @@ first-operation {Wants = Wants} {opening = opening} {work = work} {flight = flig
     StandsFor-operation (terms_at Wants opening) work standing.moment (length standing.outcomes + 1) first.line slot first.stands
 
 module _ {Wants : Blueprint → Type 0} {opening : Opening} {lines : List (List ℕ)} {old : Work} {now : SinkView} {flight : InFlight} (mid : Work) (later : SinkView) (next : InFlight) (slot : Slot) (outcome : Outcome)
-    (standing : Standing Wants opening (length lines) lines old now flight) (is : slice_get flight.slots.items 0 ≡ Some slot) (settles : Settles Wants old mid slot outcome)
+    (standing : Standing Wants opening (length lines) lines old now flight) (is : slice_get flight.slots.items 0 ≡ Some slot) (settles : SettlesSlot Wants old mid slot outcome)
     (prints : (outcomes : List Outcome) → Printed opening.form opening.sink now flight.printer outcomes → Printed opening.form opening.sink later next.printer (outcomes ++ outcome ∷ []))
     (grows : AppendsAtLeast now.written later.written [])
     (items : next.slots.items ≡ drop 1 flight.slots.items) (capacity : next.slots.capacity ≡ flight.slots.capacity) (settings : next.settings ≡ flight.settings) where

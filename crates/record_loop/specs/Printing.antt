@@ -39,8 +39,8 @@ pub record AppendsAtLeast (old new : Option (List ℕ)) (text : List ℕ) : Type
   pub more : List ℕ
   pub grown : Appends old new (text ++ more)
 
--- Since the start the text of these outcomes was written whole, but of the last ones, which are `most`
--- at most. Where a summary is to come, no text is due.
+-- Since the start the text of these outcomes was written whole, but of the last ones, which are
+-- `most` at most. Where a summary is to come, no text is due.
 pub record HoldsAllBut (most : ℕ) (form : Form) (start now : SinkView) (outcomes : List Outcome)
     : Type 0 where
   pub whole : List Outcome

@@ -9,25 +9,26 @@ use Rattle.record_loop.specs.declared.ending.Ending.{Ending}
 use Rattle.record_loop.specs.Printing.{Finished, HoldsAllBut, KeepsTaking}
 use Rattle.record_loop.specs.Tallies.{IsToldBy}
 use Rattle.run_tally.specs.Gathered.{Gathered}
-use Rattle.record_loop.specs.Reading.{Reads, SessionState, TakenAt}
+use Rattle.record_loop.specs.Reading.{Reads, SessionState, HasTaken}
 use Rattle.exec_io.specs.Views.{SinkView}
 use Rattle.exec_io.specs.Views.{SourceView}
 use Rattle.record_loop.specs.Standing.{Opening, terms_at}
-use Rattle.run_rules.specs.Lawful.{Lawful}
+use Rattle.line_rules.specs.Lawful.{Lawful}
 
--- The records of these lines have outcomes, which are lawful for them, printed, and tell of all that
--- was collected on the table.
+-- The records of these lines have outcomes, which are lawful for them, printed, and tell of all
+-- that was collected on the table.
 pub record Answered (WantsMemory : Blueprint → Type 0) (opening : Opening)
-    (lines : List (List ℕ)) (collected : List Gathered) (now : SinkView) (ending : Ending) : Type 0 where
+    (lines : List (List ℕ)) (collected : List Gathered) (now : SinkView)
+    (ending : Ending) : Type 0 where
   pub outcomes : List Outcome
   pub lawful : Lawful (terms_at WantsMemory opening) lines outcomes
   pub finished : Finished opening.form opening.sink now ending.summary ending.lost outcomes
   pub told : IsToldBy opening.plan opening.table outcomes collected
 
--- Bytes were read until the end that the ending names, and their records are answered, but of a rest
--- that was read when a write was lost. Where none was, a fault is the source's. No record was begun
--- after a lost write: the records whose lines don't stand whole in out are a window at most, those
--- that were in flight then.
+-- Bytes were read until the end that the ending names, and their records are answered, but of a
+-- rest that was read when a write was lost. Where none was, a fault is the source's. No record was
+-- begun after a lost write: the records whose lines don't stand whole in out are a window at most,
+-- those that were in flight then.
 pub record Ran (WantsMemory : Blueprint → Type 0) (opening : Opening) (before after : SourceView)
     (collected : List Gathered) (now : SinkView) (ending : Ending) : Type 0 where
   pub bytes : List ℕ
@@ -43,5 +44,5 @@ pub record Ran (WantsMemory : Blueprint → Type 0) (opening : Opening) (before 
 abbrev pub RunsFrom : (Blueprint → Type 0) → SessionState → SourceView → SourceView → List Gathered
     → SinkView → Ending → Type 0
 RunsFrom WantsMemory place before after collected now ending =
-    (opening : Opening) → TakenAt WantsMemory opening [] place
+    (opening : Opening) → HasTaken WantsMemory opening [] place
     → Ran WantsMemory opening before after collected now ending

@@ -35,7 +35,7 @@ HasRoom bytes =
     ⊎ ((length (whole_lines bytes) ≤ MOST_RECORDS) × (rest_of bytes ≡ []))
 
 -- The session has taken these bytes, and the lines that end in them.
-pub record TakenAt (WantsMemory : Blueprint → Type 0) (opening : Opening) (bytes : List ℕ)
+pub record HasTaken (WantsMemory : Blueprint → Type 0) (opening : Opening) (bytes : List ℕ)
     (place : SessionState) : Type 0 where
   pub standing : StandsAt WantsMemory opening (whole_lines bytes) (run_of place)
   pub stands : StandsAfter place.session.cutter bytes
@@ -46,31 +46,31 @@ pub record TakenAt (WantsMemory : Blueprint → Type 0) (opening : Opening) (byt
 pub record IsTaking (WantsMemory : Blueprint → Type 0) (place : SessionState) : Type 0 where
   pub opening : Opening
   pub bytes : List ℕ
-  pub taken : TakenAt WantsMemory opening bytes place
+  pub taken : HasTaken WantsMemory opening bytes place
 
 -- A session starts: it has taken no bytes.
 pub record StartsAt (WantsMemory : Blueprint → Type 0) (place : SessionState) : Type 0 where
   pub opening : Opening
-  pub taken : TakenAt WantsMemory opening [] place
+  pub taken : HasTaken WantsMemory opening [] place
 
 -- A session that has taken bytes before a call has taken the same ones afterwards.
 abbrev pub StaysTaking : (Blueprint → Type 0) → SessionState → SessionState → Type 0
 StaysTaking WantsMemory old new =
-    (opening : Opening) (bytes : List ℕ) → TakenAt WantsMemory opening bytes old
-    → TakenAt WantsMemory opening bytes new
+    (opening : Opening) (bytes : List ℕ) → HasTaken WantsMemory opening bytes old
+    → HasTaken WantsMemory opening bytes new
 
 -- The session has taken a front of a piece too, and the rest of it is left.
 pub record Advances (WantsMemory : Blueprint → Type 0) (opening : Opening)
     (bytes piece left : List ℕ) (place : SessionState) : Type 0 where
   pub front : List ℕ
   pub split : piece ≡ front ++ left
-  pub taken : TakenAt WantsMemory opening (bytes ++ front) place
+  pub taken : HasTaken WantsMemory opening (bytes ++ front) place
 
 -- A call takes a front of a piece, and leaves the rest.
 abbrev pub TakesFront : (Blueprint → Type 0) → List ℕ → List ℕ → SessionState → SessionState
     → Type 0
 TakesFront WantsMemory piece left old new =
-    (opening : Opening) (bytes : List ℕ) → TakenAt WantsMemory opening bytes old
+    (opening : Opening) (bytes : List ℕ) → HasTaken WantsMemory opening bytes old
     → Advances WantsMemory opening bytes piece left new
 
 -- The bytes pass a limit, and the lines within it are taken.
@@ -79,7 +79,8 @@ pub record PassesLimit (WantsMemory : Blueprint → Type 0) (opening : Opening) 
   pub beyond : IsBeyond bytes
   pub standing : StandsAt WantsMemory opening (records_of bytes Limit) run
 
--- Of the bytes a front is taken, with the lines that end in it: all of them, unless a write was lost.
+-- Of the bytes a front is taken, with the lines that end in it: all of them, unless a write was
+-- lost.
 pub record BreaksOff (WantsMemory : Blueprint → Type 0) (opening : Opening) (bytes : List ℕ)
     (run : RunState) : Type 0 where
   pub front : List ℕ
@@ -92,21 +93,22 @@ pub record BreaksOff (WantsMemory : Blueprint → Type 0) (opening : Opening) (b
 -- All is taken and written, no write was lost, and nothing is left to read.
 pub record IsThrough (WantsMemory : Blueprint → Type 0) (opening : Opening) (bytes : List ℕ)
     (place : SessionState) : Type 0 where
-  pub taken : TakenAt WantsMemory opening bytes place
+  pub taken : HasTaken WantsMemory opening bytes place
   pub none : place.session.flight.slots.items ≡ []
   pub kept : place.session.flight.printer.lost ≡ false
 
 -- How a session stands after the last bytes that it read.
-abbrev pub Stops : (Blueprint → Type 0) → Opening → End → List ℕ → SessionState → Type 0
-Stops WantsMemory opening Limit bytes place =
+abbrev pub EndsReading : (Blueprint → Type 0) → Opening → End → List ℕ → SessionState → Type 0
+EndsReading WantsMemory opening Limit bytes place =
     PassesLimit WantsMemory opening bytes (run_of place)
-Stops WantsMemory opening Fault bytes place = BreaksOff WantsMemory opening bytes (run_of place)
-Stops WantsMemory opening Ended bytes place = IsThrough WantsMemory opening bytes place
+EndsReading WantsMemory opening Fault bytes place = BreaksOff WantsMemory opening bytes
+    (run_of place)
+EndsReading WantsMemory opening Ended bytes place = IsThrough WantsMemory opening bytes place
 
 -- How it stands after a piece that it took as far as it could: it goes on, or reads no more.
 abbrev pub StandsAfterPiece : (Blueprint → Type 0) → Opening → Option End → List ℕ → SessionState
     → Type 0
-StandsAfterPiece WantsMemory opening None bytes place = TakenAt WantsMemory opening bytes place
+StandsAfterPiece WantsMemory opening None bytes place = HasTaken WantsMemory opening bytes place
 StandsAfterPiece WantsMemory opening (Some Ended) bytes place = ⊥
 StandsAfterPiece WantsMemory opening (Some Fault) bytes place =
     BreaksOff WantsMemory opening bytes (run_of place)
@@ -117,7 +119,7 @@ StandsAfterPiece WantsMemory opening (Some Limit) bytes place =
 abbrev pub TakesPiece : (Blueprint → Type 0) → List ℕ → Option End → SessionState → SessionState
     → Type 0
 TakesPiece WantsMemory piece end old new =
-    (opening : Opening) (bytes : List ℕ) → TakenAt WantsMemory opening bytes old
+    (opening : Opening) (bytes : List ℕ) → HasTaken WantsMemory opening bytes old
     → StandsAfterPiece WantsMemory opening end (bytes ++ piece) new
 
 -- Since the start the session has read bytes of a source and taken them.
@@ -125,7 +127,7 @@ pub record Going (WantsMemory : Blueprint → Type 0) (opening : Opening)
     (source left : Option (List ℕ)) (place : SessionState) : Type 0 where
   pub bytes : List ℕ
   pub consumed : Consumes source left bytes
-  pub taken : TakenAt WantsMemory opening bytes place
+  pub taken : HasTaken WantsMemory opening bytes place
 
 -- The session reads no more.
 pub record Halts (WantsMemory : Blueprint → Type 0) (opening : Opening) (end : End)
@@ -133,7 +135,7 @@ pub record Halts (WantsMemory : Blueprint → Type 0) (opening : Opening) (end :
   pub bytes : List ℕ
   pub consumed : Consumes source left bytes
   pub at_end : end ≡ Ended → IsAtEnd left
-  pub stops : Stops WantsMemory opening end bytes place
+  pub stops : EndsReading WantsMemory opening end bytes place
 
 -- A session reads no more, after some bytes of a source, over some sink.
 pub record HasHalted (WantsMemory : Blueprint → Type 0) (end : End) (work : Work)
@@ -188,4 +190,5 @@ pub record AllTaken (WantsMemory : Blueprint → Type 0) (opening : Opening) (en
 abbrev pub TakesAll : (Blueprint → Type 0) → End → SessionState → RunState → Type 0
 TakesAll WantsMemory end old new =
     (opening : Opening) (source left : Option (List ℕ))
-    → Halts WantsMemory opening end source left old → AllTaken WantsMemory opening end source left new
+    → Halts WantsMemory opening end source left old →
+    AllTaken WantsMemory opening end source left new

@@ -14,9 +14,9 @@ use Rattle.record_loop.specs.Slots.{running_in}
 use Rattle.record_loop.specs.Tallies.{TalliesWith, IsToldBy}
 use Rattle.exec_io.specs.Views.{SinkView}
 use Rattle.record_loop.specs.Works.{Work}
-use Rattle.run_rules.specs.Lawful.{Terms, datum_of}
-use Rattle.run_rules.specs.Moments.{Moment, is_asked, IsCaused, Licensed}
-use Rattle.run_rules.specs.PlanTerms.{terms_of, MayRun}
+use Rattle.line_rules.specs.Lawful.{Terms, datum_of}
+use Rattle.line_rules.specs.Moments.{Moment, is_asked_before, IsCaused, Licensed}
+use Rattle.line_rules.specs.PlanTerms.{terms_of, MayRun}
 
 -- How a run begins: its plan, the table on which its operations run, its window, its form, and what
 -- its sink tells.
@@ -28,8 +28,8 @@ pub record Opening : Type 0 where
   pub sink : SinkView
 
 -- A run of these operations' plan begins so.
-abbrev pub opening_of : Work → ℕ → Form → SinkView → Opening
-opening_of work window form sink =
+abbrev pub opened_by : Work → ℕ → Form → SinkView → Opening
+opened_by work window form sink =
     record { plan = work.plan; table = work.table; window = window; form = form; sink = sink }
 
 -- The terms of such a run.
@@ -42,10 +42,10 @@ pub record IsBegun (terms : Terms) (work : Work) (moment : Option Moment) (numbe
   pub datum : Datum
   pub shows : datum_of terms.input line ≡ Some datum
   pub begun : work.tickets ticket
-      ≡ Some (record { number = number; datum = datum; asked = is_asked moment number })
+      ≡ Some (record { number = number; datum = datum; asked = is_asked_before moment number })
 
--- A slot stands for the record of this number: its operation has a ticket, or the line is no record,
--- or there was no memory for its datum.
+-- A slot stands for the record of this number: its operation has a ticket, or the line is no
+-- record, or there was no memory for its datum.
 abbrev pub StandsFor : Terms → Work → Option Moment → ℕ → List ℕ → Slot → Type 0
 StandsFor terms work moment number line (Running ticket) =
     IsBegun terms work moment number line ticket
@@ -62,10 +62,10 @@ StandForAll terms work moment before (slot ∷ slots) (line ∷ lines) =
     × StandForAll terms work moment (before + 1) slots lines
 
 -- Of the records of these lines the first have outcomes, which are licensed and printed, and slots
--- stand for the rest. The request was made at the moment at which it was due, by the number of records
--- that were read. Those whose text doesn't stand whole in out, with those in the slots, are a window
--- at most: none was begun after a lost write. What was collected is told by the lines, and as many
--- operations run as slots have one.
+-- stand for the rest. The request was made at the moment at which it was due, by the number of
+-- records that were read. Those whose text doesn't stand whole in out, with those in the slots, are
+-- a window at most: none was begun after a lost write. What was collected is told by the lines, and
+-- as many operations run as slots have one.
 pub record Standing (WantsMemory : Blueprint → Type 0) (opening : Opening) (read : ℕ)
     (lines : List (List ℕ)) (work : Work) (now : SinkView) (flight : InFlight) : Type 0 where
   pub outcomes : List Outcome
@@ -93,7 +93,8 @@ pub record Standing (WantsMemory : Blueprint → Type 0) (opening : Opening) (re
   pub may_run : MayRun opening.plan.settings
 
 -- The next record is counted, and in no slot yet. A request that was made came before it is begun.
-pub record Counted (WantsMemory : Blueprint → Type 0) (opening : Opening) (lines : List (List ℕ))
+pub record CountedNext (WantsMemory : Blueprint → Type 0) (opening : Opening)
+    (lines : List (List ℕ))
     (work : Work) (now : SinkView) (flight : InFlight) : Type 0 where
   pub standing : Standing WantsMemory opening (length lines + 1) lines work now flight
   pub early : (moment : Moment) → standing.moment ≡ Some moment → moment.first ≤ length lines + 1
@@ -115,7 +116,7 @@ StandsAt WantsMemory opening lines run =
 -- The run stands so, and the next record is counted.
 abbrev pub CountsAt : (Blueprint → Type 0) → Opening → List (List ℕ) → RunState → Type 0
 CountsAt WantsMemory opening lines run =
-    Counted WantsMemory opening lines run.work run.sink run.flight
+    CountedNext WantsMemory opening lines run.work run.sink run.flight
 
 -- A run goes on.
 pub record IsGoing (WantsMemory : Blueprint → Type 0) (run : RunState) : Type 0 where
@@ -124,7 +125,8 @@ pub record IsGoing (WantsMemory : Blueprint → Type 0) (run : RunState) : Type 
   pub standing : StandsAt WantsMemory opening lines run
 
 -- A run goes on, over some sink.
-pub record MayTake (WantsMemory : Blueprint → Type 0) (work : Work) (flight : InFlight) : Type 0 where
+pub record MayTake (WantsMemory : Blueprint → Type 0) (work : Work)
+    (flight : InFlight) : Type 0 where
   pub sink : SinkView
   pub going : IsGoing WantsMemory (at work sink flight)
 

@@ -8,9 +8,9 @@ use Rattle.line_summary.specs.declared.summary.Summary.{Summary as SummaryCounts
 use Rattle.plan_shape.specs.Blueprint.{Blueprint}
 use Rattle.run_tally.specs.Gathered.{Gathered, gathered, values_in, errors_in, stopped_in, no_memory_in}
 
--- As many operations were collected with a value, with an error and stopped as there are such lines.
--- Lines that are out-of-memory may be more than the operations that were: a record may meet want of
--- memory before its operation is begun.
+-- As many operations were collected with a value, with an error and stopped as there are such
+-- lines. Lines that are out-of-memory may be more than the operations that were: a record may meet
+-- want of memory before its operation is begun.
 pub record TalliesWith (all : List Gathered) (summary : SummaryCounts) : Type 0 where
   pub values : values_in all ≡ summary.values
   pub errors : errors_in all ≡ summary.errors

@@ -6,7 +6,7 @@ use Rattle.exec_value.specs.declared.outcome.Completion.{Completion}
 use Rattle.exec_value.specs.declared.outcome.Completion.TheVariants.{NoMemory}
 use Rattle.plan_rules.specs.Seen.{seen_state}
 use Rattle.plan_shape.specs.Blueprint.{Blueprint}
-use Rattle.run_rules.specs.PlanTerms.{AllowsRecord, MayWant}
+use Rattle.line_rules.specs.PlanTerms.{AllowsRecord, MayWant}
 use Rattle.run_tally.specs.Gathered.{Gathered, gathered}
 
 -- What an operation was begun with: the number and the datum of its record, and whether a stop had
@@ -17,8 +17,8 @@ pub record Begun : Type 0 where
   pub asked : Bool
 
 -- The plan, the table on which operations run, the operation that each ticket has, how many
--- operations were begun and not collected, whether a stop was requested, and the operations that were
--- collected, the last first.
+-- operations were begun and not collected, whether a stop was requested, and the operations that
+-- were collected, the last first.
 pub record Work : Type 0 where
   pub plan : Blueprint
   pub table : TableId
@@ -34,7 +34,7 @@ pub record IsIdle (work : Work) : Type 0 where
   pub running : work.running ≡ 0
 
 -- All operations are kept.
-pub record Keeps (old new : Work) : Type 0 where
+pub record KeepsWork (old new : Work) : Type 0 where
   pub plan : new.plan ≡ old.plan
   pub table : new.table ≡ old.table
   pub running : new.running ≡ old.running
@@ -42,8 +42,9 @@ pub record Keeps (old new : Work) : Type 0 where
   pub collected : new.collected ≡ old.collected
   pub tickets : (t : ℕ) (begun : Begun) → old.tickets t ≡ Some begun → new.tickets t ≡ Some begun
 
--- The operation of this record is begun and has a ticket, and runs as one more. The others are kept.
-pub record Begins (old new : Work) (number : ℕ) (datum : Datum) (ticket : ℕ) : Type 0 where
+-- The operation of this record is begun and has a ticket, and runs as one more. The others are
+-- kept.
+pub record BeginsTicket (old new : Work) (number : ℕ) (datum : Datum) (ticket : ℕ) : Type 0 where
   pub plan : new.plan ≡ old.plan
   pub table : new.table ≡ old.table
   pub running : new.running ≡ old.running + 1
@@ -64,16 +65,16 @@ pub record Requests (old new : Work) : Type 0 where
 
 -- How an operation may complete: with want of memory, where the plan may want it, or as the plan
 -- allows it, under what it may have seen of the request.
-abbrev pub MayComplete : (Blueprint → Type 0) → Work → Begun → Completion → Type 0
-MayComplete WantsMemory work begun completion =
+abbrev pub MayCompleteWork : (Blueprint → Type 0) → Work → Begun → Completion → Type 0
+MayCompleteWork WantsMemory work begun completion =
     ((completion ≡ NoMemory) × MayWant WantsMemory work.plan)
     ⊎ AllowsRecord work.plan begun.number begun.datum (seen_state begun.asked work.requested)
     completion
 
--- The operation of a ticket is collected, with this completion, and runs no more; the ticket has none
--- now. The others are kept. It stands among what was collected, as one of its record, the plan and the
--- table.
-pub record Collects (WantsMemory : Blueprint → Type 0) (old new : Work) (ticket : ℕ)
+-- The operation of a ticket is collected, with this completion, and runs no more; the ticket has
+-- none now. The others are kept. It stands among what was collected, as one of its record, the plan
+-- and the table.
+pub record CollectsTicket (WantsMemory : Blueprint → Type 0) (old new : Work) (ticket : ℕ)
     (completion : Completion) : Type 0 where
   pub plan : new.plan ≡ old.plan
   pub table : new.table ≡ old.table
@@ -85,4 +86,4 @@ pub record Collects (WantsMemory : Blueprint → Type 0) (old new : Work) (ticke
   pub others : (t : ℕ) (begun : Begun) → t ≢ ticket → old.tickets t ≡ Some begun
       → new.tickets t ≡ Some begun
   pub ends : (begun : Begun) → old.tickets ticket ≡ Some begun
-      → MayComplete WantsMemory old begun completion
+      → MayCompleteWork WantsMemory old begun completion

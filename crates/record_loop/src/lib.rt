@@ -13,16 +13,16 @@
 //!
 //! At most a window of records is in flight. Before a read that may block, all of them are written,
 //! and what was written is handed on. It keeps that the lines are lawful for the records that were
-//! read (run_rules): one a record, in order, under the stop state of each.
+//! read (line_rules): one a record, in order, under the stop state of each.
 //!
 //! The operations are run by a layer below, behind the trait `Operations`, which names an operation
-//! by a ticket; the loop is proved once for all of them. That layer lists what it collects, with the
-//! table on which it ran (run_tally). At the end each line is told by an operation of that table
-//! (`IsToldBy`), as many operations were collected with values, errors and stops as there are such
-//! lines (`TalliesWith`), and none runs.
+//! by a ticket; the loop is proved once for all of them. That layer lists what it collects, with
+//! the table on which it ran (run_tally). At the end each line is told by an operation of that
+//! table (`IsToldBy`), as many operations were collected with values, errors and stops as there are
+//! such lines (`TalliesWith`), and none runs.
 //!
 //! Records come from any `RecordSource`: each `Source` is one, and so are generated records
-//! (`Generated`). The loop stands on run_rules, record_lines, line_summary and run_tally.
+//! (`Generated`). The loop stands on line_rules, record_lines, line_summary and run_tally.
 #![tactic(auto)]
 
 mod ending;

@@ -4,7 +4,7 @@ ghost use Rattle.std.specs.Thread.{IsSync};
 ghost use Rattle.exec_value.specs.Kinds.{HasKind};
 ghost use Rattle.node_tree.specs.declared.scope_kind.ScopeKind.{ScopeKind};
 ghost use Rattle.plan_shape.specs.Blueprint.{Blueprint};
-ghost use Rattle.record_loop.specs.Works.{Work, Keeps, Begins, Requests, Collects};
+ghost use Rattle.record_loop.specs.Works.{Work, KeepsWork, BeginsTicket, Requests, CollectsTicket};
 
 use exec_value::{Completion, Datum};
 use std::alloc::Global;
@@ -35,22 +35,22 @@ pub trait Operations {
         requires sync { IsSync R.row }
         requires kind { HasKind datum (state self.old).plan.settings.input }
         ensures started { IfOk result (λ ticket.
-            Begins (state self.old) (state self.new) number datum ticket) }
+            BeginsTicket (state self.old) (state self.new) number datum ticket) }
         ensures refused { IfErr result (λ back.
-            (back ≡ datum) × Keeps (state self.old) (state self.new)) };
+            (back ≡ datum) × KeepsWork (state self.old) (state self.new)) };
 
     /// Lets the operations go on by one turn.
     fn turn<R: Wait + Sync>(&mut self, rt: &R, alloc: Global)
         requires sync { IsSync R.row }
-        ensures { Keeps (state self.old) (state self.new) };
+        ensures { KeepsWork (state self.old) (state self.new) };
 
     /// The completion of the operation of a ticket, where it is complete. The ticket has none then,
     /// and the completion stands among what was collected.
     fn collect<R: Wait + Sync>(&mut self, rt: &R, ticket: u32) -> Option<Completion>
         requires sync { IsSync R.row }
         requires begun { IsSome ((state self.old).tickets ticket) }
-        ensures { MatchOption result (Keeps (state self.old) (state self.new))
-            (Collects WantsMemory (state self.old) (state self.new) ticket) };
+        ensures { MatchOption result (KeepsWork (state self.old) (state self.new))
+            (CollectsTicket WantsMemory (state self.old) (state self.new) ticket) };
 
     /// Requests a stop of all operations, those to come included ([stopsource]).
     fn request<R: Wait + Sync>(&mut self, rt: &R)

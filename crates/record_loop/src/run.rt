@@ -4,13 +4,13 @@ ghost use Rattle.std.specs.Thread.{IsSync};
 ghost use Rattle.record_loop.specs.CaughtUp.{HasCaughtUp};
 ghost use Rattle.record_loop.specs.Ran.{Ran};
 ghost use Rattle.record_loop.specs.ReadStarts.{ReadsOnly};
-ghost use Rattle.record_loop.specs.Standing.{opening_of};
+ghost use Rattle.record_loop.specs.Standing.{opened_by};
 ghost use Rattle.record_loop.specs.Tallies.{TalliesWith};
 ghost use Rattle.record_loop.specs.Works.{IsIdle};
 ghost use Rattle.exec_io.specs.Untouched.{IsUntouched};
 ghost use Rattle.record_loop.specs.Beginnings.{IsReady};
 ghost use Rattle.record_lines.specs.declared.ending.End.{End};
-ghost use Rattle.run_rules.specs.PlanTerms.{MayRun};
+ghost use Rattle.line_rules.specs.PlanTerms.{MayRun};
 
 use crate::ending::Ending;
 use crate::in_flight::InFlight;
@@ -70,7 +70,7 @@ pub fn run_records<R: Wait + Sync, O: Operations, S: RecordSource, K: Sink>(
     ensures still { IfOk result (λ ending. ending.end ≢ End.Fault →
         (S.told records.new).faults ≡ (S.told records.old).faults) }
     ensures ran { IfOk result (Ran O.WantsMemory
-        (opening_of (O.state operations.old) window form (K.told out.old))
+        (opened_by (O.state operations.old) window form (K.told out.old))
         (S.told records.old) (S.told records.new)
         (O.state operations.new).collected (K.told out.new)) }
     ensures told { IfOk result (λ ending.
@@ -83,7 +83,7 @@ pub fn run_records<R: Wait + Sync, O: Operations, S: RecordSource, K: Sink>(
     // When a read began, all records whose line feed was read were written and handed on, and no
     // write was lost.
     ensures reads { OnOk result (ReadsOnly (HasCaughtUp
-        (opening_of (O.state operations.old) window form (K.told out.old))
+        (opened_by (O.state operations.old) window form (K.told out.old))
         (S.told records.old).left) (S.reads records.old) (S.reads records.new)) }
 {
     let (session, mut buffer) = open(alloc, window, settings, form)?;

@@ -7,8 +7,8 @@ ghost use Rattle.std.specs.Prelude.{◌≡◌, IsSome};
 ghost use Rattle.std.specs.Option.{option_copied};
 ghost use Rattle.std.specs.Thread.{IsSync};
 ghost use Rattle.exec_value.specs.Kinds.{HasKind};
-ghost use Rattle.record_loop.specs.Works.{Begins, Collects};
-ghost use Rattle.record_loop.specs.Slots.{BeginsSlot, HasOperation, Settles};
+ghost use Rattle.record_loop.specs.Works.{BeginsTicket, CollectsTicket};
+ghost use Rattle.record_loop.specs.Slots.{BeginsSlot, HasOperation, SettlesSlot};
 
 use crate::operations::Operations;
 use exec_value::{Completion, Datum, Kind, Outcome, RecordFault, read_record};
@@ -37,7 +37,7 @@ fn start<R: Wait + Sync, O: Operations>(
 ) -> u32
     requires sync { IsSync R.row }
     requires kind { HasKind datum (O.state operations.old).plan.settings.input }
-    ensures { Begins (O.state operations.old) (O.state operations.new) number datum result }
+    ensures { BeginsTicket (O.state operations.old) (O.state operations.new) number datum result }
 {
     let mut waiting = datum;
     for _ in rt.forever() {
@@ -76,6 +76,7 @@ pub fn begin<R: Wait + Sync, O: Operations>(
 }
 
 /// Collects the operation of a ticket, by turns where it isn't complete at once.
+#[inline(always)]
 fn collect<R: Wait + Sync, O: Operations>(
     rt: &R,
     alloc: Global,
@@ -84,7 +85,7 @@ fn collect<R: Wait + Sync, O: Operations>(
 ) -> Completion
     requires sync { IsSync R.row }
     requires begun { IsSome ((O.state operations.old).tickets ticket) }
-    ensures { Collects O.WantsMemory (O.state operations.old) (O.state operations.new) ticket
+    ensures { CollectsTicket O.WantsMemory (O.state operations.old) (O.state operations.new) ticket
         result }
 {
     for _ in rt.forever() {
@@ -97,6 +98,7 @@ fn collect<R: Wait + Sync, O: Operations>(
 }
 
 /// Ends the record of a slot: waits for its operation, where it has one, and collects it.
+#[inline(always)]
 pub fn settle<R: Wait + Sync, O: Operations>(
     rt: &R,
     alloc: Global,
@@ -105,7 +107,8 @@ pub fn settle<R: Wait + Sync, O: Operations>(
 ) -> Outcome
     requires sync { IsSync R.row }
     requires begun { HasOperation (O.state operations.old) slot }
-    ensures { Settles O.WantsMemory (O.state operations.old) (O.state operations.new) slot result }
+    ensures { SettlesSlot O.WantsMemory (O.state operations.old)
+        (O.state operations.new) slot result }
 {
     match slot {
         Slot::Running(ticket) => Outcome::Done(collect(rt, alloc, ticket, operations)),

@@ -5,8 +5,8 @@
 //!     any reader of std --Reading--> Source
 //!     the command line --words_of_command--> the words after the program's name
 //!
-//! The first three count their faults, and tell only what the reader or writer tells: that the system
-//! does as it says is taken on trust. It stands on exec_io, which has the traits.
+//! The first three count their faults, and tell only what the reader or writer tells: that the
+//! system does as it says is taken on trust. It stands on exec_io, which has the traits.
 #![tactic(auto)]
 
 mod faults;

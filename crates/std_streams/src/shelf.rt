@@ -8,8 +8,8 @@ use std::fs::File;
 use std::io::{self, ErrorKind, Read};
 use std::rt::Files;
 
-/// Files as texts by their paths. It counts the reads that fail, and tells neither what a file holds
-/// nor which was asked for.
+/// Files as texts by their paths. It counts the reads that fail, and tells neither what a file
+/// holds nor which was asked for.
 #[derive(Drop)]
 pub struct FileShelf<'a, R: Files> {
     rt: &'a R,

@@ -20,7 +20,7 @@ use Rattle.trace_text.specs.declared.limits.TheConstants.{FILE_BYTES}
 use Rattle.trace_commands.specs.declared.file.Refusal.{Refusal}
 use Rattle.trace_commands.specs.Answers.{Question, HasAnswer, IsDue, Prints}
 use Rattle.trace_commands.specs.Answers.Prints.{whole, front}
-use Rattle.trace_commands.specs.Refusals.{HasRefusal, IsRefusedWith, refusal_text}
+use Rattle.trace_commands.specs.Refusals.{HasRefusal, IsRefusedWith, told_refusal}
 use Rattle.trace_commands.specs.Says.{Says}
 use Rattle.trace_commands.specs.Ends.{Ends}
 use Rattle.trace_commands.proofs.Due.{IsDecided}
@@ -128,7 +128,7 @@ answered question name old new {text = text} due status result decided is has re
     }
 
 -- the status that is due to a file that was missed
-missed-due : (question : Question) (name : List ℕ) (old new : Outside) (fault : FileFault Refusal) (result due : Status) → IsDecided question → Misses (HasRefusal question old.shelf.texts name) fault → GivesUp refusal_text fault old.notes new.notes result → fault ≢ NotRead →
+missed-due : (question : Question) (name : List ℕ) (old new : Outside) (fault : FileFault Refusal) (result due : Status) → IsDecided question → Misses (HasRefusal question old.shelf.texts name) fault → GivesUp told_refusal fault old.notes new.notes result → fault ≢ NotRead →
     Stands FILE_BYTES old.shelf.texts name (λ bytes. IsDue question bytes due) → (result ≡ due) ⊎ RunsShort old.notes new.notes result
 missed-due question name old new (Refused refusal) result due decided misses gives_up other stands =
     let is_due = given-stands FILE_BYTES old.shelf.texts name misses.bytes (λ bytes. IsDue question bytes due) misses.given stands in
@@ -138,26 +138,26 @@ missed-due question name old new NoFileMemory result due decided misses gives_up
 
 -- the end of a command that had none
 pub missed : {T : Type 0} (question : Question) (name : List ℕ) (old new : Outside) (fault : FileFault Refusal) (result : Status) →
-    IsDecided question → Misses (HasRefusal question old.shelf.texts name) fault → GivesUp refusal_text fault old.notes new.notes result → ReadsShelf {T = T} {C = Refusal} name old.shelf new.shelf (Err fault) →
+    IsDecided question → Misses (HasRefusal question old.shelf.texts name) fault → GivesUp told_refusal fault old.notes new.notes result → ReadsShelf {T = T} {C = Refusal} name old.shelf new.shelf (Err fault) →
     new.records ≡ old.records → new.out ≡ old.out → old.notes.faults ≤ new.notes.faults → Ends question name old new result
 missed question name old new fault result decided misses gives_up reads records out notes =
     let came = Says question name old new in
     let refused = IsRefusedWith question old.shelf.texts name in
     let has = HasRefusal question old.shelf.texts name in
-    let noted = missed-noted refusal_text old.notes new.notes came refused has fault result (λ refusal is. (refusal, is, refl)) out out misses gives_up in
-    let read : result ≡ ReadFault → fault ≡ NotRead = missed-read refusal_text old.notes new.notes fault result gives_up in
+    let noted = missed-noted told_refusal old.notes new.notes came refused has fault result (λ refusal is. (refusal, is, refl)) out out misses gives_up in
+    let read : result ≡ ReadFault → fault ≡ NotRead = missed-read told_refusal old.notes new.notes fault result gives_up in
     let cause : fault ≡ NotRead → Rose old.shelf.faults new.shelf.faults = λ e. reads.cause (ap (λ (f : FileFault Refusal). Err f) e) in
     record {
-      says = missed-status refusal_text old.notes new.notes came has fault result (λ refusal is. ((refusal, is), out)) out out (inl out) misses gives_up;
+      says = missed-status told_refusal old.notes new.notes came has fault result (λ refusal is. ((refusal, is), out)) out out (inl out) misses gives_up;
       noted = noted;
       read_fault = λ e. cause (read e);
-      write_fault = λ e. inr (missed-write refusal_text old.notes new.notes fault result gives_up e);
+      write_fault = λ e. inr (missed-write told_refusal old.notes new.notes fault result gives_up e);
       shelf_still = λ no_read no_write.
-          let other : fault ≢ NotRead = missed-still refusal_text old.notes new.notes fault result gives_up no_read no_write in
+          let other : fault ≢ NotRead = missed-still told_refusal old.notes new.notes fault result gives_up no_read no_write in
           reads.still (λ e. other (cc));
       out_handed_on = λ _. inr out;
       notes_handed_on = Noted-handed came refused result noted;
-      refused = λ refusal stands still. missed-refused refusal_text old.notes new.notes fault result gives_up (λ e. still (cause e));
+      refused = λ refusal stands still. missed-refused told_refusal old.notes new.notes fault result gives_up (λ e. still (cause e));
       complete = λ due stands still _. missed-due question name old new fault result due decided misses gives_up (λ e. still (cause e)) stands;
       asks = reads.asks;
       shelf_same = reads.same;

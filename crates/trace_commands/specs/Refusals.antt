@@ -12,15 +12,15 @@ use Rattle.trace_commands.specs.declared.file.Refusal.TheVariants.{TooLong, Line
 use Rattle.trace_commands.specs.Answers.{Question}
 
 -- What is told of a file that is refused.
-abbrev pub refusal_text : Refusal → List ℕ
-refusal_text TooLong = codes "trace refused: too long\n"
-refusal_text (Line n) = numbered (codes "trace refused: line ") n
+abbrev pub told_refusal : Refusal → List ℕ
+told_refusal TooLong = codes "trace refused: too long\n"
+told_refusal (Line n) = numbered (codes "trace refused: line ") n
 
 -- A fault of the reading refuses the file, or there was no memory.
-abbrev pub fault_of : TraceFault → FileFault Refusal
-fault_of TooLongFault = Refused TooLong
-fault_of (LineFault n) = Refused (Line n)
-fault_of NoTraceMemory = NoMemory
+abbrev pub file_fault : TraceFault → FileFault Refusal
+file_fault TooLongFault = Refused TooLong
+file_fault (LineFault n) = Refused (Line n)
+file_fault NoTraceMemory = NoMemory
 
 -- The shelf gave bytes under the name that are refused for this cause.
 pub record HasRefusal (question : Question) (texts : Option Texts) (name : List ℕ)
@@ -32,4 +32,4 @@ pub record HasRefusal (question : Question) (texts : Option Texts) (name : List 
 -- The file is refused with this note.
 abbrev pub IsRefusedWith : Question → Option Texts → List ℕ → List ℕ → Type 0
 IsRefusedWith question texts name note =
-    (refusal : Refusal) × HasRefusal question texts name refusal × (note ≡ refusal_text refusal)
+    (refusal : Refusal) × HasRefusal question texts name refusal × (note ≡ told_refusal refusal)

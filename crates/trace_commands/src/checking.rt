@@ -7,7 +7,7 @@ ghost use Rattle.trace_commands.specs.Answers.{IsVerdictOn, HasVerdict, Prints, 
 ghost use Rattle.trace_commands.specs.Ends.{Ends};
 ghost use Rattle.trace_commands.specs.Refusals.{HasRefusal};
 
-use crate::file::{Refusal, fault_of, give_up, read_file};
+use crate::file::{Refusal, file_fault, give_up, read_file};
 use exec_io::{Failed, Shelf, Sink};
 use exec_status::{FileFault, Status, conclude, tell_numbered};
 use replay_core::{Verdict, check_trace, read_trace};
@@ -59,7 +59,7 @@ fn judge_bytes(alloc: Global, bytes: &[u8]) -> Result<Verdict, FileFault<Refusal
             Ok(verdict) => Ok(verdict),
             Err(AllocError) => Err(FileFault::NoMemory),
         },
-        Err(fault) => Err(fault_of(fault)),
+        Err(fault) => Err(file_fault(fault)),
     }
 }
 

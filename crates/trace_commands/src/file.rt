@@ -3,7 +3,7 @@ ghost use Rattle.std.specs.Prelude.{◌≡◌, ◌≤◌, IfOk, IfErr, OnOk, OnE
 ghost use Rattle.exec_io.specs.Shelves.{Gives};
 ghost use Rattle.exec_status.specs.Files.{GivesUp, IsOfShelf, ReadsShelf};
 ghost use Rattle.exec_status.specs.Sinks.{Tells, TellsAll, TellsFront};
-ghost use Rattle.trace_commands.specs.Refusals.{refusal_text, fault_of};
+ghost use Rattle.trace_commands.specs.Refusals.{told_refusal, file_fault};
 
 use exec_io::{Failed, Shelf, ShelfFault, Sink};
 use exec_status::{FileFault, Status, conclude, tell, tell_numbered};
@@ -38,8 +38,8 @@ pub fn read_file<F: Shelf>(
 }
 
 /// Why bytes that weren't read as a trace or a schedule have no answer.
-pub fn fault_of(fault: TraceFault) -> FileFault<Refusal>
-    ensures { result ≡ fault_of fault }
+pub fn file_fault(fault: TraceFault) -> FileFault<Refusal>
+    ensures { result ≡ file_fault fault }
 {
     match fault {
         TraceFault::TooLong => FileFault::Refused(Refusal::TooLong),
@@ -52,7 +52,7 @@ pub fn fault_of(fault: TraceFault) -> FileFault<Refusal>
 /// notes fail.
 pub fn give_up<N: Sink>(fault: FileFault<Refusal>, notes: &mut N) -> Status
     ensures later { (N.told notes.old).faults ≤ (N.told notes.new).faults }
-    ensures gives_up { GivesUp refusal_text fault (N.told notes.old) (N.told notes.new) result }
+    ensures gives_up { GivesUp told_refusal fault (N.told notes.old) (N.told notes.new) result }
 {
     match fault {
         FileFault::Refused(refusal) => {
@@ -67,7 +67,7 @@ pub fn give_up<N: Sink>(fault: FileFault<Refusal>, notes: &mut N) -> Status
 // Tells of a refusal, as far as notes take it.
 fn tell_refusal<N: Sink>(refusal: Refusal, notes: &mut N)
     ensures later { (N.told notes.old).faults ≤ (N.told notes.new).faults }
-    ensures tells { Tells (N.told notes.old) (N.told notes.new) (refusal_text refusal) }
+    ensures tells { Tells (N.told notes.old) (N.told notes.new) (told_refusal refusal) }
 {
     let _ = put_refusal(refusal, notes);
 }
@@ -75,9 +75,9 @@ fn tell_refusal<N: Sink>(refusal: Refusal, notes: &mut N)
 fn put_refusal<N: Sink>(refusal: Refusal, notes: &mut N) -> Result<(), Failed>
     ensures later { (N.told notes.old).faults ≤ (N.told notes.new).faults }
     ensures ok { OnOk result
-        (TellsAll (N.told notes.old) (N.told notes.new) (refusal_text refusal)) }
+        (TellsAll (N.told notes.old) (N.told notes.new) (told_refusal refusal)) }
     ensures err { OnErr result
-        (TellsFront (N.told notes.old) (N.told notes.new) (refusal_text refusal)) }
+        (TellsFront (N.told notes.old) (N.told notes.new) (told_refusal refusal)) }
 {
     match refusal {
         Refusal::TooLong => tell(b"trace refused: too long\n", notes),

@@ -15,5 +15,5 @@ mod file;
 mod replaying;
 
 pub use checking::check_file;
-pub use file::{Refusal, fault_of, give_up, read_file};
+pub use file::{Refusal, file_fault, give_up, read_file};
 pub use replaying::replay_file;

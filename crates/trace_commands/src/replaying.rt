@@ -10,7 +10,7 @@ ghost use Rattle.trace_commands.specs.Refusals.{HasRefusal};
 ghost use Rattle.trace_text.specs.Texts.{trace_text};
 ghost use Rattle.replay_core.specs.Replays.{trace_of};
 
-use crate::file::{Refusal, fault_of, give_up, read_file};
+use crate::file::{Refusal, file_fault, give_up, read_file};
 use exec_io::{Failed, Shelf, Sink};
 use exec_status::{FileFault, Status, conclude, tell};
 use replay_core::{Schedule, read_schedule, replay, write_trace};
@@ -61,7 +61,7 @@ fn play_bytes(alloc: Global, bytes: &[u8]) -> Result<Vec<u8>, FileFault<Refusal>
             Ok(text) => Ok(text),
             Err(AllocError) => Err(FileFault::NoMemory),
         },
-        Err(fault) => Err(fault_of(fault)),
+        Err(fault) => Err(file_fault(fault)),
     }
 }
 

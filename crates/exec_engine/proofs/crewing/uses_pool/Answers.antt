@@ -1,5 +1,5 @@
 use Rattle.std.proofs.Common.{◌+◌, sym, ◌∙◌}
-use Rattle.run_rules.proofs.AnyNode.{one-more, among-all}
+use Rattle.line_rules.proofs.AnyNode.{one-more, among-all}
 use Rattle.exec_engine.specs.Crewing.{goes_to_pool}
 use Rattle.exec_engine.proofs.crewing.uses_pool.Goals as goal
 

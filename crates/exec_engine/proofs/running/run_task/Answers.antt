@@ -3,7 +3,7 @@ use Rattle.exec_io.specs.Views.{SourceView}
 use Rattle.plan_rules.specs.declared.settings.Settings.{Settings}
 use Rattle.record_loop.specs.Generated.{steady_view}
 use Rattle.record_loop.specs.ReadStarts.{ReadStart}
-use Rattle.record_runs.specs.Endings.{streams}
+use Rattle.whole_run.specs.Endings.{streams}
 use Rattle.exec_status.specs.declared.status.Status.TheVariants.{NoMemory}
 use Rattle.exec_engine.specs.Surroundings.{surroundings}
 use Rattle.exec_engine.proofs.ClosesLaws.{source-runs, generated-runs}

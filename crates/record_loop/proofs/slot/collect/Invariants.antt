@@ -1,9 +1,9 @@
-use Rattle.record_loop.specs.Works.{Keeps}
+use Rattle.record_loop.specs.Works.{KeepsWork}
 use Rattle.record_loop.proofs.slot.collect.Given as goal
 
 abbrev pub invariant-loop : goal.invariant-loop
 invariant-loop g l = record {
   next : (goal.iterator-loop g).can_next l.iterator';
   finite : (goal.iterator-loop g).is_finite l.iterator';
-  keeps : Keeps (g.O.Operations.state l.fn.operations) (g.O.Operations.state l.operations);
+  keeps : KeepsWork (g.O.Operations.state l.fn.operations) (g.O.Operations.state l.operations);
 }

@@ -1,5 +1,5 @@
 use Rattle.std.proofs.Common.{◌≡◌}
-use Rattle.record_loop.specs.Works.{Keeps}
+use Rattle.record_loop.specs.Works.{KeepsWork}
 use Rattle.record_loop.proofs.slot.start.Given as goal
 
 abbrev pub invariant-loop : goal.invariant-loop
@@ -7,5 +7,5 @@ invariant-loop g l = record {
   next : (goal.iterator-loop g).can_next l.iterator';
   finite : (goal.iterator-loop g).is_finite l.iterator';
   same : l.waiting ≡ l.fn.datum;
-  keeps : Keeps (g.O.Operations.state l.fn.operations) (g.O.Operations.state l.operations);
+  keeps : KeepsWork (g.O.Operations.state l.fn.operations) (g.O.Operations.state l.operations);
 }

@@ -1,7 +1,8 @@
 use Rattle.std.proofs.Common.{take, rules, sym, ◌∙◌}
 use Rattle.record_loop.specs.ReadStarts.{start_of}
 use Rattle.record_loop.proofs.ReadStartLaws.{ReadsOnly-nil, ReadsOnly-one}
-use Rattle.record_loop.proofs.ReadingLaws.{Going-stays, Goes-piece, Halts-fault, Halts-ended, Keeps-nil, caught-up}
+use Rattle.record_loop.proofs.ReadingLaws.{Going-stays, Goes-piece, Halts-fault, Halts-ended, caught-up}
+use Rattle.record_loop.proofs.SourceLaws.{Keeps-nil}
 use Rattle.record_loop.proofs.session.Session.step.Goals as goal
 
 pub take_piece-requires-clause-going : goal.take_piece-requires-clause-going

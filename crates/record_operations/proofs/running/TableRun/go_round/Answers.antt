@@ -1,0 +1,32 @@
+use Rattle.std.proofs.Common.{ap, ◌∙◌, subst}
+use Rattle.run_loop.specs.Loops.{deck_of}
+use Rattle.run_loop.specs.Turns.{MeetsEach}
+use Rattle.record_operations.specs.Runs.{Run, run_of}
+use Rattle.record_operations.proofs.Holding.{both-on}
+use Rattle.record_operations.proofs.Sounding.{turned-sound}
+use Rattle.record_operations.proofs.running.TableRun.go_round.Goals as goal
+
+pub invariant_of-self : goal.invariant_of-self
+invariant_of-self g c =
+    let inside = c.self.inside in
+    let held = c.self.invariant in
+    let went = c.go_once-taken in
+    record {
+      sound = turned-sound g.B.OnTable.is g.B.OnTable.claimed
+          (run_of inside.table.now inside.plan.now inside.looped inside.operations.items inside.requested inside.futures)
+          (g.T.Stepper.plan inside.stepper.now) inside.next held.sound went.new.looped went.ensures.ready went.ensures.counts.tally
+          (record { is = went.ensures.aside.same; sees = went.ensures.aside.sees });
+      spawns_is = held.spawns_is;
+      both = both-on g.B.OnTable.deck g.B.OnTable.post (deck_of inside.looped) inside.post held.both (deck_of went.new.looped) went.new.post
+          went.ensures.both;
+    }
+
+pub returns-clause-met : goal.returns-clause-met
+returns-clause-met g c =
+    let stepper = c.self.inside.stepper.now in
+    record {
+      stepper = stepper;
+      stepped = c.self.invariant.sound.table.stepped_is ∙ ap (λ (r : Run). r.plan) c.self.view_is;
+      met = subst (λ (r : Run). MeetsEach (g.T.Stepper.does stepper) r.board r.looped c.go_once-taken.new.looped) c.self.view_is
+          c.go_once-taken.ensures.met;
+    }

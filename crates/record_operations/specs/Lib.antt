@@ -1,0 +1,10 @@
+pub mod Runs
+pub mod Worked
+pub mod Owns
+pub mod Drained
+pub mod Spawned
+pub mod Sound
+pub mod Calls
+pub mod Moves
+pub mod Opened
+pub mod Ends

@@ -1,0 +1,209 @@
+//! Work on hand 0 beside the workers of a crew.
+ghost use Rattle.std.specs.Prelude.{◌≡◌, ◌+◌, ◌<◌, ◌≤◌, All, [], IfNone, IfSome, MatchOption, vec_len, vec_capacity};
+ghost use Rattle.std.specs.Thread.{IsSync};
+ghost use Rattle.steal_pool.specs.Desks.{KeepsDesk};
+ghost use Rattle.table_steps.specs.Closings.{claimed_by};
+ghost use Rattle.run_workers.specs.Crews.{AreSameDesks, CanServe, GivesBack, HasServed, IsWith};
+
+use crate::front::Front;
+use crate::serving::{Served, serve};
+use exec_recv::{Item, Stepper};
+use op_slot::{Hand, OpTable};
+use pool_backends::{Backend, Order};
+use std::alloc::Global;
+use std::snapshot::Snapshot;
+use std::sync::Wait;
+use std::thread;
+use std::thread::{Scope, Threads};
+use steal_pool::Desk;
+
+// Takes the last hand, where there is one.
+fn take_hand<T: Stepper>(
+    table: &OpTable<Item>,
+    stepper: &T,
+    hands: &mut Vec<Hand<Item>>,
+) -> Option<Hand<Item>>
+    requires serve { All (CanServe table.now (T.plan stepper.now)) hands.old.items }
+    ensures taken { IfSome result (CanServe table.now (T.plan stepper.now)) }
+    ensures serve { All (CanServe table.now (T.plan stepper.now)) hands.new.items }
+    ensures length { MatchOption result (vec_len hands.new ≡ vec_len hands.old)
+        (λ _. vec_len hands.new + 1 ≡ vec_len hands.old) }
+    ensures with { IsWith result hands.new.items hands.old.items }
+    ensures none { IfNone result (hands.new.items ≡ []) }
+    ensures capacity { vec_capacity hands.new ≡ vec_capacity hands.old }
+{
+    let _ = table;
+    let _ = stepper;
+    hands.pop()
+}
+
+// Takes the last desk, where there is one.
+fn take_desk(desks: &mut Vec<Desk>) -> Option<Desk>
+    ensures with { IsWith result desks.new.items desks.old.items }
+    ensures length { MatchOption result (vec_len desks.new ≡ vec_len desks.old)
+        (λ _. vec_len desks.new + 1 ≡ vec_len desks.old) }
+    ensures capacity { vec_capacity desks.new ≡ vec_capacity desks.old }
+{
+    desks.pop()
+}
+
+// Puts a desk back as the last, where there is one.
+fn put_desk(desks: &mut Vec<Desk>, desk: Option<Desk>)
+    requires room { IfSome desk (λ _. vec_len desks.old < vec_capacity desks.old) }
+    ensures with { IsWith desk desks.old.items desks.new.items }
+    ensures capacity { vec_capacity desks.new ≡ vec_capacity desks.old }
+{
+    match desk {
+        None => {}
+        Some(desk) => desks.push_reserved(desk),
+    }
+}
+
+// Starts a worker for each spare hand, and then works on hand 0. A worker whose thread can't be
+// started serves after hand 0 has joined the scope: its last look reads so, and it ends. `helps` is
+// true until a thread was started.
+fn work_beside<'s, E, W: Front, T: Stepper + Sync, R: Threads + Wait + Sync>(
+    scope: &'s Scope<'s, E>,
+    rt: &'s R,
+    alloc: Global,
+    table: &'s OpTable<Item>,
+    stepper: &'s T,
+    order: Order,
+    hands: &mut Vec<Hand<Item>>,
+    backends: &mut Vec<Box<dyn Backend + Send>>,
+    desks: &mut Vec<Desk>,
+    hand: Hand<Item>,
+    own: Option<Desk>,
+    front: &mut W,
+    helps: bool,
+) -> (Hand<Item>, Option<Desk>)
+    requires sync { IsSync R.row }
+    requires serve { All (CanServe table.now (T.plan stepper.now)) hands.old.items }
+    requires each { vec_len hands.old ≤ vec_len backends.old }
+    requires needs { W.needs front.old hand own }
+    ensures leaves { W.leaves front.old front.new result.0 }
+    ensures served { All (HasServed table.now) hands.new.items }
+    ensures claims { claimed_by hands.new.items ≡ claimed_by hands.old.items }
+    ensures length { vec_len hands.new ≡ vec_len hands.old }
+    ensures room { vec_capacity hands.old ≤ vec_capacity hands.new }
+    ensures same { AreSameDesks desks.old.items desks.new.items }
+    ensures shelf { vec_capacity desks.old ≤ vec_capacity desks.new }
+    ensures own { KeepsDesk own result.1 }
+{
+    let Some(next) = take_hand(table, stepper, hands) else {
+        return front.work(rt, alloc, hand, own, helps);
+    };
+    let Some(backend) = backends.pop() else {
+        unreachable!()
+    };
+    let desk = take_desk(desks);
+    let promise = Served {
+        table: Snapshot::of(table),
+        hand: Snapshot::of(&next),
+        desk: Snapshot::of(&desk),
+    };
+    let started = scope.spawn_with(
+        promise,
+        move || -> (Hand<Item>, Option<Desk>)
+            requires { IsSync R.row × IsSync T.row
+                × CanServe table.now (T.plan stepper.now) next }
+            ensures { GivesBack table.entry.now next desk result.0 result.1 }
+        { serve(rt, alloc, table, stepper, next, backend, order, desk) },
+    );
+    match started {
+        Ok(child) => {
+            let last = work_beside(
+                scope, rt, alloc, table, stepper, order, hands, backends, desks, hand, own, front,
+                false,
+            );
+            let (back, same) = child.join(rt);
+            hands.push_reserved(back);
+            put_desk(desks, same);
+            last
+        }
+        Err(refused) => {
+            let last = work_beside(
+                scope, rt, alloc, table, stepper, order, hands, backends, desks, hand, own, front,
+                helps,
+            );
+            let (served, again) = (refused.value)();
+            hands.push_reserved(served);
+            put_desk(desks, again);
+            last
+        }
+    }
+}
+
+/// Works on hand 0 of the table, beside a worker for each of the other hands, each in a thread of
+/// its own, and returns when all of them have ended. A thread that can't be started isn't used. The
+/// hands come back: hand 0's, and the others', and all desks, hand 0's own last. The worker of hand
+/// w + 1 uses backend w, and desk w where there are as many desks as hands; where there are fewer,
+/// so many of the last workers have one. All backends are dropped. A worker with a desk sleeps
+/// where it finds nothing: the front wakes all by its own when it has joined the scope.
+///
+/// Needs: the other hands can serve: the table is over the stepper's plan, whose kinds match. Each
+/// has a backend.
+/// Afterwards: the front's work was done on hand 0. Each other hand served until it read that the
+/// scope is joined, and claimed no block. Each desk is the same, in its place, and so is hand 0's.
+pub fn run_beside<W: Front, T: Stepper + Sync, R: Threads + Wait + Sync>(
+    rt: &R,
+    alloc: Global,
+    table: &OpTable<Item>,
+    stepper: &T,
+    order: Order,
+    mut backends: Vec<Box<dyn Backend + Send>>,
+    mut desks: Vec<Desk>,
+    mut hands: Vec<Hand<Item>>,
+    hand: Hand<Item>,
+    own: Option<Desk>,
+    mut front: W,
+) -> (W, Hand<Item>, Vec<Hand<Item>>, Vec<Desk>, Option<Desk>)
+    requires sync { IsSync R.row }
+    requires serve { All (CanServe table.now (T.plan stepper.now)) hands.items }
+    requires each { vec_len hands ≤ vec_len backends }
+    requires needs { W.needs front hand own }
+    ensures leaves { W.leaves front result.0 result.1 }
+    ensures served { All (HasServed table.now) result.2.items }
+    ensures claims { claimed_by result.2.items ≡ claimed_by hands.items }
+    ensures length { vec_len result.2 ≡ vec_len hands }
+    ensures room { vec_capacity hands ≤ vec_capacity result.2 }
+    ensures desks { AreSameDesks desks.items result.3.items }
+    ensures shelf { vec_capacity desks ≤ vec_capacity result.3 }
+    ensures own { KeepsDesk own result.4 }
+{
+    backends.truncate(hands.len());
+    thread::scope(
+        thread::scope_env(),
+        rt,
+        move |scope| -> (W, Hand<Item>, Vec<Hand<Item>>, Vec<Desk>, Option<Desk>)
+            requires { IsSync R.row × IsSync T.row
+                × All (CanServe table.now (T.plan stepper.now)) hands.items
+                × (vec_len hands ≤ vec_len backends) × W.needs front hand own }
+            ensures { W.leaves front result.0 result.1
+                × All (HasServed table.entry.now) result.2.items
+                × (claimed_by result.2.items ≡ claimed_by hands.items)
+                × (vec_len result.2 ≡ vec_len hands)
+                × (vec_capacity hands ≤ vec_capacity result.2)
+                × AreSameDesks desks.items result.3.items
+                × (vec_capacity desks ≤ vec_capacity result.3)
+                × KeepsDesk own result.4 }
+        {
+            let last = work_beside(
+                scope,
+                rt,
+                alloc,
+                table,
+                stepper,
+                order,
+                &mut hands,
+                &mut backends,
+                &mut desks,
+                hand,
+                own,
+                &mut front,
+                true,
+            );
+            (front, last.0, hands, desks, last.1)
+        },
+    )
+}

@@ -1,0 +1,17 @@
+//! An account of a run.
+
+use crate::desks::DeskEnd;
+use exec_recv::Item;
+use op_table::Closing;
+use record_loop::Ending;
+use record_operations::Tally;
+
+/// How a run ended, which operations were collected, how its table was closed, and how its desks
+/// were, where it had any.
+#[derive(Drop)]
+pub struct Account {
+    pub ending: Ending,
+    pub tally: Tally,
+    pub closing: Closing<Item>,
+    pub desks: Option<DeskEnd>,
+}

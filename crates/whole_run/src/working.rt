@@ -1,0 +1,66 @@
+//! What a run works with, and what it comes to.
+ghost use Rattle.std.specs.Prelude.{◌≡◌, IsErr};
+ghost use Rattle.run_workers.specs.Crews.{IsSpare};
+ghost use Rattle.record_operations.specs.Ends.{IsEnded};
+ghost use Rattle.record_operations.specs.Owns.{KeepsBoth};
+
+use crate::joining::join_idle;
+use exec_recv::{Item, Stepper};
+use op_table::OpTable;
+use plan_shape::Plan;
+use record_loop::{Ending, Form};
+use record_operations::{OnTable, Own, Tally};
+use std::alloc::AllocError;
+use std::sync::Wait;
+
+/// What a run works with beside its hand: a plan, what steps its nodes, the table on which they
+/// run, how many records are worked on at once, and the form in which outcomes are written.
+#[derive(Drop)]
+pub(crate) struct Tabled<'a, 'b, T: Stepper> {
+    pub(crate) plan: &'a Plan,
+    pub(crate) stepper: &'b T,
+    pub(crate) table: &'b OpTable<Item>,
+    pub(crate) window: usize,
+    pub(crate) form: Form,
+}
+
+/// What a run came to: how it ended, and which operations it collected.
+#[derive(Drop)]
+pub struct Came {
+    pub(crate) answer: Result<Ending, AllocError>,
+    pub(crate) tally: Tally,
+}
+
+impl Came {
+    /// Nothing, so far: as where there is no memory for a run.
+    pub(crate) fn none() -> Came
+        ensures { IsErr result.answer }
+    {
+        Came {
+            answer: Err(AllocError),
+            tally: Tally::new(),
+        }
+    }
+}
+
+/// Gives up a run for which there is no memory: the hand does nothing but join the scope. Workers
+/// that sleep are woken, so that they see it.
+pub(crate) fn give_up<B: OnTable, R: Wait>(rt: &R, table: &OpTable<Item>, own: Own) -> Own
+    requires on { B.is table.now }
+    requires deck { B.deck ≡ own.deck }
+    requires post { B.post ≡ own.post }
+    requires spare { IsSpare table.now own.hand }
+    ensures ended { IsEnded B.is result.hand }
+    ensures both { KeepsBoth B.deck B.post result.deck result.post }
+{
+    let Own { hand, deck, post } = own;
+    let last = join_idle(rt, table, hand);
+    if let Some(deck) = &deck {
+        deck.wake_all();
+    }
+    Own {
+        hand: last,
+        deck,
+        post,
+    }
+}
