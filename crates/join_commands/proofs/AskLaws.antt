@@ -10,20 +10,21 @@ use Rattle.join_commands.specs.declared.ask.Asked.TheVariants.{Lines, Dealt, Sum
 use Rattle.join_commands.specs.declared.fault.JoinFault.{JoinFault}
 use Rattle.join_commands.specs.Endings.{EndsJoin}
 use Rattle.join_commands.specs.Faults.{IsJoinFault}
-use Rattle.join_commands.specs.Joins.{JoinsLines, LeavesRefused}
-use Rattle.join_commands.specs.Summaries.{JoinsSummaries}
+use Rattle.join_commands.specs.Joins.{JoinsLines, LeavesFront}
+use Rattle.join_commands.specs.Summaries.{JoinsSummaries, LeavesSumFront}
+use Rattle.join_commands.specs.Unsummed.{IsUnsummed}
 
 pub ends_lines : (all : Texts) (names : List (Bor (List ℕ))) (old new : SinkView) (asked : Asked) (result : Result Status JoinFault) → asked ≡ Lines → IfOk result (JoinsLines all Lines names old new)
-    → IfErr result (IsJoinFault all names) → IfErr result (LeavesRefused old new) → EndsJoin all asked names old new result
-ends_lines all names old new asked (Ok status) is joined fault refused = subst (λ (a : Asked). EndsJoin all a names old new (Ok status)) (sym is) joined
-ends_lines all names old new asked (Err found) is joined fault refused = subst (λ (a : Asked). EndsJoin all a names old new (Err found)) (sym is) (fault, refused)
+    → IfErr result (IsJoinFault all names) → IfErr result (LeavesFront all Lines names old new) → EndsJoin all asked names old new result
+ends_lines all names old new asked (Ok status) is joined fault front = subst (λ (a : Asked). EndsJoin all a names old new (Ok status)) (sym is) joined
+ends_lines all names old new asked (Err found) is joined fault front = subst (λ (a : Asked). EndsJoin all a names old new (Err found)) (sym is) (fault, front)
 
 pub ends_dealt : (all : Texts) (names : List (Bor (List ℕ))) (old new : SinkView) (asked : Asked) (result : Result Status JoinFault) → asked ≡ Dealt → IfOk result (JoinsLines all Dealt names old new)
-    → IfErr result (IsJoinFault all names) → IfErr result (LeavesRefused old new) → EndsJoin all asked names old new result
-ends_dealt all names old new asked (Ok status) is joined fault refused = subst (λ (a : Asked). EndsJoin all a names old new (Ok status)) (sym is) joined
-ends_dealt all names old new asked (Err found) is joined fault refused = subst (λ (a : Asked). EndsJoin all a names old new (Err found)) (sym is) (fault, refused)
+    → IfErr result (IsJoinFault all names) → IfErr result (LeavesFront all Dealt names old new) → EndsJoin all asked names old new result
+ends_dealt all names old new asked (Ok status) is joined fault front = subst (λ (a : Asked). EndsJoin all a names old new (Ok status)) (sym is) joined
+ends_dealt all names old new asked (Err found) is joined fault front = subst (λ (a : Asked). EndsJoin all a names old new (Err found)) (sym is) (fault, front)
 
 pub ends_summary : (all : Texts) (names : List (Bor (List ℕ))) (old new : SinkView) (asked : Asked) (result : Result Status JoinFault) → asked ≡ Summary → IfOk result (JoinsSummaries all names old new)
-    → IfErr result (LeavesRefused old new) → EndsJoin all asked names old new result
-ends_summary all names old new asked (Ok status) is joined refused = subst (λ (a : Asked). EndsJoin all a names old new (Ok status)) (sym is) joined
-ends_summary all names old new asked (Err found) is joined refused = subst (λ (a : Asked). EndsJoin all a names old new (Err found)) (sym is) refused
+    → IfErr result (IsUnsummed all names) → IfErr result (LeavesSumFront all names old new) → EndsJoin all asked names old new result
+ends_summary all names old new asked (Ok status) is joined fault front = subst (λ (a : Asked). EndsJoin all a names old new (Ok status)) (sym is) joined
+ends_summary all names old new asked (Err found) is joined fault front = subst (λ (a : Asked). EndsJoin all a names old new (Err found)) (sym is) (fault, front)

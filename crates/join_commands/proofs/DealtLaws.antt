@@ -7,7 +7,7 @@ use Rattle.std.proofs.lemmas.List.Sums.{sum_by-append}
 use Rattle.std.proofs.lemmas.Option.{slice_get_past, slice_get_within}
 use Rattle.part_lines.specs.declared.tally.Tally.{Tally}
 use Rattle.part_lines.specs.Tallies.{Tallies, says_value, says_no_memory}
-use Rattle.join_commands.specs.Parts.{AreDealt, in_order}
+use Rattle.part_lines.specs.Streams.{AreDealt, in_order}
 
 abbrev pub Lines : Type 0
 Lines = List (List ℕ)

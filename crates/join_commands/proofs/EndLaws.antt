@@ -1,5 +1,5 @@
 -- How joining lines ends.
-use Rattle.std.proofs.Common.{◌≡◌, ◌≢◌, ℕ, zero, suc, List, [], ◌∷◌, Some, Result, Ok, Err, refl, sym, ap, ◌∙◌, subst, arith}
+use Rattle.std.proofs.Common.{◌≡◌, ◌≢◌, ℕ, zero, suc, List, [], ◌∷◌, Some, Result, Ok, Err, inl, inr, refl, sym, ap, ◌∙◌, subst, arith}
 use Rattle.std.specs.Prelude.{IfOk, IfErr, OnOk, IsErr, IsErrAnd, slice_get}
 use Rattle.std.specs.Borrow.{Bor}
 use Rattle.std.specs.List.{AllZip}
@@ -7,7 +7,9 @@ use Rattle.exec_io.specs.Causes.{Rose}
 use Rattle.exec_io.specs.Shelves.{Texts}
 use Rattle.exec_io.specs.Sinks.{Appends}
 use Rattle.exec_io.specs.Views.{SinkView}
+use Rattle.exec_io.proofs.PutsLemmas.{AppendsFront-whole}
 use Rattle.exec_io.proofs.SinkLemmas.{Appends-still}
+use Rattle.join_commands.specs.declared.ask.Asked.{Asked}
 use Rattle.exec_status.specs.declared.status.Status.{Status}
 use Rattle.part_lines.specs.declared.tally.Tally.{Tally}
 use Rattle.part_lines.specs.Lines.{lines_from}
@@ -20,10 +22,11 @@ use Rattle.join_commands.specs.declared.refusal.Cause.TheVariants.{NoStatus, Sta
 use Rattle.join_commands.specs.declared.fault.LookFault.{LookFault}
 use Rattle.join_commands.specs.declared.fault.LookFault.TheVariants.{Refused as PartRefused, ReadFault as NotRead, NoMemory as NoPartMemory}
 use Rattle.join_commands.specs.Faults.{at_part, HasJoinCause, HasLookCause, IsJoinFault, IsRefusedAt, IsUndealt}
-use Rattle.join_commands.specs.Joins.{AreTallied, AreWhole, HandsOn, JoinsLines, LeavesRefused, PutsJoined}
-use Rattle.join_commands.specs.Parts.{AreDealt, IsTallied, in_order}
-use Rattle.join_commands.specs.Statuses.{status_by}
-use Rattle.join_commands.specs.Turns.{HasEnded, IsUneven, IsUnevenFor}
+use Rattle.join_commands.specs.Joins.{AreJoined, AreTallied, AreWhole, HandsOn, JoinsLines, LeavesFront, PutsJoined}
+use Rattle.join_commands.specs.Parts.{IsTallied}
+use Rattle.part_lines.specs.Streams.{AreDealt, in_order}
+use Rattle.join_commands.specs.Statuses.{counts_status}
+use Rattle.join_commands.specs.Turns.{PartHasEnded, IsUneven, IsUnevenFor}
 use Rattle.join_commands.proofs.LookLaws.{by_tally}
 
 -- the lines that were counted
@@ -37,18 +40,19 @@ tallied_parts all (name ∷ names) (tally ∷ tallies) each =
     (each.0.0 ∷ later.0, (each.0.1, later.1), (each.0.2, later.2))
 
 -- where nothing was done to a sink
-pub leaves : (view : SinkView) (fault : JoinFault) → LeavesRefused view view fault
-leaves view (Refused refusal) = refl
-leaves view ReadFault = tt
-leaves view WriteFault = tt
-leaves view NoMemory = tt
+pub untouched : (all : Texts) (asked : Asked) (names : List (Bor (List ℕ))) (view : SinkView) (fault : JoinFault) → LeavesFront all asked names view view fault
+untouched all asked names view (Refused refusal) = refl
+untouched all asked names view ReadFault = inl refl
+untouched all asked names view WriteFault = inl refl
+untouched all asked names view NoMemory = inl refl
 
--- where lines weren't written to their end no part is refused
-pub not_refused : (lines : List (List ℕ)) (old new : SinkView) (fault : JoinFault) → PutsJoined lines old new (Err fault) → LeavesRefused old new fault
-not_refused lines old new (Refused refusal) puts = absurd puts
-not_refused lines old new ReadFault puts = tt
-not_refused lines old new WriteFault puts = tt
-not_refused lines old new NoMemory puts = tt
+-- where lines weren't written to their end a front of them was, and no part is refused
+pub front_put : (all : Texts) (asked : Asked) (names : List (Bor (List ℕ))) (parts : List (List (List ℕ))) (lines : List (List ℕ)) (old new : SinkView) (fault : JoinFault) → AreWhole all names parts
+    → AreJoined asked parts lines → PutsJoined lines old new (Err fault) → LeavesFront all asked names old new fault
+front_put all asked names parts lines old new (Refused refusal) whole are puts = absurd puts
+front_put all asked names parts lines old new ReadFault whole are puts = inr (record { parts = parts; lines = lines; whole = whole; joined = are; front = puts })
+front_put all asked names parts lines old new WriteFault whole are puts = inr (record { parts = parts; lines = lines; whole = whole; joined = are; front = puts.0 })
+front_put all asked names parts lines old new NoMemory whole are puts = inr (record { parts = parts; lines = lines; whole = whole; joined = are; front = puts })
 
 pub put_fault : (all : Texts) (names : List (Bor (List ℕ))) (lines : List (List ℕ)) (old new : SinkView) (fault : JoinFault) → PutsJoined lines old new (Err fault)
     → IsJoinFault all names fault
@@ -60,7 +64,7 @@ put_fault all names lines old new NoMemory puts = tt
 -- lines in order were joined
 pub joined : (all : Texts) (names : List (Bor (List ℕ))) (parts : List (List (List ℕ))) (sum : Tally) (old mid new : SinkView) (status : Status) → AreWhole all names parts
     → Appends old.written mid.written (lines_from 1 (in_order parts)) → mid.faults ≡ old.faults → HandsOn mid new → Tallies sum (in_order parts)
-    → status ≡ status_by sum.lines sum.values sum.no_memory → JoinsLines all Lines names old new status
+    → status ≡ counts_status sum.lines sum.values sum.no_memory → JoinsLines all Lines names old new status
 joined all names parts sum old mid new status whole puts still ends counted is = record {
   parts = parts;
   lines = in_order parts;
@@ -74,23 +78,25 @@ joined all names parts sum old mid new status whole puts still ends counted is =
 pub finish_fault : (all : Texts) (names : List (Bor (List ℕ))) (fault : JoinFault) → fault ≡ WriteFault → IsJoinFault all names fault
 finish_fault all names fault is = subst (IsJoinFault all names) (sym is) tt
 
-pub finish_leaves : (old new : SinkView) (fault : JoinFault) → fault ≡ WriteFault → LeavesRefused old new fault
-finish_leaves old new fault is = subst (LeavesRefused old new) (sym is) tt
+-- and all lines stand there
+pub front_finished : (all : Texts) (asked : Asked) (names : List (Bor (List ℕ))) (parts : List (List (List ℕ))) (lines : List (List ℕ)) (old mid new : SinkView) (result : Result Status JoinFault) → AreWhole all names parts
+    → AreJoined asked parts lines → Appends old.written mid.written (lines_from 1 lines) × (mid.faults ≡ old.faults) → Appends mid.written new.written [] → IfErr result (λ fault. fault ≡ WriteFault)
+    → IfErr result (LeavesFront all asked names old new)
+front_finished all asked names parts lines old mid new (Ok status) whole are puts ends is = tt
+front_finished all asked names parts lines old mid new (Err fault) whole are puts ends is =
+    subst (LeavesFront all asked names old new) (sym is)
+    (inr (record { parts = parts; lines = lines; whole = whole; joined = are; front = AppendsFront-whole (Appends-still puts.0 ends) }))
 
 -- the same of an answer
 pub joined_or : (all : Texts) (names : List (Bor (List ℕ))) (parts : List (List (List ℕ))) (sum : Tally) (old mid new : SinkView) (result : Result Status JoinFault) → AreWhole all names parts
     → Appends old.written mid.written (lines_from 1 (in_order parts)) × (mid.faults ≡ old.faults) → OnOk result (HandsOn mid new) → Tallies sum (in_order parts)
-    → IfOk result (λ status. status ≡ status_by sum.lines sum.values sum.no_memory) → IfOk result (JoinsLines all Lines names old new)
+    → IfOk result (λ status. status ≡ counts_status sum.lines sum.values sum.no_memory) → IfOk result (JoinsLines all Lines names old new)
 joined_or all names parts sum old mid new (Ok status) whole puts ends counted is = joined all names parts sum old mid new status whole puts.0 puts.1 ends counted is
 joined_or all names parts sum old mid new (Err fault) whole puts ends counted is = tt
 
 pub fault_or : (all : Texts) (names : List (Bor (List ℕ))) (result : Result Status JoinFault) → IfErr result (λ fault. fault ≡ WriteFault) → IfErr result (IsJoinFault all names)
 fault_or all names (Ok status) is = tt
 fault_or all names (Err fault) is = finish_fault all names fault is
-
-pub leaves_or : (old new : SinkView) (result : Result Status JoinFault) → IfErr result (λ fault. fault ≡ WriteFault) → IfErr result (LeavesRefused old new)
-leaves_or old new (Ok status) is = tt
-leaves_or old new (Err fault) is = finish_leaves old new fault is
 
 -- a count of faults over two calls, of which the first went on
 pub cause_then : {T U : Type 0} (fault : JoinFault) (a b c : ℕ) (first : Result T JoinFault) (second : Result U JoinFault) → HasJoinCause fault a b first → first ≢ Err fault
@@ -140,14 +146,14 @@ at_part_quiet at NotRead join is same = cc
 at_part_quiet at NoPartMemory join is same = cc
 
 -- what an answer of `?` is
-pub handed_err : {T : Type 0} (result : Result T JoinFault) (fault : JoinFault) → IsErr result → IsErrAnd result (λ f. f ≡ fault) → result ≡ Err fault
+pub handed_err : {T E : Type 0} (result : Result T E) (fault : E) → IsErr result → IsErrAnd result (λ f. f ≡ fault) → result ≡ Err fault
 handed_err (Ok done) fault is same = absurd same
 handed_err (Err found) fault is same = ap Err same
 
 -- lines were joined from parts as they were dealt
 pub joined_dealt : (all : Texts) (names : List (Bor (List ℕ))) (parts : List (List (List ℕ))) (lines : List (List ℕ)) (sum : Tally) (old mid new : SinkView) (result : Result Status JoinFault) → AreWhole all names parts
     → AreDealt parts lines → Appends old.written mid.written (lines_from 1 lines) × (mid.faults ≡ old.faults) → OnOk result (HandsOn mid new) → Tallies sum lines
-    → IfOk result (λ status. status ≡ status_by sum.lines sum.values sum.no_memory) → IfOk result (JoinsLines all Dealt names old new)
+    → IfOk result (λ status. status ≡ counts_status sum.lines sum.values sum.no_memory) → IfOk result (JoinsLines all Dealt names old new)
 joined_dealt all names parts lines sum old mid new (Err fault) whole dealt puts ends counted is = tt
 joined_dealt all names parts lines sum old mid new (Ok status) whole dealt puts ends counted is = record {
   parts = parts;
@@ -170,7 +176,7 @@ tallied_there all (name ∷ names) (first ∷ tallies) each zero tally is =
 tallied_there all (name ∷ names) (first ∷ tallies) each (suc at) tally is = tallied_there all names tallies each.1 at tally is
 
 -- parts that weren't dealt in turn aren't joined
-undealt : (all : Texts) (names : List (Bor (List ℕ))) (tallies : List Tally) (at number ended : ℕ) → AreTallied all names tallies → HasEnded tallies at number ended → IsUndealt all names at number ended
+undealt : (all : Texts) (names : List (Bor (List ℕ))) (tallies : List Tally) (at number ended : ℕ) → AreTallied all names tallies → PartHasEnded tallies at number ended → IsUndealt all names at number ended
 undealt all names tallies at number ended each has =
     let one = tallied_there all names tallies each at has.tally has.tally_is in
     let other = tallied_there all names tallies each ended has.least has.least_is in

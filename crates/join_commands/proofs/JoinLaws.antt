@@ -14,7 +14,8 @@ use Rattle.join_commands.specs.declared.refusal.Cause.{Cause}
 use Rattle.join_commands.specs.declared.refusal.Cause.TheVariants.{NoStatus, StatusIsnt, NoLines, NotLine, StatusDiffers, NotDealt, NoSummary, Contradicts, TooLarge, Changed}
 use Rattle.join_commands.specs.Faults.{IsJoinFault, IsLookFault, IsRefusedAt, at_part}
 use Rattle.join_commands.specs.Joins.{AreTallied}
-use Rattle.join_commands.specs.Parts.{IsRefusedFor, IsTallied, in_order}
+use Rattle.join_commands.specs.Parts.{IsPartRefusedFor, IsTallied}
+use Rattle.part_lines.specs.Streams.{in_order}
 
 -- what is got at a place
 pub got_at : {A : Type 0} (xs : List A) (i : ℕ) (x : A) → i < length xs → x ≡ get_or xs i x → slice_get xs i ≡ Some x
@@ -64,7 +65,7 @@ tallied_at all names i d tallies tally below before one =
     tallied_more all names i (get_or names i d) tallies tally below (get_or_default names i d (get_or names i d) below) before one
 
 -- a part that is refused is refused at its place
-refused_at : (all : Texts) (names : List (Bor (List ℕ))) (at : ℕ) (name : Bor (List ℕ)) (cause : Cause) → slice_get names at ≡ Some name → IsRefusedFor all name.now cause → IsRefusedAt all names at cause
+refused_at : (all : Texts) (names : List (Bor (List ℕ))) (at : ℕ) (name : Bor (List ℕ)) (cause : Cause) → slice_get names at ≡ Some name → IsPartRefusedFor all name.now cause → IsRefusedAt all names at cause
 refused_at all names at name (NotDealt number ended) is has = absurd has
 refused_at all names at name NoStatus is has = (name, is, has)
 refused_at all names at name (StatusIsnt said) is has = (name, is, has)

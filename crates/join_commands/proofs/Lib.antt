@@ -6,6 +6,9 @@ pub mod LookLaws
 pub mod NoteLaws
 pub mod OpenLaws
 pub mod OrderLaws
+pub mod ReadingLaws
 pub mod StatusLaws
 pub mod SummaryLaws
+pub mod LevelLaws
 pub mod TurnLaws
+pub mod UnsumLaws

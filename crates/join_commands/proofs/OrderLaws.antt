@@ -11,7 +11,7 @@ use Rattle.exec_io.proofs.PutsLemmas.{AppendsFront-cut, AppendsFront-then}
 use Rattle.part_lines.specs.declared.putting.PutFault.{PutFault}
 use Rattle.part_lines.specs.declared.putting.PutFault.TheVariants.{Part, Write}
 use Rattle.part_lines.specs.declared.reader.PartFault.TheVariants.{Missing, NotLine as NoPartLine, Failed, NoMemory as NoPartMemory}
-use Rattle.part_lines.specs.Lines.{lines_from, IsPart}
+use Rattle.part_lines.specs.Lines.{lines_from, IsPartText}
 use Rattle.part_lines.specs.Puts.{PutsLines}
 use Rattle.part_lines.proofs.PutLaws.{lines_append}
 use Rattle.join_commands.specs.declared.fault.JoinFault.{JoinFault}
@@ -20,7 +20,8 @@ use Rattle.join_commands.specs.declared.fault.LookFault.TheVariants.{Refused, Re
 use Rattle.join_commands.specs.declared.refusal.Cause.TheVariants.{NoStatus, StatusIsnt, NoLines, NotLine, StatusDiffers, NotDealt, NoSummary, Contradicts, TooLarge, Changed}
 use Rattle.join_commands.specs.Faults.{IsOfReads, IsOpenFault, at_part, at_put}
 use Rattle.join_commands.specs.Joins.{PutsJoined}
-use Rattle.join_commands.specs.Parts.{IsWhole, in_order, out_name}
+use Rattle.join_commands.specs.Parts.{IsWholePart, out_name}
+use Rattle.part_lines.specs.Streams.{in_order}
 use Rattle.join_commands.proofs.JoinLaws.{in_order_more}
 use Rattle.join_commands.proofs.LookLaws.{text_there}
 
@@ -80,7 +81,7 @@ put_stops old mid new parts i written at (Part Missing) join below is before sti
 put_stops old mid new parts i written at (Part (NoPartLine number)) join below is before still puts same = absurd puts
 
 -- a part that is whole isn't opened
-pub unopened : (all : Texts) (name : List ℕ) (said : List (List ℕ)) (lines : List (List ℕ)) (old new : SinkView) (at : ℕ) (fault : LookFault) (join : JoinFault) → IsWhole all name said
+pub unopened : (all : Texts) (name : List ℕ) (said : List (List ℕ)) (lines : List (List ℕ)) (old new : SinkView) (at : ℕ) (fault : LookFault) (join : JoinFault) → IsWholePart all name said
     → IsOpenFault all name fault → AppendsFront old.written new.written (lines_from 1 lines) → join ≡ at_part at fault → PutsJoined lines old new (Err join)
 unopened all name said lines old new at ReadFault join whole missing front same = subst (λ (f : JoinFault). PutsJoined lines old new (Err f)) (sym same) front
 unopened all name said lines old new at NoMemory join whole missing front same = subst (λ (f : JoinFault). PutsJoined lines old new (Err f)) (sym same) front
@@ -97,7 +98,7 @@ unopened all name said lines old new at (Refused TooLarge) join whole missing fr
 unopened all name said lines old new at (Refused Changed) join whole missing front same = absurd missing
 
 -- and that is for want of reads or memory
-pub unopened_reads : (all : Texts) (name : List ℕ) (said : List (List ℕ)) (at : ℕ) (fault : LookFault) (join : JoinFault) → IsWhole all name said → IsOpenFault all name fault → join ≡ at_part at fault → IsOfReads join
+pub unopened_reads : (all : Texts) (name : List ℕ) (said : List (List ℕ)) (at : ℕ) (fault : LookFault) (join : JoinFault) → IsWholePart all name said → IsOpenFault all name fault → join ≡ at_part at fault → IsOfReads join
 unopened_reads all name said at ReadFault join whole missing same = subst IsOfReads (sym same) tt
 unopened_reads all name said at NoMemory join whole missing same = subst IsOfReads (sym same) tt
 unopened_reads all name said at (Refused NoLines) join whole missing same =
@@ -113,8 +114,8 @@ unopened_reads all name said at (Refused TooLarge) join whole missing same = abs
 unopened_reads all name said at (Refused Changed) join whole missing same = absurd missing
 
 -- the reader of a part that is whole is at the start of its text
-pub reads_part : (all : Texts) (name : List ℕ) (said : List (List ℕ)) (ahead : Option (List ℕ)) → IsWhole all name said → IsSomeAnd (text_of all (out_name name)) (λ text. ahead ≡ Some text)
-    → (text : List ℕ) × (ahead ≡ Some text) × IsPart text said
+pub reads_part : (all : Texts) (name : List ℕ) (said : List (List ℕ)) (ahead : Option (List ℕ)) → IsWholePart all name said → IsSomeAnd (text_of all (out_name name)) (λ text. ahead ≡ Some text)
+    → (text : List ℕ) × (ahead ≡ Some text) × IsPartText text said
 reads_part all name said ahead whole opens =
     let there = text_there (text_of all (out_name name)) ahead opens in
     let both : Some there.0 ≡ Some whole.lines.0 = sym there.1 ∙ whole.lines.1 in

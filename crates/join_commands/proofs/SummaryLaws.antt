@@ -1,6 +1,6 @@
 -- Summaries are summed one after another.
-use Rattle.std.proofs.Common.{◌≡◌, ℕ, ℤ, pos, ◌+◌, ◌<◌, ◌≤◌, List, [], ◌∷◌, ◌++◌, map, length, get_or, take, codes, Result, Ok, Err, refl, sym, ap, ◌∙◌, subst, arith, length-take}
-use Rattle.std.specs.Prelude.{◌+ℤ◌, IfOk}
+use Rattle.std.proofs.Common.{◌≡◌, ℕ, ℤ, pos, ◌+◌, ◌<◌, ◌≤◌, List, [], ◌∷◌, ◌++◌, map, length, get_or, take, codes, Option, Some, None, Result, Ok, Err, refl, sym, ap, ◌∙◌, subst, arith, length-take}
+use Rattle.std.specs.Prelude.{◌+ℤ◌, IfNone, IfOk}
 use Rattle.std.specs.Borrow.{Bor}
 use Rattle.std.proofs.lemmas.List.{take_more, take_all, map-append, get_or_default}
 use Rattle.std.proofs.lemmas.Int.{ints}
@@ -12,10 +12,16 @@ use Rattle.exec_value.proofs.SumLemmas.{total-append}
 use Rattle.join_commands.specs.declared.fault.LookFault.{LookFault}
 use Rattle.join_commands.specs.declared.summary.Numbers.{Numbers}
 use Rattle.std.specs.Fmt.{signed_decimal}
-use Rattle.join_commands.specs.Summaries.{AreSummaries, AreSummed, IsBoth, IsSummary, HasSum, counted, summary_text}
+use Rattle.join_commands.specs.Summaries.{AreSummaries, AreSummed, IsBoth, IsSummary, IsTooLarge, HasSum, named_count, summary_text}
+use Rattle.join_commands.specs.Unsummed.{IsBeyondSummary}
 
 zero_left : (number : ℤ) → pos 0 +ℤ number ≡ number
 zero_left number = omega (arith, ints)
+
+total_push : (parts : List Numbers) (one : Numbers) → total (map (λ (n : Numbers). n.sum) (parts ++ one ∷ [])) ≡ total (map (λ (n : Numbers). n.sum) parts) +ℤ one.sum
+total_push parts one =
+    ap total (map-append (λ (n : Numbers). n.sum) parts (one ∷ []))
+    ∙ (total-append (map (λ (n : Numbers). n.sum) parts) (one.sum ∷ []) ∙ ap (λ (z : ℤ). total (map (λ (n : Numbers). n.sum) parts) +ℤ z) (zero_left one.sum))
 
 -- one summary more is added
 pub summed_more : (parts : List Numbers) (sum one both : Numbers) → AreSummed parts sum → IsBoth sum one both → AreSummed (parts ++ one ∷ []) both
@@ -26,11 +32,20 @@ summed_more parts sum one both before adds = record {
   stopped = omega (arith, adds.stopped, before.stopped, sum_by_push (λ (n : Numbers). n.stopped) parts one);
   no_memory = omega (arith, adds.no_memory, before.no_memory, sum_by_push (λ (n : Numbers). n.no_memory) parts one);
   bad = omega (arith, adds.bad, before.bad, sum_by_push (λ (n : Numbers). n.bad) parts one);
-  sum = adds.sum ∙ (ap (λ (z : ℤ). z +ℤ one.sum) before.sum ∙ sym (total_push parts));
+  sum = adds.sum ∙ (ap (λ (z : ℤ). z +ℤ one.sum) before.sum ∙ sym (total_push parts one));
 }
-  where
-    total_push : (ns : List Numbers) → total (map (λ (n : Numbers). n.sum) (ns ++ one ∷ [])) ≡ total (map (λ (n : Numbers). n.sum) ns) +ℤ one.sum
-    total_push ns = ap total (map-append (λ (n : Numbers). n.sum) ns (one ∷ [])) ∙ (total-append (map (λ (n : Numbers). n.sum) ns) (one.sum ∷ []) ∙ ap (λ (z : ℤ). total (map (λ (n : Numbers). n.sum) ns) +ℤ z) (zero_left one.sum))
+
+-- and what the sums are with it are the sums without it and its own
+summed_both : (parts : List Numbers) (sum one both : Numbers) → AreSummed parts sum → AreSummed (parts ++ one ∷ []) both → IsBoth sum one both
+summed_both parts sum one both before after = record {
+  records = omega (arith, after.records, before.records, sum_by_push (λ (n : Numbers). n.records) parts one);
+  values = omega (arith, after.values, before.values, sum_by_push (λ (n : Numbers). n.values) parts one);
+  errors = omega (arith, after.errors, before.errors, sum_by_push (λ (n : Numbers). n.errors) parts one);
+  stopped = omega (arith, after.stopped, before.stopped, sum_by_push (λ (n : Numbers). n.stopped) parts one);
+  no_memory = omega (arith, after.no_memory, before.no_memory, sum_by_push (λ (n : Numbers). n.no_memory) parts one);
+  bad = omega (arith, after.bad, before.bad, sum_by_push (λ (n : Numbers). n.bad) parts one);
+  sum = after.sum ∙ (total_push parts one ∙ ap (λ (z : ℤ). z +ℤ one.sum) (sym before.sum));
+}
 
 -- one part more has a summary
 pub whole_more : (all : Texts) (names : List (Bor (List ℕ))) (i : ℕ) (name : Bor (List ℕ)) (parts : List Numbers) (one : Numbers) → i < length names → name ≡ get_or names i name
@@ -80,6 +95,20 @@ has_at all names i d sum one both below has summary adds =
 
 -- the text of a summary is that of its pieces
 pub pieces_of : (n : Numbers)
-    → summary_text n ≡ (((((((counted (codes "records ") n.records ++ counted (codes " values ") n.values) ++ counted (codes " errors ") n.errors) ++ counted (codes " stopped ") n.stopped) ++ counted (codes " out-of-memory ") n.no_memory) ++ counted (codes " bad ") n.bad) ++ codes " sum ") ++ signed_decimal n.sum) ++ codes "\n"
+    → summary_text n ≡ (((((((named_count (codes "records ") n.records ++ named_count (codes " values ") n.values) ++ named_count (codes " errors ") n.errors) ++ named_count (codes " stopped ") n.stopped) ++ named_count (codes " out-of-memory ") n.no_memory) ++ named_count (codes " bad ") n.bad) ++ codes " sum ") ++ signed_decimal n.sum) ++ codes "\n"
 unfolding summary_text
 pieces_of n = refl
+
+-- the sums that a summary can't hold with one part more
+pub beyond_at : (all : Texts) (names : List (Bor (List ℕ))) (i : ℕ) (d : Bor (List ℕ)) (sum one : Numbers) → i < length names
+    → HasSum all (take i names) sum → IsSummary all (get_or names i d).now one → IsTooLarge sum one → IsBeyondSummary all names i
+beyond_at all names i d sum one below has summary large = record {
+  parts = has.parts ++ one ∷ [];
+  whole = whole_more all names i (get_or names i d) has.parts one below (get_or_default names i d (get_or names i d) below) has.whole summary;
+  large = λ both after fits. large both (summed_both has.parts sum one both has.summed after) fits;
+}
+
+-- what is said of None
+pub of_none : {A : Type 0} (o : Option A) (P : Type 0) → IfNone o P → ((x : A) → o ≡ Some x → ⊥) → P
+of_none None P holds none = holds
+of_none (Some x) P holds none = absurd (none x refl)

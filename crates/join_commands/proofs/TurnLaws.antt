@@ -20,18 +20,18 @@ use Rattle.part_lines.specs.declared.line.Said.{Said}
 use Rattle.part_lines.specs.declared.reader.PartFault.{PartFault}
 use Rattle.part_lines.specs.declared.reader.PartFault.TheVariants.{Missing, NotLine, Failed as ReadFailed, NoMemory as NoPartMemory}
 use Rattle.part_lines.specs.Faults.{IsFaultAt}
-use Rattle.part_lines.specs.Lines.{line_of, lines_from, Shows}
-use Rattle.part_lines.specs.Readers.{HasRead, ReaderView}
+use Rattle.part_lines.specs.Lines.{numbered_line, lines_from, Shows}
+use Rattle.part_lines.specs.Readers.{HasReadLines, ReaderView}
 use Rattle.part_lines.proofs.PutLaws.{all_passed, lines_append, next_line, no_line_misses}
 use Rattle.part_lines.proofs.ReadLaws.{at_start, kept_on, lines_push, passed_on}
 use Rattle.join_commands.specs.declared.fault.JoinFault.{JoinFault}
 use Rattle.join_commands.specs.declared.fault.JoinFault.TheVariants.{Refused, ReadFault, WriteFault, NoMemory}
 use Rattle.join_commands.specs.Faults.{at_part, of_lines}
 use Rattle.join_commands.specs.Joins.{PutsJoined, PutsText}
-use Rattle.join_commands.specs.Parts.{AreDealt, IsWhole, out_name}
+use Rattle.join_commands.specs.Parts.{IsWholePart, out_name}
+use Rattle.part_lines.specs.Streams.{AreDealt}
 use Rattle.join_commands.proofs.OrderLaws.{reads_part}
-use Rattle.part_lines.specs.declared.tally.Tally.{Tally}
-use Rattle.join_commands.specs.Turns.{AreAtStarts, AreLevel, HasEnded, IsAt, IsFirstEnded}
+use Rattle.join_commands.specs.Turns.{AreAtStarts, IsAt}
 
 abbrev Lines : Type 0
 Lines = List (List ℕ)
@@ -56,7 +56,7 @@ pub at_kept : (said : Lines) (old new : ReaderView) → IsAt said old → Keeps 
 at_kept said old new at keeps passed = record {
   text = at.text;
   part = at.part;
-  read = subst (λ (n : ℕ). HasRead at.text (take n said) new) (sym passed) (kept_on at.text (take old.passed said) old new at.read keeps passed);
+  read = subst (λ (n : ℕ). HasReadLines at.text (take n said) new) (sym passed) (kept_on at.text (take old.passed said) old new at.read keeps passed);
 }
 
 -- the next line of a part
@@ -74,7 +74,7 @@ at_next said old new s words at shows passed ahead =
     record {
       text = at.text;
       part = at.part;
-      read = subst (λ (l : Lines). HasRead at.text l new) (sym more ∙ ap (λ n. take n said) (sym passed)) (passed_on at.text (take old.passed said) old new s words at.read shows passed ahead);
+      read = subst (λ (l : Lines). HasReadLines at.text l new) (sym more ∙ ap (λ n. take n said) (sym passed)) (passed_on at.text (take old.passed said) old new s words at.read shows passed ahead);
     }
 
 -- where a line is to come a part isn't at its end
@@ -95,14 +95,14 @@ unread said text reader view at NoPartMemory join stands is same =
     subst (λ (f : JoinFault). PutsText text view view (Err f)) (sym same) (AppendsFront-none text (Appends-nil view.written))
 
 -- the line that was read is that of the part
-pub same_line : (said : Lines) (place number : ℕ) (words read : List ℕ) → slice_get said place ≡ Some words → slice_get said place ≡ Some read → line_of number read ≡ line_of number words
-same_line said place number words read is same = let e : read ≡ words = cc in ap (line_of number) e
+pub same_line : (said : Lines) (place number : ℕ) (words read : List ℕ) → slice_get said place ≡ Some words → slice_get said place ≡ Some read → numbered_line number read ≡ numbered_line number words
+same_line said place number words read is same = let e : read ≡ words = cc in ap (numbered_line number) e
 
-pub wrote : (number : ℕ) (words read : List ℕ) (old new : SinkView) → line_of number read ≡ line_of number words → Puts old new (Ok tt) (line_of number read) → PutsText (line_of number words) old new (Ok tt)
+pub wrote : (number : ℕ) (words read : List ℕ) (old new : SinkView) → numbered_line number read ≡ numbered_line number words → Puts old new (Ok tt) (numbered_line number read) → PutsText (numbered_line number words) old new (Ok tt)
 wrote number words read old new same puts = (subst (Appends old.written new.written) same puts.ok, puts.cause.still)
 
-pub wrote_not : (number : ℕ) (words read : List ℕ) (old new : SinkView) (fault : Failed) → line_of number read ≡ line_of number words → Puts old new (Err fault) (line_of number read)
-    → PutsText (line_of number words) old new (Err WriteFault)
+pub wrote_not : (number : ℕ) (words read : List ℕ) (old new : SinkView) (fault : Failed) → numbered_line number read ≡ numbered_line number words → Puts old new (Err fault) (numbered_line number read)
+    → PutsText (numbered_line number words) old new (Err WriteFault)
 wrote_not number words read old new fault same puts = (subst (AppendsFront old.written new.written) same puts.part, puts.cause.failed)
 
 -- in a round the readers before a place have passed a line more than the others
@@ -194,10 +194,10 @@ turn_line parts lines said at written readers reader old new stands dealt is her
 
 -- all lines before it and it
 lines_on : (lines : Lines) (written : ℕ) (words : List ℕ) → slice_get lines written ≡ Some words
-    → lines_from 1 (take written lines) ++ line_of (written + 1) words ≡ lines_from 1 (take (written + 1) lines)
+    → lines_from 1 (take written lines) ++ numbered_line (written + 1) words ≡ lines_from 1 (take (written + 1) lines)
 lines_on lines written words is =
     let number : written + 1 ≡ 1 + length (take written lines) = omega (arith, length-take written lines, slice_get_within lines written words is) in
-    ap (λ n. lines_from 1 (take written lines) ++ line_of n words) number
+    ap (λ n. lines_from 1 (take written lines) ++ numbered_line n words) number
     ∙ (sym (lines_push 1 (take written lines) words) ∙ ap (lines_from 1) (sym (take_got lines written words is)))
 
 lines_front : {old new : Option (List ℕ)} (lines : Lines) (n : ℕ) → AppendsFront old new (lines_from 1 (take n lines)) → AppendsFront old new (lines_from 1 lines)
@@ -208,7 +208,7 @@ lines_front {old = old} {new = new} lines n front =
 module _ (parts : List Lines) (lines : Lines) (at written : ℕ) (readers : List ReaderView) (words : List ℕ) (old mid new : SinkView) (stands : Stands parts lines at written readers old mid)
     (is : slice_get lines written ≡ Some words) where
   -- it was written
-  pub turned : (r : ReaderView) → r.passed ≡ stands.round + 1 → ((said : Lines) → slice_get parts at ≡ Some said → IsAt said r) → PutsText (line_of (written + 1) words) mid new (Ok tt)
+  pub turned : (r : ReaderView) → r.passed ≡ stands.round + 1 → ((said : Lines) → slice_get parts at ≡ Some said → IsAt said r) → PutsText (numbered_line (written + 1) words) mid new (Ok tt)
       → Stands parts lines (at + 1) (written + 1) (set readers at r) old new
   turned r passed on puts = record {
     round = stands.round;
@@ -219,13 +219,13 @@ module _ (parts : List Lines) (lines : Lines) (at written : ℕ) (readers : List
   }
 
   -- it wasn't
-  pub stopped : (fault : JoinFault) → PutsText (line_of (written + 1) words) mid new (Err fault) → PutsJoined lines old new (Err fault)
+  pub stopped : (fault : JoinFault) → PutsText (numbered_line (written + 1) words) mid new (Err fault) → PutsJoined lines old new (Err fault)
   stopped fault puts = by_fault fault puts
     where
-      front : AppendsFront mid.written new.written (line_of (written + 1) words) → AppendsFront old.written new.written (lines_from 1 lines)
+      front : AppendsFront mid.written new.written (numbered_line (written + 1) words) → AppendsFront old.written new.written (lines_from 1 lines)
       front some = lines_front lines (written + 1) (subst (AppendsFront old.written new.written) (lines_on lines written words is) (AppendsFront-then stands.wrote some))
 
-      by_fault : (f : JoinFault) → PutsText (line_of (written + 1) words) mid new (Err f) → PutsJoined lines old new (Err f)
+      by_fault : (f : JoinFault) → PutsText (numbered_line (written + 1) words) mid new (Err f) → PutsJoined lines old new (Err f)
       by_fault (Refused refusal) some = absurd some
       by_fault ReadFault some = front some
       by_fault NoMemory some = front some
@@ -248,96 +248,13 @@ pub all_turned : (parts : List Lines) (lines : Lines) (at written : ℕ) (reader
 all_turned parts lines at written readers old new stands all =
     (subst (λ (l : Lines). Appends old.written new.written (lines_from 1 l)) (take_all written lines all) stands.wrote, stands.still)
 
--- Of the parts as far as a place, which ends first.
-abbrev pub EachUpTo : List Tally → ℕ → ℕ → Type 0
-EachUpTo tallies at ended =
-    (k : ℕ) (tally least : Tally) → k < at → slice_get tallies k ≡ Some tally → slice_get tallies ended ≡ Some least
-    → (least.lines ≤ tally.lines) × (k < ended → least.lines < tally.lines)
-
-pub first_alone : (tallies : List Tally) → EachUpTo tallies 1 0
-first_alone tallies = λ k tally least below is here.
-    let none : k ≡ 0 = omega (arith, below) in
-    let first : slice_get tallies 0 ≡ Some tally = ap (slice_get tallies) (sym none) ∙ is in
-    let same : least ≡ tally = cc in
-    let lines : least.lines ≡ tally.lines = ap (λ (t : Tally). t.lines) same in
-    (omega (arith, lines), λ under. absurd (omega (arith, under)))
-
-pub ends_earlier : (tallies : List Tally) (at ended : ℕ) (one other : Tally) → slice_get tallies at ≡ Some one → slice_get tallies ended ≡ Some other → one.lines < other.lines
-    → EachUpTo tallies at ended → EachUpTo tallies (at + 1) at
-ends_earlier tallies at ended one other here there fewer each = λ k tally least below is now.
-    let same : least ≡ one = cc in
-    let lines : least.lines ≡ one.lines = ap (λ (t : Tally). t.lines) same in
-    elim (cases_order k at) [
-      | inl e ↦
-          let this : slice_get tallies at ≡ Some tally = ap (slice_get tallies) (sym e) ∙ is in
-          let own : one ≡ tally = cc in
-          let count : one.lines ≡ tally.lines = ap (λ (t : Tally). t.lines) own in
-          (omega (arith, lines, count), λ under. absurd (omega (arith, under, e)))
-      | inr (inl under) ↦
-          let before = each k tally other under is there in
-          (omega (arith, lines, fewer, before.0), λ still. omega (arith, lines, fewer, before.0))
-      | inr (inr above) ↦ absurd (omega (arith, above, below))
-    ]
-
-pub ends_no_earlier : (tallies : List Tally) (at ended : ℕ) (one other : Tally) → slice_get tallies at ≡ Some one → slice_get tallies ended ≡ Some other → other.lines ≤ one.lines → ended < at
-    → EachUpTo tallies at ended → EachUpTo tallies (at + 1) ended
-ends_no_earlier tallies at ended one other here there more before each = λ k tally least below is now.
-    elim (cases_order k at) [
-      | inl e ↦
-          let this : slice_get tallies at ≡ Some tally = ap (slice_get tallies) (sym e) ∙ is in
-          let own : one ≡ tally = cc in
-          let same : other ≡ least = cc in
-          let count : one.lines ≡ tally.lines = ap (λ (t : Tally). t.lines) own in
-          let lines : other.lines ≡ least.lines = ap (λ (t : Tally). t.lines) same in
-          (omega (arith, lines, count, more), λ under. absurd (omega (arith, under, e, before)))
-      | inr (inl under) ↦ each k tally least under is now
-      | inr (inr above) ↦ absurd (omega (arith, above, below))
-    ]
-
-pub level_is : (tallies : List Tally) (ended fewest : ℕ) (least : Tally) → slice_get tallies ended ≡ Some least → fewest ≡ least.lines → IsFirstEnded tallies ended
-    → ((k : ℕ) (tally : Tally) → slice_get tallies k ≡ Some tally → (k < ended → tally.lines ≤ fewest + 1) × (ended ≤ k → tally.lines ≤ fewest)) → AreLevel tallies
-level_is tallies ended fewest least here is first few = record {
-  rounds = fewest;
-  more = ended;
-  each = λ at tally there.
-      let most = few at tally there in
-      let each = first.each at tally least there here in
-      (λ below. omega (arith, most.0 below, each.1 below, is), λ past. omega (arith, most.1 past, each.0, is));
-}
-
-pub ended_before : (tallies : List Tally) (at ended fewest most : ℕ) (tally least : Tally) → slice_get tallies at ≡ Some tally → slice_get tallies ended ≡ Some least → fewest ≡ least.lines
-    → (at < ended → most ≡ fewest + 1) → (ended ≤ at → most ≡ fewest) → most < tally.lines → HasEnded tallies at (most + 1) ended
-ended_before tallies at ended fewest most tally least here there is below past more = record {
-  tally = tally;
-  least = least;
-  tally_is = here;
-  least_is = there;
-  there = omega (arith, more);
-  before = λ under. omega (arith, below under, is);
-  behind = λ over. omega (arith, past over, is);
-}
-
-pub level_more : (tallies : List Tally) (at ended fewest most : ℕ) (one : Tally) → slice_get tallies at ≡ Some one → (at < ended → most ≡ fewest + 1) → (ended ≤ at → most ≡ fewest) → one.lines ≤ most
-    → ((k : ℕ) (tally : Tally) → k < at → slice_get tallies k ≡ Some tally → (k < ended → tally.lines ≤ fewest + 1) × (ended ≤ k → tally.lines ≤ fewest))
-    → (k : ℕ) (tally : Tally) → k < at + 1 → slice_get tallies k ≡ Some tally → (k < ended → tally.lines ≤ fewest + 1) × (ended ≤ k → tally.lines ≤ fewest)
-level_more tallies at ended fewest most one here below past few each = λ k tally under is.
-    elim (cases_order k at) [
-      | inl e ↦
-          let this : slice_get tallies at ≡ Some tally = ap (slice_get tallies) (sym e) ∙ is in
-          let own : one ≡ tally = cc in
-          let count : one.lines ≡ tally.lines = ap (λ (t : Tally). t.lines) own in
-          (λ b. omega (arith, count, few, below (omega (arith, b, e))), λ p. omega (arith, count, few, past (omega (arith, p, e))))
-      | inr (inl before) ↦ each k tally before is
-      | inr (inr above) ↦ absurd (omega (arith, above, under))
-    ]
-
 -- a reader that was opened is at the start of its part
-pub at_begin : (all : Texts) (name : List ℕ) (said : Lines) (reader : ReaderView) → IsWhole all name said → IsSomeAnd (text_of all (out_name name)) (λ text. reader.ahead ≡ Some text) → reader.passed ≡ 0
+pub at_begin : (all : Texts) (name : List ℕ) (said : Lines) (reader : ReaderView) → IsWholePart all name said → IsSomeAnd (text_of all (out_name name)) (λ text. reader.ahead ≡ Some text) → reader.passed ≡ 0
     → IsAt said reader × (reader.passed ≡ 0)
 at_begin all name said reader whole opens passed =
     let read = reads_part all name said reader.ahead whole opens in
     let none : [] ≡ take reader.passed said = ap (λ n. take n said) (sym passed) in
-    (record { text = read.0; part = read.2; read = subst (λ (l : Lines). HasRead read.0 l reader) none (at_start read.0 reader read.1 passed) }, passed)
+    (record { text = read.0; part = read.2; read = subst (λ (l : Lines). HasReadLines read.0 l reader) none (at_start read.0 reader read.1 passed) }, passed)
 
 pub starts_more : (parts : List Lines) (readers : List ReaderView) (i : ℕ) (reader : ReaderView) → i < length parts → AreAtStarts (take i parts) readers → IsAt (get_or parts i []) reader × (reader.passed ≡ 0)
     → AreAtStarts (take (i + 1) parts) (readers ++ reader ∷ [])

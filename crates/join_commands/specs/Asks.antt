@@ -26,9 +26,9 @@ lines_asked (first ∷ names) =
     else asked_with Lines (first ∷ names)
 
 -- What words ask to be joined. None is a fault of usage.
-abbrev pub asked_of : List (Bor (List ℕ)) → Option Asked
-asked_of [] = None
-asked_of (first ∷ words) =
+abbrev pub command_asked : List (Bor (List ℕ)) → Option Asked
+command_asked [] = None
+command_asked (first ∷ words) =
     if bytes_eq first.now (codes "lines") then lines_asked words
     else (if bytes_eq first.now (codes "summary") then asked_with Summary words else None)
 
@@ -40,7 +40,7 @@ words_before Summary = 1
 
 -- These words ask this of the parts of these names.
 pub record IsRequest (words : List (Bor (List ℕ))) (request : Request) : Type 0 where
-  pub asked : asked_of words ≡ Some request.asked
+  pub asked : command_asked words ≡ Some request.asked
   pub names : request.names.now ≡ drop (words_before request.asked) words
   pub are : are_names request.names.now ≡ true
 
@@ -51,6 +51,6 @@ pub record IsLinesRequest (words : List (Bor (List ℕ))) (request : Request) : 
   pub are : are_names request.names.now ≡ true
 
 -- The lines that tell how the program is called.
-abbrev pub usage_lines : List ℕ
-usage_lines =
+abbrev pub join_usage : List ℕ
+join_usage =
     codes "usage: exec_join lines [--dealt] PART..\n" ++ codes "usage: exec_join summary PART..\n"

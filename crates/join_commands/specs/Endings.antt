@@ -11,11 +11,12 @@ use Rattle.join_commands.specs.declared.ask.Asked.{Asked}
 use Rattle.join_commands.specs.declared.ask.Asked.TheVariants.{Lines, Dealt, Summary}
 use Rattle.join_commands.specs.declared.fault.JoinFault.{JoinFault}
 use Rattle.join_commands.specs.declared.fault.JoinFault.TheVariants.{Refused, ReadFault, WriteFault, NoMemory}
-use Rattle.join_commands.specs.Asks.{usage_lines, words_before}
+use Rattle.join_commands.specs.Asks.{join_usage, words_before}
 use Rattle.join_commands.specs.Faults.{HasJoinCause, IsJoinFault}
-use Rattle.join_commands.specs.Joins.{JoinsLines, LeavesRefused}
-use Rattle.join_commands.specs.Notes.{refusal_text}
-use Rattle.join_commands.specs.Summaries.{JoinsSummaries}
+use Rattle.join_commands.specs.Joins.{JoinsLines, LeavesFront}
+use Rattle.join_commands.specs.Notes.{part_refusal_text}
+use Rattle.join_commands.specs.Summaries.{JoinsSummaries, LeavesSumFront}
+use Rattle.join_commands.specs.Unsummed.{IsUnsummed}
 use Rattle.part_lines.specs.Folders.{FolderView}
 
 -- What is asked of the parts of these names was joined, or it wasn't for a fault.
@@ -25,16 +26,17 @@ EndsJoin texts Lines names old new (Ok status) = JoinsLines texts Lines names ol
 EndsJoin texts Dealt names old new (Ok status) = JoinsLines texts Dealt names old new status
 EndsJoin texts Summary names old new (Ok status) = JoinsSummaries texts names old new status
 EndsJoin texts Lines names old new (Err fault) =
-    IsJoinFault texts names fault × LeavesRefused old new fault
+    IsJoinFault texts names fault × LeavesFront texts Lines names old new fault
 EndsJoin texts Dealt names old new (Err fault) =
-    IsJoinFault texts names fault × LeavesRefused old new fault
-EndsJoin texts Summary names old new (Err fault) = LeavesRefused old new fault
+    IsJoinFault texts names fault × LeavesFront texts Dealt names old new fault
+EndsJoin texts Summary names old new (Err fault) =
+    IsUnsummed texts names fault × LeavesSumFront texts names old new fault
 
 -- Why the parts of these names aren't joined is told, and this status stands then. A refusal stands
 -- also where notes fail.
 abbrev pub TellsFault : List (Bor (List ℕ)) → JoinFault → SinkView → SinkView → Status → Type 0
 TellsFault names (Refused refusal) old new status =
-    (status ≡ PlanRefused) × Tells old new (refusal_text names refusal)
+    (status ≡ PlanRefused) × Tells old new (part_refusal_text names refusal)
 TellsFault names ReadFault old new status = Concludes ReadStatus old new status
 TellsFault names WriteFault old new status = Concludes WriteStatus old new status
 TellsFault names NoMemory old new status = Concludes MemoryStatus old new status
@@ -51,7 +53,7 @@ pub record IsUsage (before now : FolderView) (old new noted notes : SinkView) (s
   pub status_is : status ≡ Usage
   pub folder : now ≡ before
   pub out : new ≡ old
-  pub told : Tells noted notes usage_lines
+  pub told : Tells noted notes join_usage
 
 -- The names of the parts of which this is asked.
 abbrev pub names_asked : Asked → List (Bor (List ℕ)) → List (Bor (List ℕ))

@@ -7,3 +7,5 @@ pub mod Summaries
 pub mod Endings
 pub mod Notes
 pub mod Turns
+pub mod Reads
+pub mod Unsummed

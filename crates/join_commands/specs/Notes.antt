@@ -11,12 +11,12 @@ use Rattle.join_commands.specs.declared.summary.Contradiction.{Contradiction}
 use Rattle.join_commands.specs.declared.summary.Contradiction.TheVariants.{Records, Sum}
 
 -- The name at a place.
-abbrev pub named : Option (Bor (List ℕ)) → List ℕ
-named None = []
-named (Some name) = name.now
+abbrev pub part_name : Option (Bor (List ℕ)) → List ℕ
+part_name None = []
+part_name (Some name) = name.now
 
-abbrev pub name_at : List (Bor (List ℕ)) → ℕ → List ℕ
-name_at names at = named (slice_get names at)
+abbrev pub part_name_at : List (Bor (List ℕ)) → ℕ → List ℕ
+part_name_at names at = part_name (slice_get names at)
 
 -- The first bytes of a status, or that there are none.
 abbrev pub front_text : Front → List ℕ
@@ -31,27 +31,27 @@ contradiction_text (Sum sum) =
     codes ".out: the sum is " ++ signed_decimal sum ++ codes ", and there are no values\n"
 
 -- What is told behind the name of a part that is refused for this cause.
-abbrev pub cause_text : List (Bor (List ℕ)) → List ℕ → Cause → List ℕ
-cause_text names name NoStatus = codes ".status: No such file or directory\n"
-cause_text names name (StatusIsnt said) =
+abbrev pub part_cause_text : List (Bor (List ℕ)) → List ℕ → Cause → List ℕ
+part_cause_text names name NoStatus = codes ".status: No such file or directory\n"
+part_cause_text names name (StatusIsnt said) =
     codes ".status: the status is " ++ front_text said ++ codes ", and not 0, 1 or 4\n"
-cause_text names name NoLines = codes ".out: No such file or directory\n"
-cause_text names name (NotLine number) =
+part_cause_text names name NoLines = codes ".out: No such file or directory\n"
+part_cause_text names name (NotLine number) =
     codes ".out: line " ++ decimal number ++ codes " isn't that of record " ++ decimal number
     ++ codes "\n"
-cause_text names name (StatusDiffers told found) =
+part_cause_text names name (StatusDiffers told found) =
     codes ".status: the status is " ++ decimal (code_of told) ++ codes ", but the lines of "
     ++ name ++ codes ".out say " ++ decimal (code_of found) ++ codes "\n"
-cause_text names name (NotDealt number ended) =
+part_cause_text names name (NotDealt number ended) =
     codes ".out: line " ++ decimal number ++ codes " wasn't dealt in turn: "
-    ++ name_at names ended ++ codes ".out has ended before\n"
-cause_text names name NoSummary = codes ".out: this isn't a summary\n"
-cause_text names name (Contradicts contradiction) = contradiction_text contradiction
-cause_text names name TooLarge = codes ".out: the sums with its numbers are too large\n"
-cause_text names name Changed = codes ".out: it was changed while it was read\n"
+    ++ part_name_at names ended ++ codes ".out has ended before\n"
+part_cause_text names name NoSummary = codes ".out: this isn't a summary\n"
+part_cause_text names name (Contradicts contradiction) = contradiction_text contradiction
+part_cause_text names name TooLarge = codes ".out: the sums with its numbers are too large\n"
+part_cause_text names name Changed = codes ".out: it was changed while it was read\n"
 
 -- The line that tells why a part of these names is refused.
-abbrev pub refusal_text : List (Bor (List ℕ)) → Refusal → List ℕ
-refusal_text names refusal =
-    codes "refused: " ++ name_at names refusal.at
-    ++ cause_text names (name_at names refusal.at) refusal.cause
+abbrev pub part_refusal_text : List (Bor (List ℕ)) → Refusal → List ℕ
+part_refusal_text names refusal =
+    codes "refused: " ++ part_name_at names refusal.at
+    ++ part_cause_text names (part_name_at names refusal.at) refusal.cause

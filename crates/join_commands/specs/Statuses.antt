@@ -24,11 +24,12 @@ IsUntold text (Refused (StatusIsnt said)) = told_status text ≡ None
 IsUntold text fault = ⊥
 
 -- The status of a run that wrote so many lines, of which so many are values and out-of-memory.
-abbrev pub status_by : ℕ → ℕ → ℕ → Status
-status_by lines values no_memory =
+abbrev pub counts_status : ℕ → ℕ → ℕ → Status
+counts_status lines values no_memory =
     if nat_lt 0 no_memory then NoMemory
     else (if values == lines then AllValues else NotAllValues)
 
 -- The status of a run that wrote these lines.
-abbrev pub status_of : List (List ℕ) → Status
-status_of said = status_by (length said) (count_by says_value said) (count_by says_no_memory said)
+abbrev pub lines_status : List (List ℕ) → Status
+lines_status said = counts_status (length said) (count_by says_value said)
+    (count_by says_no_memory said)

@@ -2,8 +2,8 @@
 use Rattle.std.specs.Prelude.{◌≡◌, ℕ, ◌+◌, ◌≤◌, ◌<◌, List, take, slice_get, Some}
 use Rattle.std.specs.List.{AllZip}
 use Rattle.part_lines.specs.declared.tally.Tally.{Tally}
-use Rattle.part_lines.specs.Lines.{IsPart}
-use Rattle.part_lines.specs.Readers.{HasRead, ReaderView}
+use Rattle.part_lines.specs.Lines.{IsPartText}
+use Rattle.part_lines.specs.Readers.{HasReadLines, ReaderView}
 use Rattle.join_commands.specs.declared.fault.JoinFault.{JoinFault}
 use Rattle.join_commands.specs.declared.fault.JoinFault.TheVariants.{Refused, ReadFault, WriteFault, NoMemory}
 use Rattle.join_commands.specs.declared.refusal.Cause.{Cause}
@@ -23,7 +23,7 @@ pub record AreLevel (tallies : List Tally) : Type 0 where
       → (at < more → tally.lines ≡ rounds + 1) × (more ≤ at → tally.lines ≡ rounds)
 
 -- The part at one place has a line of this number, and the part at another place has ended before.
-pub record HasEnded (tallies : List Tally) (at number ended : ℕ) : Type 0 where
+pub record PartHasEnded (tallies : List Tally) (at number ended : ℕ) : Type 0 where
   pub tally : Tally
   pub least : Tally
   pub tally_is : slice_get tallies at ≡ Some tally
@@ -34,7 +34,7 @@ pub record HasEnded (tallies : List Tally) (at number ended : ℕ) : Type 0 wher
 
 -- Lines weren't dealt in turn.
 abbrev pub IsUnevenFor : List Tally → ℕ → Cause → Type 0
-IsUnevenFor tallies at (NotDealt number ended) = HasEnded tallies at number ended
+IsUnevenFor tallies at (NotDealt number ended) = PartHasEnded tallies at number ended
 IsUnevenFor tallies at cause = ⊥
 
 abbrev pub IsUneven : List Tally → JoinFault → Type 0
@@ -46,9 +46,10 @@ IsUneven tallies NoMemory = ⊥
 -- A reader is at a line of a part that has these lines.
 pub record IsAt (said : List (List ℕ)) (reader : ReaderView) : Type 0 where
   pub text : List ℕ
-  pub part : IsPart text said
-  pub read : HasRead text (take reader.passed said) reader
+  pub part : IsPartText text said
+  pub read : HasReadLines text (take reader.passed said) reader
 
 -- Readers are at the starts of parts that have these lines.
 abbrev pub AreAtStarts : List (List (List ℕ)) → List ReaderView → Type 0
-AreAtStarts parts readers = AllZip (λ said reader. IsAt said reader × (reader.passed ≡ 0)) parts readers
+AreAtStarts parts readers = AllZip (λ said reader. IsAt said reader
+    × (reader.passed ≡ 0)) parts readers

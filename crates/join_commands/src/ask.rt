@@ -2,7 +2,7 @@
 ghost use Rattle.std.specs.Prelude.{◌≡◌, true, false, None, MatchOption};
 ghost use Rattle.std.specs.List.{list_all};
 ghost use Rattle.exec_words.specs.Reading.{is_name};
-ghost use Rattle.join_commands.specs.Asks.{are_names, asked_of, lines_asked, usage_lines, IsRequest, IsLinesRequest};
+ghost use Rattle.join_commands.specs.Asks.{are_names, command_asked, join_usage, lines_asked, IsRequest, IsLinesRequest};
 
 /// The most parts that are joined at a time.
 pub const MOST_PARTS: usize = 1_000_000;
@@ -27,7 +27,7 @@ pub(crate) struct Request<'a> {
 
 /// What is asked. None is a fault of usage.
 pub(crate) fn read_words<'a>(words: &'a [&'a str]) -> Option<Request<'a>>
-    ensures { MatchOption result (asked_of words.now ≡ None) (IsRequest words.now) }
+    ensures { MatchOption result (command_asked words.now ≡ None) (IsRequest words.now) }
 {
     let Some((first, rest)) = words.split_first() else {
         return None;
@@ -94,7 +94,7 @@ fn is_name(word: &str) -> bool
 
 /// The lines that tell how the program is called.
 pub(crate) fn usage_lines() -> &'static [u8]
-    ensures { result.now ≡ usage_lines }
+    ensures { result.now ≡ join_usage }
 {
     b"usage: exec_join lines [--dealt] PART..\nusage: exec_join summary PART..\n"
 }

@@ -1,7 +1,7 @@
 //! The commands that join.
 ghost use Rattle.std.specs.Prelude.{◌≡◌, true, Some, MatchOption};
 ghost use Rattle.exec_io.specs.Shelves.{Texts};
-ghost use Rattle.join_commands.specs.Asks.{are_names, asked_of};
+ghost use Rattle.join_commands.specs.Asks.{are_names, command_asked};
 ghost use Rattle.join_commands.specs.Endings.{EndsJoin, IsAnswered, IsUsage, TellsFault};
 ghost use Rattle.join_commands.specs.Faults.{HasJoinCause};
 ghost use Rattle.join_commands.specs.declared.fault.JoinFault.TheVariants.{ReadFault, WriteFault};
@@ -29,7 +29,7 @@ pub fn join<F: Folder, K: Sink, N: Sink>(
     out: &mut K,
     notes: &mut N,
 ) -> Status
-    ensures { MatchOption (asked_of words.now)
+    ensures { MatchOption (command_asked words.now)
         (IsUsage (F.told folder.old) (F.told folder.new) (K.told out.old) (K.told out.new)
         (N.told notes.old) (N.told notes.new) result)
         (IsAnswered words.now (F.told folder.old) (F.told folder.new) (K.told out.old)
@@ -59,7 +59,8 @@ fn join_asked<F: Folder, K: Sink>(
         → EndsJoin all asked names.now (K.told out.old) (K.told out.new) result }
     ensures reads { HasJoinCause ReadFault (F.told folder.old).faults (F.told folder.new).faults
         result }
-    ensures writes { HasJoinCause WriteFault (K.told out.old).faults (K.told out.new).faults result }
+    ensures writes { HasJoinCause WriteFault (K.told out.old).faults (K.told out.new).faults
+        result }
 {
     match asked {
         Asked::Lines => join_lines(alloc, names, false, folder, out),

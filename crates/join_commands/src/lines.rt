@@ -1,11 +1,12 @@
 //! How the lines of parts that follow each other are joined.
-ghost use Rattle.std.specs.Prelude.{◌≡◌, ◌≢◌, ◌≤◌, ◌<◌, ◌*◌, List, ℕ, Some, IfOk, IfErr, OnOk, All, length, vec_len};
+ghost use Rattle.std.specs.Prelude.{◌≡◌, ◌≢◌, ◌≤◌, ◌<◌, ◌*◌, [], List, ℕ, Some, IfOk, IfErr, OnOk, All, length, vec_len};
 ghost use Rattle.std.specs.List.{AllZip};
 ghost use Rattle.exec_io.specs.Shelves.{Texts};
+ghost use Rattle.exec_io.specs.Sinks.{Appends};
 ghost use Rattle.join_commands.specs.Faults.{HasJoinCause, IsJoinFault};
-ghost use Rattle.join_commands.specs.Joins.{AreTallied, AreWhole, HandsOn, JoinsLines, LeavesRefused, PutsJoined, asked_for};
-ghost use Rattle.join_commands.specs.Parts.{in_order};
-ghost use Rattle.join_commands.specs.Statuses.{status_by};
+ghost use Rattle.join_commands.specs.Joins.{AreTallied, AreWhole, HandsOn, JoinsLines, LeavesFront, PutsJoined, asked_for};
+ghost use Rattle.part_lines.specs.Streams.{in_order};
+ghost use Rattle.join_commands.specs.Statuses.{counts_status};
 ghost use Rattle.join_commands.specs.declared.ask.Asked.TheVariants.{Lines, Dealt};
 ghost use Rattle.join_commands.specs.declared.ask.TheConstants.{MOST_PARTS};
 ghost use Rattle.join_commands.specs.declared.fault.JoinFault.TheVariants.{ReadFault, WriteFault};
@@ -85,7 +86,8 @@ fn put_in_order<F: Folder, K: Sink>(
         → PutsJoined (in_order parts) (K.told out.old) (K.told out.new) result }
     ensures reads { HasJoinCause ReadFault (F.told folder.old).faults (F.told folder.new).faults
         result }
-    ensures writes { HasJoinCause WriteFault (K.told out.old).faults (K.told out.new).faults result }
+    ensures writes { HasJoinCause WriteFault (K.told out.old).faults (K.told out.new).faults
+        result }
 {
     let mut written = 0;
     for (at, name) in names.iter().enumerate() {
@@ -112,10 +114,12 @@ fn put_in_order<F: Folder, K: Sink>(
 /// The status of one run over all records, once what it would write was handed on.
 fn finish_lines<K: Sink>(sum: &Tally, out: &mut K) -> Result<Status, JoinFault>
     ensures status { IfOk result (λ status.
-        status ≡ status_by sum.now.lines sum.now.values sum.now.no_memory) }
+        status ≡ counts_status sum.now.lines sum.now.values sum.now.no_memory) }
     ensures ok { OnOk result (HandsOn (K.told out.old) (K.told out.new)) }
     ensures err { IfErr result (λ fault. fault ≡ WriteFault) }
-    ensures writes { HasJoinCause WriteFault (K.told out.old).faults (K.told out.new).faults result }
+    ensures wrote { Appends (K.told out.old).written (K.told out.new).written [] }
+    ensures writes { HasJoinCause WriteFault (K.told out.old).faults (K.told out.new).faults
+        result }
 {
     match out.finish() {
         Ok(()) => Ok(status_of(sum)),
@@ -136,11 +140,12 @@ fn join_ordered<F: Folder, K: Sink>(
         (JoinsLines all Lines names.now (K.told out.old) (K.told out.new)) }
     ensures fault { (all : Texts) → (F.told folder.old).texts ≡ Some all
         → IfErr result (IsJoinFault all names.now) }
-    ensures refused { (all : Texts) → (F.told folder.old).texts ≡ Some all
-        → IfErr result (LeavesRefused (K.told out.old) (K.told out.new)) }
+    ensures front { (all : Texts) → (F.told folder.old).texts ≡ Some all
+        → IfErr result (LeavesFront all Lines names.now (K.told out.old) (K.told out.new)) }
     ensures reads { HasJoinCause ReadFault (F.told folder.old).faults (F.told folder.new).faults
         result }
-    ensures writes { HasJoinCause WriteFault (K.told out.old).faults (K.told out.new).faults result }
+    ensures writes { HasJoinCause WriteFault (K.told out.old).faults (K.told out.new).faults
+        result }
 {
     let tallies = look_through_all(alloc, names, folder)?;
     put_in_order(alloc, names, &tallies, folder, out)?;
@@ -160,11 +165,12 @@ fn join_dealt<F: Folder, K: Sink>(
         (JoinsLines all Dealt names.now (K.told out.old) (K.told out.new)) }
     ensures fault { (all : Texts) → (F.told folder.old).texts ≡ Some all
         → IfErr result (IsJoinFault all names.now) }
-    ensures refused { (all : Texts) → (F.told folder.old).texts ≡ Some all
-        → IfErr result (LeavesRefused (K.told out.old) (K.told out.new)) }
+    ensures front { (all : Texts) → (F.told folder.old).texts ≡ Some all
+        → IfErr result (LeavesFront all Dealt names.now (K.told out.old) (K.told out.new)) }
     ensures reads { HasJoinCause ReadFault (F.told folder.old).faults (F.told folder.new).faults
         result }
-    ensures writes { HasJoinCause WriteFault (K.told out.old).faults (K.told out.new).faults result }
+    ensures writes { HasJoinCause WriteFault (K.told out.old).faults (K.told out.new).faults
+        result }
 {
     let tallies = look_through_all(alloc, names, folder)?;
     check_dealt(&tallies)?;
@@ -188,11 +194,13 @@ pub(crate) fn join_lines<F: Folder, K: Sink>(
         (JoinsLines all (asked_for dealt) names.now (K.told out.old) (K.told out.new)) }
     ensures fault { (all : Texts) → (F.told folder.old).texts ≡ Some all
         → IfErr result (IsJoinFault all names.now) }
-    ensures refused { (all : Texts) → (F.told folder.old).texts ≡ Some all
-        → IfErr result (LeavesRefused (K.told out.old) (K.told out.new)) }
+    ensures front { (all : Texts) → (F.told folder.old).texts ≡ Some all
+        → IfErr result
+        (LeavesFront all (asked_for dealt) names.now (K.told out.old) (K.told out.new)) }
     ensures reads { HasJoinCause ReadFault (F.told folder.old).faults (F.told folder.new).faults
         result }
-    ensures writes { HasJoinCause WriteFault (K.told out.old).faults (K.told out.new).faults result }
+    ensures writes { HasJoinCause WriteFault (K.told out.old).faults (K.told out.new).faults
+        result }
 {
     if dealt {
         join_dealt(alloc, names, folder, out)

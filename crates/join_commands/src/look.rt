@@ -35,8 +35,8 @@ pub(crate) fn open_lines<F: Folder>(
     PartReader::open(alloc, &file_name, folder).map_err(|fault| of_lines(fault))
 }
 
-/// Looks through a part, which must be whole: its lines are those that a run writes, and its run ended
-/// as they say.
+/// Looks through a part, which must be whole: its lines are those that a run writes, and its run
+/// ended as they say.
 pub(crate) fn look_through<F: Folder>(
     alloc: Global,
     name: &str,

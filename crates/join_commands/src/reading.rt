@@ -1,7 +1,13 @@
 //! How a summary is written, and how one is read.
-ghost use Rattle.std.specs.Prelude.{◌≡◌, ◌≢◌, ◌++◌, IfOk, IfErr, OnOk};
-ghost use Rattle.join_commands.specs.Summaries.{counted, summary_text, DoAgree};
+ghost use Rattle.std.specs.Prelude.{◌≡◌, ◌≢◌, ◌<◌, ◌^◌, ◌++◌, ◌∷◌, List, ℕ, ℤ, Some, None, IfOk, IfErr, IsSomeAnd, MatchOption, FitsSigned, OnOk, decimal};
+ghost use Rattle.std.specs.Fmt.{signed_decimal};
+ghost use Rattle.std.specs.Int.{w128};
+ghost use Rattle.exec_value.specs.Bytes.{blank};
+ghost use Rattle.join_commands.specs.Reads.{count_before, CutsAt, HasCount, HasNoBlank, HasThree, HasWord};
+ghost use Rattle.join_commands.specs.Summaries.{named_count, summary_text, FitSummary, DoAgree};
+ghost use Rattle.join_commands.specs.Unsummed.{IsUnreadSummary};
 ghost use Rattle.join_commands.specs.declared.fault.LookFault.TheVariants.{ReadFault};
+ghost use Rattle.join_commands.specs.declared.summary.Numbers.{Numbers};
 
 use crate::fault::LookFault;
 use crate::refusal::Cause;
@@ -10,9 +16,32 @@ use itoa::Buffer;
 use memchr::memchr;
 use std::alloc::{AllocError, Global};
 
+/// The bytes before a blank, and those behind it.
+#[derive(Clone, Copy)]
+pub(crate) struct Word<'a> {
+    pub(crate) word: &'a [u8],
+    pub(crate) rest: &'a [u8],
+}
+
+/// A count, and the bytes behind it.
+#[derive(Clone, Copy)]
+pub(crate) struct Count<'a> {
+    pub(crate) count: u64,
+    pub(crate) rest: &'a [u8],
+}
+
+/// Three counts, and the bytes behind them.
+#[derive(Clone, Copy)]
+pub(crate) struct Three<'a> {
+    pub(crate) first: u64,
+    pub(crate) second: u64,
+    pub(crate) third: u64,
+    pub(crate) rest: &'a [u8],
+}
+
 /// Adds a count with its name to the text of a summary.
 fn push_count(text: &mut Vec<u8>, name: &[u8], count: u64) -> Result<(), AllocError>
-    ensures { OnOk result (text.new.items ≡ text.old.items ++ counted name.now count) }
+    ensures { OnOk result (text.new.items ≡ text.old.items ++ named_count name.now count) }
 {
     let mut buffer = Buffer::new();
     text.extend_from_slice(name)?;
@@ -37,38 +66,99 @@ pub(crate) fn text_of(alloc: Global, numbers: &Numbers) -> Result<Vec<u8>, Alloc
     Ok(text)
 }
 
+/// Where the first blank is.
+fn first_blank(text: &[u8]) -> Option<usize>
+    ensures { MatchOption result (HasNoBlank text.now) (CutsAt text.now) }
+{
+    memchr(b' ', text)
+}
+
 /// The bytes before the first blank, and those behind it.
-fn cut_word(text: &[u8]) -> Option<(&[u8], &[u8])> {
-    let end = memchr(b' ', text)?;
-    Some((&text[..end], &text[end + 1..]))
+fn cut_word(text: &[u8]) -> Option<Word<'_>>
+    ensures { (word more : List ℕ) → HasNoBlank word → text.now ≡ word ++ blank ∷ more
+        → IsSomeAnd result (HasWord word more) }
+{
+    match first_blank(text) {
+        Some(end) => Some(Word {
+            word: &text[..end],
+            rest: &text[end + 1..],
+        }),
+        None => None,
+    }
+}
+
+/// The number that these digits write.
+fn read_number(digits: &[u8]) -> Option<u64>
+    ensures { (number : ℕ) → number < 2 ^ 64 → digits.now ≡ decimal number
+        → result ≡ Some number }
+{
+    match str::from_utf8(digits) {
+        Ok(digits) => digits.parse::<u64>().ok(),
+        Err(_) => None,
+    }
+}
+
+/// The number that these digits write, with `-` before them where it is below 0.
+fn read_signed(digits: &[u8]) -> Option<i128>
+    ensures { (number : ℤ) → FitsSigned w128 number → digits.now ≡ signed_decimal number
+        → result ≡ Some number }
+{
+    match str::from_utf8(digits) {
+        Ok(digits) => digits.parse::<i128>().ok(),
+        Err(_) => None,
+    }
 }
 
 /// The count that stands behind a name, and what stands behind it.
-fn read_count(text: &[u8]) -> Option<(u64, &[u8])> {
-    let (_, behind) = cut_word(text)?;
-    let (word, rest) = cut_word(behind)?;
-    let count = str::from_utf8(word).ok()?.parse::<u64>().ok()?;
-    Some((count, rest))
+fn read_count(text: &[u8]) -> Option<Count<'_>>
+    ensures { (name : List ℕ) (count : ℕ) (more : List ℕ) → HasNoBlank name → count < 2 ^ 64
+        → text.now ≡ count_before name count more → IsSomeAnd result (HasCount count more) }
+{
+    let name = cut_word(text)?;
+    let digits = cut_word(name.rest)?;
+    let count = read_number(digits.word)?;
+    Some(Count {
+        count,
+        rest: digits.rest,
+    })
+}
+
+/// Three counts behind their names, and what stands behind them.
+fn read_three(text: &[u8]) -> Option<Three<'_>>
+    ensures { (a b c : List ℕ) (first second third : ℕ) (more : List ℕ)
+        → HasNoBlank a → HasNoBlank b → HasNoBlank c
+        → first < 2 ^ 64 → second < 2 ^ 64 → third < 2 ^ 64
+        → text.now ≡ count_before a first (count_before b second (count_before c third more))
+        → IsSomeAnd result (HasThree first second third more) }
+{
+    let first = read_count(text)?;
+    let second = read_count(first.rest)?;
+    let third = read_count(second.rest)?;
+    Some(Three {
+        first: first.count,
+        second: second.count,
+        third: third.count,
+        rest: third.rest,
+    })
 }
 
 /// The numbers that stand where a summary has its numbers.
-fn read_numbers(text: &[u8]) -> Option<Numbers> {
+fn read_numbers(text: &[u8]) -> Option<Numbers>
+    ensures { (numbers : Numbers) → FitSummary numbers → text.now ≡ summary_text numbers
+        → result ≡ Some numbers }
+{
     let line = text.strip_suffix(b"\n")?;
-    let (records, rest) = read_count(line)?;
-    let (values, rest) = read_count(rest)?;
-    let (errors, rest) = read_count(rest)?;
-    let (stopped, rest) = read_count(rest)?;
-    let (no_memory, rest) = read_count(rest)?;
-    let (bad, rest) = read_count(rest)?;
-    let (_, word) = cut_word(rest)?;
-    let sum = str::from_utf8(word).ok()?.parse::<i128>().ok()?;
+    let front = read_three(line)?;
+    let back = read_three(front.rest)?;
+    let name = cut_word(back.rest)?;
+    let sum = read_signed(name.rest)?;
     Some(Numbers {
-        records,
-        values,
-        errors,
-        stopped,
-        no_memory,
-        bad,
+        records: front.first,
+        values: front.second,
+        errors: front.third,
+        stopped: back.first,
+        no_memory: back.second,
+        bad: back.third,
         sum,
     })
 }
@@ -77,6 +167,7 @@ fn read_numbers(text: &[u8]) -> Option<Numbers> {
 pub(crate) fn read_summary(alloc: Global, text: &[u8]) -> Result<Numbers, LookFault>
     ensures text { IfOk result (λ numbers. text.now ≡ summary_text numbers) }
     ensures agree { IfOk result DoAgree }
+    ensures refused { IfErr result (IsUnreadSummary text.now) }
     ensures quiet { IfErr result (λ fault. fault ≢ ReadFault) }
 {
     let Some(numbers) = read_numbers(text) else {

@@ -3,7 +3,7 @@ ghost use Rattle.std.specs.Prelude.{◌≡◌, ◌≤◌, ◌++◌, [], codes, d
 ghost use Rattle.std.specs.List.{flat_map};
 ghost use Rattle.exec_io.specs.Writing.{Puts};
 ghost use Rattle.exec_status.specs.Sinks.{Tells, TellsAll, TellsFront};
-ghost use Rattle.join_commands.specs.Notes.{cause_text, contradiction_text, front_text, name_at, refusal_text};
+ghost use Rattle.join_commands.specs.Notes.{part_cause_text, contradiction_text, front_text, part_name_at, part_refusal_text};
 ghost use Rattle.join_commands.specs.declared.refusal.Cause.TheVariants.{NotLine, StatusDiffers, StatusIsnt};
 ghost use Rattle.join_commands.specs.declared.summary.Contradiction.TheVariants.{Records, Sum};
 
@@ -49,7 +49,7 @@ pub(crate) struct Refusal {
 pub(crate) fn tell_refusal<N: Sink>(names: &[&str], refusal: &Refusal, notes: &mut N)
     ensures later { (N.told notes.old).faults ≤ (N.told notes.new).faults }
     ensures tells { Tells (N.told notes.old) (N.told notes.new)
-        (refusal_text names.now refusal.now) }
+        (part_refusal_text names.now refusal.now) }
 {
     let _ = put_refusal(names, refusal, notes);
 }
@@ -58,18 +58,23 @@ pub(crate) fn tell_refusal<N: Sink>(names: &[&str], refusal: &Refusal, notes: &m
 fn put_refusal<N: Sink>(names: &[&str], refusal: &Refusal, notes: &mut N) -> Result<(), Failed>
     ensures later { (N.told notes.old).faults ≤ (N.told notes.new).faults }
     ensures ok { OnOk result (TellsAll (N.told notes.old) (N.told notes.new)
-        (refusal_text names.now refusal.now)) }
+        (part_refusal_text names.now refusal.now)) }
     ensures err { OnErr result (TellsFront (N.told notes.old) (N.told notes.new)
-        (refusal_text names.now refusal.now)) }
+        (part_refusal_text names.now refusal.now)) }
 {
-    put_note(names, name_at(names, refusal.at), &refusal.cause, notes)?;
+    put_note(
+        names,
+        part_name_at(names, refusal.at),
+        &refusal.cause,
+        notes,
+    )?;
     notes.finish()
 }
 
 /// Writes why the part of this name is refused.
 fn put_note<N: Sink>(names: &[&str], name: &str, cause: &Cause, notes: &mut N) -> Result<(), Failed>
     ensures { Puts (N.told notes.old) (N.told notes.new) result
-        (codes "refused: " ++ name.now ++ cause_text names.now name.now cause.now) }
+        (codes "refused: " ++ name.now ++ part_cause_text names.now name.now cause.now) }
 {
     put_bytes(b"refused: ", notes)?;
     put_bytes(name.as_bytes(), notes)?;
@@ -77,8 +82,8 @@ fn put_note<N: Sink>(names: &[&str], name: &str, cause: &Cause, notes: &mut N) -
 }
 
 /// The name of the part at a place.
-fn name_at<'a>(names: &[&'a str], at: usize) -> &'a str
-    ensures { result.now ≡ name_at names.now at }
+fn part_name_at<'a>(names: &[&'a str], at: usize) -> &'a str
+    ensures { result.now ≡ part_name_at names.now at }
 {
     match names.get(at) {
         Some(name) => *name,
@@ -94,7 +99,7 @@ fn put_cause<N: Sink>(
     notes: &mut N,
 ) -> Result<(), Failed>
     ensures { Puts (N.told notes.old) (N.told notes.new) result
-        (cause_text names.now name.now cause.now) }
+        (part_cause_text names.now name.now cause.now) }
 {
     match cause {
         Cause::NoStatus => put_bytes(b".status: No such file or directory\n", notes),
@@ -102,7 +107,7 @@ fn put_cause<N: Sink>(
         Cause::StatusIsnt(said) => put_said(said, notes),
         Cause::NotLine(number) => put_not_line(*number, notes),
         Cause::StatusDiffers(told, found) => put_differs(name, *told, *found, notes),
-        Cause::NotDealt(number, at) => put_not_dealt(*number, name_at(names, *at), notes),
+        Cause::NotDealt(number, at) => put_not_dealt(*number, part_name_at(names, *at), notes),
         Cause::NoSummary => put_bytes(b".out: this isn't a summary\n", notes),
         Cause::Contradicts(numbers) => put_contradiction(numbers, notes),
         Cause::TooLarge => put_bytes(b".out: the sums with its numbers are too large\n", notes),
@@ -123,7 +128,7 @@ fn put_pieces<N: Sink>(pieces: &[&[u8]], notes: &mut N) -> Result<(), Failed>
 
 fn put_said<N: Sink>(said: &Front, notes: &mut N) -> Result<(), Failed>
     ensures { Puts (N.told notes.old) (N.told notes.new) result
-        (cause_text [] [] (StatusIsnt said.now)) }
+        (part_cause_text [] [] (StatusIsnt said.now)) }
 {
     let front = front_text(said);
     let pieces: [&[u8]; 3] = [b".status: the status is ", front, b", and not 0, 1 or 4\n"];
@@ -143,7 +148,7 @@ fn front_text(said: &Front) -> &[u8]
 
 fn put_not_line<N: Sink>(number: u64, notes: &mut N) -> Result<(), Failed>
     ensures { Puts (N.told notes.old) (N.told notes.new) result
-        (cause_text [] [] (NotLine number)) }
+        (part_cause_text [] [] (NotLine number)) }
 {
     let mut buffer = Buffer::new();
     let digits = buffer.format(number).as_bytes();
@@ -164,7 +169,7 @@ fn put_differs<N: Sink>(
     notes: &mut N,
 ) -> Result<(), Failed>
     ensures { Puts (N.told notes.old) (N.told notes.new) result
-        (cause_text [] name.now (StatusDiffers told found)) }
+        (part_cause_text [] name.now (StatusDiffers told found)) }
 {
     let mut first = Buffer::new();
     let mut second = Buffer::new();

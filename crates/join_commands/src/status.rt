@@ -1,9 +1,9 @@
 //! With which status a run over a part ended, and with which its lines say that it did.
 ghost use Rattle.std.specs.Prelude.{◌≡◌, Some, IfOk, IfErr};
 ghost use Rattle.exec_io.specs.Shelves.{Texts};
-ghost use Rattle.join_commands.specs.Faults.{HasLookCause, IsLookFault};
+ghost use Rattle.join_commands.specs.Faults.{HasLookCause, IsStatusFault};
 ghost use Rattle.join_commands.specs.Parts.{ToldStatus};
-ghost use Rattle.join_commands.specs.Statuses.{told_status, status_by, IsUntold};
+ghost use Rattle.join_commands.specs.Statuses.{told_status, counts_status, IsUntold};
 
 use crate::fault::LookFault;
 use crate::front::{FRONT, Front};
@@ -30,8 +30,8 @@ pub(crate) fn told_by(text: &[u8]) -> Option<Status>
 }
 
 /// The status of a run that wrote lines which were counted so.
-pub(crate) fn status_by(lines: u64, values: u64, no_memory: u64) -> Status
-    ensures { result ≡ status_by lines values no_memory }
+pub(crate) fn counts_status(lines: u64, values: u64, no_memory: u64) -> Status
+    ensures { result ≡ counts_status lines values no_memory }
 {
     if no_memory > 0 {
         Status::NoMemory
@@ -44,9 +44,9 @@ pub(crate) fn status_by(lines: u64, values: u64, no_memory: u64) -> Status
 
 /// The status of a run that wrote lines which were tallied so.
 pub(crate) fn status_of(tally: &Tally) -> Status
-    ensures { result ≡ status_by tally.now.lines tally.now.values tally.now.no_memory }
+    ensures { result ≡ counts_status tally.now.lines tally.now.values tally.now.no_memory }
 {
-    status_by(tally.lines(), tally.values(), tally.no_memory())
+    counts_status(tally.lines(), tally.values(), tally.no_memory())
 }
 
 /// The status with which the run over a part ended: that of one which came to its end.
@@ -58,7 +58,7 @@ pub(crate) fn told_status<F: Folder>(
     ensures told { (all : Texts) → (F.told folder.old).texts ≡ Some all
         → IfOk result (λ status. ToldStatus all name.now (Some status)) }
     ensures fault { (all : Texts) → (F.told folder.old).texts ≡ Some all
-        → IfErr result (IsLookFault all name.now) }
+        → IfErr result (IsStatusFault all name.now) }
     ensures same { (F.told folder.new).texts ≡ (F.told folder.old).texts }
     ensures cause { HasLookCause (F.told folder.old).faults (F.told folder.new).faults result }
 {

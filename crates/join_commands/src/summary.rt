@@ -1,16 +1,16 @@
 //! The summaries of parts, and their sum.
-ghost use Rattle.std.specs.Prelude.{◌≡◌, ◌≢◌, ◌+◌, List, ℕ, Some, None, IfOk, IfErr, IfSome};
+ghost use Rattle.std.specs.Prelude.{◌≡◌, ◌≢◌, ◌+◌, List, ℕ, Some, None, IfOk, IfErr, IfNone, IfSome};
 ghost use Rattle.exec_io.specs.Shelves.{Texts};
 ghost use Rattle.join_commands.specs.Faults.{HasJoinCause, HasLookCause};
-ghost use Rattle.join_commands.specs.Joins.{LeavesRefused};
-ghost use Rattle.join_commands.specs.Summaries.{summary_status, summary_text, DoAgree, IsBoth, IsSummary, HasSum, JoinsSummaries};
+ghost use Rattle.join_commands.specs.Summaries.{summary_status, summary_text, DoAgree, IsBoth, IsSummary, IsTooLarge, HasSum, JoinsSummaries, LeavesSumFront};
+ghost use Rattle.join_commands.specs.Unsummed.{IsSumFault, IsUnreadSummary, IsUnsummed};
 ghost use Rattle.join_commands.specs.declared.fault.JoinFault.TheVariants.{ReadFault, WriteFault};
 
 use crate::fault::{JoinFault, LookFault, at_part};
 use crate::names::out_name;
 use crate::reading::{read_summary, text_of};
 use crate::refusal::{Cause, Refusal};
-use crate::status::{status_by, told_status};
+use crate::status::{counts_status, told_status};
 use exec_io::{Failed, Sink};
 use exec_status::{Status, tell};
 use part_lines::{Folder, OpenFault, read_front};
@@ -53,7 +53,8 @@ const NOTHING: Numbers = Numbers {
 
 /// The numbers of two summaries together. `None` says that one of them is too large.
 fn added(first: &Numbers, second: &Numbers) -> Option<Numbers>
-    ensures { IfSome result (IsBoth first.now second.now) }
+    ensures both { IfSome result (IsBoth first.now second.now) }
+    ensures large { IfNone result (IsTooLarge first.now second.now) }
 {
     Some(Numbers {
         records: first.records.checked_add(second.records)?,
@@ -80,7 +81,8 @@ fn by_sorts(numbers: &Numbers) -> u128
 
 /// How numbers contradict each other, where they do.
 pub(crate) fn contradiction_of(numbers: &Numbers) -> Option<Contradiction>
-    ensures { result ≡ None → DoAgree numbers.now }
+    ensures agree { result ≡ None → DoAgree numbers.now }
+    ensures contradict { IfSome result (λ _. ¬ DoAgree numbers.now) }
 {
     let found = by_sorts(numbers);
     if found != u128::from(numbers.records) {
@@ -96,7 +98,7 @@ pub(crate) fn contradiction_of(numbers: &Numbers) -> Option<Contradiction>
 fn status_of(numbers: &Numbers) -> Status
     ensures { result ≡ summary_status numbers.now }
 {
-    status_by(numbers.records, numbers.values, numbers.no_memory)
+    counts_status(numbers.records, numbers.values, numbers.no_memory)
 }
 
 /// The numbers of the summary that this file is.
@@ -108,6 +110,8 @@ fn read_file<F: Folder>(
     ensures text { (text : List ℕ) → F.left file.old ≡ Some text
         → IfOk result (λ numbers. text ≡ summary_text numbers) }
     ensures agree { IfOk result DoAgree }
+    ensures refused { (text : List ℕ) → F.left file.old ≡ Some text
+        → IfErr result (IsUnreadSummary text) }
     ensures same { (F.told folder.new).texts ≡ (F.told folder.old).texts }
     ensures cause { HasLookCause (F.told folder.old).faults (F.told folder.new).faults result }
 {
@@ -126,6 +130,8 @@ fn read_file<F: Folder>(
 fn numbers_of<F: Folder>(alloc: Global, name: &str, folder: &mut F) -> Result<Numbers, LookFault>
     ensures whole { (all : Texts) → (F.told folder.old).texts ≡ Some all
         → IfOk result (IsSummary all name.now) }
+    ensures refused { (all : Texts) → (F.told folder.old).texts ≡ Some all
+        → IfErr result (IsSumFault all name.now) }
     ensures same { (F.told folder.new).texts ≡ (F.told folder.old).texts }
     ensures cause { HasLookCause (F.told folder.old).faults (F.told folder.new).faults result }
 {
@@ -156,6 +162,8 @@ fn sum_of_all<F: Folder>(
 ) -> Result<Numbers, JoinFault>
     ensures summed { (all : Texts) → (F.told folder.old).texts ≡ Some all
         → IfOk result (HasSum all names.now) }
+    ensures refused { (all : Texts) → (F.told folder.old).texts ≡ Some all
+        → IfErr result (IsUnsummed all names.now) }
     ensures same { (F.told folder.new).texts ≡ (F.told folder.old).texts }
     ensures cause { HasJoinCause ReadFault (F.told folder.old).faults (F.told folder.new).faults
         result }
@@ -188,10 +196,14 @@ pub(crate) fn join_summaries<F: Folder, K: Sink>(
 ) -> Result<Status, JoinFault>
     ensures joined { (all : Texts) → (F.told folder.old).texts ≡ Some all
         → IfOk result (JoinsSummaries all names.now (K.told out.old) (K.told out.new)) }
-    ensures refused { IfErr result (LeavesRefused (K.told out.old) (K.told out.new)) }
+    ensures fault { (all : Texts) → (F.told folder.old).texts ≡ Some all
+        → IfErr result (IsUnsummed all names.now) }
+    ensures front { (all : Texts) → (F.told folder.old).texts ≡ Some all
+        → IfErr result (LeavesSumFront all names.now (K.told out.old) (K.told out.new)) }
     ensures reads { HasJoinCause ReadFault (F.told folder.old).faults (F.told folder.new).faults
         result }
-    ensures writes { HasJoinCause WriteFault (K.told out.old).faults (K.told out.new).faults result }
+    ensures writes { HasJoinCause WriteFault (K.told out.old).faults (K.told out.new).faults
+        result }
 {
     let sum = sum_of_all(alloc, names, folder)?;
     let Ok(text) = text_of(alloc, &sum) else {

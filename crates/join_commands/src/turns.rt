@@ -3,10 +3,10 @@ ghost use Rattle.std.specs.Prelude.{◌≡◌, ◌≢◌, ◌≤◌, ◌<◌, �
 ghost use Rattle.exec_io.specs.Shelves.{Texts};
 ghost use Rattle.join_commands.specs.Faults.{HasJoinCause, IsOfReads};
 ghost use Rattle.join_commands.specs.Joins.{AreWhole, PutsJoined, PutsText};
-ghost use Rattle.join_commands.specs.Parts.{AreDealt};
+ghost use Rattle.part_lines.specs.Streams.{AreDealt};
 ghost use Rattle.join_commands.specs.Turns.{AreAtStarts, AreLevel, IsAt, IsFirstEnded, IsUneven};
 ghost use Rattle.join_commands.specs.declared.fault.JoinFault.TheVariants.{ReadFault, WriteFault};
-ghost use Rattle.part_lines.specs.Lines.{line_of};
+ghost use Rattle.part_lines.specs.Lines.{numbered_line};
 ghost use Rattle.part_lines.specs.declared.limits.TheConstants.{MOST_LINES};
 
 use crate::fault::{JoinFault, at_part, of_lines};
@@ -99,7 +99,8 @@ pub(crate) fn put_in_turn<F: Folder, K: Sink>(
         → PutsJoined lines (K.told out.old) (K.told out.new) result }
     ensures reads { HasJoinCause ReadFault (F.told folder.old).faults (F.told folder.new).faults
         result }
-    ensures writes { HasJoinCause WriteFault (K.told out.old).faults (K.told out.new).faults result }
+    ensures writes { HasJoinCause WriteFault (K.told out.old).faults (K.told out.new).faults
+        result }
 {
     let mut readers = open_all(alloc, names, folder)?;
     let mut at = 0;
@@ -120,14 +121,15 @@ fn put_next<F: Folder, K: Sink>(
 ) -> Result<(), JoinFault>
     ensures puts { (said : List (List ℕ)) (words : List ℕ) → IsAt said reader.old
         → slice_get said reader.old.passed ≡ Some words
-        → PutsText (line_of number words) (K.told out.old) (K.told out.new) result }
+        → PutsText (numbered_line number words) (K.told out.old) (K.told out.new) result }
     ensures on { (said : List (List ℕ)) → IsAt said reader.old
         → OnOk result (IsAt said reader.new) }
     ensures passed { OnOk result (reader.new.passed ≡ reader.old.passed + 1) }
     ensures same { (F.told folder.new).texts ≡ (F.told folder.old).texts }
     ensures reads { HasJoinCause ReadFault (F.told folder.old).faults (F.told folder.new).faults
         result }
-    ensures writes { HasJoinCause WriteFault (K.told out.old).faults (K.told out.new).faults result }
+    ensures writes { HasJoinCause WriteFault (K.told out.old).faults (K.told out.new).faults
+        result }
 {
     match reader.next(folder) {
         Ok(Some(said)) => match put_line(reader, &said, number, out) {

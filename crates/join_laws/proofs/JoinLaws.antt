@@ -9,14 +9,15 @@ use Rattle.exec_value.specs.declared.outcome.Outcome.{Outcome}
 use Rattle.exec_value.specs.declared.outcome.Outcome.TheVariants.{Done, BadRecord}
 use Rattle.plan_rules.specs.declared.stop.StopState.{StopState}
 use Rattle.plan_rules.specs.declared.stop.StopState.TheVariants.{Never}
-use Rattle.run_rules.specs.Lawful.{Lawful, Terms, MayEnd, EndsAllowed}
+use Rattle.line_rules.specs.Lawful.{Lawful, Terms, MayEnd, EndsAllowed}
 use Rattle.plan_shape.specs.Blueprint.{Blueprint}
-use Rattle.run_rules.specs.PlanTerms.{terms_of}
-use Rattle.run_rules.specs.StopStates.{stop_state, state_after, state_on_error, stronger, first_error}
-use Rattle.join_laws.specs.Joined.{MayBeCut, PartsJoin, joined}
+use Rattle.line_rules.specs.PlanTerms.{terms_of}
+use Rattle.line_rules.specs.StopStates.{stop_state, state_after, state_on_error, stronger, first_error}
+use Rattle.part_lines.specs.Streams.{in_order}
+use Rattle.join_laws.specs.Joined.{MayBeCut, PartsJoin}
 
 module _ (WantsMemory : Blueprint → Type 0) (plan : Blueprint) (window : ℕ) (cut : MayBeCut plan) where
-  abbrev terms : Terms
+  abbrev pub terms : Terms
   terms = terms_of WantsMemory plan window
 
   -- no stop reaches a record
@@ -36,7 +37,7 @@ module _ (WantsMemory : Blueprint → Type 0) (plan : Blueprint) (window : ℕ) 
   })
 
   -- and in other lists of lines
-  moved : (some others : List Outcome) (number other : ℕ) (line : List ℕ) (outcome : Outcome)
+  pub moved : (some others : List Outcome) (number other : ℕ) (line : List ℕ) (outcome : Outcome)
       → MayEnd terms number (stop_state terms.rules terms.window some number) line outcome
       → MayEnd terms other (stop_state terms.rules terms.window others other) line outcome
   moved some others number other line outcome may =
@@ -71,4 +72,4 @@ module _ (WantsMemory : Blueprint → Type 0) (plan : Blueprint) (window : ℕ) 
   parts_join [] [] lawful = no_part
   parts_join [] (o ∷ outcomes) lawful = absurd lawful
   parts_join (r ∷ records) [] lawful = absurd lawful
-  parts_join (r ∷ records) (o ∷ outcomes) lawful = two_parts r (joined records) o (joined outcomes) lawful.0 (parts_join records outcomes lawful.1)
+  parts_join (r ∷ records) (o ∷ outcomes) lawful = two_parts r (in_order records) o (in_order outcomes) lawful.0 (parts_join records outcomes lawful.1)

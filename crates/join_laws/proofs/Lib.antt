@@ -1,1 +1,5 @@
+pub mod CutLaws
+pub mod DealtLaws
+pub mod DealtRunLaws
 pub mod JoinLaws
+pub mod RunLaws

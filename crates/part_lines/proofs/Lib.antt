@@ -5,3 +5,4 @@ pub mod OutcomeLaws
 pub mod PutLaws
 pub mod ReadLaws
 pub mod WindowLaws
+pub mod OneReading

@@ -10,7 +10,7 @@ use Rattle.record_lines.specs.Lines.{HasNoLineFeed}
 use Rattle.part_lines.specs.declared.limits.TheConstants.{MOST_WORDS, MOST_LINES, MOST_HELD}
 use Rattle.part_lines.specs.declared.line.Said.{Said}
 use Rattle.part_lines.specs.declared.sort.Sort.{Sort}
-use Rattle.part_lines.specs.Lines.{line_of, BeginsLine, EndsAt, Shows}
+use Rattle.part_lines.specs.Lines.{numbered_line, BeginsLine, LineEndsAt, Shows}
 use Rattle.part_lines.specs.Sorts.{sort_of}
 
 abbrev pub NoFeed : ℕ → Type 0
@@ -60,7 +60,7 @@ head_free number words few free =
     let other : blank ≢ LINE_FEED = (λ e. absurd (omega (arith, e))) in
     All-append NoFeed (decimal number) (blank ∷ words) (digits_free (decimal number) (decimal_is_IsNumeral number small).0.1) (All-cons NoFeed blank words other free)
 
-pub line_is : (number : ℕ) (words more : List ℕ) → line_of number words ++ more ≡ (decimal number ++ blank ∷ words) ++ line_feed ∷ more
+pub line_is : (number : ℕ) (words more : List ℕ) → numbered_line number words ++ more ≡ (decimal number ++ blank ∷ words) ++ line_feed ∷ more
 line_is number words more = append_assoc (decimal number ++ blank ∷ words) (line_feed ∷ []) more
 
 pub cancel : (p u v : List ℕ) → p ++ u ≡ p ++ v → u ≡ v
@@ -88,7 +88,7 @@ module _ (number : ℕ) (line digits : List ℕ) (digits_are : digits ≡ decima
     blank_behind words e =
         begun ∙ ap (λ (l : List ℕ). digits ++ l) e ∙ ap (λ (l : List ℕ). l ++ blank ∷ words) digits_are
 
-module _ (bytes : List ℕ) (end number : ℕ) (ends : EndsAt bytes end) (few : number ≤ MOST_LINES) where
+module _ (bytes : List ℕ) (end number : ℕ) (ends : LineEndsAt bytes end) (few : number ≤ MOST_LINES) where
   -- the bytes before the first line feed are those of the line that they begin with
   line_begun : (begins : BeginsLine number bytes) → take end bytes ≡ decimal number ++ blank ∷ begins.words
   line_begun begins =
@@ -162,7 +162,7 @@ pub shows_more : (bytes more : List ℕ) (number : ℕ) (said : Said) (words : L
 shows_more bytes more number said words shows = record {
   more = shows.more ++ more;
   are = shows.are;
-  bytes_are = ap (λ (l : List ℕ). l ++ more) shows.bytes_are ∙ append_assoc (line_of number words) shows.more more;
+  bytes_are = ap (λ (l : List ℕ). l ++ more) shows.bytes_are ∙ append_assoc (numbered_line number words) shows.more more;
   head = shows.head;
   length_is = shows.length_is;
   sort_is = shows.sort_is;
@@ -170,7 +170,7 @@ shows_more bytes more number said words shows = record {
 }
 
 -- what begins with a line, and more behind it, begins with it without that
-pub begins_before : (at_hand more : List ℕ) (end number : ℕ) → EndsAt at_hand end → BeginsLine number (at_hand ++ more) → BeginsLine number at_hand
+pub begins_before : (at_hand more : List ℕ) (end number : ℕ) → LineEndsAt at_hand end → BeginsLine number (at_hand ++ more) → BeginsLine number at_hand
 begins_before at_hand more end number ends begins =
     let front : List ℕ = take end at_hand in
     let rest : List ℕ = drop (end + 1) at_hand in

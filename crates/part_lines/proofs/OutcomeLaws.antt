@@ -25,8 +25,8 @@ use Rattle.record_lines.specs.Lines.{HasNoLineFeed}
 use Rattle.exec_value.specs.ErrorName.{is_error_name, is_name_byte}
 use Rattle.part_lines.specs.declared.sort.Sort.{Sort}
 use Rattle.part_lines.specs.declared.sort.Sort.TheVariants.{Value as ValueSort, Error as ErrorSort, Stopped as StoppedSort, NoMemory as NoMemorySort, BadRecord as BadSort}
-use Rattle.part_lines.specs.Lines.{AreWords, line_of, lines_from}
-use Rattle.part_lines.specs.Outcomes.{CountsAgree, IsWritable, LinesAreText, OutcomesArePart, words_of}
+use Rattle.part_lines.specs.Lines.{AreLineWords, numbered_line, lines_from}
+use Rattle.part_lines.specs.Outcomes.{CountsAgree, IsWritable, LinesAreText, OutcomesArePart, outcomes_words}
 use Rattle.part_lines.specs.Sorts.{sort_of}
 use Rattle.part_lines.specs.Tallies.{is_value_sort, is_no_memory_sort, says_value, says_no_memory}
 use Rattle.part_lines.proofs.LineLaws.{NoFeed, digits_free}
@@ -159,30 +159,30 @@ sort_is (Done Stopped) named = other_sorts.0
 sort_is (Done NoMemory) named = other_sorts.1
 sort_is BadRecord named = other_sorts.2
 
-are_words : (outcome : Outcome) → IsWritable outcome → AreWords (outcome_words outcome)
+are_words : (outcome : Outcome) → IsWritable outcome → AreLineWords (outcome_words outcome)
 are_words outcome writable = record {
   sort = subst IsSome (sym (sort_is outcome writable.named)) refl;
   free = words_free outcome writable.named;
   short = writable.short;
 }
 
-all_words : (outcomes : List Outcome) → All IsWritable outcomes → All AreWords (words_of outcomes)
-all_words [] all = All-nil AreWords
+all_words : (outcomes : List Outcome) → All IsWritable outcomes → All AreLineWords (outcomes_words outcomes)
+all_words [] all = All-nil AreLineWords
 all_words (outcome ∷ outcomes) all =
-    All-cons AreWords (outcome_words outcome) (words_of outcomes) (are_words outcome (All-head IsWritable outcome outcomes all))
+    All-cons AreLineWords (outcome_words outcome) (outcomes_words outcomes) (are_words outcome (All-head IsWritable outcome outcomes all))
     (all_words outcomes (All-tail IsWritable outcome outcomes all))
 
-line_same : (number : ℕ) (outcome : Outcome) → line_of number (outcome_words outcome) ≡ outcome_line number outcome
+line_same : (number : ℕ) (outcome : Outcome) → numbered_line number (outcome_words outcome) ≡ outcome_line number outcome
 unfolding outcome_line
 line_same number outcome = refl
 
 pub lines_are_text : LinesAreText
 lines_are_text number [] = refl
 lines_are_text number (outcome ∷ outcomes) =
-    ap (λ (l : List ℕ). l ++ lines_from (number + 1) (words_of outcomes)) (line_same number outcome)
+    ap (λ (l : List ℕ). l ++ lines_from (number + 1) (outcomes_words outcomes)) (line_same number outcome)
     ∙ ap (λ (l : List ℕ). outcome_line number outcome ++ l) (lines_are_text (number + 1) outcomes)
 
-as_many : (outcomes : List Outcome) → length (words_of outcomes) ≡ length outcomes
+as_many : (outcomes : List Outcome) → length (outcomes_words outcomes) ≡ length outcomes
 as_many [] = refl
 as_many (outcome ∷ outcomes) = ap (λ n. suc n) (as_many outcomes)
 
@@ -220,13 +220,13 @@ no_memory_said outcome named = by_sort (sort_is outcome named)
     by_sort e = ap is_no_memory_sort e ∙ of_outcome outcome
 
 counted : (said : List ℕ → Bool) (is : Outcome → Bool) → ((outcome : Outcome) → IsNamed outcome → said (outcome_words outcome) ≡ is outcome)
-    → (outcomes : List Outcome) → All IsWritable outcomes → count_by said (words_of outcomes) ≡ count_by is outcomes
+    → (outcomes : List Outcome) → All IsWritable outcomes → count_by said (outcomes_words outcomes) ≡ count_by is outcomes
 counted said is same [] all = refl
 counted said is same (outcome ∷ outcomes) all =
     let first = same outcome (All-head IsWritable outcome outcomes all).named in
     let later = counted said is same outcomes (All-tail IsWritable outcome outcomes all) in
-    sum_by-cons (λ x. cond (said x) 1 0) (outcome_words outcome) (words_of outcomes)
-    ∙ ap (λ (b : Bool). cond b 1 0 + count_by said (words_of outcomes)) first ∙ ap (λ (n : ℕ). cond (is outcome) 1 0 + n) later
+    sum_by-cons (λ x. cond (said x) 1 0) (outcome_words outcome) (outcomes_words outcomes)
+    ∙ ap (λ (b : Bool). cond b 1 0 + count_by said (outcomes_words outcomes)) first ∙ ap (λ (n : ℕ). cond (is outcome) 1 0 + n) later
     ∙ sym (sum_by-cons (λ x. cond (is x) 1 0) outcome outcomes)
 
 pub counts_agree : (outcomes : List Outcome) → All IsWritable outcomes → CountsAgree outcomes

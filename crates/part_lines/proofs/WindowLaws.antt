@@ -5,7 +5,7 @@ use Rattle.std.specs.Io.KnownBytes.{Consumes, IsAtEnd, Keeps}
 use Rattle.std.proofs.Math.Seq.{take-append-add}
 use Rattle.std.proofs.lemmas.List.{drop-take, drop-drop, take-append-le, take_all, take_at}
 use Rattle.std.proofs.lemmas.Slice.{take-put_mid_below}
-use Rattle.part_lines.specs.Readers.{ahead_of}
+use Rattle.part_lines.specs.Readers.{bytes_ahead}
 use borrow.Rule.Slice.PartMut.{put_mid, post_of}
 
 -- a call that didn't fail
@@ -33,7 +33,7 @@ filled bytes ys count k n within few =
     ∙ ap (λ (l : List ℕ). take count bytes ++ l) (take-append-le n ys (post_of count k bytes) few)
 
 -- what is ahead stays so
-pub keeps_read : (old new read : List ℕ) (left left' : Option (List ℕ)) → new ≡ old ++ read → Consumes left left' read → Keeps (ahead_of old left) (ahead_of new left')
+pub keeps_read : (old new read : List ℕ) (left left' : Option (List ℕ)) → new ≡ old ++ read → Consumes left left' read → Keeps (bytes_ahead old left) (bytes_ahead new left')
 keeps_read old new read None left' e consumes = tt
 keeps_read old new read (Some xs) None e consumes = absurd consumes
 keeps_read old new read (Some xs) (Some ys) e consumes =

@@ -35,8 +35,8 @@ pub record HasPartCause {T : Type 0} (before now : ℕ) (result : Result T PartF
   pub failed : IsErrOf result Failed → Rose before now
   pub still : result ≢ Err Failed → now ≡ before
 
--- What opening the file of this text gives: a reader at its start; there is none for a name that has
--- no text.
+-- What opening the file of this text gives: a reader at its start; there is none for a name that
+-- has no text.
 abbrev pub OpensPart : Option (List ℕ) → Result ReaderView PartFault → Type 0
 OpensPart text (Ok reader) = IsSomeAnd text (λ bytes. reader.ahead ≡ Some bytes)
 OpensPart text (Err Missing) = IsNone text
@@ -45,8 +45,8 @@ OpensPart text (Err Failed) = Unit {0}
 OpensPart text (Err NoMemory) = Unit {0}
 
 -- Why the text of a file isn't a part; or it wasn't read.
-abbrev pub Stops : List ℕ → PartFault → Type 0
-Stops text (NotLine number) = StopsAt text number
-Stops text Missing = ⊥
-Stops text Failed = Unit {0}
-Stops text NoMemory = Unit {0}
+abbrev pub StopsPart : List ℕ → PartFault → Type 0
+StopsPart text (NotLine number) = StopsAt text number
+StopsPart text Missing = ⊥
+StopsPart text Failed = Unit {0}
+StopsPart text NoMemory = Unit {0}

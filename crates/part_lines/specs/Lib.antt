@@ -1,3 +1,4 @@
+pub mod Streams
 pub mod Sorts
 pub mod Lines
 pub mod Folders

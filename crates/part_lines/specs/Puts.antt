@@ -9,8 +9,8 @@ use Rattle.part_lines.specs.declared.putting.PutFault.TheVariants.{Part, Write}
 use Rattle.part_lines.specs.declared.reader.PartFault.TheVariants.{Failed, NoMemory}
 use Rattle.part_lines.specs.Lines.{lines_from}
 
--- The lines of these words were written, the first behind so many lines; or a front of them, where a
--- write failed or the part wasn't read on.
+-- The lines of these words were written, the first behind so many lines; or a front of them, where
+-- a write failed or the part wasn't read on.
 abbrev pub PutsLines : ℕ → List (List ℕ) → SinkView → SinkView → Result ℕ PutFault → Type 0
 PutsLines before said old new (Ok written) =
     Appends old.written new.written (lines_from (before + 1) said)

@@ -9,7 +9,7 @@ use Rattle.part_lines.specs.declared.reader.PartFault.{PartFault}
 use Rattle.part_lines.specs.declared.reader.PartFault.TheVariants.{NotLine}
 use Rattle.part_lines.specs.declared.window.ReadFault.{ReadFault}
 use Rattle.part_lines.specs.declared.window.ReadFault.TheVariants.{Failed}
-use Rattle.part_lines.specs.Lines.{AreWords, BeginsLine, EndsAt, Shows, lines_from}
+use Rattle.part_lines.specs.Lines.{AreLineWords, BeginsLine, LineEndsAt, Shows, lines_from}
 
 -- A reader: the bytes that it has at hand, those that are ahead where the file tells them, and how
 -- many lines it has passed.
@@ -19,27 +19,28 @@ pub record ReaderView : Type 0 where
   pub passed : ℕ
 
 -- The bytes at hand, and then what is left of the file.
-abbrev pub ahead_of : List ℕ → Option (List ℕ) → Option (List ℕ)
-ahead_of at_hand left = option_map (λ more. at_hand ++ more) left
+abbrev pub bytes_ahead : List ℕ → Option (List ℕ) → Option (List ℕ)
+bytes_ahead at_hand left = option_map (λ more. at_hand ++ more) left
 
 -- Of this text a reader has passed the lines of these words.
-pub record HasRead (text : List ℕ) (said : List (List ℕ)) (reader : ReaderView) : Type 0 where
+pub record HasReadLines (text : List ℕ) (said : List (List ℕ)) (reader : ReaderView) : Type 0 where
   pub rest : List ℕ
   pub ahead : reader.ahead ≡ Some rest
   pub text_is : text ≡ lines_from 1 said ++ rest
-  pub each : All AreWords said
+  pub each : All AreLineWords said
   pub passed : reader.passed ≡ length said
 
--- A window is read on: it fails only where the folder's count rose, and otherwise leaves it as it was.
+-- A window is read on: it fails only where the folder's count rose, and otherwise leaves it as it
+-- was.
 pub record HasReadCause {T : Type 0} (before now : ℕ) (result : Result T ReadFault) : Type 0 where
   pub later : before ≤ now
   pub failed : IsErrOf result Failed → Rose before now
   pub still : result ≢ Err Failed → now ≡ before
 
 -- The next line feed is at hand, at this place; or nothing is left.
-abbrev pub IsFound : List ℕ → Option (List ℕ) → Option ℕ → Type 0
-IsFound at_hand left None = (at_hand ≡ []) × IsAtEnd left
-IsFound at_hand left (Some end) = EndsAt at_hand end
+abbrev pub FindsLineEnd : List ℕ → Option (List ℕ) → Option ℕ → Type 0
+FindsLineEnd at_hand left None = (at_hand ≡ []) × IsAtEnd left
+FindsLineEnd at_hand left (Some end) = LineEndsAt at_hand end
 
 -- The line of the next number is at hand, and says these words.
 pub record IsAtLine (reader : ReaderView) (said : Said) (words : List ℕ) : Type 0 where

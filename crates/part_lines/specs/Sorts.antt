@@ -6,16 +6,16 @@ use Rattle.part_lines.specs.declared.sort.Sort.{Sort}
 use Rattle.part_lines.specs.declared.sort.Sort.TheVariants.{Value, Error, Stopped, NoMemory, BadRecord}
 
 -- One text begins with the other.
-abbrev pub begins : List ℕ → List ℕ → Bool
-begins text front = starts_with ◌==◌ text front
+abbrev pub begins_with : List ℕ → List ℕ → Bool
+begins_with text front = starts_with ◌==◌ text front
 
 -- A value has no data, or data behind a blank.
 abbrev pub is_value_words : List ℕ → Bool
-is_value_words words = bytes_eq words (codes "value") || begins words (codes "value ")
+is_value_words words = bytes_eq words (codes "value") || begins_with words (codes "value ")
 
 -- An error has a name.
 abbrev pub is_error_words : List ℕ → Bool
-is_error_words words = begins words (codes "error ") && is_error_name (drop 6 words)
+is_error_words words = begins_with words (codes "error ") && is_error_name (drop 6 words)
 
 -- Of which sort the words of a line are, where they are words that a run writes.
 unfoldable pub sort_of : List ℕ → Option Sort

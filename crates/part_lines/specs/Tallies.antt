@@ -3,7 +3,7 @@ use Rattle.std.specs.Prelude.{◌≡◌, ℕ, Bool, true, false, List, length, c
 use Rattle.part_lines.specs.declared.sort.Sort.{Sort}
 use Rattle.part_lines.specs.declared.sort.Sort.TheVariants.{Value, NoMemory}
 use Rattle.part_lines.specs.declared.tally.Tally.{Tally}
-use Rattle.part_lines.specs.Lines.{IsPart}
+use Rattle.part_lines.specs.Lines.{IsPartText}
 use Rattle.part_lines.specs.Sorts.{sort_of}
 
 -- The sort of a value, and that of a record for which there was no memory.
@@ -30,4 +30,4 @@ pub record Tallies (tally : Tally) (said : List (List ℕ)) : Type 0 where
 
 -- The text is a part, whose lines the tally has counted.
 abbrev pub HoldsTallied : List ℕ → Tally → Type 0
-HoldsTallied text tally = (said : List (List ℕ)) × IsPart text said × Tallies tally said
+HoldsTallied text tally = (said : List (List ℕ)) × IsPartText text said × Tallies tally said

@@ -1,6 +1,6 @@
 //! How the lines of a part are counted.
 ghost use Rattle.std.specs.Prelude.{◌≡◌, ◌≤◌, ℕ, List, Some, IfOk, IfErr};
-ghost use Rattle.part_lines.specs.Faults.{HasPartCause, Stops};
+ghost use Rattle.part_lines.specs.Faults.{HasPartCause, StopsPart};
 ghost use Rattle.part_lines.specs.Tallies.{HoldsTallied};
 ghost use Rattle.part_lines.specs.declared.limits.TheConstants.{MOST_LINES};
 
@@ -17,7 +17,7 @@ pub fn count_lines<F: Folder>(
     ensures few { IfOk result (λ tally. tally.lines ≤ MOST_LINES) }
     ensures counted { (text : List ℕ) → reader.old.ahead ≡ Some text
         → IfOk result (HoldsTallied text) }
-    ensures fault { (text : List ℕ) → reader.old.ahead ≡ Some text → IfErr result (Stops text) }
+    ensures fault { (text : List ℕ) → reader.old.ahead ≡ Some text → IfErr result (StopsPart text) }
     ensures same { (F.told folder.new).texts ≡ (F.told folder.old).texts }
     ensures cause { HasPartCause (F.told folder.old).faults (F.told folder.new).faults result }
 {

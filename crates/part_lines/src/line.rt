@@ -2,7 +2,7 @@
 ghost use Rattle.std.specs.Prelude.{◌≡◌, ◌≢◌, ◌≤◌, ℕ, List, ◌++◌, ◌∷◌, decimal, MatchOption};
 ghost use Rattle.exec_value.specs.Bytes.{blank};
 ghost use Rattle.record_lines.specs.Lines.{HasNoLineFeed};
-ghost use Rattle.part_lines.specs.Lines.{BeginsLine, EndsAt, Shows};
+ghost use Rattle.part_lines.specs.Lines.{BeginsLine, LineEndsAt, Shows};
 ghost use Rattle.part_lines.specs.declared.limits.TheConstants.{MOST_LINES};
 
 use crate::limits::MOST_WORDS;
@@ -24,7 +24,7 @@ pub struct Said {
 /// Where the first line feed is.
 #[inline(always)]
 pub(crate) fn line_end(bytes: &[u8]) -> Option<usize>
-    ensures { MatchOption result (HasNoLineFeed bytes.now) (EndsAt bytes.now) }
+    ensures { MatchOption result (HasNoLineFeed bytes.now) (LineEndsAt bytes.now) }
 {
     memchr(b'\n', bytes)
 }
@@ -47,11 +47,11 @@ fn words_of(line: &[u8], number: u64) -> Option<&[u8]>
     if *first == b' ' { Some(words) } else { None }
 }
 
-/// What the line says whose line feed is the first one, at this place. `None` says that it isn't the
-/// line of the record of this number.
+/// What the line says whose line feed is the first one, at this place. `None` says that it isn't
+/// the line of the record of this number.
 #[inline(always)]
 pub(crate) fn said_at(bytes: &[u8], end: usize, number: u64) -> Option<Said>
-    requires ends { EndsAt bytes.now end }
+    requires ends { LineEndsAt bytes.now end }
     requires few { number ≤ MOST_LINES }
     ensures { MatchOption result (¬ BeginsLine number bytes.now)
         (λ said. (words : List ℕ) × Shows bytes.now number said words) }

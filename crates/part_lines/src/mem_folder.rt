@@ -1,7 +1,7 @@
 //! A folder of files in memory.
 ghost use Rattle.std.specs.Prelude.{◌≡◌, [], Some, map, option_copied};
 ghost use Rattle.exec_io.specs.Shelves.{text_of};
-ghost use Rattle.part_lines.specs.MemFolders.{named};
+ghost use Rattle.part_lines.specs.MemFolders.{named_text};
 
 use crate::folder::{Folder, OpenFault};
 use exec_io::{Failed, MemSource, Source};
@@ -33,15 +33,16 @@ pub struct MemFile {
 impl Model for MemFolder {
     ghost use Rattle.std.specs.Prelude.{map, Some};
     ghost use Rattle.part_lines.specs.Folders.{FolderView};
-    ghost use Rattle.part_lines.specs.MemFolders.{named};
+    ghost use Rattle.part_lines.specs.MemFolders.{named_text};
 
     ghost Value = { FolderView };
 
-    ghost view = { λ f. record { texts = Some (map named f.files.items); faults = f.faults } };
+    ghost view = { λ f. record { texts = Some (map named_text f.files.items); faults = f.faults } };
 }
 
 impl MemFolder {
-    /// A folder without files. Its reads are numbered from 1, and that of the number `fails_at` fails.
+    /// A folder without files. Its reads are numbered from 1, and that of the number `fails_at`
+    /// fails.
     pub fn new(alloc: Global, fails_at: u64) -> Self
         ensures { result ≡ record { texts = Some []; faults = 0 } }
     {
@@ -67,7 +68,7 @@ impl MemFolder {
 
 /// The text of the first file of this name.
 fn text_named<'a>(files: &'a [Named], name: &str) -> Option<&'a [u8]>
-    ensures { option_copied result ≡ text_of (map named files.now) name.now }
+    ensures { option_copied result ≡ text_of (map named_text files.now) name.now }
 {
     for file in files {
         if file.name.as_str() == name {

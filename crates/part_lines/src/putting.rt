@@ -2,7 +2,7 @@
 ghost use Rattle.std.specs.Prelude.{◌≡◌, ◌<◌, ◌≤◌, ◌+◌, ◌^◌, ℕ, List, Some, IfOk, drop};
 ghost use Rattle.std.specs.Option.{option_map};
 ghost use Rattle.exec_io.specs.Writing.{Puts};
-ghost use Rattle.part_lines.specs.Lines.{IsPart, line_of};
+ghost use Rattle.part_lines.specs.Lines.{IsPartText, numbered_line};
 ghost use Rattle.part_lines.specs.Puts.{HasPutCause, PutsLines};
 ghost use Rattle.part_lines.specs.Readers.{IsAtLine};
 ghost use Rattle.part_lines.specs.declared.limits.TheConstants.{MOST_LINES};
@@ -34,15 +34,15 @@ pub fn put_line<F: Folder, K: Sink>(
 ) -> Result<(), Failed>
     requires { (words : List ℕ) × IsAtLine reader.now said.now words }
     ensures { (words : List ℕ) → IsAtLine reader.now said.now words
-        → Puts (K.told out.old) (K.told out.new) result (line_of number words) }
+        → Puts (K.told out.old) (K.told out.new) result (numbered_line number words) }
 {
     let mut buffer = Buffer::new();
     put_bytes(buffer.format(number).as_bytes(), out)?;
     put_bytes(reader.line(said), out)
 }
 
-/// Writes the lines of a part from its start to its end, the first behind so many lines, and says how
-/// many lines are written then.
+/// Writes the lines of a part from its start to its end, the first behind so many lines, and says
+/// how many lines are written then.
 pub fn put_lines<F: Folder, K: Sink>(
     reader: &mut PartReader<F>,
     before: u64,
@@ -52,7 +52,7 @@ pub fn put_lines<F: Folder, K: Sink>(
     requires start { reader.old.passed ≡ 0 }
     requires few { before + MOST_LINES < 2 ^ 64 }
     ensures puts { (text : List ℕ) (said : List (List ℕ)) → reader.old.ahead ≡ Some text
-        → IsPart text said → PutsLines before said (K.told out.old) (K.told out.new) result }
+        → IsPartText text said → PutsLines before said (K.told out.old) (K.told out.new) result }
     ensures few { IfOk result (λ written. written ≤ before + MOST_LINES) }
     ensures same { (F.told folder.new).texts ≡ (F.told folder.old).texts }
     ensures read_cause { HasPutCause (Part ReadFailed) (F.told folder.old).faults

@@ -5,8 +5,8 @@ ghost use Rattle.std.specs.Option.{option_map};
 ghost use Rattle.exec_io.specs.Shelves.{text_of};
 ghost use Rattle.part_lines.specs.declared.limits.TheConstants.{MOST_LINES};
 ghost use Rattle.part_lines.specs.Faults.{IsFaultAt, HasPartCause, OpensPart, at_end, of_read};
-ghost use Rattle.part_lines.specs.Lines.{EndsAt, Shows};
-ghost use Rattle.part_lines.specs.Readers.{ReaderView, ahead_of, IsAtLine, IsFound, IsNext, IsSaidOrFault, behind_number};
+ghost use Rattle.part_lines.specs.Lines.{LineEndsAt, Shows};
+ghost use Rattle.part_lines.specs.Readers.{ReaderView, bytes_ahead, IsAtLine, FindsLineEnd, IsNext, IsSaidOrFault, behind_number};
 
 use crate::folder::{Folder, OpenFault};
 use crate::limits::MOST_LINES;
@@ -51,7 +51,7 @@ impl<F: Folder> Model for PartReader<F> {
 
     ghost view = { λ r. record {
       at_hand = r.window;
-      ahead = ahead_of r.window (F.left r.file);
+      ahead = bytes_ahead r.window (F.left r.file);
       passed = r.passed;
     } };
 
@@ -83,8 +83,8 @@ impl<F: Folder> PartReader<F> {
         }
     }
 
-    /// What the next line says, which stays the next one until it is passed. `None` is the end of the
-    /// part.
+    /// What the next line says, which stays the next one until it is passed. `None` is the end of
+    /// the part.
     pub fn next(&mut self, folder: &mut F) -> Result<Option<Said>, PartFault>
         ensures passed { self.new.passed ≡ self.old.passed }
         ensures ahead { IfOk result (λ _. Keeps self.old.ahead self.new.ahead) }
@@ -132,10 +132,10 @@ fn fill_line<F: Folder>(
     number: u64,
 ) -> Result<Option<usize>, PartFault>
     requires few { number ≤ MOST_LINES + 1 }
-    ensures ahead { IfOk result (λ _. Keeps (ahead_of window.old (F.left file.old))
-        (ahead_of window.new (F.left file.new))) }
-    ensures found { IfOk result (IsFound window.new (F.left file.new)) }
-    ensures fault { IfErr result (IsFaultAt (ahead_of window.old (F.left file.old)) number) }
+    ensures ahead { IfOk result (λ _. Keeps (bytes_ahead window.old (F.left file.old))
+        (bytes_ahead window.new (F.left file.new))) }
+    ensures found { IfOk result (FindsLineEnd window.new (F.left file.new)) }
+    ensures fault { IfErr result (IsFaultAt (bytes_ahead window.old (F.left file.old)) number) }
     ensures same { (F.told folder.new).texts ≡ (F.told folder.old).texts }
     ensures cause { HasPartCause (F.told folder.old).faults (F.told folder.new).faults result }
 {
@@ -168,7 +168,7 @@ fn at_end(window: &Window, number: u64) -> Result<Option<usize>, PartFault>
 /// What the next line says, whose line feed is at this place.
 #[inline(always)]
 fn said_or_fault(bytes: &[u8], end: usize, number: u64) -> Result<Option<Said>, PartFault>
-    requires { EndsAt bytes.now end }
+    requires { LineEndsAt bytes.now end }
     ensures { IsSaidOrFault bytes.now number result }
 {
     if number > MOST_LINES {

@@ -3,7 +3,7 @@ ghost use Rattle.std.specs.Prelude.{◌≡◌, ◌≤◌, ◌<◌, ◌+◌, ◌-
 ghost use Rattle.std.specs.Io.KnownBytes.{Consumes, IsAtEnd, Keeps};
 ghost use Rattle.exec_io.specs.Causes.{HasCause};
 ghost use Rattle.part_lines.specs.declared.limits.TheConstants.{MOST_HELD};
-ghost use Rattle.part_lines.specs.Readers.{ahead_of, HasReadCause};
+ghost use Rattle.part_lines.specs.Readers.{bytes_ahead, HasReadCause};
 
 use crate::folder::Folder;
 use crate::limits::{FIRST_HELD, MOST_HELD};
@@ -87,8 +87,8 @@ impl Window {
         ensures grows { IfOk result (λ n. length self.new ≡ length self.old + n) }
         ensures none { IfOk result (λ n. n ≡ 0 → self.new ≡ self.old) }
         ensures end { IfOk result (λ n. n ≡ 0 → IsAtEnd (F.left file.new)) }
-        ensures ahead { OnOk result (Keeps (ahead_of self.old (F.left file.old))
-            (ahead_of self.new (F.left file.new))) }
+        ensures ahead { OnOk result (Keeps (bytes_ahead self.old (F.left file.old))
+            (bytes_ahead self.new (F.left file.new))) }
         ensures same { (F.told folder.new).texts ≡ (F.told folder.old).texts }
         ensures cause { HasReadCause (F.told folder.old).faults (F.told folder.new).faults result }
     {

@@ -4,7 +4,7 @@ use Rattle.exec_io.specs.Sinks.{Appends}
 use Rattle.part_lines.specs.declared.limits.TheConstants.{MOST_LINES}
 use Rattle.part_lines.specs.Lines.{lines_from}
 use Rattle.join_commands.specs.Joins.{AreWhole}
-use Rattle.join_commands.specs.Parts.{in_order}
+use Rattle.part_lines.specs.Streams.{in_order}
 use Rattle.join_commands.proofs.lines.put_in_order.Given as goal
 
 abbrev pub invariant-loop-at : goal.invariant-loop-at

@@ -5,7 +5,7 @@ use Rattle.std.proofs.lemmas.Slice.Zip.{AllZip-long}
 use Rattle.part_lines.specs.declared.tally.Tally.{Tally}
 use Rattle.part_lines.specs.declared.limits.TheConstants.{MOST_LINES}
 use Rattle.part_lines.specs.Tallies.{Tallies}
-use Rattle.join_commands.specs.Parts.{in_order}
+use Rattle.part_lines.specs.Streams.{in_order}
 use Rattle.join_commands.proofs.JoinLaws.{in_order_more, zip_at}
 use Rattle.join_commands.proofs.lines.sum_of.Goals as goal
 

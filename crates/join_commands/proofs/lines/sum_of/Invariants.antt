@@ -2,7 +2,7 @@ use Rattle.std.proofs.Common.{◌≤◌, ◌*◌, List, ℕ, take}
 use Rattle.std.specs.List.{AllZip}
 use Rattle.part_lines.specs.Tallies.{Tallies}
 use Rattle.part_lines.specs.declared.limits.TheConstants.{MOST_LINES}
-use Rattle.join_commands.specs.Parts.{in_order}
+use Rattle.part_lines.specs.Streams.{in_order}
 use Rattle.join_commands.proofs.lines.sum_of.Given as goal
 
 abbrev pub invariant-loop-tally : goal.invariant-loop-tally

@@ -1,8 +1,18 @@
-use Rattle.std.proofs.Common.{◌≡◌, ◌∙◌, rules}
+use Rattle.std.proofs.Common.{◌≡◌, sym, subst, ◌∙◌, rules}
+use Rattle.std.specs.Prelude.{IfErr}
 use Rattle.exec_io.specs.Shelves.{text_of}
 use Rattle.join_commands.specs.Parts.{out_name}
+use Rattle.part_lines.specs.declared.tally.Tally.{Tally}
+use Rattle.join_commands.specs.Faults.{IsLookFault}
+use Rattle.join_commands.proofs.EndLaws.{handed_err}
 use Rattle.join_commands.proofs.LookLaws.{text_there, stopped, whole, differs}
+use Rattle.join_commands.proofs.StatusLaws.{look_of_status}
 use Rattle.join_commands.proofs.look.look_through.Goals as goal
+
+pub returns-in_err-told-clause-fault : goal.returns-in_err-told-clause-fault
+returns-in_err-told-clause-fault g c = λ all known.
+    let handed = handed_err c.from_residual.result c.in_err-told.field-0.0 c.from_residual.ensures.0 c.from_residual.ensures.1 in
+    subst (λ r. IfErr {T = Tally} r (IsLookFault all c.args.name.now)) (sym handed) (look_of_status all c.args.name.now c.in_err-told.field-0.0 (c.in_err-told.ensures.fault all known))
 
 pub returns-in-Err-clause-fault : goal.returns-in-Err-clause-fault
 returns-in-Err-clause-fault g c = λ all known.

@@ -1,7 +1,7 @@
 use Rattle.std.proofs.Common.{◌≡◌, ◌<◌, ◌≤◌, ◌+◌, ℕ, List, length, refl, arith}
 use Rattle.std.proofs.lemmas.Option.{slice_get_read, slice_get_within}
 use Rattle.part_lines.specs.declared.tally.Tally.{Tally}
-use Rattle.join_commands.proofs.TurnLaws.{ended_before, level_is, level_more}
+use Rattle.join_commands.proofs.LevelLaws.{ended_before, level_is, level_more}
 use Rattle.join_commands.proofs.turns.check_dealt.Goals.{then-at-ended, else-at-ended}
 use Rattle.join_commands.proofs.turns.check_dealt.Goals as goal
 

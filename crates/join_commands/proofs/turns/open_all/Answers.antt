@@ -3,7 +3,7 @@ use Rattle.std.specs.Borrow.{Bor}
 use Rattle.std.proofs.lemmas.List.{take_all}
 use Rattle.std.proofs.lemmas.Slice.Zip.{AllZip-long}
 use Rattle.part_lines.specs.Readers.{ReaderView}
-use Rattle.join_commands.specs.Parts.{IsWhole}
+use Rattle.join_commands.specs.Parts.{IsWholePart}
 use Rattle.join_commands.specs.Turns.{AreAtStarts}
 use Rattle.join_commands.proofs.EndLaws.{at_part_quiet, look_to_join}
 use Rattle.join_commands.proofs.JoinLaws.{pushed, zip_both}
@@ -14,7 +14,7 @@ use Rattle.join_commands.proofs.turns.open_all.Goals as goal
 pub returns-in-Err-clause-hindered : goal.returns-in-Err-clause-hindered
 returns-in-Err-clause-hindered g c = λ all parts known whole.
     unopened_reads all _ (get_or parts c.loop-at.at []) c.loop-at.at c.in-Err.fault c.at_part.result
-    (zip_both (λ (n : Bor (List ℕ)) s. IsWhole all n.now s) c.args.names.now parts c.loop-at.at _ [] whole c.loop-at-test.true)
+    (zip_both (λ (n : Bor (List ℕ)) s. IsWholePart all n.now s) c.args.names.now parts c.loop-at.at _ [] whole c.loop-at-test.true)
     (c.in-Err.ensures.missing all (c.loop-at.invariant.texts ∙ known)) c.at_part.ensures
 
 pub returns-in-Err-clause-cause : goal.returns-in-Err-clause-cause
@@ -27,12 +27,12 @@ loop-at-preserved g c =
     record {
       starts = λ all parts known whole.
           let i : ℕ = c.loop-at.at in
-          let long : length parts ≡ length c.args.names.now = AllZip-long (λ (n : Bor (List ℕ)) s. IsWhole all n.now s) c.args.names.now parts whole in
+          let long : length parts ≡ length c.args.names.now = AllZip-long (λ (n : Bor (List ℕ)) s. IsWholePart all n.now s) c.args.names.now parts whole in
           let below : i < length parts = omega (arith, long, c.loop-at-test.true) in
           subst (λ (l : List ReaderView). AreAtStarts (take (i + 1) parts) l) (sym items)
           (starts_more parts before i c.in-Ok.reader below (c.loop-at.invariant.starts all parts known whole)
           (at_begin all _ (get_or parts i []) c.in-Ok.reader
-          (zip_both (λ (n : Bor (List ℕ)) s. IsWhole all n.now s) c.args.names.now parts i _ [] whole c.loop-at-test.true)
+          (zip_both (λ (n : Bor (List ℕ)) s. IsWholePart all n.now s) c.args.names.now parts i _ [] whole c.loop-at-test.true)
           (c.in-Ok.ensures.opens all (c.loop-at.invariant.texts ∙ known)) c.in-Ok.ensures.start));
       many = search rules;
       texts = c.in-Ok.ensures.same ∙ c.loop-at.invariant.texts;
@@ -41,7 +41,7 @@ loop-at-preserved g c =
 
 pub returns-clause-starts : goal.returns-clause-starts
 returns-clause-starts g c = λ all parts known whole.
-    let long : length parts ≡ length c.args.names.now = AllZip-long (λ (n : Bor (List ℕ)) s. IsWhole all n.now s) c.args.names.now parts whole in
+    let long : length parts ≡ length c.args.names.now = AllZip-long (λ (n : Bor (List ℕ)) s. IsWholePart all n.now s) c.args.names.now parts whole in
     let past : length parts ≤ c.loop-at.at = omega (arith, long, c.loop-at-test.false) in
     subst (λ (l : List (List (List ℕ))). AreAtStarts l c.loop-at.readers.items) (take_all c.loop-at.at parts past) (c.loop-at.invariant.starts all parts known whole)
 

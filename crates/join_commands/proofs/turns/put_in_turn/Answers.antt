@@ -6,7 +6,7 @@ use Rattle.std.proofs.lemmas.Slice.Zip.{AllZip-long}
 use Rattle.part_lines.specs.Readers.{ReaderView}
 use Rattle.join_commands.specs.declared.fault.JoinFault.TheVariants.{WriteFault}
 use Rattle.join_commands.specs.Joins.{PutsJoined}
-use Rattle.join_commands.specs.Parts.{IsWhole}
+use Rattle.join_commands.specs.Parts.{IsWholePart}
 use Rattle.join_commands.specs.Turns.{IsAt}
 use Rattle.join_commands.proofs.EndLaws.{cause_else, handed_err}
 use Rattle.join_commands.proofs.TurnLaws.{Stands, all_turned, begun, same_part, stopped, turn_line, turned, turned_round}
@@ -34,7 +34,7 @@ returns-in_err-put_next-clause-puts g c = λ all parts lines known whole dealt t
     let written : ℕ = c.loop-written.written in
     let readers : List ReaderView = c.loop-written.readers.items in
     let stands = c.loop-written.invariant.stands all parts lines known whole dealt total in
-    let long : length parts ≡ length c.args.names.now = AllZip-long (λ (n : Bor (List ℕ)) s. IsWhole all n.now s) c.args.names.now parts whole in
+    let long : length parts ≡ length c.args.names.now = AllZip-long (λ (n : Bor (List ℕ)) s. IsWholePart all n.now s) c.args.names.now parts whole in
     let below : at < length parts = omega (arith, long, c.loop-written.invariant.place) in
     let within : at < length readers = omega (arith, c.loop-written.invariant.long, c.loop-written.invariant.place, c.loop-written.readers.ok) in
     let here : slice_get readers at ≡ Some c.index_mut.result.now = slice_get-get_or readers at c.index_mut.result.now within ∙ ap Some (sym c.index_mut.ensures.value) in
@@ -61,7 +61,7 @@ loop-written-preserved g c =
       ];
       stands = λ all parts lines known whole dealt total.
           let stands = c.loop-written.invariant.stands all parts lines known whole dealt total in
-          let long : length parts ≡ length c.args.names.now = AllZip-long (λ (n : Bor (List ℕ)) s. IsWhole all n.now s) c.args.names.now parts whole in
+          let long : length parts ≡ length c.args.names.now = AllZip-long (λ (n : Bor (List ℕ)) s. IsWholePart all n.now s) c.args.names.now parts whole in
           let below : at < length parts = omega (arith, long, c.loop-written.invariant.place) in
           let within : at < length readers = omega (arith, c.loop-written.invariant.long, c.loop-written.invariant.place, c.loop-written.readers.ok) in
           let here : slice_get readers at ≡ Some c.index_mut.result.now = slice_get-get_or readers at c.index_mut.result.now within ∙ ap Some (sym c.index_mut.ensures.value) in

@@ -1,7 +1,7 @@
 use Rattle.std.proofs.Common.{◌≡◌, ◌<◌, ℕ, List, Some, length, vec_len}
 use Rattle.exec_io.specs.Shelves.{Texts}
 use Rattle.join_commands.specs.Joins.{AreWhole}
-use Rattle.join_commands.specs.Parts.{AreDealt}
+use Rattle.part_lines.specs.Streams.{AreDealt}
 use Rattle.join_commands.proofs.TurnLaws.{Stands}
 use Rattle.join_commands.proofs.turns.put_in_turn.Given as goal
 

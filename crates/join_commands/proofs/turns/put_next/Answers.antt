@@ -1,6 +1,6 @@
 use Rattle.std.proofs.Common.{ℕ, List, sym, ap, subst, ◌∙◌}
 use Rattle.std.specs.Prelude.{slice_get}
-use Rattle.part_lines.specs.Lines.{line_of}
+use Rattle.part_lines.specs.Lines.{numbered_line}
 use Rattle.part_lines.specs.Readers.{IsNext}
 use Rattle.join_commands.specs.Faults.{at_part}
 use Rattle.join_commands.proofs.TurnLaws.{at_kept, at_line, at_next, at_no_end, same_line, unread, wrote, wrote_not}
@@ -38,5 +38,5 @@ returns-in-Ok-None-clause-puts g c = λ said words at is.
 
 pub returns-in-Err-clause-puts : goal.returns-in-Err-clause-puts
 returns-in-Err-clause-puts g c = λ said words at is.
-    unread said (line_of c.args.number words) c.args.reader.now (g.K.Sink.told c.args.out.now) c.args.at c.in-Err.fault c.at_part.result at c.in-Err.ensures.fault
+    unread said (numbered_line c.args.number words) c.args.reader.now (g.K.Sink.told c.args.out.now) c.args.at c.in-Err.fault c.at_part.result at c.in-Err.ensures.fault
     (c.at_part.ensures ∙ ap (at_part c.args.at) c.of_lines.ensures)
