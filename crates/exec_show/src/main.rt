@@ -1,8 +1,8 @@
 //! Shows a plan as a picture, or says why there is none.
 //!
-//! The program is `picture_commands::show` over the files of the system and its standard streams. The
-//! adapters of std_streams tell nothing of what these hold: that the system does as it says is taken
-//! on trust.
+//! The program is `picture_commands::show` over the files of the system and its standard streams.
+//! The adapters of std_streams tell nothing of what these hold: that the system does as it says is
+//! taken on trust.
 #![tactic(auto)]
 
 use picture_commands::{Status, show};

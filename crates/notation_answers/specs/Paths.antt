@@ -2,20 +2,24 @@
 use Rattle.std.specs.Prelude.{ℕ, zero, suc, ◌+◌, ◌-◌, ◌*◌, ◌==◌, List, [], drop, get_or, length, slice_index, Option, Some, None, codes, nat_eq, if◌then◌else◌}
 use Rattle.std.specs.List.{starts_with}
 use Rattle.plan_notation.specs.Frames.{SpotSeen}
-use Rattle.plan_notation.specs.Reading.{Reads}
+use Rattle.plan_notation.specs.Reading.{TextRead}
 use Rattle.notation_answers.specs.declared.path.Step.{Step}
 
 -- what a digit says
-abbrev pub digit : ℕ → ℕ
-digit byte = byte - 48
+abbrev pub number_of_digit : ℕ → ℕ
+number_of_digit byte = byte - 48
 
 -- behind so many bytes a number of one digit or two, and its bracket
 abbrev pub indexed : ℕ → ℕ → List ℕ → Option Step
 indexed before first items =
     if slice_index items 1 == 93
-    then Some (record { child = first + digit (slice_index items 0); length = before + 2 })
+    then Some (record {
+      child = first + number_of_digit (slice_index items 0);
+      length = before + 2;
+    })
     else Some (record {
-      child = first + (10 * digit (slice_index items 0) + digit (slice_index items 1));
+      child = first
+          + (10 * number_of_digit (slice_index items 0) + number_of_digit (slice_index items 1));
       length = before + 3;
     })
 
@@ -47,10 +51,11 @@ path_behind None path = path
 path_behind (Some step) path = drop step.length path
 
 -- the node at the end of a path of at most so many steps from this one
-abbrev pub node_at : ℕ → List SpotSeen → List ℕ → ℕ → ℕ
-node_at zero spots path number = number
-node_at (suc most) spots path number =
-    node_at most spots (path_behind (step_of path) path) (node_behind (step_of path) spots number)
+abbrev pub node_on_path : ℕ → List SpotSeen → List ℕ → ℕ → ℕ
+node_on_path zero spots path number = number
+node_on_path (suc most) spots path number =
+    node_on_path most spots (path_behind (step_of path) path)
+    (node_behind (step_of path) spots number)
 
 -- where a node stands
 abbrev pub spot_at : List SpotSeen → ℕ → ℕ
@@ -58,10 +63,10 @@ spot_at spots number = (get_or spots number no_spot).at
 
 -- where the node of a path from the root does
 abbrev pub node_spot : List SpotSeen → List ℕ → ℕ
-node_spot spots path = spot_at spots (node_at (length path) spots path (length spots - 1))
+node_spot spots path = spot_at spots (node_on_path (length path) spots path (length spots - 1))
 
 -- where a place is told: at its node, or where it names none at the setting of the scope
-abbrev pub spot_in : Reads → List ℕ → ℕ
+abbrev pub spot_in : TextRead → List ℕ → ℕ
 spot_in reads place =
     if starts_with nat_eq place (codes " at root") then node_spot reads.spots (drop 8 place)
     else reads.scope_at

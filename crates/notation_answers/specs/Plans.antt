@@ -6,14 +6,14 @@ use Rattle.plan_reader.specs.declared.fault.PlanFault.{PlanFault}
 use Rattle.plan_reader.specs.declared.fault.PlanFault.TheVariants as fault
 use Rattle.plan_places.specs.Refusals.{IsRefusal}
 use Rattle.plan_places.specs.declared.refusal.Refusal.{Refusal}
-use Rattle.plan_notation.specs.Reading.{Reads, read_in}
+use Rattle.plan_notation.specs.Reading.{TextRead, read_in}
 use Rattle.notation_answers.specs.Paths.{spot_in}
 use Rattle.notation_answers.specs.declared.answer.NotationFault.{NotationFault}
 use Rattle.notation_answers.specs.declared.answer.NotationFault.TheVariants.{Text, Plan, NoMemory}
 
 -- the text is read, and its JSON is this plan
 pub record IsPlanIn (text : List ℕ) (plan : Blueprint) : Type 0 where
-  pub reads : Reads
+  pub reads : TextRead
   pub is_read : read_in text ≡ Ok reads
   pub is_plan : IsPlanOf reads.json plan
 
@@ -24,15 +24,15 @@ pub record IsRefusedJson (json : List ℕ) (refusal : Refusal) : Type 0 where
   pub is_fault : IsFaultOf json why
   pub is_refusal : IsRefusal json why refusal
 
-abbrev pub IsRefusedAs : Reads → NotationFault → Type 0
+abbrev pub IsRefusedAs : TextRead → NotationFault → Type 0
 IsRefusedAs reads (Text refusal) = ⊥
 IsRefusedAs reads (Plan refusal at) =
     IsRefusedJson reads.json refusal × (at ≡ spot_in reads refusal.place.items)
 IsRefusedAs reads NoMemory = ⊤
 
 -- the text is read, its JSON is refused, and this is told of it, where the node stands
-pub record IsRefusedFor (text : List ℕ) (refusal : Refusal) (at : ℕ) : Type 0 where
-  pub reads : Reads
+pub record IsRefusedAtSpot (text : List ℕ) (refusal : Refusal) (at : ℕ) : Type 0 where
+  pub reads : TextRead
   pub is_read : read_in text ≡ Ok reads
   pub is_refused : IsRefusedJson reads.json refusal
   pub at_is : at ≡ spot_in reads refusal.place.items
@@ -40,5 +40,5 @@ pub record IsRefusedFor (text : List ℕ) (refusal : Refusal) (at : ℕ) : Type 
 -- why a text is no plan
 abbrev pub IsFaultIn : List ℕ → NotationFault → Type 0
 IsFaultIn text (Text refusal) = read_in text ≡ Err refusal
-IsFaultIn text (Plan refusal at) = IsRefusedFor text refusal at
+IsFaultIn text (Plan refusal at) = IsRefusedAtSpot text refusal at
 IsFaultIn text NoMemory = ⊤

@@ -1,7 +1,7 @@
 //! What is answered of a text.
 ghost use Rattle.std.specs.Prelude.{◌≡◌, ◌≢◌, false, IfOk, IfErr};
 ghost use Rattle.plan_reader.specs.PlanFile.{IsFaultOf, IsPlanOf};
-ghost use Rattle.notation_answers.specs.Answers.{IsWritten};
+ghost use Rattle.notation_answers.specs.Answers.{IsAnswerOf};
 ghost use Rattle.notation_answers.specs.Plans.{IsFaultIn, IsPlanIn, IsRefusedAs};
 
 use crate::path::spot_of;
@@ -75,7 +75,7 @@ fn told(alloc: Global, read: &Read, fault: PlanFault) -> NotationFault
 
 /// What is answered of a text in the notation.
 pub fn written_of(alloc: Global, text: &[u8]) -> Result<Written, AllocError>
-    ensures { IfOk result (IsWritten text.now) }
+    ensures { IfOk result (IsAnswerOf text.now) }
 {
     match read_notation(alloc, text) {
         Ok(plan) => {

@@ -1,7 +1,7 @@
 //! What stands where something else is wanted.
 use plan_notation::Wanted;
 use plan_reader::node_named;
-use plan_words::{Token, TokenKind, kind_of};
+use plan_words::{Token, TokenKind, token_kind};
 use serde_json::Value;
 use std::alloc::{AllocError, Global};
 
@@ -18,7 +18,7 @@ pub(crate) fn found_text(
         return Vec::from_slice(alloc, b"the text ends");
     };
     let shown = shown_text(alloc, token)?;
-    let is_word = kind_of(token.text()) == TokenKind::Word;
+    let is_word = token_kind(token.text()) == TokenKind::Word;
     let (before, behind) = match wanted {
         Wanted::Sender if is_node(token) => ("", " stands only behind a bar"),
         Wanted::Adaptor if is_node(token) => ("", " stands behind no bar"),

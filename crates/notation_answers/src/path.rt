@@ -1,6 +1,6 @@
 //! Where a node stands in a text, by its path in the JSON.
 ghost use Rattle.std.specs.Prelude.{◌≡◌, ◌<◌, drop, slice_index};
-ghost use Rattle.notation_answers.specs.Paths.{child_at, digit, indexed, node_spot, spot_at, spot_in, step_of};
+ghost use Rattle.notation_answers.specs.Paths.{child_at, number_of_digit, indexed, node_spot, spot_at, spot_in, step_of};
 
 use plan_notation::Read;
 
@@ -109,7 +109,7 @@ fn indexed(before: usize, first: usize, items: &[u8]) -> Option<Step>
     requires first { first < 2 }
     ensures { result ≡ indexed before first items.now }
 {
-    let tens = digit(byte_at(items, 0));
+    let tens = number_of_digit(byte_at(items, 0));
     if byte_at(items, 1) == b']' {
         return Some(Step {
             child: first + tens,
@@ -117,7 +117,7 @@ fn indexed(before: usize, first: usize, items: &[u8]) -> Option<Step>
         });
     }
     Some(Step {
-        child: first + (10 * tens + digit(byte_at(items, 1))),
+        child: first + (10 * tens + number_of_digit(byte_at(items, 1))),
         length: before + 3,
     })
 }
@@ -133,8 +133,8 @@ fn byte_at(items: &[u8], index: usize) -> u8
 }
 
 /// What a digit says.
-fn digit(byte: u8) -> usize
-    ensures { result ≡ digit byte }
+fn number_of_digit(byte: u8) -> usize
+    ensures { result ≡ number_of_digit byte }
 {
     usize::from(byte.saturating_sub(b'0'))
 }

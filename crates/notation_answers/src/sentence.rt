@@ -1,11 +1,11 @@
 //! Sentences that say where and why a text is refused.
 ghost use Rattle.std.specs.Prelude.{◌≡◌, IfOk};
-ghost use Rattle.notation_answers.specs.Answers.{TellsOf, head_of, sentence_at};
+ghost use Rattle.notation_answers.specs.Answers.{TellsOfPlace, place_head, sentence_at};
 
 use crate::found::{found_text, wanted_text};
 use itoa::Buffer;
 use plan_notation::{Refusal, Wanted};
-use plan_words::{Place, Token, place_of, tokens_of};
+use plan_words::{Place, Token, place_behind, tokens_of};
 use std::alloc::{AllocError, Global};
 
 /// A sentence about the place behind so many bytes, in a line of its own.
@@ -17,7 +17,7 @@ pub(crate) fn at_place(
 ) -> Result<Vec<u8>, AllocError>
     ensures { IfOk result (λ told. told.items ≡ sentence_at text.now at reason.now) }
 {
-    let mut sentence = head_of(alloc, place_of(text, at.min(text.len())))?;
+    let mut sentence = place_head(alloc, place_behind(text, at.min(text.len())))?;
     sentence.extend_from_slice(reason.as_bytes())?;
     sentence.push(b'\n')?;
     Ok(sentence)
@@ -29,10 +29,10 @@ pub(crate) fn refusal_sentence(
     text: &[u8],
     refusal: Refusal,
 ) -> Result<Vec<u8>, AllocError>
-    ensures { IfOk result (λ told. TellsOf text.now refusal.at told.items) }
+    ensures { IfOk result (λ told. TellsOfPlace text.now refusal.at told.items) }
 {
     let reason = refusal_reason(alloc, text, refusal)?;
-    let mut sentence = head_of(alloc, place_of(text, refusal.at.min(text.len())))?;
+    let mut sentence = place_head(alloc, place_behind(text, refusal.at.min(text.len())))?;
     sentence.extend_from_slice(&reason)?;
     Ok(sentence)
 }
@@ -61,8 +61,8 @@ fn token_at(tokens: &[Token], at: usize) -> Option<&Token> {
 }
 
 /// A line and a column, as a sentence begins.
-fn head_of(alloc: Global, place: Place) -> Result<Vec<u8>, AllocError>
-    ensures { IfOk result (λ text. text.items ≡ head_of place) }
+fn place_head(alloc: Global, place: Place) -> Result<Vec<u8>, AllocError>
+    ensures { IfOk result (λ text. text.items ≡ place_head place) }
 {
     let mut line = Buffer::new();
     let mut column = Buffer::new();

@@ -19,7 +19,7 @@ use Rattle.trace_commands.proofs.Due.{IsDecided}
 use Rattle.trace_commands.proofs.Ending.{IsAnswer}
 use Rattle.notation_answers.specs.Answers.{IsAnswer as IsWrittenAs, IsPlanLine, IsPlanRefused, IsTextRefused}
 use Rattle.notation_answers.specs.Plans.{IsRefusedJson}
-use Rattle.plan_notation.specs.Reading.{Reads}
+use Rattle.plan_notation.specs.Reading.{TextRead}
 use Rattle.show_words.specs.declared.asked.Rows.{Rows}
 use Rattle.picture_commands.specs.Answers.{IsDrawn, IsExplained, IsInNotation, IsPlanAnswer, IsTextAnswer, IsReasoned, IsTraceDrawn, status_of, the_plan, the_text, the_trace, the_why, the_write}
 
@@ -101,7 +101,7 @@ line-or-refused : (bytes line told : List ℕ) → IsPlanLine bytes line → IsT
 line-or-refused bytes line told is (inl refused) = ok-or-err is.is_plan.is_read refused.is_refused
 line-or-refused bytes line told is (inr refused) =
     let same : refused.is_refused.reads ≡ is.is_plan.reads = one-ok refused.is_refused.is_read is.is_plan.is_read in
-    let there = subst (λ (r : Reads). IsRefusedJson r.json refused.refusal) same refused.is_refused.is_refused in
+    let there = subst (λ (r : TextRead). IsRefusedJson r.json refused.refusal) same refused.is_refused.is_refused in
     not-refused is.is_plan.reads.json is.plan there.why is.is_plan.is_plan there.other there.is_fault
 
 written-once : (bytes : List ℕ) (a b : Bool) (text other : List ℕ) → IsWrittenAs a bytes text → IsWrittenAs b bytes other → a ≡ b

@@ -4,12 +4,10 @@ use Rattle.exec_io.specs.Shelves.{Texts}
 use Rattle.exec_status.specs.declared.status.Status.{Status}
 use Rattle.exec_status.specs.declared.status.Status.TheVariants.{AllValues, NotAllValues}
 use Rattle.notation_answers.specs.declared.answer.Written.{Written}
-use Rattle.notation_answers.specs.Answers.{IsReadBack, IsWritten}
-use Rattle.plan_notation.specs.NodeTokens.{notation_words}
-use Rattle.plan_words.specs.Seen.{words_in}
+use Rattle.notation_answers.specs.Answers.{IsAnswerOf, IsTextOf}
 use Rattle.plan_shape.specs.Blueprint.{Blueprint}
 use Rattle.plan_kinds.specs.declared.sig.Sig.{Sig}
-use Rattle.plan_picture.specs.Picture.{picture_of}
+use Rattle.pictures.specs.Plans.Picture.{picture_of}
 use Rattle.plan_places.specs.declared.refusal.Refusal.{Refusal}
 use Rattle.plan_places.specs.Refusals.{IsRefusal}
 use Rattle.plan_reader.specs.declared.fault.PlanFault.{PlanFault}
@@ -21,14 +19,14 @@ use Rattle.replay_core.specs.Verdicts.{IsVerdict}
 use Rattle.show_words.specs.declared.asked.Rows.{Rows}
 use Rattle.sig_check.specs.Checked.{AreSignatures}
 use Rattle.trace_commands.specs.Answers.{HasAnswer, IsRefused, Question}
-use Rattle.trace_picture.specs.declared.shown.Shown.{Shown}
-use Rattle.trace_picture.specs.Picture as trace_picture
+use Rattle.pictures.specs.declared.traces.shown.Shown.{Shown}
+use Rattle.pictures.specs.Traces.Picture as trace_picture
 use Rattle.trace_reasons.specs.Explaining.{Explains}
 use Rattle.trace_text.specs.declared.limits.TheConstants.{FILE_BYTES}
 use Rattle.trace_text.specs.Reading.{trace_in}
 use Rattle.trace_text.specs.Values.{TraceValue}
 use Rattle.picture_commands.specs.declared.answer.Answer.{Answer}
-use Rattle.picture_commands.specs.Reasons.{reason_of}
+use Rattle.picture_commands.specs.Reasons.{reason_line}
 
 -- The status of an answer: whether it is a picture, or tells of a trace that was taken.
 abbrev pub status_of : Bool → Status
@@ -53,7 +51,7 @@ pub record IsReasoned (bytes text : List ℕ) : Type 0 where
   pub is : IsFaultOf bytes fault
   pub refusal : Refusal
   pub tells : IsRefusal bytes fault refusal
-  pub text_is : text ≡ reason_of refusal
+  pub text_is : text ≡ reason_line refusal
 
 -- The bytes of a plan file are answered with this status and text: as those of a plan, or as those
 -- of one that is refused.
@@ -66,16 +64,11 @@ IsPlanAnswer Shows bytes status text = ⊥
 abbrev pub the_plan : Question
 the_plan = record { refuses = λ bytes refusal. ⊥; answers = IsPlanAnswer IsDrawn }
 
--- The text has the plan's tokens, and it is read as the plan's canonical JSON.
-pub record IsNotationOf (plan : Blueprint) (text : List ℕ) : Type 0 where
-  pub words_are : words_in text ≡ notation_words plan
-  pub read_back : IsReadBack plan text
-
 -- The bytes are a plan, and the answer is the plan in the notation.
 pub record IsInNotation (bytes text : List ℕ) : Type 0 where
   pub plan : Blueprint
   pub is : IsPlanOf bytes plan
-  pub shows : IsNotationOf plan text
+  pub shows : IsTextOf plan text
 
 abbrev pub the_text : Question
 the_text = record { refuses = λ bytes refusal. ⊥; answers = IsPlanAnswer IsInNotation }
@@ -83,7 +76,7 @@ the_text = record { refuses = λ bytes refusal. ⊥; answers = IsPlanAnswer IsIn
 -- The bytes are a text in the notation, and the answer is its plan, or where and why it is none.
 pub record IsTextAnswer (bytes : List ℕ) (status : Status) (text : List ℕ) : Type 0 where
   pub written : Written
-  pub is : IsWritten bytes written
+  pub is : IsAnswerOf bytes written
   pub status_is : status ≡ status_of written.is_plan
   pub text_is : text ≡ written.text.items
 
@@ -95,8 +88,8 @@ abbrev pub refused_of : Verdict → Option ℕ
 refused_of (Taken n) = None
 refused_of (Refused e) = Some e
 
-abbrev pub shown_of : Rows → Verdict → Shown
-shown_of rows verdict = record {
+abbrev pub shown_for : Rows → Verdict → Shown
+shown_for rows verdict = record {
   first = rows.first;
   last = rows.last;
   refused = if rows.refused then refused_of verdict else None;
@@ -106,7 +99,7 @@ shown_of rows verdict = record {
 pub record IsPictureOf (trace : TraceValue) (rows : Rows) (text : List ℕ) : Type 0 where
   pub verdict : Verdict
   pub is : IsVerdict trace verdict
-  pub text_is : text ≡ trace_picture.picture_of trace (shown_of rows verdict)
+  pub text_is : text ≡ trace_picture.picture_of trace (shown_for rows verdict)
 
 -- The bytes are a trace, and its picture is the answer.
 pub record IsTraceDrawn (rows : Rows) (bytes : List ℕ) (status : Status) (text : List ℕ)

@@ -18,7 +18,7 @@ head_of OtherJob = codes "refused: P6 kinds"
 head_of Kinds = codes "refused: P6 kinds"
 head_of Excluded = codes "refused: P7 settings exclude each other"
 
-abbrev pub reason_of : Refusal → List ℕ
-reason_of refusal =
+abbrev pub reason_line : Refusal → List ℕ
+reason_line refusal =
     head_of refusal.cause
     ++ (refusal.place.items ++ (codes ": " ++ (string_bytes refusal.reason ++ codes "\n")))

@@ -10,14 +10,14 @@ use Rattle.trace_commands.specs.Ends.{Ends}
 use Rattle.picture_commands.specs.Answers.{the_plan, the_text, the_trace, the_why, the_write}
 use Rattle.show_words.specs.declared.asked.Asked.{Asked}
 use Rattle.show_words.specs.declared.asked.Asked.TheVariants.{Plan, Trace, Why, Write, Text}
-use Rattle.show_words.specs.Usage.{usage_lines}
+use Rattle.show_words.specs.Usage.{show_usage_lines}
 
 -- Words that ask for nothing are told how the program is called: nothing is read, and nothing is
 -- done to out.
 pub record UsageShown (shelf shelf' : ShelfView) (out out' notes notes' : SinkView) : Type 0 where
   pub shelf_same : shelf' ≡ shelf
   pub out_same : out' ≡ out
-  pub told : Tells notes notes' usage_lines
+  pub told : Tells notes notes' show_usage_lines
   pub notes_later : notes.faults ≤ notes'.faults
 
 -- What is asked of which file.

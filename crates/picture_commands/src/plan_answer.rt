@@ -10,7 +10,7 @@ use crate::answer::Answer;
 use crate::reason::told;
 use exec_io::Shelf;
 use exec_status::FileFault;
-use plan_picture::picture_of;
+use pictures::plans::picture_of;
 use plan_reader::{PlanFault, read_plan};
 use plan_shape::Plan;
 use sig_check::{SigFault, Sigs, check};

@@ -1,7 +1,7 @@
 //! Why bytes are no plan, and where, in a sentence.
 ghost use Rattle.std.specs.Prelude.{◌≡◌, ◌≢◌, IfOk};
 ghost use Rattle.picture_commands.specs.Answers.{IsReasoned};
-ghost use Rattle.picture_commands.specs.Reasons.{head_of, reason_of};
+ghost use Rattle.picture_commands.specs.Reasons.{head_of, reason_line};
 ghost use Rattle.plan_reader.specs.PlanFile.{IsFaultOf};
 
 use plan_places::{Cause, Refusal, refusal_of};
@@ -15,13 +15,13 @@ pub(crate) fn told(alloc: Global, bytes: &[u8], fault: PlanFault) -> Result<Vec<
     ensures { IfOk result (λ text. IsReasoned bytes.now text.items) }
 {
     let refusal = refusal_of(alloc, bytes, fault)?;
-    reason_of(alloc, &refusal)
+    reason_line(alloc, &refusal)
 }
 
 /// Why bytes are no plan, and where, in a sentence.
-fn reason_of(alloc: Global, refusal: &Refusal) -> Result<Vec<u8>, AllocError>
+fn reason_line(alloc: Global, refusal: &Refusal) -> Result<Vec<u8>, AllocError>
     ensures { IfOk result
-        (λ text. text.items ≡ reason_of refusal.now) }
+        (λ text. text.items ≡ reason_line refusal.now) }
 {
     let mut text = Vec::from_slice(alloc, head_of(refusal.cause))?;
     text.extend_from_slice(&refusal.place)?;

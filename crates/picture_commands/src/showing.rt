@@ -16,7 +16,7 @@ use crate::why_answer::why_answer;
 use crate::write_answer::write_answer;
 use exec_io::{Shelf, Sink};
 use exec_status::{Status, conclude, refuse};
-use show_words::{Asked, Rows, read_words, usage_lines};
+use show_words::{Asked, Rows, read_words, show_usage_lines};
 use std::alloc::Global;
 use trace_commands::give_up;
 
@@ -203,7 +203,7 @@ pub fn show<F: Shelf, K: Sink, N: Sink>(
     match read_words(words) {
         Some(asked) => show_asked(alloc, asked, shelf, out, notes),
         None => {
-            refuse(usage_lines(), notes);
+            refuse(show_usage_lines(), notes);
             Status::Usage
         }
     }

@@ -1,7 +1,7 @@
 //! What is answered of a plan file whose plan is wanted in the notation.
 ghost use Rattle.std.specs.Prelude.{IfOk, IfErr};
 ghost use Rattle.exec_status.specs.Files.{IsFaultOf as IsFileFault, Misses, ReadsShelf};
-ghost use Rattle.picture_commands.specs.Answers.{HasShown, IsNotationOf, IsShownAs, the_text};
+ghost use Rattle.picture_commands.specs.Answers.{HasShown, IsShownAs, the_text};
 ghost use Rattle.trace_commands.specs.Refusals.{HasRefusal};
 
 use crate::answer::Answer;
@@ -10,7 +10,6 @@ use exec_io::Shelf;
 use exec_status::FileFault;
 use notation_answers::text_of;
 use plan_reader::{PlanFault, read_plan};
-use plan_shape::Plan;
 use std::alloc::{AllocError, Global};
 use trace_commands::{Refusal, read_file};
 
@@ -49,25 +48,12 @@ fn noted_or_told(alloc: Global, bytes: &[u8]) -> Result<Answer, AllocError>
     match read_plan(alloc, bytes) {
         Ok(plan) => Ok(Answer {
             drawn: true,
-            text: noted(alloc, &plan)?,
+            text: text_of(alloc, &plan)?,
         }),
         Err(PlanFault::NoMemory) => Err(AllocError),
         Err(fault) => Ok(Answer {
             drawn: false,
             text: told(alloc, bytes, fault)?,
         }),
-    }
-}
-
-/// The plan in the notation. No plan is known whose text isn't read back: of such a one nothing is
-/// answered, as where there is no memory.
-fn noted(alloc: Global, plan: &Plan) -> Result<Vec<u8>, AllocError>
-    ensures { IfOk result (λ text. IsNotationOf plan.now text.items) }
-{
-    let written = text_of(alloc, plan)?;
-    if written.is_plan {
-        Ok(written.text)
-    } else {
-        Err(AllocError)
     }
 }

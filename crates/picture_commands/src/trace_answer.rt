@@ -1,17 +1,17 @@
 //! What is answered of a trace file.
 ghost use Rattle.std.specs.Prelude.{◌≡◌, true, IfOk, IfErr};
 ghost use Rattle.exec_status.specs.Files.{IsFaultOf, Misses, ReadsShelf};
-ghost use Rattle.picture_commands.specs.Answers.{HasShown, IsPictureOf, IsShownAs, shown_of, the_trace};
+ghost use Rattle.picture_commands.specs.Answers.{HasShown, IsPictureOf, IsShownAs, shown_for, the_trace};
 ghost use Rattle.trace_commands.specs.Refusals.{HasRefusal};
 
 use crate::answer::Answer;
 use exec_io::Shelf;
 use exec_status::FileFault;
+use pictures::traces::{Shown, picture_of};
 use replay_core::{Verdict, check_trace, read_trace};
 use show_words::Rows;
 use std::alloc::{AllocError, Global};
-use trace_commands::{Refusal, fault_of, read_file};
-use trace_picture::{Shown, picture_of};
+use trace_commands::{Refusal, file_fault, read_file};
 use trace_text::Trace;
 
 /// What is answered of the trace of this name.
@@ -42,7 +42,7 @@ fn trace_drawn(alloc: Global, bytes: &[u8], rows: Rows) -> Result<Answer, FileFa
             Ok(answer) => Ok(answer),
             Err(AllocError) => Err(FileFault::NoMemory),
         },
-        Err(fault) => Err(fault_of(fault)),
+        Err(fault) => Err(file_fault(fault)),
     }
 }
 
@@ -54,13 +54,13 @@ fn drawing_of(alloc: Global, trace: &Trace, rows: Rows) -> Result<Answer, AllocE
     let verdict = check_trace(alloc, trace)?;
     Ok(Answer {
         drawn: true,
-        text: picture_of(alloc, trace, shown_of(rows, verdict))?,
+        text: picture_of(alloc, trace, shown_for(rows, verdict))?,
     })
 }
 
 /// What a picture shows: these rows, and where it is asked for the mark of a refused entry.
-fn shown_of(rows: Rows, verdict: Verdict) -> Shown
-    ensures { result ≡ shown_of rows verdict }
+fn shown_for(rows: Rows, verdict: Verdict) -> Shown
+    ensures { result ≡ shown_for rows verdict }
 {
     let refused = match verdict {
         Verdict::Refused(entry) if rows.refused => Some(entry),

@@ -10,7 +10,7 @@ use exec_io::Shelf;
 use exec_status::FileFault;
 use replay_core::read_trace;
 use std::alloc::{AllocError, Global};
-use trace_commands::{Refusal, fault_of, read_file};
+use trace_commands::{Refusal, file_fault, read_file};
 use trace_reasons::explain;
 use trace_text::Trace;
 
@@ -41,7 +41,7 @@ fn trace_explained(alloc: Global, bytes: &[u8]) -> Result<Answer, FileFault<Refu
             Ok(answer) => Ok(answer),
             Err(AllocError) => Err(FileFault::NoMemory),
         },
-        Err(fault) => Err(fault_of(fault)),
+        Err(fault) => Err(file_fault(fault)),
     }
 }
 

@@ -5,4 +5,5 @@ pub mod Stacks
 pub mod Whole
 pub mod WholeWords
 pub mod WholeNodes
+pub mod HeldParts
 pub mod Ends

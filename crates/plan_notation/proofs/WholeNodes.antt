@@ -9,7 +9,7 @@ use Rattle.plan_rules.specs.declared.node.Node.TheVariants.{Input, Just, JustErr
 use Rattle.plan_writer.specs.Nodes.{context_name, kind_name, query_name}
 use Rattle.plan_words.specs.Wholes.{is_sign, is_token, is_whole}
 use Rattle.plan_words.proofs.Numerals.{decimal_whole}
-use Rattle.plan_notation.specs.NodeTokens.{Done, all_words, bracketed, later_nodes, let_words, node_words, nodes_words, over, words_at, words_from}
+use Rattle.plan_notation.specs.NodeTokens.{Done, all_words, in_brackets, later_nodes, let_words, node_words, nodes_words, behind_child, words_at, words_from}
 use Rattle.plan_notation.specs.Tokens.{constant_word, constants_words, count_word, job_words, later_constants, text_word}
 use Rattle.plan_notation.proofs.WholeWords.{both_all, constant_whole, context_whole, job_whole, kind_whole, query_whole, quoted_whole}
 
@@ -40,7 +40,7 @@ nodes_tokens done [] h = refl
 nodes_tokens done (n ∷ ns) h =
     both_all is_token (words_at done n) (later_nodes done ns) (at_tokens done n h) (later_tokens done ns h)
 
-bracketed_tokens : (name : List ℕ) (arguments : List (List ℕ)) → is_whole name ≡ true → AreTokens arguments → AreTokens (bracketed name arguments)
+bracketed_tokens : (name : List ℕ) (arguments : List (List ℕ)) → is_whole name ≡ true → AreTokens arguments → AreTokens (in_brackets name arguments)
 bracketed_tokens name arguments h k =
     and_from (is_token name) (list_all is_token (codes "(" ∷ (arguments ++ codes ")" ∷ []))) (or_left (is_whole name) (is_sign name) h)
     (both_all is_token arguments (codes ")" ∷ []) k refl)
@@ -48,7 +48,7 @@ bracketed_tokens name arguments h k =
 one_token : (word : List ℕ) → is_whole word ≡ true → AreTokens (word ∷ [])
 one_token word h = and_from (is_token word) true (or_left (is_whole word) (is_sign word) h) refl
 
-over_tokens : (done : Done) (child : ℕ) (words : List (List ℕ)) → areDone done ≡ true → AreTokens words → AreTokens (over done child words)
+over_tokens : (done : Done) (child : ℕ) (words : List (List ℕ)) → areDone done ≡ true → AreTokens words → AreTokens (behind_child done child words)
 over_tokens done child words h k = both_all is_token (words_at done child) (codes "|" ∷ words) (at_tokens done child h) k
 
 job_tokens : (job : Job) → AreTokens (job_words job)
@@ -57,7 +57,7 @@ job_tokens job = whole_tokens (job_words job) (job_whole job)
 let_tokens : (done : Done) (child : ℕ) (name : List ℕ) (pick : Job) (bodies : List ℕ) → areDone done ≡ true → is_whole name ≡ true
     → AreTokens (let_words done child name (job_words pick) bodies)
 let_tokens done child name pick bodies h k =
-    over_tokens done child (bracketed name (job_words pick ++ later_nodes done bodies)) h
+    over_tokens done child (in_brackets name (job_words pick ++ later_nodes done bodies)) h
     (bracketed_tokens name (job_words pick ++ later_nodes done bodies) k (both_all is_token (job_words pick) (later_nodes done bodies) (job_tokens pick) (later_tokens done bodies h)))
 
 later_constants_tokens : (values : List Datum) → AreTokens (later_constants values)
@@ -73,12 +73,12 @@ constants_tokens (d ∷ values) =
     (later_constants_tokens values)
 
 over_job : (done : Done) (child : ℕ) (name : List ℕ) (job : Job) → areDone done ≡ true → is_whole name ≡ true
-    → AreTokens (over done child (bracketed name (job_words job)))
-over_job done child name job h k = over_tokens done child (bracketed name (job_words job)) h (bracketed_tokens name (job_words job) k (job_tokens job))
+    → AreTokens (behind_child done child (in_brackets name (job_words job)))
+over_job done child name job h k = over_tokens done child (in_brackets name (job_words job)) h (bracketed_tokens name (job_words job) k (job_tokens job))
 
 over_word : (done : Done) (child : ℕ) (name word : List ℕ) → areDone done ≡ true → is_whole name ≡ true → is_whole word ≡ true
-    → AreTokens (over done child (bracketed name (word ∷ [])))
-over_word done child name word h k w = over_tokens done child (bracketed name (word ∷ [])) h (bracketed_tokens name (word ∷ []) k (one_token word w))
+    → AreTokens (behind_child done child (in_brackets name (word ∷ [])))
+over_word done child name word h k w = over_tokens done child (in_brackets name (word ∷ [])) h (bracketed_tokens name (word ∷ []) k (one_token word w))
 
 node_tokens : (done : Done) (node : Node) → areDone done ≡ true → AreTokens (node_words done node)
 node_tokens done Input h = refl

@@ -22,9 +22,9 @@ use Rattle.plan_rules.specs.declared.node.Query.TheVariants.{Stop, Record}
 use Rattle.plan_rules.specs.declared.settings.Settings.{Settings}
 use Rattle.plan_writer.specs.Nodes.{context_name, kind_name, query_name}
 use Rattle.plan_writer.specs.Values.{integer_data}
-use Rattle.plan_words.specs.Wholes.{is_last, is_whole, row_ends, text_ends}
+use Rattle.plan_words.specs.Wholes.{nothing_follows, is_whole, row_ends, text_ends}
 use Rattle.plan_words.proofs.Numerals.{decimal_in_number, decimal_whole, number_in_row, signed_in_number, signed_whole}
-use Rattle.plan_notation.specs.Tokens.{constant_word, count_word, job_words, number_word, on_error_words, scope_words, settings_words, stop_words, text_word, version_words, with_one}
+use Rattle.plan_notation.specs.Tokens.{constant_word, count_word, job_words, number_word, on_error_words, scope_words, settings_words, stop_words, text_word, version_words, word_pair}
 
 -- ---- constants
 
@@ -40,7 +40,7 @@ hex_is f agree d h = agree_below_at (λ (x : ℕ). f (digit_char x)) (λ x. fals
 
 -- one byte more of a text that is neither a quote nor a backslash
 plain_text : (b : ℕ) (rest : List ℕ) → (b == 92) ≡ false → (b == 34) ≡ false → text_ends (b ∷ rest) false ≡ text_ends rest false
-plain_text b rest e f = cond-false (b == 92) _ _ e ∙ cond-false (b == 34) (is_last rest) (text_ends rest false) f
+plain_text b rest e f = cond-false (b == 92) _ _ e ∙ cond-false (b == 34) (nothing_follows rest) (text_ends rest false) f
 
 hex_text : (d : ℕ) (rest : List ℕ) → d < 16 → text_ends (digit_char d ∷ rest) false ≡ text_ends rest false
 hex_text d rest h =
@@ -113,7 +113,7 @@ both_all test (x ∷ xs) ys h k =
     let is = and_parts (test x) (list_all test xs) h in
     and_from (test x) (list_all test (xs ++ ys)) is.0 (both_all test xs ys is.1 k)
 
-pub one_whole : (name word : List ℕ) → is_whole name ≡ true → is_whole word ≡ true → list_all is_whole (with_one name word) ≡ true
+pub one_whole : (name word : List ℕ) → is_whole name ≡ true → is_whole word ≡ true → list_all is_whole (word_pair name word) ≡ true
 one_whole name word h k =
     and_from (is_whole name) (is_whole word && true) h (and_from (is_whole word) true k refl)
 
@@ -129,7 +129,7 @@ job_whole (Mul n) = one_whole (codes "mul") (number_word n) refl (number_whole n
 job_whole (Div n) = one_whole (codes "div") (number_word n) refl (number_whole n)
 job_whole Neg = refl
 job_whole (Within lo hi) =
-    and_from (is_whole (codes "within")) (list_all is_whole (with_one (number_word lo) (number_word hi))) refl
+    and_from (is_whole (codes "within")) (list_all is_whole (word_pair (number_word lo) (number_word hi))) refl
     (one_whole (number_word lo) (number_word hi) (number_whole lo) (number_whole hi))
 job_whole Index = refl
 job_whole (Fail name) = one_whole (codes "fail") (text_word name) refl (quoted_whole name)
@@ -161,7 +161,7 @@ pub query_whole : (q : Query) → is_whole (query_name q) ≡ true
 query_whole Stop = refl
 query_whole Record = refl
 
-version_whole : (q : Bool) → list_all is_whole (cond q (with_one (codes "version") (codes "2")) []) ≡ true
+version_whole : (q : Bool) → list_all is_whole (cond q (word_pair (codes "version") (codes "2")) []) ≡ true
 version_whole true = refl
 version_whole false = refl
 
@@ -180,7 +180,7 @@ stop_whole None = refl
 pub settings_whole : (s : Settings) → list_all is_whole (settings_words s) ≡ true
 settings_whole s =
     let last = on_error_words s.on_error_stop ++ stop_words s.stop_after in
-    let input = with_one (codes "input") (kind_name s.input) in
+    let input = word_pair (codes "input") (kind_name s.input) in
     both_all is_whole (version_words s.version) (input ++ (scope_words s.scope ++ last)) (version_whole (nat_eq s.version 2))
     (both_all is_whole input (scope_words s.scope ++ last) (one_whole (codes "input") (kind_name s.input) refl (kind_whole s.input))
     (both_all is_whole (scope_words s.scope) last (scope_whole s.scope)

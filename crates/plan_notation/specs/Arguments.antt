@@ -3,7 +3,7 @@ use Rattle.std.specs.Prelude.{◌≡◌, ⊤, ℕ, Bool, true, false, List, [], 
 use Rattle.std.specs.Str.{is_utf8}
 use Rattle.plan_words.specs.declared.kind.TokenKind.{TokenKind}
 use Rattle.plan_words.specs.declared.kind.TokenKind.TheVariants as kind
-use Rattle.plan_words.specs.Kinds.{kind_of}
+use Rattle.plan_words.specs.Kinds.{token_kind}
 use Rattle.plan_words.specs.Lexemes.{Lexeme}
 use Rattle.plan_notation.specs.declared.constant.ConstantKind.{ConstantKind}
 use Rattle.plan_notation.specs.declared.wanted.Fault.{Fault}
@@ -13,12 +13,12 @@ use Rattle.plan_notation.specs.declared.wanted.Wanted.{Wanted}
 use Rattle.plan_notation.specs.declared.wanted.Wanted.TheVariants as wanted
 use Rattle.plan_notation.specs.Assembled.{quoted_word}
 use Rattle.plan_notation.specs.Constants.{constant_kind, fits}
-use Rattle.plan_notation.specs.Grammar.{is_one_of, words_of}
+use Rattle.plan_notation.specs.Grammar.{is_one_of, wanted_words}
 
 -- the refusal that was wanted, or want of memory
-abbrev pub IsFaultOf : {A : Type 0} → Result A Refusal → Fault → Type 0
-IsFaultOf read (Refused refusal) = read ≡ Err refusal
-IsFaultOf read NoMemory = ⊤
+abbrev pub IsTokenFault : {A : Type 0} → Result A Refusal → Fault → Type 0
+IsTokenFault read (Refused refusal) = read ≡ Err refusal
+IsTokenFault read NoMemory = ⊤
 
 -- something else is wanted at a token
 abbrev pub refuse : {A : Type 0} → Lexeme → Wanted → Result A Refusal
@@ -34,11 +34,11 @@ same_kind kind.Comma kind.Comma = true
 same_kind k other = false
 
 abbrev pub is_kind : Lexeme → TokenKind → Bool
-is_kind t k = same_kind (kind_of t.text) k
+is_kind t k = same_kind (token_kind t.text) k
 
 -- the name that a token is; one that is no UTF-8 is the empty name, which nothing has
-abbrev pub name_of : List ℕ → List ℕ
-name_of text = if is_utf8 text then text else []
+abbrev pub token_name : List ℕ → List ℕ
+token_name text = if is_utf8 text then text else []
 
 -- a constant as it stands
 abbrev pub constant_read : Option ConstantKind → Wanted → Lexeme → Result (List ℕ) Refusal
@@ -55,7 +55,7 @@ word_json w text = quoted_word text
 
 abbrev pub word_text : Wanted → Lexeme → Result (List ℕ) Refusal
 word_text w t =
-    if is_one_of (words_of w) (name_of t.text) then Ok (word_json w t.text) else refuse t w
+    if is_one_of (wanted_words w) (token_name t.text) then Ok (word_json w t.text) else refuse t w
 
 -- the JSON of a token where this is wanted
 abbrev pub argument_text : Wanted → Lexeme → Result (List ℕ) Refusal

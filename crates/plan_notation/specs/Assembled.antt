@@ -29,12 +29,12 @@ abbrev pub piece_at : List (List ℕ) → ℕ → List ℕ
 piece_at pieces n = get_or pieces n []
 
 -- pieces in an array
-abbrev pub later_text : List (List ℕ) → List ℕ
-later_text = flat_map (λ piece. codes "," ++ piece)
+abbrev pub later_items_text : List (List ℕ) → List ℕ
+later_items_text = flat_map (λ piece. codes "," ++ piece)
 
 abbrev pub items_text : List (List ℕ) → List ℕ
 items_text [] = []
-items_text (piece ∷ pieces) = piece ++ later_text pieces
+items_text (piece ∷ pieces) = piece ++ later_items_text pieces
 
 abbrev pub array_text : List (List ℕ) → List ℕ
 array_text pieces = three (codes "[") (items_text pieces) (codes "]")
@@ -58,38 +58,38 @@ let_text binding child arguments =
     (three (let_name binding) (piece_at arguments 0) (codes "}"))
 
 -- a node with these arguments, over this sender where it takes one
-abbrev pub node_text : NodeWord → List ℕ → List (List ℕ) → List ℕ
-node_text (node.Leaf word) child arguments = leaf_text word arguments
-node_text (node.Adaptor word) child arguments =
+abbrev pub node_json : NodeWord → List ℕ → List (List ℕ) → List ℕ
+node_json (node.Leaf word) child arguments = leaf_text word arguments
+node_json (node.Adaptor word) child arguments =
     adaptor_text word child (piece_at arguments 0) (piece_at arguments 1)
-node_text (node.Let binding) child arguments = let_text binding child arguments
-node_text node.Bulk child arguments =
+node_json (node.Let binding) child arguments = let_text binding child arguments
+node_json node.Bulk child arguments =
     five (codes "{\"child\":") child (codes ",\"do\":\"bulk\",\"job\":") (piece_at arguments 0)
     (codes "}")
-node_text node.WhenAll child arguments =
+node_json node.WhenAll child arguments =
     three (codes "{\"children\":") (array_text arguments) (codes ",\"do\":\"when_all\"}")
-node_text node.Ahead child arguments =
+node_json node.Ahead child arguments =
     five (codes "{\"do\":\"ahead\",\"first\":") (piece_at arguments 0) (codes ",\"second\":")
     (piece_at arguments 1) (codes "}")
 
 -- a job with these constants
-abbrev pub job_text : JobWord → List (List ℕ) → List ℕ
-job_text (job.Plain word) constants = three (codes "{\"job\":") (plain_name word) (codes "}")
-job_text (job.Arithmetic word) constants =
+abbrev pub job_json : JobWord → List (List ℕ) → List ℕ
+job_json (job.Plain word) constants = three (codes "{\"job\":") (plain_name word) (codes "}")
+job_json (job.Arithmetic word) constants =
     five (codes "{\"job\":") (arithmetic_name word) (codes ",\"n\":") (piece_at constants 0)
     (codes "}")
-job_text job.Within constants =
+job_json job.Within constants =
     five (codes "{\"hi\":") (piece_at constants 1) (codes ",\"job\":\"within\",\"lo\":")
     (piece_at constants 0) (codes "}")
-job_text job.Fail constants =
+job_json job.Fail constants =
     three (codes "{\"error\":") (piece_at constants 0) (codes ",\"job\":\"fail\"}")
-job_text job.Append constants =
+job_json job.Append constants =
     three (codes "{\"job\":\"append\",\"text\":") (piece_at constants 0) (codes "}")
-job_text job.Give constants =
+job_json job.Give constants =
     three (codes "{\"job\":\"give\",\"values\":") (array_text constants) (codes "}")
-job_text job.At constants =
+job_json job.At constants =
     three (codes "{\"i\":") (piece_at constants 0) (codes ",\"job\":\"at\"}")
-job_text job.ValueOr constants =
+job_json job.ValueOr constants =
     three (codes "{\"else\":") (piece_at constants 0) (codes ",\"job\":\"value_or\"}")
 
 -- a plan with this root

@@ -49,5 +49,5 @@ new_frame word at = record {
   below = [];
 }
 
-abbrev pub over : DoneSender → FrameSeen → FrameSeen
-over s f = record f { child = s.text; height = s.height; below = f.below ++ s.number ∷ [] }
+abbrev pub frame_over : DoneSender → FrameSeen → FrameSeen
+frame_over s f = record f { child = s.text; height = s.height; below = f.below ++ s.number ∷ [] }

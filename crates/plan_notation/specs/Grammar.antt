@@ -16,8 +16,8 @@ use Rattle.plan_notation.specs.declared.wanted.Wanted.{Wanted}
 use Rattle.plan_notation.specs.declared.wanted.Wanted.TheVariants as wanted
 
 -- the settings, and what each takes
-abbrev pub setting_named : List ℕ → Option Setting
-setting_named = named (
+abbrev pub setting_of_name : List ℕ → Option Setting
+setting_of_name = named (
     (codes "version", setting.Version) ∷ (codes "input", setting.Input)
     ∷ (codes "scope", setting.Scope) ∷ (codes "on_error", setting.OnError)
     ∷ (codes "stop_after", setting.StopAfter) ∷ [])
@@ -30,12 +30,12 @@ wanted_by_setting setting.OnError = wanted.OnError
 wanted_by_setting setting.StopAfter = wanted.Number
 
 -- a node that begins a sender; each other takes the sender before a bar
-abbrev pub begins : NodeWord → Bool
-begins (node.Leaf word) = true
-begins node.WhenAll = true
-begins node.Ahead = true
-begins (node.Adaptor adaptor.StartsOn) = true
-begins other = false
+abbrev pub begins_sender : NodeWord → Bool
+begins_sender (node.Leaf word) = true
+begins_sender node.WhenAll = true
+begins_sender node.Ahead = true
+begins_sender (node.Adaptor adaptor.StartsOn) = true
+begins_sender other = false
 
 -- a node with arguments in brackets
 abbrev pub has_brackets : NodeWord → Bool
@@ -65,13 +65,13 @@ starts_on_wants count =
     if count == 0 then Some wanted.Context
     else (if count == 1 then Some wanted.Sender else None)
 
-abbrev pub wanted_at : NodeWord → ℕ → Option Wanted
-wanted_at (node.Leaf leaf.Just) count = Some wanted.Constant
-wanted_at node.WhenAll count = Some wanted.Sender
-wanted_at (node.Let binding) count = Some (if count == 0 then wanted.Job else wanted.Sender)
-wanted_at node.Ahead count = if nat_lt count 2 then Some wanted.Sender else None
-wanted_at (node.Adaptor adaptor.StartsOn) count = starts_on_wants count
-wanted_at word count = if count == 0 then only_wanted word else None
+abbrev pub wanted_by_node : NodeWord → ℕ → Option Wanted
+wanted_by_node (node.Leaf leaf.Just) count = Some wanted.Constant
+wanted_by_node node.WhenAll count = Some wanted.Sender
+wanted_by_node (node.Let binding) count = Some (if count == 0 then wanted.Job else wanted.Sender)
+wanted_by_node node.Ahead count = if nat_lt count 2 then Some wanted.Sender else None
+wanted_by_node (node.Adaptor adaptor.StartsOn) count = starts_on_wants count
+wanted_by_node word count = if count == 0 then only_wanted word else None
 
 -- the fewest arguments of a node; too few children and bodies are refused as in any plan
 abbrev pub fewest : NodeWord → ℕ
@@ -82,12 +82,12 @@ fewest (node.Adaptor adaptor.StartsOn) = 2
 fewest word = 1
 
 -- a job over the elements of a row
-abbrev pub is_element : JobWord → Bool
-is_element (job.Arithmetic arithmetic) = true
-is_element job.Within = true
-is_element (job.Plain plain.Neg) = true
-is_element (job.Plain plain.Index) = true
-is_element word = false
+abbrev pub is_element_word : JobWord → Bool
+is_element_word (job.Arithmetic arithmetic) = true
+is_element_word job.Within = true
+is_element_word (job.Plain plain.Neg) = true
+is_element_word (job.Plain plain.Index) = true
+is_element_word word = false
 
 -- what a job takes that takes one constant
 abbrev pub only_wanted_by_job : JobWord → Option Wanted
@@ -111,15 +111,15 @@ fewest_of_job job.Within = 2
 fewest_of_job other = 1
 
 -- the words that are wanted
-abbrev pub words_of : Wanted → List (List ℕ)
-words_of wanted.Context = codes "loop" ∷ codes "pool" ∷ []
-words_of wanted.Query = codes "stop" ∷ codes "record" ∷ []
-words_of wanted.Kind = codes "int" ∷ codes "text" ∷ []
-words_of wanted.Input = codes "int" ∷ codes "text" ∷ codes "row" ∷ []
-words_of wanted.Scope = codes "simple" ∷ codes "counting" ∷ []
-words_of wanted.OnError = codes "go" ∷ codes "stop" ∷ []
-words_of wanted.Version = codes "1" ∷ codes "2" ∷ []
-words_of other = []
+abbrev pub wanted_words : Wanted → List (List ℕ)
+wanted_words wanted.Context = codes "loop" ∷ codes "pool" ∷ []
+wanted_words wanted.Query = codes "stop" ∷ codes "record" ∷ []
+wanted_words wanted.Kind = codes "int" ∷ codes "text" ∷ []
+wanted_words wanted.Input = codes "int" ∷ codes "text" ∷ codes "row" ∷ []
+wanted_words wanted.Scope = codes "simple" ∷ codes "counting" ∷ []
+wanted_words wanted.OnError = codes "go" ∷ codes "stop" ∷ []
+wanted_words wanted.Version = codes "1" ∷ codes "2" ∷ []
+wanted_words other = []
 
 abbrev pub is_one_of : List (List ℕ) → List ℕ → Bool
 is_one_of words name = list_any (bytes_eq name) words

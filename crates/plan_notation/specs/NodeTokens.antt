@@ -1,9 +1,10 @@
 -- Nodes as tokens, by those of the nodes before them.
-use Rattle.std.specs.Prelude.{ℕ, ◌-◌, Bool, true, false, List, [], ◌∷◌, ◌++◌, length, get_or, codes}
+use Rattle.std.specs.Prelude.{◌≡◌, ℕ, ◌-◌, Bool, true, false, List, [], ◌∷◌, ◌++◌, length, get_or, slice_get, Some, codes}
 use Rattle.std.specs.List.{flat_map}
 use Rattle.plan_rules.specs.declared.node.Node.{Node}
 use Rattle.plan_rules.specs.declared.node.Node.TheVariants.{Input, Just, JustError, JustStopped, Schedule, Delay, ReadEnv, Then, UponError, UponStopped, LetValue, LetError, LetStopped, StartsOn, ContinuesOn, StoppedAsOptional, StoppedAsError, Bulk, WhenAll, Part, Unstoppable, Ahead}
 use Rattle.plan_shape.specs.Blueprint.{Blueprint}
+use Rattle.plan_writer.specs.Held.{IsHeldNode}
 use Rattle.plan_writer.specs.Nodes.{context_name, kind_name, query_name}
 use Rattle.plan_notation.specs.Tokens.{constants_words, count_word, job_words, settings_words, text_word}
 
@@ -23,32 +24,33 @@ nodes_words done [] = []
 nodes_words done (n ∷ later) = words_at done n ++ later_nodes done later
 
 -- a name with its arguments in brackets
-abbrev pub bracketed : List ℕ → List (List ℕ) → List (List ℕ)
-bracketed name arguments = name ∷ codes "(" ∷ (arguments ++ codes ")" ∷ [])
+abbrev pub in_brackets : List ℕ → List (List ℕ) → List (List ℕ)
+in_brackets name arguments = name ∷ codes "(" ∷ (arguments ++ codes ")" ∷ [])
 
 -- a node behind the sender that it takes
-abbrev pub over : Done → ℕ → List (List ℕ) → List (List ℕ)
-over done child words = words_at done child ++ codes "|" ∷ words
+abbrev pub behind_child : Done → ℕ → List (List ℕ) → List (List ℕ)
+behind_child done child words = words_at done child ++ codes "|" ∷ words
 
 -- a pick and bodies
 abbrev pub let_words : Done → ℕ → List ℕ → List (List ℕ) → List ℕ → List (List ℕ)
 let_words done child name pick bodies =
-    over done child (bracketed name (pick ++ later_nodes done bodies))
+    behind_child done child (in_brackets name (pick ++ later_nodes done bodies))
 
 -- a node; a part stands in its bulk
 abbrev pub node_words : Done → Node → List (List ℕ)
 node_words done Input = codes "input" ∷ []
-node_words done (Just values) = bracketed (codes "just") (constants_words values)
-node_words done (JustError error) = bracketed (codes "just_error") (text_word error ∷ [])
+node_words done (Just values) = in_brackets (codes "just") (constants_words values)
+node_words done (JustError error) = in_brackets (codes "just_error") (text_word error ∷ [])
 node_words done JustStopped = codes "just_stopped" ∷ []
-node_words done (Schedule on) = bracketed (codes "schedule") (context_name on ∷ [])
-node_words done (Delay turns) = bracketed (codes "delay") (count_word turns ∷ [])
-node_words done (ReadEnv query) = bracketed (codes "read_env") (query_name query ∷ [])
-node_words done (Then child job) = over done child (bracketed (codes "then") (job_words job))
+node_words done (Schedule on) = in_brackets (codes "schedule") (context_name on ∷ [])
+node_words done (Delay turns) = in_brackets (codes "delay") (count_word turns ∷ [])
+node_words done (ReadEnv query) = in_brackets (codes "read_env") (query_name query ∷ [])
+node_words done (Then child job) =
+    behind_child done child (in_brackets (codes "then") (job_words job))
 node_words done (UponError child job) =
-    over done child (bracketed (codes "upon_error") (job_words job))
+    behind_child done child (in_brackets (codes "upon_error") (job_words job))
 node_words done (UponStopped child job) =
-    over done child (bracketed (codes "upon_stopped") (job_words job))
+    behind_child done child (in_brackets (codes "upon_stopped") (job_words job))
 node_words done (LetValue child pick bodies) =
     let_words done child (codes "let_value") (job_words pick) bodies
 node_words done (LetError child pick bodies) =
@@ -56,19 +58,20 @@ node_words done (LetError child pick bodies) =
 node_words done (LetStopped child pick bodies) =
     let_words done child (codes "let_stopped") (job_words pick) bodies
 node_words done (StartsOn on child) =
-    bracketed (codes "starts_on") (context_name on ∷ codes "," ∷ words_at done child)
+    in_brackets (codes "starts_on") (context_name on ∷ codes "," ∷ words_at done child)
 node_words done (ContinuesOn child on) =
-    over done child (bracketed (codes "continues_on") (context_name on ∷ []))
+    behind_child done child (in_brackets (codes "continues_on") (context_name on ∷ []))
 node_words done (StoppedAsOptional child of) =
-    over done child (bracketed (codes "stopped_as_optional") (kind_name of ∷ []))
+    behind_child done child (in_brackets (codes "stopped_as_optional") (kind_name of ∷ []))
 node_words done (StoppedAsError child error) =
-    over done child (bracketed (codes "stopped_as_error") (text_word error ∷ []))
-node_words done (Bulk child job) = over done child (bracketed (codes "bulk") (job_words job))
-node_words done (WhenAll children) = bracketed (codes "when_all") (nodes_words done children)
+    behind_child done child (in_brackets (codes "stopped_as_error") (text_word error ∷ []))
+node_words done (Bulk child job) =
+    behind_child done child (in_brackets (codes "bulk") (job_words job))
+node_words done (WhenAll children) = in_brackets (codes "when_all") (nodes_words done children)
 node_words done (Part bulk part) = []
-node_words done (Unstoppable child) = over done child (codes "unstoppable" ∷ [])
+node_words done (Unstoppable child) = behind_child done child (codes "unstoppable" ∷ [])
 node_words done (Ahead first second) =
-    bracketed (codes "ahead") (words_at done first ++ codes "," ∷ words_at done second)
+    in_brackets (codes "ahead") (words_at done first ++ codes "," ∷ words_at done second)
 
 -- a node stands behind the sender that it takes
 abbrev pub is_adaptor : Node → Bool
@@ -97,3 +100,7 @@ all_words nodes = words_from nodes []
 abbrev pub notation_words : Blueprint → List (List ℕ)
 notation_words plan =
     settings_words plan.settings ++ words_at (all_words plan.nodes) (length plan.nodes - 1)
+
+-- numbers fit, texts are texts and lists are short in each node, as the types of its parts tell
+abbrev pub HasHeldNodes : List Node → Type 0
+HasHeldNodes nodes = (n : ℕ) (node : Node) → slice_get nodes n ≡ Some node → IsHeldNode node

@@ -10,22 +10,22 @@ use Rattle.plan_notation.specs.declared.wanted.Wanted.TheVariants as wanted
 use Rattle.plan_notation.specs.Assembled.{plan_json}
 use Rattle.plan_notation.specs.Frames.{SpotSeen}
 use Rattle.plan_notation.specs.Grammar.{wanted_by_setting}
-use Rattle.plan_notation.specs.Machine.{Outcome, at_start, is_done, start_input, step, then_on}
-use Rattle.plan_notation.specs.States.{State}
+use Rattle.plan_notation.specs.Machine.{Outcome, machine_at_start, is_text_done, start_input, token_step, then_on}
+use Rattle.plan_notation.specs.States.{MachineState}
 
 -- all tokens, in order
-abbrev pub run : List Lexeme → State → Outcome
-run [] s = Ok s
-run (t ∷ ts) s = then_on (run ts) (step t s)
+abbrev pub run_tokens : List Lexeme → MachineState → Outcome
+run_tokens [] s = Ok s
+run_tokens (t ∷ ts) s = then_on (run_tokens ts) (token_step t s)
 
 -- what was read: the JSON of a plan file, the nodes in the order of their ends, and where the scope
 -- is told
-pub record Reads : Type 0 where
+pub record TextRead : Type 0 where
   pub json : List ℕ
   pub spots : List SpotSeen
   pub scope_at : ℕ
 
-abbrev pub reads_of : State → Reads
+abbrev pub reads_of : MachineState → TextRead
 reads_of s = record {
   json = plan_json s.said s.sender.text;
   spots = s.spots;
@@ -41,28 +41,29 @@ lacking expect.Bracket = wanted.Bracket
 lacking other = wanted.Separator
 
 -- the text ends behind a sender that no node has as an argument
-abbrev pub ends : ℕ → State → Result Reads Refusal
-ends end s =
-    if is_done s then Ok (reads_of s) else Err (record { at = end; wanted = lacking s.expect })
+abbrev pub reads_if_done : ℕ → MachineState → Result TextRead Refusal
+reads_if_done end s =
+    if is_text_done s then Ok (reads_of s) else Err (record { at = end; wanted = lacking s.expect })
 
 -- an `input` that stands last is a node
-abbrev pub last_begun : Expect → State → Outcome
+abbrev pub last_begun : Expect → MachineState → Outcome
 last_begun (expect.Input at) s = start_input at s
 last_begun next s = Ok s
 
-abbrev pub then_reads : (State → Result Reads Refusal) → Outcome → Result Reads Refusal
+abbrev pub then_reads : (MachineState → Result TextRead Refusal) → Outcome → Result TextRead Refusal
 then_reads next (Ok s) = next s
 then_reads next (Err refusal) = Err refusal
 
-abbrev pub finished : ℕ → State → Result Reads Refusal
-finished end s = then_reads (ends end) (last_begun s.expect s)
+abbrev pub reads_at_end : ℕ → MachineState → Result TextRead Refusal
+reads_at_end end s = then_reads (reads_if_done end) (last_begun s.expect s)
 
 -- the text
-abbrev pub read_in : List ℕ → Result Reads Refusal
-read_in text = then_reads (finished (length text)) (run (tokens_of text) at_start)
+abbrev pub read_in : List ℕ → Result TextRead Refusal
+read_in text = then_reads (reads_at_end (length text))
+    (run_tokens (tokens_of text) machine_at_start)
 
 -- its JSON
-abbrev pub json_of_reads : Result Reads Refusal → Result (List ℕ) Refusal
+abbrev pub json_of_reads : Result TextRead Refusal → Result (List ℕ) Refusal
 json_of_reads (Ok reads) = Ok reads.json
 json_of_reads (Err refusal) = Err refusal
 

@@ -4,8 +4,8 @@ use Rattle.plan_notation.specs.Settings.{Settings}
 use Rattle.plan_notation.specs.declared.grammar.Setting.{Setting}
 use Rattle.plan_notation.specs.declared.grammar.Setting.TheVariants as setting
 
-abbrev pub at_first : Settings
-at_first = record {
+abbrev pub settings_at_first : Settings
+settings_at_first = record {
   version = codes "1";
   input = codes "\"int\"";
   scope = codes "\"counting\"";

@@ -6,7 +6,7 @@ use Rattle.plan_notation.specs.declared.machine.Expect.{Expect}
 use Rattle.plan_notation.specs.Frames.{DoneSender, FrameSeen, SpotSeen}
 use Rattle.plan_notation.specs.Settings.{Settings}
 
-pub record State : Type 0 where
+pub record MachineState : Type 0 where
   pub said : Settings
   pub expect : Expect
   pub sender : DoneSender

@@ -34,49 +34,49 @@ constants_words [] = []
 constants_words (datum ∷ values) = constant_word datum ∷ later_constants values
 
 -- a job: its name, and then its constants without commas
-abbrev pub with_one : List ℕ → List ℕ → List (List ℕ)
-with_one name word = name ∷ word ∷ []
+abbrev pub word_pair : List ℕ → List ℕ → List (List ℕ)
+word_pair name word = name ∷ word ∷ []
 
 abbrev pub job_words : Job → List (List ℕ)
-job_words (Add n) = with_one (codes "add") (number_word n)
-job_words (Sub n) = with_one (codes "sub") (number_word n)
-job_words (Mul n) = with_one (codes "mul") (number_word n)
-job_words (Div n) = with_one (codes "div") (number_word n)
+job_words (Add n) = word_pair (codes "add") (number_word n)
+job_words (Sub n) = word_pair (codes "sub") (number_word n)
+job_words (Mul n) = word_pair (codes "mul") (number_word n)
+job_words (Div n) = word_pair (codes "div") (number_word n)
 job_words Neg = codes "neg" ∷ []
 job_words (Within lo hi) = codes "within" ∷ number_word lo ∷ number_word hi ∷ []
 job_words Index = codes "index" ∷ []
-job_words (Fail name) = with_one (codes "fail") (text_word name)
+job_words (Fail name) = word_pair (codes "fail") (text_word name)
 job_words Iota = codes "iota" ∷ []
 job_words Sum = codes "sum" ∷ []
-job_words (Append text) = with_one (codes "append") (text_word text)
+job_words (Append text) = word_pair (codes "append") (text_word text)
 job_words Join = codes "join" ∷ []
 job_words Length = codes "length" ∷ []
 job_words Parse = codes "parse" ∷ []
 job_words Show = codes "show" ∷ []
 job_words (Give values) = codes "give" ∷ map constant_word values
-job_words (At place) = with_one (codes "at") (count_word place)
-job_words (IntOr n) = with_one (codes "value_or") (number_word n)
-job_words (TextOr text) = with_one (codes "value_or") (text_word text)
+job_words (At place) = word_pair (codes "at") (count_word place)
+job_words (IntOr n) = word_pair (codes "value_or") (number_word n)
+job_words (TextOr text) = word_pair (codes "value_or") (text_word text)
 job_words Pass = codes "pass" ∷ []
 
 -- the settings: each but the kind of the records only where it isn't what stands without it
 abbrev pub version_words : ℕ → List (List ℕ)
-version_words n = if nat_eq n 2 then with_one (codes "version") (codes "2") else []
+version_words n = if nat_eq n 2 then word_pair (codes "version") (codes "2") else []
 
 abbrev pub scope_words : ScopeKind → List (List ℕ)
-scope_words Simple = with_one (codes "scope") (codes "simple")
+scope_words Simple = word_pair (codes "scope") (codes "simple")
 scope_words Counting = []
 
 abbrev pub on_error_words : Bool → List (List ℕ)
-on_error_words true = with_one (codes "on_error") (codes "stop")
+on_error_words true = word_pair (codes "on_error") (codes "stop")
 on_error_words false = []
 
 abbrev pub stop_words : Option ℕ → List (List ℕ)
-stop_words (Some count) = with_one (codes "stop_after") (count_word count)
+stop_words (Some count) = word_pair (codes "stop_after") (count_word count)
 stop_words None = []
 
 abbrev pub settings_words : Settings → List (List ℕ)
 settings_words s =
     version_words s.version
-    ++ (with_one (codes "input") (kind_name s.input)
+    ++ (word_pair (codes "input") (kind_name s.input)
     ++ (scope_words s.scope ++ (on_error_words s.on_error_stop ++ stop_words s.stop_after)))

@@ -1,7 +1,8 @@
 //! Nodes behind the senders that they take, as tokens.
 ghost use Rattle.std.specs.Prelude.{◌≡◌, ◌++◌, ◌∷◌, [], IsTrue, OnOk, codes};
+ghost use Rattle.plan_writer.specs.Held.{IsHeldJob, IsHeldNode};
 ghost use Rattle.plan_notation.specs.Tokens.{job_words, text_word};
-ghost use Rattle.plan_notation.specs.NodeTokens.{bracketed, is_adaptor, later_nodes, let_words, node_words, over};
+ghost use Rattle.plan_notation.specs.NodeTokens.{in_brackets, is_adaptor, later_nodes, let_words, node_words, behind_child};
 
 use crate::nodes::{context_name, kind_name, put_closed_text, put_later, put_node};
 use crate::words::Words;
@@ -19,7 +20,8 @@ pub(crate) fn put_adaptor(
     words: &mut Words,
 ) -> Result<(), AllocError>
     requires { IsTrue (is_adaptor node.now) }
-    ensures { OnOk result (words.new ≡ words.old ++ node_words done.now node.now) }
+    ensures words { OnOk result (words.new ≡ words.old ++ node_words done.now node.now) }
+    ensures held { OnOk result (IsHeldNode node.now) }
 {
     match node {
         Node::Then { child, job } => put_job_over(alloc, *child, "then", job, done, words),
@@ -85,7 +87,7 @@ pub(crate) fn put_adaptor(
 
 /// Adds a sender, a bar and the name of the node that takes it.
 fn put_over(child: NodeId, name: &str, done: &[Words], words: &mut Words) -> Result<(), AllocError>
-    ensures { OnOk result (words.new ≡ words.old ++ over done.now child (name.now ∷ [])) }
+    ensures { OnOk result (words.new ≡ words.old ++ behind_child done.now child (name.now ∷ [])) }
 {
     put_node(child, done, words)?;
     words.put_all(&["|", name])
@@ -101,8 +103,9 @@ fn put_job_over(
     done: &[Words],
     words: &mut Words,
 ) -> Result<(), AllocError>
-    ensures { OnOk result (words.new
-        ≡ words.old ++ over done.now child (bracketed name.now (job_words job.now))) }
+    ensures words { OnOk result (words.new
+        ≡ words.old ++ behind_child done.now child (in_brackets name.now (job_words job.now))) }
+    ensures held { OnOk result (IsHeldJob job.now) }
 {
     put_over(child, name, done, words)?;
     put_closed_job(alloc, job, words)
@@ -110,8 +113,9 @@ fn put_job_over(
 
 /// Adds a job in brackets.
 fn put_closed_job(alloc: Global, job: &Job, words: &mut Words) -> Result<(), AllocError>
-    ensures { OnOk result (words.new
+    ensures words { OnOk result (words.new
         ≡ words.old ++ codes "(" ∷ (job_words job.now ++ codes ")" ∷ [])) }
+    ensures held { OnOk result (IsHeldJob job.now) }
 {
     words.put("(")?;
     put_job(alloc, job, words)?;
@@ -129,8 +133,9 @@ fn put_let(
     done: &[Words],
     words: &mut Words,
 ) -> Result<(), AllocError>
-    ensures { OnOk result (words.new
+    ensures words { OnOk result (words.new
         ≡ words.old ++ let_words done.now child name.now (job_words pick.now) bodies.now) }
+    ensures held { OnOk result (IsHeldJob pick.now) }
 {
     put_over(child, name, done, words)?;
     put_bodies(alloc, pick, bodies, done, words)
@@ -144,8 +149,9 @@ fn put_bodies(
     done: &[Words],
     words: &mut Words,
 ) -> Result<(), AllocError>
-    ensures { OnOk result (words.new ≡ words.old ++ codes "("
+    ensures words { OnOk result (words.new ≡ words.old ++ codes "("
         ∷ ((job_words pick.now ++ later_nodes done.now bodies.now) ++ codes ")" ∷ [])) }
+    ensures held { OnOk result (IsHeldJob pick.now) }
 {
     words.put("(")?;
     put_job(alloc, pick, words)?;
@@ -163,7 +169,7 @@ fn put_word_over(
     words: &mut Words,
 ) -> Result<(), AllocError>
     ensures { OnOk result (words.new
-        ≡ words.old ++ over done.now child (bracketed name.now (word.now ∷ []))) }
+        ≡ words.old ++ behind_child done.now child (in_brackets name.now (word.now ∷ []))) }
 {
     put_over(child, name, done, words)?;
     words.put_all(&["(", word, ")"])
@@ -180,7 +186,8 @@ fn put_text_over(
     words: &mut Words,
 ) -> Result<(), AllocError>
     ensures { OnOk result (words.new
-        ≡ words.old ++ over done.now child (bracketed name.now (text_word text.now ∷ []))) }
+        ≡ words.old
+        ++ behind_child done.now child (in_brackets name.now (text_word text.now ∷ []))) }
 {
     put_over(child, name, done, words)?;
     put_closed_text(alloc, text, words)

@@ -1,19 +1,19 @@
 //! Arguments that are one token.
 ghost use Rattle.std.specs.Prelude.{◌≡◌, IfOk, MatchResult, Ok};
-ghost use Rattle.plan_notation.specs.Arguments.{IsFaultOf, argument_text, constant_text, is_kind, name_of, same_kind, word_json, word_text};
+ghost use Rattle.plan_notation.specs.Arguments.{IsTokenFault, argument_text, constant_text, is_kind, token_name, same_kind, word_json, word_text};
 
 use crate::constant::{constant_kind, fits};
-use crate::grammar::{is_one_of, words_of};
+use crate::grammar::{is_one_of, wanted_words};
 use crate::joined::{Piece, quoted_word};
 use crate::wanted::{Fault, Wanted, refused};
-use plan_words::{Token, TokenKind, kind_of};
+use plan_words::{Token, TokenKind, token_kind};
 use std::alloc::{AllocError, Global};
 
 /// Whether a token is of this kind.
 pub(crate) fn is_kind(token: &Token, kind: TokenKind) -> bool
     ensures { result ≡ is_kind token.now kind }
 {
-    same_kind(kind_of(token.text()), kind)
+    same_kind(token_kind(token.text()), kind)
 }
 
 /// Whether both are one kind.
@@ -31,8 +31,8 @@ fn same_kind(kind: TokenKind, other: TokenKind) -> bool
 }
 
 /// The name that a token is; one that is no UTF-8 is the empty name, which nothing has.
-pub(crate) fn name_of(token: &Token) -> &str
-    ensures { result.now ≡ name_of token.now.text }
+pub(crate) fn token_name(token: &Token) -> &str
+    ensures { result.now ≡ token_name token.now.text }
 {
     match str::from_utf8(token.text()) {
         Ok(name) => name,
@@ -43,7 +43,7 @@ pub(crate) fn name_of(token: &Token) -> &str
 /// The JSON of a token where this is wanted.
 pub(crate) fn argument_text(alloc: Global, wanted: Wanted, token: &Token) -> Result<Piece, Fault>
     ensures { MatchResult result (λ text. argument_text wanted token.now ≡ Ok text.items)
-        (IsFaultOf (argument_text wanted token.now)) }
+        (IsTokenFault (argument_text wanted token.now)) }
 {
     match wanted {
         Wanted::Number | Wanted::Text | Wanted::Scalar | Wanted::Constant => {
@@ -56,7 +56,7 @@ pub(crate) fn argument_text(alloc: Global, wanted: Wanted, token: &Token) -> Res
 /// A constant as it stands.
 fn constant_text(alloc: Global, wanted: Wanted, token: &Token) -> Result<Piece, Fault>
     ensures { MatchResult result (λ text. constant_text wanted token.now ≡ Ok text.items)
-        (IsFaultOf (constant_text wanted token.now)) }
+        (IsTokenFault (constant_text wanted token.now)) }
 {
     match constant_kind(alloc, token.text())? {
         Some(kind) if fits(wanted, kind) => Ok(Vec::from_slice(alloc, token.text())?),
@@ -67,9 +67,9 @@ fn constant_text(alloc: Global, wanted: Wanted, token: &Token) -> Result<Piece, 
 /// A word in quotes, but a version as it stands.
 fn word_text(alloc: Global, wanted: Wanted, token: &Token) -> Result<Piece, Fault>
     ensures { MatchResult result (λ text. word_text wanted token.now ≡ Ok text.items)
-        (IsFaultOf (word_text wanted token.now)) }
+        (IsTokenFault (word_text wanted token.now)) }
 {
-    if !is_one_of(words_of(wanted), name_of(token)) {
+    if !is_one_of(wanted_words(wanted), token_name(token)) {
         return Err(refused(token.at(), wanted));
     }
     Ok(word_json(alloc, wanted, token.text())?)

@@ -1,6 +1,6 @@
 //! Nodes, jobs and plans as JSON, their keys in the order of the bytes.
 ghost use Rattle.std.specs.Prelude.{◌≡◌, IfOk, drop, map};
-ghost use Rattle.plan_notation.specs.Assembled.{adaptor_text, array_text, job_text, last_json, leaf_text, let_text, node_text, plan_json, root_json};
+ghost use Rattle.plan_notation.specs.Assembled.{adaptor_text, array_text, job_json, last_json, leaf_text, let_text, node_json, plan_json, root_json};
 
 use crate::joined::{Piece, array_text, five, piece_at, three, two};
 use crate::names::{adaptor_name, arithmetic_name, leaf_name, let_name, plain_name};
@@ -10,14 +10,14 @@ use plan_reader::{Adaptor, Leaf, Let, NodeWord};
 use std::alloc::{AllocError, Global};
 
 /// A node with these arguments, over this sender where it takes one.
-pub(crate) fn node_text(
+pub(crate) fn node_json(
     alloc: Global,
     word: NodeWord,
     child: &[u8],
     arguments: &[Piece],
 ) -> Result<Piece, AllocError>
     ensures { IfOk result (λ text. text.items
-        ≡ node_text word child.now (map (λ piece. piece.items) arguments.now)) }
+        ≡ node_json word child.now (map (λ piece. piece.items) arguments.now)) }
 {
     let first = piece_at(arguments, 0);
     let second = piece_at(arguments, 1);
@@ -119,13 +119,13 @@ fn bodies_text(alloc: Global, arguments: &[Piece]) -> Result<Piece, AllocError>
 }
 
 /// A job with these constants.
-pub(crate) fn job_text(
+pub(crate) fn job_json(
     alloc: Global,
     job: JobWord,
     constants: &[Piece],
 ) -> Result<Piece, AllocError>
     ensures { IfOk result (λ text. text.items
-        ≡ job_text job (map (λ piece. piece.items) constants.now)) }
+        ≡ job_json job (map (λ piece. piece.items) constants.now)) }
 {
     let first = piece_at(constants, 0);
     let second = piece_at(constants, 1);

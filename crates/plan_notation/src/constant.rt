@@ -10,7 +10,7 @@ use std::alloc::{AllocError, Global};
 
 /// What a constant is.
 #[derive(Clone, Copy, Debug, PartialEq, Eq)]
-pub(crate) enum ConstantKind {
+pub enum ConstantKind {
     Number,
     Text,
     Row,

@@ -1,6 +1,6 @@
 //! Nodes whose arguments are being read, and the places of those that are done.
 ghost use Rattle.std.specs.Prelude.{◌≡◌, IfOk, length};
-ghost use Rattle.plan_notation.specs.Frames.{over, with_argument, with_sender};
+ghost use Rattle.plan_notation.specs.Frames.{frame_over, with_argument, with_sender};
 
 use crate::joined::Piece;
 use plan_reader::NodeWord;
@@ -99,7 +99,7 @@ impl Frame {
 
     /// Over this sender.
     pub(crate) fn over(mut self, sender: Done) -> Result<Frame, AllocError>
-        ensures { IfOk result (λ frame. frame ≡ over sender self) }
+        ensures { IfOk result (λ frame. frame ≡ frame_over sender self) }
     {
         self.below.push(sender.number)?;
         self.child = sender.text;

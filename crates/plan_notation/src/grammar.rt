@@ -1,6 +1,6 @@
 //! Which words there are, and what each takes.
 ghost use Rattle.std.specs.Prelude.{◌≡◌, map};
-ghost use Rattle.plan_notation.specs.Grammar.{begins, fewest, fewest_of_job, has_brackets, is_element, is_one_of, only_wanted, only_wanted_by_job, setting_named, wanted_at, wanted_by_job, wanted_by_setting, words_of};
+ghost use Rattle.plan_notation.specs.Grammar.{begins_sender, fewest, fewest_of_job, has_brackets, is_element_word, is_one_of, only_wanted, only_wanted_by_job, setting_of_name, wanted_by_node, wanted_by_job, wanted_by_setting, wanted_words};
 
 use crate::wanted::Wanted;
 use plan_parts::{JobWord, PlainJob, named};
@@ -17,8 +17,8 @@ pub enum Setting {
 }
 
 /// The setting of this name.
-pub(crate) fn setting_named(name: &str) -> Option<Setting>
-    ensures { result ≡ setting_named name.now }
+pub(crate) fn setting_of_name(name: &str) -> Option<Setting>
+    ensures { result ≡ setting_of_name name.now }
 {
     named(
         &[
@@ -46,8 +46,8 @@ pub(crate) fn wanted_by_setting(setting: Setting) -> Wanted
 }
 
 /// Whether a node begins a sender. Each other takes the sender before a bar.
-pub(crate) fn begins(word: NodeWord) -> bool
-    ensures { result ≡ begins word }
+pub(crate) fn begins_sender(word: NodeWord) -> bool
+    ensures { result ≡ begins_sender word }
 {
     match word {
         NodeWord::Leaf(_) | NodeWord::WhenAll | NodeWord::Ahead => true,
@@ -69,8 +69,8 @@ pub(crate) fn has_brackets(word: NodeWord) -> bool
 }
 
 /// What a node takes behind so many arguments. None: it takes no more.
-pub(crate) fn wanted_at(word: NodeWord, count: usize) -> Option<Wanted>
-    ensures { result ≡ wanted_at word count }
+pub(crate) fn wanted_by_node(word: NodeWord, count: usize) -> Option<Wanted>
+    ensures { result ≡ wanted_by_node word count }
 {
     match word {
         NodeWord::Leaf(Leaf::Just) => Some(Wanted::Constant),
@@ -128,8 +128,8 @@ pub(crate) fn fewest(word: NodeWord) -> usize
 }
 
 /// Whether a job is one over the elements of a row.
-pub(crate) fn is_element(job: JobWord) -> bool
-    ensures { result ≡ is_element job }
+pub(crate) fn is_element_word(job: JobWord) -> bool
+    ensures { result ≡ is_element_word job }
 {
     match job {
         JobWord::Arithmetic(_) | JobWord::Within => true,
@@ -185,8 +185,8 @@ pub(crate) fn fewest_of_job(job: JobWord) -> usize
 }
 
 /// The words that are wanted.
-pub fn words_of(wanted: Wanted) -> &'static [&'static str]
-    ensures { map (λ word. word.now) result.now ≡ words_of wanted }
+pub fn wanted_words(wanted: Wanted) -> &'static [&'static str]
+    ensures { map (λ word. word.now) result.now ≡ wanted_words wanted }
 {
     match wanted {
         Wanted::Context => &["loop", "pool"],

@@ -1,6 +1,6 @@
 //! How pieces of JSON are put together.
 ghost use Rattle.std.specs.Prelude.{◌≡◌, ◌++◌, IfOk, OnOk, map};
-ghost use Rattle.plan_notation.specs.Assembled.{array_text, five, items_text, later_text, piece_at, quoted_word, three};
+ghost use Rattle.plan_notation.specs.Assembled.{array_text, five, items_text, later_items_text, piece_at, quoted_word, three};
 
 use std::alloc::{AllocError, Global};
 
@@ -90,7 +90,7 @@ fn put_items(pieces: &[Piece], text: &mut Piece) -> Result<(), AllocError>
 /// Adds these pieces, each behind a comma.
 fn put_later(pieces: &[Piece], text: &mut Piece) -> Result<(), AllocError>
     ensures { OnOk result (text.new.items
-        ≡ text.old.items ++ later_text (map (λ piece. piece.items) pieces.now)) }
+        ≡ text.old.items ++ later_items_text (map (λ piece. piece.items) pieces.now)) }
 {
     'pieces: for piece in pieces {
         text.push(b',')?;

@@ -24,7 +24,7 @@ mod writing;
 mod written;
 
 pub use frame::Spot;
-pub use grammar::words_of;
+pub use grammar::wanted_words;
 pub use reading::{Read, read_text};
 pub use wanted::{Fault, Refusal, Wanted};
 pub use writing::notation_of;

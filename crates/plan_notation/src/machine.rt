@@ -7,12 +7,12 @@
 //! together from that of its parts.
 ghost use Rattle.std.specs.Prelude.{◌≡◌, [], IfOk, OnOk, MatchOption};
 ghost use Rattle.plan_notation.specs.Assembled.{plan_json};
-ghost use Rattle.plan_notation.specs.Machine.{Steps, after_input, after_setting, at_start, has_none, is_behind, is_done, pushed, start, start_input, step, told, without_sender};
+ghost use Rattle.plan_notation.specs.Machine.{Steps, after_input, after_setting, machine_at_start, has_none, is_behind, is_text_done, pushed, start, start_input, token_step, setting_told, without_sender};
 
-use crate::arguments::{argument_text, is_kind, name_of};
+use crate::arguments::{argument_text, is_kind, token_name};
 use crate::assembled::plan_json;
 use crate::frame::{Done, Frame, Spot};
-use crate::grammar::{Setting, setting_named, wanted_by_setting};
+use crate::grammar::{Setting, setting_of_name, wanted_by_setting};
 use crate::joined::Piece;
 use crate::said::Said;
 use crate::wanted::{Fault, Wanted, refused};
@@ -25,7 +25,7 @@ use std::mem;
 
 /// What may come next.
 #[derive(Clone, Copy)]
-pub(crate) enum Expect {
+pub enum Expect {
     /// A setting, or the first node.
     Start,
     /// The value of a setting, whose word stands there.
@@ -61,9 +61,9 @@ pub(crate) struct Machine {
 
 impl Model for Machine {
     ghost use Rattle.std.specs.Prelude.{map, reverse};
-    ghost use Rattle.plan_notation.specs.States.{State};
+    ghost use Rattle.plan_notation.specs.States.{MachineState};
 
-    ghost Value = { State };
+    ghost Value = { MachineState };
 
     ghost view = { λ m. record {
       said = m.said;
@@ -78,7 +78,7 @@ impl Model for Machine {
 impl Machine {
     /// Before the first token.
     pub(crate) fn new(alloc: Global) -> Result<Machine, AllocError>
-        ensures { IfOk result (λ machine. machine ≡ at_start) }
+        ensures { IfOk result (λ machine. machine ≡ machine_at_start) }
     {
         Ok(Machine {
             alloc,
@@ -97,7 +97,7 @@ impl Machine {
 
     /// Takes the next token.
     pub(crate) fn step(&mut self, token: &Token) -> Result<(), Fault>
-        ensures { Steps (step token.now self.old) self.new result }
+        ensures { Steps (token_step token.now self.old) self.new result }
     {
         match self.expect {
             Expect::Start => self.start(token),
@@ -129,7 +129,7 @@ impl Machine {
     fn start(&mut self, token: &Token) -> Result<(), Fault>
         ensures { Steps (start token.now self.old) self.new result }
     {
-        match setting_named(name_of(token)) {
+        match setting_of_name(token_name(token)) {
             Some(Setting::Input) => {
                 self.expect = Expect::Input(token.at());
                 Ok(())
@@ -153,7 +153,7 @@ impl Machine {
 
     /// Takes the setting's value.
     fn tell(&mut self, setting: Setting, value: Piece, at: usize) -> Result<(), AllocError>
-        ensures { OnOk result (self.new ≡ told setting value.items at self.old) }
+        ensures { OnOk result (self.new ≡ setting_told setting value.items at self.old) }
     {
         let said = mem::replace(&mut self.said, Said::nothing(self.alloc)?);
         self.said = said.told(self.alloc, setting, value, at)?;
@@ -220,7 +220,7 @@ impl Machine {
 
     /// Whether a sender is done that no node has as an argument.
     pub(crate) fn is_done(&self) -> bool
-        ensures { result ≡ is_done self.now }
+        ensures { result ≡ is_text_done self.now }
     {
         is_behind(self.expect()) && self.has_none()
     }

@@ -1,8 +1,9 @@
 //! Nodes as tokens.
 ghost use Rattle.std.specs.Prelude.{◌≡◌, ◌++◌, ◌∷◌, [], IfOk, OnOk, codes};
+ghost use Rattle.plan_writer.specs.Held.{IsHeldNode};
 ghost use Rattle.plan_writer.specs.Nodes.{context_name, kind_name, query_name};
 ghost use Rattle.plan_notation.specs.Tokens.{text_word};
-ghost use Rattle.plan_notation.specs.NodeTokens.{all_words, later_nodes, node_words, nodes_words, words_at};
+ghost use Rattle.plan_notation.specs.NodeTokens.{HasHeldNodes, all_words, later_nodes, node_words, nodes_words, words_at};
 
 use crate::adaptors::put_adaptor;
 use crate::words::Words;
@@ -14,9 +15,10 @@ use std::alloc::{AllocError, Global};
 
 /// The tokens of all nodes. Those of a node are made of those of its children, which stand before
 /// it.
-#[tactic(auto, using(crate::proofs::NodeSteps::words_next))]
+#[tactic(auto, using(crate::proofs::NodeSteps::words_next, crate::proofs::HeldParts::one_held))]
 pub(crate) fn all_words(alloc: Global, plan: &Plan) -> Result<Vec<Words>, AllocError>
-    ensures { IfOk result (λ done. done.items ≡ all_words plan.now.nodes) }
+    ensures words { IfOk result (λ done. done.items ≡ all_words plan.now.nodes) }
+    ensures held { OnOk result (HasHeldNodes plan.now.nodes) }
 {
     let mut done = Vec::new(alloc);
     for number in 0..plan.size() {
@@ -28,7 +30,8 @@ pub(crate) fn all_words(alloc: Global, plan: &Plan) -> Result<Vec<Words>, AllocE
 
 /// The tokens of a node, by those of the nodes before it.
 fn node_words(alloc: Global, node: &Node, done: &[Words]) -> Result<Words, AllocError>
-    ensures { IfOk result (λ words. words ≡ node_words done.now node.now) }
+    ensures words { IfOk result (λ words. words ≡ node_words done.now node.now) }
+    ensures held { OnOk result (IsHeldNode node.now) }
 {
     let mut words = Words::new(alloc);
     put_own(alloc, node, done, &mut words)?;
@@ -37,7 +40,8 @@ fn node_words(alloc: Global, node: &Node, done: &[Words]) -> Result<Words, Alloc
 
 /// Adds a node.
 fn put_own(alloc: Global, node: &Node, done: &[Words], words: &mut Words) -> Result<(), AllocError>
-    ensures { OnOk result (words.new ≡ words.old ++ node_words done.now node.now) }
+    ensures words { OnOk result (words.new ≡ words.old ++ node_words done.now node.now) }
+    ensures held { OnOk result (IsHeldNode node.now) }
 {
     match node {
         Node::Input => words.put("input"),

@@ -1,8 +1,8 @@
 //! What a text in the notation is.
 ghost use Rattle.std.specs.Prelude.{◌≡◌, MatchResult, Ok};
-ghost use Rattle.plan_notation.specs.Arguments.{IsFaultOf};
+ghost use Rattle.plan_notation.specs.Arguments.{IsTokenFault};
 ghost use Rattle.plan_notation.specs.Machine.{Steps, start_input};
-ghost use Rattle.plan_notation.specs.Reading.{ends, finished, lacking, last_begun, read_in, run};
+ghost use Rattle.plan_notation.specs.Reading.{reads_if_done, reads_at_end, lacking, last_begun, read_in, run_tokens};
 
 use crate::frame::Spot;
 use crate::grammar::wanted_by_setting;
@@ -22,9 +22,9 @@ pub struct Read {
 }
 
 impl Model for Read {
-    ghost use Rattle.plan_notation.specs.Reading.{Reads};
+    ghost use Rattle.plan_notation.specs.Reading.{TextRead};
 
-    ghost Value = { Reads };
+    ghost Value = { TextRead };
 
     ghost view = { λ r. record {
       json = r.json.items;
@@ -36,7 +36,7 @@ impl Model for Read {
 /// Reads a text in the notation, or tells the first token that is refused.
 pub fn read_text(alloc: Global, text: &[u8]) -> Result<Read, Fault>
     ensures { MatchResult result (λ reads. read_in text.now ≡ Ok reads)
-        (IsFaultOf (read_in text.now)) }
+        (IsTokenFault (read_in text.now)) }
 {
     let tokens = tokens_of(alloc, text)?;
     let mut machine = Machine::new(alloc)?;
@@ -46,7 +46,7 @@ pub fn read_text(alloc: Global, text: &[u8]) -> Result<Read, Fault>
 
 /// All tokens, in order.
 fn run(machine: &mut Machine, tokens: &[Token]) -> Result<(), Fault>
-    ensures { Steps (run tokens.now machine.old) machine.new result }
+    ensures { Steps (run_tokens tokens.now machine.old) machine.new result }
 {
     'tokens: for token in tokens {
         machine.step(token)?;
@@ -56,8 +56,8 @@ fn run(machine: &mut Machine, tokens: &[Token]) -> Result<(), Fault>
 
 /// The end of the text, behind so many bytes.
 fn finished(alloc: Global, mut machine: Machine, end: usize) -> Result<Read, Fault>
-    ensures { MatchResult result (λ reads. finished end machine ≡ Ok reads)
-        (IsFaultOf (finished end machine)) }
+    ensures { MatchResult result (λ reads. reads_at_end end machine ≡ Ok reads)
+        (IsTokenFault (reads_at_end end machine)) }
 {
     begin_last(&mut machine)?;
     ends(alloc, machine, end)
@@ -76,8 +76,8 @@ fn begin_last(machine: &mut Machine) -> Result<(), Fault>
 /// The text ends behind a sender that no node has as an argument.
 #[tactic(auto, using(crate::proofs::Ends::whole_texts))]
 fn ends(alloc: Global, machine: Machine, end: usize) -> Result<Read, Fault>
-    ensures { MatchResult result (λ reads. ends end machine ≡ Ok reads)
-        (IsFaultOf (ends end machine)) }
+    ensures { MatchResult result (λ reads. reads_if_done end machine ≡ Ok reads)
+        (IsTokenFault (reads_if_done end machine)) }
 {
     if !machine.is_done() {
         return Err(refused(end, lacking(machine.expect())));

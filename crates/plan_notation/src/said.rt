@@ -1,6 +1,6 @@
 //! What a text says of a plan's settings.
 ghost use Rattle.std.specs.Prelude.{◌≡◌, IfOk};
-ghost use Rattle.plan_notation.specs.Said.{at_first, with_setting};
+ghost use Rattle.plan_notation.specs.Said.{settings_at_first, with_setting};
 
 use crate::grammar::Setting;
 use crate::joined::{Piece, two};
@@ -38,7 +38,7 @@ impl Model for Said {
 impl Said {
     /// Where nothing is told.
     pub(crate) fn nothing(alloc: Global) -> Result<Said, AllocError>
-        ensures { IfOk result (λ said. said ≡ at_first) }
+        ensures { IfOk result (λ said. said ≡ settings_at_first) }
     {
         Ok(Said {
             version: Vec::from_slice(alloc, b"1")?,

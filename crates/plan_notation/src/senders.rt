@@ -1,12 +1,12 @@
 //! How nodes begin and end while a text is read.
 ghost use Rattle.std.specs.Prelude.{◌≡◌, ◌<◌, IfOk, OnOk};
 ghost use Rattle.plan_shape.specs.declared.limits.TheConstants.{MOST_DEPTH};
-ghost use Rattle.plan_notation.specs.Machine.{Steps, after_sender, begin, begin_adaptor, begin_sender, begun, finish, put};
+ghost use Rattle.plan_notation.specs.Machine.{Steps, after_sender, begin, begin_adaptor, begin_sender, node_begun, finish, put};
 
-use crate::arguments::{is_kind, name_of};
-use crate::assembled::node_text;
+use crate::arguments::{is_kind, token_name};
+use crate::assembled::node_json;
 use crate::frame::{Done, Frame, Spot};
-use crate::grammar::{begins, has_brackets};
+use crate::grammar::{begins_sender, has_brackets};
 use crate::machine::{Expect, Machine};
 use crate::wanted::{Fault, Wanted, refused};
 use plan_reader::{NodeWord, node_named};
@@ -19,8 +19,8 @@ impl Machine {
     pub(crate) fn begin_sender(&mut self, token: &Token) -> Result<(), Fault>
         ensures { Steps (begin_sender token.now self.old) self.new result }
     {
-        match node_named(false, name_of(token)) {
-            Some(word) if begins(word) => self.begin(word, token.at(), None),
+        match node_named(false, token_name(token)) {
+            Some(word) if begins_sender(word) => self.begin(word, token.at(), None),
             _ => Err(refused(token.at(), Wanted::Sender)),
         }
     }
@@ -29,8 +29,8 @@ impl Machine {
     pub(crate) fn begin_adaptor(&mut self, token: &Token) -> Result<(), Fault>
         ensures { Steps (begin_adaptor token.now self.old) self.new result }
     {
-        match node_named(false, name_of(token)) {
-            Some(word) if !begins(word) => {
+        match node_named(false, token_name(token)) {
+            Some(word) if !begins_sender(word) => {
                 let sender = self.take_sender();
                 self.begin(word, token.at(), Some(sender))
             }
@@ -58,7 +58,7 @@ impl Machine {
 
     /// A node without arguments so far.
     fn frame_of(&self, word: NodeWord, at: usize, child: Option<Done>) -> Result<Frame, AllocError>
-        ensures { IfOk result (λ frame. frame ≡ begun word at child) }
+        ensures { IfOk result (λ frame. frame ≡ node_begun word at child) }
     {
         let frame = Frame {
             word,
@@ -90,7 +90,7 @@ impl Machine {
         requires { frame.height < MOST_DEPTH }
         ensures { OnOk result (self.new ≡ put frame self.old) }
     {
-        let text = node_text(self.alloc, frame.word, &frame.child, &frame.arguments)?;
+        let text = node_json(self.alloc, frame.word, &frame.child, &frame.arguments)?;
         self.sender = Done {
             text,
             height: frame.height + 1,

@@ -1,11 +1,11 @@
 //! How the arguments of nodes and the constants of jobs are read.
 ghost use Rattle.std.specs.Prelude.{◌≡◌, OnOk};
-ghost use Rattle.plan_notation.specs.Machine.{Steps, after_job, allows, argument, begin_job, close, end_job, is_job, missing, missing_of_job, separator, with_constant};
+ghost use Rattle.plan_notation.specs.Machine.{Steps, after_job, allows, argument, begin_job, close, end_job, is_job, missing, missing_of_job, separator, constant_added};
 
-use crate::arguments::{argument_text, is_kind, name_of};
-use crate::assembled::job_text;
+use crate::arguments::{argument_text, is_kind, token_name};
+use crate::assembled::job_json;
 use crate::frame::Frame;
-use crate::grammar::{fewest, fewest_of_job, is_element, wanted_at, wanted_by_job};
+use crate::grammar::{fewest, fewest_of_job, is_element_word, wanted_by_job, wanted_by_node};
 use crate::joined::Piece;
 use crate::machine::{Expect, Machine};
 use crate::wanted::{Fault, Wanted, refused};
@@ -36,7 +36,7 @@ impl Machine {
         let Some(frame) = self.pop() else {
             return Err(refused(token.at(), Wanted::End));
         };
-        let wanted = wanted_at(frame.word(), frame.count());
+        let wanted = wanted_by_node(frame.word(), frame.count());
         match wanted {
             None => Err(refused(token.at(), Wanted::Close)),
             Some(Wanted::Sender) => {
@@ -60,7 +60,7 @@ impl Machine {
     fn begin_job(&mut self, wanted: Wanted, token: &Token) -> Result<(), Fault>
         ensures { Steps (begin_job wanted token.now self.old) self.new result }
     {
-        match job_named(name_of(token)) {
+        match job_named(token_name(token)) {
             Some(job) if allows(wanted, job) => {
                 self.constants = Vec::new(self.alloc);
                 self.expect = Expect::Job(job);
@@ -89,7 +89,7 @@ impl Machine {
 
     /// One constant more of the job.
     fn add_constant(&mut self, text: Piece) -> Result<(), AllocError>
-        ensures { OnOk result (self.new ≡ with_constant text.items self.old) }
+        ensures { OnOk result (self.new ≡ constant_added text.items self.old) }
     {
         self.constants.push(text)?;
         Ok(())
@@ -102,7 +102,7 @@ impl Machine {
         if self.constants.len() < fewest_of_job(job) {
             return Err(refused(token.at(), missing_of_job(job, self.constants.len())));
         }
-        let text = job_text(self.alloc, job, &self.constants)?;
+        let text = job_json(self.alloc, job, &self.constants)?;
         match self.pop() {
             None => Err(refused(token.at(), Wanted::End)),
             Some(frame) => {
@@ -131,7 +131,7 @@ impl Machine {
 fn missing(frame: &Frame) -> Wanted
     ensures { result ≡ missing frame.now }
 {
-    match wanted_at(frame.word(), frame.count()) {
+    match wanted_by_node(frame.word(), frame.count()) {
         Some(wanted) => wanted,
         None => Wanted::Close,
     }
@@ -159,7 +159,7 @@ fn allows(wanted: Wanted, job: JobWord) -> bool
     ensures { result ≡ allows wanted job }
 {
     match wanted {
-        Wanted::ElementJob => is_element(job),
+        Wanted::ElementJob => is_element_word(job),
         _ => true,
     }
 }

@@ -1,8 +1,9 @@
 //! How a plan is written.
 ghost use Rattle.std.specs.Prelude.{◌≡◌, ◌++◌, IfOk, OnOk, map};
+ghost use Rattle.plan_shape.specs.Blueprint.{IsPlan};
 ghost use Rattle.plan_notation.specs.Tokens.{on_error_words, scope_words, settings_words, stop_words, version_words};
 ghost use Rattle.plan_words.specs.Seen.{words_in};
-ghost use Rattle.plan_notation.specs.NodeTokens.{notation_words, words_at};
+ghost use Rattle.plan_notation.specs.NodeTokens.{HasHeldNodes, notation_words, words_at};
 
 use crate::joined::Piece;
 use crate::nodes::{all_words, kind_name};
@@ -16,7 +17,9 @@ use std::alloc::{AllocError, Global};
 
 /// A plan in the notation, in lines of at most 100 columns.
 pub fn notation_of(alloc: Global, plan: &Plan) -> Result<Vec<u8>, AllocError>
-    ensures { IfOk result (λ text. words_in text.items ≡ notation_words plan.now) }
+    ensures words { IfOk result (λ text. words_in text.items ≡ notation_words plan.now) }
+    ensures plan { OnOk result (IsPlan plan.now) }
+    ensures held { OnOk result (HasHeldNodes plan.now.nodes) }
 {
     let settings = settings_words(alloc, plan.settings())?;
     let done = all_words(alloc, plan)?;

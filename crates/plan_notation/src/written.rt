@@ -1,6 +1,8 @@
 //! Constants and jobs as tokens.
-ghost use Rattle.std.specs.Prelude.{◌≡◌, ◌++◌, ◌∷◌, [], IfOk, OnOk, map};
+ghost use Rattle.std.specs.Prelude.{◌≡◌, ◌++◌, ◌∷◌, [], All, IfOk, OnOk, map};
 ghost use Rattle.serde_json.specs.View.{view};
+ghost use Rattle.exec_value.specs.Text.{IsText};
+ghost use Rattle.plan_writer.specs.Held.{AreHeld, IsHeldDatum, IsHeldJob, IsLong, IsRow};
 ghost use Rattle.plan_writer.specs.Values.{row_data};
 ghost use Rattle.plan_notation.specs.Tokens.{constant_word, constants_words, count_word, job_words, later_constants, number_word, text_word};
 
@@ -13,7 +15,8 @@ use std::alloc::{AllocError, Global};
 /// Adds a number.
 #[tactic(auto, using(crate::proofs::Whole::integer_whole))]
 fn put_number(n: i64, words: &mut Words) -> Result<(), AllocError>
-    ensures { OnOk result (words.new ≡ words.old ++ number_word n ∷ []) }
+    ensures words { OnOk result (words.new ≡ words.old ++ number_word n ∷ []) }
+    ensures held { IsLong n }
 {
     words.put_value(&Value::from(n))
 }
@@ -27,7 +30,8 @@ pub(crate) fn put_count(n: u32, words: &mut Words) -> Result<(), AllocError>
 
 /// Adds a text.
 pub(crate) fn put_text(alloc: Global, text: &Txt, words: &mut Words) -> Result<(), AllocError>
-    ensures { OnOk result (words.new ≡ words.old ++ text_word text.now ∷ []) }
+    ensures words { OnOk result (words.new ≡ words.old ++ text_word text.now ∷ []) }
+    ensures held { IsText text.now }
 {
     match str::from_utf8(text.as_bytes()) {
         Ok(text) => words.put_value(&Value::try_from_str(alloc, text)?),
@@ -38,7 +42,8 @@ pub(crate) fn put_text(alloc: Global, text: &Txt, words: &mut Words) -> Result<(
 /// Adds a constant of a plan.
 #[tactic(auto, using(crate::proofs::Whole::row_whole))]
 fn put_constant(alloc: Global, datum: &Datum, words: &mut Words) -> Result<(), AllocError>
-    ensures { OnOk result (words.new ≡ words.old ++ constant_word datum.now ∷ []) }
+    ensures words { OnOk result (words.new ≡ words.old ++ constant_word datum.now ∷ []) }
+    ensures held { OnOk result (IsHeldDatum datum.now) }
 {
     match datum {
         Datum::Int(number) => put_number(*number, words),
@@ -51,7 +56,8 @@ fn put_constant(alloc: Global, datum: &Datum, words: &mut Words) -> Result<(), A
 
 /// The numbers of a row, in an array.
 fn row_value(alloc: Global, row: &Nums) -> Result<Value, AllocError>
-    ensures { IfOk result (λ value. view value ≡ row_data row.now) }
+    ensures value { IfOk result (λ value. view value ≡ row_data row.now) }
+    ensures held { OnOk result (IsRow row.now) }
 {
     let mut items = Vec::new(alloc);
     for number in row.as_slice() {
@@ -62,7 +68,8 @@ fn row_value(alloc: Global, row: &Nums) -> Result<Value, AllocError>
 
 /// Adds constants, with commas between them.
 pub(crate) fn put_list(alloc: Global, values: &Data, words: &mut Words) -> Result<(), AllocError>
-    ensures { OnOk result (words.new ≡ words.old ++ constants_words values.now) }
+    ensures words { OnOk result (words.new ≡ words.old ++ constants_words values.now) }
+    ensures held { OnOk result (AreHeld values.now) }
 {
     match values.as_slice() {
         [] => Ok(()),
@@ -75,7 +82,8 @@ pub(crate) fn put_list(alloc: Global, values: &Data, words: &mut Words) -> Resul
 
 /// Adds constants, each behind a comma.
 fn put_later(alloc: Global, values: &[Datum], words: &mut Words) -> Result<(), AllocError>
-    ensures { OnOk result (words.new ≡ words.old ++ later_constants values.now) }
+    ensures words { OnOk result (words.new ≡ words.old ++ later_constants values.now) }
+    ensures held { OnOk result (All IsHeldDatum values.now) }
 {
     'values: for value in values {
         words.put(",")?;
@@ -86,7 +94,8 @@ fn put_later(alloc: Global, values: &[Datum], words: &mut Words) -> Result<(), A
 
 /// Adds constants, without commas.
 fn put_operands(alloc: Global, values: &[Datum], words: &mut Words) -> Result<(), AllocError>
-    ensures { OnOk result (words.new ≡ words.old ++ map constant_word values.now) }
+    ensures words { OnOk result (words.new ≡ words.old ++ map constant_word values.now) }
+    ensures held { OnOk result (All IsHeldDatum values.now) }
 {
     'values: for value in values {
         put_constant(alloc, value, words)?;
@@ -96,7 +105,8 @@ fn put_operands(alloc: Global, values: &[Datum], words: &mut Words) -> Result<()
 
 /// Adds a job: its name, and then its constants.
 pub(crate) fn put_job(alloc: Global, job: &Job, words: &mut Words) -> Result<(), AllocError>
-    ensures { OnOk result (words.new ≡ words.old ++ job_words job.now) }
+    ensures words { OnOk result (words.new ≡ words.old ++ job_words job.now) }
+    ensures held { OnOk result (IsHeldJob job.now) }
 {
     match job {
         Job::Add(n) => put_with_number("add", *n, words),
@@ -130,7 +140,8 @@ pub(crate) fn put_job(alloc: Global, job: &Job, words: &mut Words) -> Result<(),
 
 /// Adds a name and a number.
 fn put_with_number(name: &str, n: i64, words: &mut Words) -> Result<(), AllocError>
-    ensures { OnOk result (words.new ≡ words.old ++ name.now ∷ number_word n ∷ []) }
+    ensures words { OnOk result (words.new ≡ words.old ++ name.now ∷ number_word n ∷ []) }
+    ensures held { IsLong n }
 {
     words.put(name)?;
     put_number(n, words)
@@ -146,7 +157,8 @@ pub(crate) fn put_with_count(name: &str, n: u32, words: &mut Words) -> Result<()
 
 /// Adds a name and a text.
 fn put_with_text(alloc: Global, name: &str, text: &Txt, words: &mut Words) -> Result<(), AllocError>
-    ensures { OnOk result (words.new ≡ words.old ++ name.now ∷ text_word text.now ∷ []) }
+    ensures words { OnOk result (words.new ≡ words.old ++ name.now ∷ text_word text.now ∷ []) }
+    ensures held { OnOk result (IsText text.now) }
 {
     words.put(name)?;
     put_text(alloc, text, words)

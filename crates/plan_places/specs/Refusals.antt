@@ -18,8 +18,8 @@ use Rattle.plan_places.specs.Told.{IsPosition, Tells, excluding, faulty, limited
 abbrev pub OfValue : List ℕ → (Data → Type 0) → Type 0
 OfValue bytes Is = (d : Data) → json_of bytes ≡ Some d → Is d
 
--- where the job of some bulk is no element job, the first of these; else the first node in the order
--- of numbers whose kinds don't match, by the signatures of the plan
+-- where the job of some bulk is no element job, the first of these; else the first node in the
+-- order of numbers whose kinds don't match, by the signatures of the plan
 pub record TellsMismatch (found : Found) (refusal : Refusal) : Type 0 where
   pub node : ℕ
   pub first : IsFirstMismatch found.plan.nodes found.plan.settings.input node

@@ -13,20 +13,20 @@ use Rattle.plan_places.specs.declared.sought.Sought.{Sought}
 use Rattle.plan_places.specs.declared.sought.Sought.TheVariants as sought
 use Rattle.plan_reasons.specs.Jobs.{other_job}
 use Rattle.plan_reasons.specs.Nodes.{node_wrong}
-use Rattle.plan_reasons.specs.Own.{bars_bulk, has, own_faults, word_at}
+use Rattle.plan_reasons.specs.Own.{bars_bulk, has, own_faults, node_word_at}
 use Rattle.plan_places.specs.Paths.{at_item, at_key, key_name}
 
 -- an `ahead`
-abbrev pub is_ahead : Option NodeWord → Bool
-is_ahead (Some Ahead) = true
-is_ahead word = false
+abbrev pub is_ahead_word : Option NodeWord → Bool
+is_ahead_word (Some Ahead) = true
+is_ahead_word word = false
 
 -- the value is a node that is sought
 abbrev pub is_it : Bool → Sought → Data → Bool
 is_it is_first (sought.Own fault) d = has fault (own_faults is_first d)
-is_it is_first sought.OtherJob d = bars_bulk (word_at is_first d) d
+is_it is_first sought.OtherJob d = bars_bulk (node_word_at is_first d) d
 is_it is_first (sought.Below left) d = left == 0
-is_it is_first (sought.Ahead barred) d = barred && is_ahead (word_at is_first d)
+is_it is_first (sought.Ahead barred) d = barred && is_ahead_word (node_word_at is_first d)
 
 -- no `ahead` may stand below a node of this name
 abbrev pub bars : NodeWord → Bool
@@ -98,7 +98,8 @@ unfoldable pub first_at : Bool → ℕ → Sought → Finds
 first_at is_first zero sought path d = None
 first_at is_first (suc levels) sought path d =
     if is_it is_first sought d then Some (site_at is_first sought path d)
-    else in_known (λ word. first_at is_first levels (below sought word)) (word_at is_first d) path d
+    else in_known (λ word. first_at is_first levels (below sought word))
+    (node_word_at is_first d) path d
 
 -- what a search finds
 abbrev pub found_by : Search → Finds

@@ -35,8 +35,8 @@ position_text line column =
     concat (codes " at line " ∷ decimal line ∷ codes ", column " ∷ decimal column ∷ [])
 
 -- a node by its path
-abbrev pub node_text : List ℕ → List ℕ
-node_text path = codes " at " ++ path
+abbrev pub at_path : List ℕ → List ℕ
+at_path path = codes " at " ++ path
 
 -- a node that was found, or none
 abbrev pub site_of : Spot → Site
@@ -63,7 +63,7 @@ pub record Tells (telling : Telling) (refusal : Refusal) : Type 0 where
 
 -- of a node, of the keys beside `root`, and of the whole file
 abbrev pub at_site : Cause → Site → Telling
-at_site cause site = record { cause = cause; place = node_text site.path; reason = site.reason }
+at_site cause site = record { cause = cause; place = at_path site.path; reason = site.reason }
 
 abbrev pub in_keys : Cause → List ℕ → Telling
 in_keys cause reason = record { cause = cause; place = own_keys; reason = reason }
@@ -120,7 +120,7 @@ excluding d = in_keys cause.Excluded (excluded d)
 
 -- the place of node n of a plan, whose last node is its root
 abbrev pub numbered_place : List Node → ℕ → List ℕ
-numbered_place nodes n = node_text (way nodes MOST_DEPTH (length nodes - 1) (codes "root") n)
+numbered_place nodes n = at_path (way nodes MOST_DEPTH (length nodes - 1) (codes "root") n)
 
 -- of node n of a plan, whose kinds don't match, by the signatures of its nodes
 abbrev pub mismatched : List Node → List Sig → ℕ → Telling

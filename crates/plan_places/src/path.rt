@@ -3,7 +3,7 @@ ghost use Rattle.std.specs.Prelude.{◌≡◌, IfOk};
 ghost use Rattle.plan_places.specs.Paths.{at_item, at_key, at_step, key_name};
 
 use itoa::Buffer;
-use picture_text::put_all;
+use pictures::text::put_all;
 use std::alloc::{AllocError, Global};
 
 /// The keys of nodes below a node.

@@ -1,9 +1,9 @@
 //! The places of refusals, as texts.
 ghost use Rattle.std.specs.Prelude.{◌≡◌, IfOk};
-ghost use Rattle.plan_places.specs.Told.{node_text, own_keys, position_text};
+ghost use Rattle.plan_places.specs.Told.{at_path, own_keys, position_text};
 
 use itoa::Buffer;
-use picture_text::put_all;
+use pictures::text::put_all;
 use std::alloc::{AllocError, Global};
 
 /// The keys beside `root`.
@@ -35,8 +35,8 @@ pub(crate) fn position_text(
 }
 
 /// A node, by its path.
-pub(crate) fn node_text(alloc: Global, path: &[u8]) -> Result<Vec<u8>, AllocError>
-    ensures { IfOk result (λ text. text.items ≡ node_text path.now) }
+pub(crate) fn at_path(alloc: Global, path: &[u8]) -> Result<Vec<u8>, AllocError>
+    ensures { IfOk result (λ text. text.items ≡ at_path path.now) }
 {
     let mut text = Vec::from_slice(alloc, b" at ")?;
     text.extend_from_slice(path)?;

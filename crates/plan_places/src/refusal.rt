@@ -6,7 +6,7 @@ ghost use Rattle.plan_places.specs.Told.{Tells, at_site, excluding, faulty, in_k
 
 use crate::json::{position_of, value_of};
 use crate::kinds::kinds_refusal;
-use crate::place::{node_text, own_keys};
+use crate::place::{at_path, own_keys};
 use crate::seeking::{Spot, first_of};
 use crate::sought::Sought;
 use plan_reader::{MOST_PLAN_BYTES, PlanFault, known_settings};
@@ -146,7 +146,7 @@ pub(crate) fn at_spot(alloc: Global, cause: Cause, spot: Spot) -> Result<Refusal
 {
     Ok(Refusal {
         cause,
-        place: node_text(alloc, &spot.path)?,
+        place: at_path(alloc, &spot.path)?,
         reason: spot.reason,
     })
 }

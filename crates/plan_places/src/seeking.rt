@@ -7,7 +7,7 @@ ghost use Rattle.plan_places.specs.Told.{IsSite, first_of, site_of};
 use crate::path::{Key, at_item, at_key};
 use crate::sought::{Sought, below, is_it, reason_of};
 use plan_reader::{MOST_LEVELS, NodeWord, is_first_version};
-use plan_reasons::word_at;
+use plan_reasons::node_word_at;
 use serde_json::Value;
 use std::alloc::{AllocError, Global};
 
@@ -62,7 +62,7 @@ impl Search {
         if is_it(alloc, self.is_first, self.sought, value)? {
             return Ok(Some(self.spot(alloc, path, value)?));
         }
-        match word_at(self.is_first, value) {
+        match node_word_at(self.is_first, value) {
             Some(word) => self.under(word).in_parts(alloc, word, path, value),
             None => Ok(None),
         }

@@ -1,10 +1,10 @@
 //! What is sought in a plan file.
 ghost use Rattle.std.specs.Prelude.{◌≡◌, IfOk, string_bytes};
 ghost use Rattle.serde_json.specs.View.{view};
-ghost use Rattle.plan_places.specs.Seeking.{bars, below, is_ahead, is_it, reason_of};
+ghost use Rattle.plan_places.specs.Seeking.{bars, below, is_ahead_word, is_it, reason_of};
 
 use plan_reader::{Adaptor, NodeWord};
-use plan_reasons::{Fault, bars_bulk, node_wrong, other_job, own_faults, word_at};
+use plan_reasons::{Fault, bars_bulk, node_word_at, node_wrong, other_job, own_faults};
 use serde_json::Value;
 use std::alloc::{AllocError, Global};
 
@@ -22,8 +22,8 @@ pub(crate) enum Sought {
 }
 
 /// Whether it is an `ahead`.
-fn is_ahead(word: Option<NodeWord>) -> bool
-    ensures { result ≡ is_ahead word }
+fn is_ahead_word(word: Option<NodeWord>) -> bool
+    ensures { result ≡ is_ahead_word word }
 {
     matches!(word, Some(NodeWord::Ahead))
 }
@@ -39,9 +39,9 @@ pub(crate) fn is_it(
 {
     match sought {
         Sought::Own(fault) => Ok(fault.is_in(own_faults(alloc, is_first, value)?)),
-        Sought::OtherJob => bars_bulk(alloc, word_at(is_first, value), value),
+        Sought::OtherJob => bars_bulk(alloc, node_word_at(is_first, value), value),
         Sought::Below(left) => Ok(left == 0),
-        Sought::Ahead(barred) => Ok(barred && is_ahead(word_at(is_first, value))),
+        Sought::Ahead(barred) => Ok(barred && is_ahead_word(node_word_at(is_first, value))),
     }
 }
 

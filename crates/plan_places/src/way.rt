@@ -6,7 +6,7 @@ ghost use Rattle.plan_places.specs.Told.{numbered_place};
 ghost use Rattle.plan_places.specs.Ways.{step_among, step_in, step_to, way};
 
 use crate::path::{Key, at_step};
-use crate::place::node_text;
+use crate::place::at_path;
 use plan_rules::{Node, NodeId};
 use plan_shape::{MOST_DEPTH, Plan};
 use std::alloc::{AllocError, Global};
@@ -133,5 +133,5 @@ pub(crate) fn numbered_place(
 {
     let root = Vec::from_slice(alloc, b"root")?;
     let path = way(alloc, plan, MOST_DEPTH, plan.size() - 1, root, number)?;
-    node_text(alloc, &path)
+    at_path(alloc, &path)
 }

@@ -11,14 +11,15 @@ use Rattle.plan_reasons.specs.declared.own.Fault.{Fault}
 use Rattle.plan_reasons.specs.declared.part.Part.{Part}
 use Rattle.plan_reasons.specs.declared.part.Part.TheVariants as part
 use Rattle.plan_reasons.specs.Own.{faults_of, has, key_faults}
-use Rattle.plan_reasons.specs.Parts.{key_of}
+use Rattle.plan_reasons.specs.Parts.{part_key}
 use Rattle.plan_reasons.specs.Sentences.{needs, unknown_key, wrong_at, wrong_part}
 use Rattle.plan_reasons.specs.Shown.{shown_text}
 
 -- the jobs of a bulk, which are over elements, and those of the other nodes, by what they take
 abbrev pub jobs : Bool → List ℕ
 jobs true = codes "jobs over elements: add, sub, mul, div, neg, within, index"
-jobs false = codes "jobs on an int: add, sub, mul, div, neg, within, iota, show; on a text: append, parse, length; on a row: length; on ints and rows: sum; on texts: join; on an optional: value_or; on any data: at, fail, give, pass"
+jobs false = codes
+    "jobs on an int: add, sub, mul, div, neg, within, iota, show; on a text: append, parse, length; on a row: length; on ints and rows: sum; on texts: join; on an optional: value_or; on any data: at, fail, give, pass"
 
 -- a job whose name isn't known
 abbrev pub no_job : Bool → List ℕ → List ℕ
@@ -56,7 +57,7 @@ job_wrong fault elements d =
 -- the job at a key of a node
 unfoldable pub job_wrong_at : Fault → Bool → List ℕ → Part → Data → List ℕ
 job_wrong_at fault elements who part d =
-    option_map_or (job_wrong fault elements) (get (key_of part) d) (needs who part d)
+    option_map_or (job_wrong fault elements) (get (part_key part) d) (needs who part d)
 
 -- the job of a bulk is none over elements
 unfoldable pub other_job : Data → List ℕ

@@ -9,7 +9,7 @@ use Rattle.plan_rules.specs.declared.node.Node.TheVariants as node
 use Rattle.plan_kinds.specs.declared.sig.Sig.{Sig}
 use Rattle.plan_kinds.specs.Gives.{gives}
 use Rattle.plan_reasons.specs.declared.kinds.Signed.{Signed}
-use Rattle.plan_reasons.specs.Texts.{job_name, kind_name, shape_text, wanted_by}
+use Rattle.plan_reasons.specs.Texts.{job_name, shown_kind, shape_text, wanted_by}
 use Rattle.plan_kinds.specs.Shapes.{Shape, agrees, common, never_or}
 
 -- there is a signature for each node
@@ -96,7 +96,8 @@ mismatch sigs (node.LetError child pick bodies) =
 mismatch sigs (node.LetStopped child pick bodies) =
     let_mismatch sigs pick (codes "a stop") (Some []) (value_at sigs child) bodies
 mismatch sigs (node.StoppedAsOptional child of) =
-    takes_gives (codes "stopped_as_optional") (kind_name of) (codes "its child") (value_at sigs child)
+    takes_gives (codes "stopped_as_optional") (shown_kind of) (codes "its child")
+    (value_at sigs child)
 mismatch sigs (node.Bulk child job) =
     takes_gives (codes "bulk") (codes "row") (codes "its child") (value_at sigs child)
 mismatch sigs node = codes "its children give more than the 64 data that a value may have"

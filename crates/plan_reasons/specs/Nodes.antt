@@ -21,15 +21,16 @@ use Rattle.plan_reasons.specs.Shown.{shown_text}
 
 -- the nodes that version 1 has, and in a later one all
 abbrev pub early_nodes : List ℕ
-early_nodes = codes "nodes: input, just, just_error, just_stopped, schedule, delay, read_env, then, upon_error, upon_stopped, let_value, let_error, let_stopped, starts_on, continues_on, stopped_as_optional, stopped_as_error, bulk, when_all"
+early_nodes =
+    codes "nodes: input, just, just_error, just_stopped, schedule, delay, read_env, then, upon_error, upon_stopped, let_value, let_error, let_stopped, starts_on, continues_on, stopped_as_optional, stopped_as_error, bulk, when_all"
 
 abbrev pub nodes : Bool → List ℕ
 nodes true = early_nodes
 nodes false = early_nodes ++ codes ", unstoppable, ahead"
 
 -- a node whose name isn't known, or only in version 2
-abbrev pub no_node : Bool → List ℕ → List ℕ
-no_node is_first name =
+abbrev pub unknown_node : Bool → List ℕ → List ℕ
+unknown_node is_first name =
     if is_some (node_named false name) then shown_text name ++ codes " is of version 2"
     else codes "unknown node " ++ (shown_text name ++ (codes "; " ++ nodes is_first))
 
@@ -92,7 +93,7 @@ known_wrong fault who word d =
 abbrev pub named_wrong : Fault → Bool → Data → List ℕ → List ℕ
 named_wrong fault is_first d name =
     option_map_or (λ word. known_wrong fault name word d) (node_named is_first name)
-    (no_node is_first name)
+    (unknown_node is_first name)
 
 unfoldable pub node_wrong : Fault → Bool → Data → List ℕ
 node_wrong fault is_first d =

@@ -28,8 +28,8 @@ has Name faults = faults.name
 has Limit faults = faults.limit
 
 -- the node that the name of a value is of, in a plan of version 1 or of a later one
-abbrev pub word_at : Bool → Data → Option NodeWord
-word_at is_first d = option_and_then (node_named is_first) (text_at (codes "do") d)
+abbrev pub node_word_at : Bool → Data → Option NodeWord
+node_word_at is_first d = option_and_then (node_named is_first) (text_at (codes "do") d)
 
 -- what is wrong with a part
 abbrev pub faults_of : {A : Type 0} → Reading A → Faults

@@ -12,18 +12,18 @@ use Rattle.plan_reasons.specs.declared.own.Fault.{Fault}
 use Rattle.plan_reasons.specs.declared.part.Part.{Part}
 use Rattle.plan_reasons.specs.declared.part.Part.TheVariants.{Values}
 use Rattle.plan_reasons.specs.Own.{faults_of, has}
-use Rattle.plan_reasons.specs.Parts.{is_values, key_of, wanted_at}
+use Rattle.plan_reasons.specs.Parts.{is_values, part_key, wanted_at}
 use Rattle.plan_reasons.specs.Shown.{joined, shown, shown_text}
 
 -- the value at a key is another than it takes
 abbrev pub takes_other : Part → Data → List ℕ
 takes_other part d =
-    codes "\"" ++ (key_of part
+    codes "\"" ++ (part_key part
     ++ (codes "\" takes " ++ (wanted_at part ++ (codes ", not " ++ shown d))))
 
 -- who has no such key, or is no object
 abbrev pub needs_key : List ℕ → Part → List ℕ
-needs_key who part = who ++ (codes " needs the key \"" ++ (key_of part ++ codes "\""))
+needs_key who part = who ++ (codes " needs the key \"" ++ (part_key part ++ codes "\""))
 
 abbrev pub no_object : List ℕ → Data → List ℕ
 no_object who d = who ++ (codes " is an object, not " ++ shown d)
@@ -34,7 +34,7 @@ needs who part d = if is_some (as_object d) then needs_key who part else no_obje
 -- what is wrong at a key
 unfoldable pub wrong_at : List ℕ → Part → Data → List ℕ
 wrong_at who part d =
-    option_map_or (takes_other part) (get (key_of part) d) (needs who part d)
+    option_map_or (takes_other part) (get (part_key part) d) (needs who part d)
 
 -- the first key that isn't known
 abbrev pub first_unknown : List (List ℕ) → List (List ℕ) → Option (List ℕ)
@@ -74,7 +74,8 @@ first_bad fault index (item d ds) =
 -- what is wrong with constants: one of them, or how many they are
 unfoldable pub wrong_values : Fault → List ℕ → Data → List ℕ
 wrong_values fault who d =
-    unwrap_or (option_and_then (first_bad fault 0) (option_and_then as_array (get (codes "values") d)))
+    unwrap_or (option_and_then (first_bad fault 0)
+    (option_and_then as_array (get (codes "values") d)))
     (wrong_at who Values d)
 
 -- what is wrong at a key that has the fault

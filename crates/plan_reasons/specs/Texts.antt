@@ -54,15 +54,15 @@ wanted_by (TextOr text) = codes "optional-text"
 wanted_by Pass = codes "any data"
 
 -- kinds by their names
-abbrev pub kind_name : Kind → List ℕ
-kind_name kind.Int = codes "int"
-kind_name kind.Text = codes "text"
-kind_name kind.Row = codes "row"
-kind_name kind.MaybeInt = codes "optional-int"
-kind_name kind.MaybeText = codes "optional-text"
+abbrev pub shown_kind : Kind → List ℕ
+shown_kind kind.Int = codes "int"
+shown_kind kind.Text = codes "text"
+shown_kind kind.Row = codes "row"
+shown_kind kind.MaybeInt = codes "optional-int"
+shown_kind kind.MaybeText = codes "optional-text"
 
 abbrev pub joined_names : List Kind → List ℕ
-joined_names kinds = joined (codes " ") (map kind_name kinds)
+joined_names kinds = joined (codes " ") (map shown_kind kinds)
 
 abbrev pub kind_names : List Kind → List ℕ
 kind_names kinds = if length kinds == 0 then codes "no data" else joined_names kinds

@@ -6,7 +6,7 @@ ghost use Rattle.plan_reasons.specs.Sentences.{IsSaid};
 use crate::given::{
     body_gives, giver_of, is_int, job_takes, pick_gives, takes_gives, text_alone, upon_mismatch,
 };
-use crate::texts::kind_name;
+use crate::texts::shown_kind;
 use exec_job::Job;
 use plan_kinds::KindList;
 use plan_rules::{Node, NodeId};
@@ -143,7 +143,7 @@ impl<'a> Signed<'a> {
                 takes_gives(
                     alloc,
                     "stopped_as_optional",
-                    kind_name(*of),
+                    shown_kind(*of),
                     "its child",
                     &value,
                 )

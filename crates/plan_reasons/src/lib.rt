@@ -7,8 +7,8 @@
 //!
 //! A sentence names a word of the file, and says what was wanted there. It is exactly that of the
 //! definition in specs/, want of memory aside. The first part with a fault is told, where keys come
-//! before what stands at them. It stands on `plan_parts` and `plan_reader`, whose readings say which
-//! parts have a fault, and on `sig_check`, which says what nodes give.
+//! before what stands at them. It stands on `plan_parts` and `plan_reader`, whose readings say
+//! which parts have a fault, and on `sig_check`, which says what nodes give.
 #![tactic(auto)]
 
 mod given;
@@ -25,5 +25,5 @@ mod texts;
 pub use job::other_job;
 pub use kinds::Signed;
 pub use node::node_wrong;
-pub use own::{Fault, bars_bulk, faults_of, own_faults, word_at};
+pub use own::{Fault, bars_bulk, faults_of, node_word_at, own_faults};
 pub use settings::{excluded, settings_wrong};

@@ -1,7 +1,7 @@
 //! What is wrong with a node of a plan file.
 ghost use Rattle.std.specs.Prelude.{◌≡◌, IfOk, string_bytes};
 ghost use Rattle.serde_json.specs.View.{view};
-ghost use Rattle.plan_reasons.specs.Nodes.{adaptor_part, adaptor_wrong, known_wrong, leaf_part, let_wrong, named_wrong, no_node, node_wrong, nodes, parts_wrong};
+ghost use Rattle.plan_reasons.specs.Nodes.{adaptor_part, adaptor_wrong, known_wrong, leaf_part, let_wrong, named_wrong, unknown_node, node_wrong, nodes, parts_wrong};
 
 use crate::job::job_wrong_at;
 use crate::own::{Fault, child_faults, key_faults, list_faults};
@@ -29,8 +29,8 @@ unstoppable, ahead"
 }
 
 /// A node whose name isn't known, or only in version 2.
-fn no_node(alloc: Global, is_first: bool, name: &str) -> Result<String, AllocError>
-    ensures { IfOk result (λ text. string_bytes text ≡ no_node is_first name.now) }
+fn unknown_node(alloc: Global, is_first: bool, name: &str) -> Result<String, AllocError>
+    ensures { IfOk result (λ text. string_bytes text ≡ unknown_node is_first name.now) }
 {
     let shown = shown_text(alloc, name)?;
     if node_named(false, name).is_some() {
@@ -176,12 +176,12 @@ fn named_wrong(
 {
     match node_named(is_first, name) {
         Some(word) => known_wrong(alloc, fault, name, word, value),
-        None => no_node(alloc, is_first, name),
+        None => unknown_node(alloc, is_first, name),
     }
 }
 
-/// What is wrong with a node that has this fault, in a plan of version 1 or of a later one: the word
-/// that is wrong, and what was wanted there.
+/// What is wrong with a node that has this fault, in a plan of version 1 or of a later one: the
+/// word that is wrong, and what was wanted there.
 #[tactic(auto, unfolding(crate::specs::Nodes::node_wrong))]
 pub fn node_wrong(
     alloc: Global,

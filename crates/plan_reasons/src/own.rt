@@ -2,7 +2,7 @@
 ghost use Rattle.std.specs.Prelude.{◌≡◌, IfOk, map};
 ghost use Rattle.serde_json.specs.View.{items_view, view};
 ghost use Rattle.plan_shape.specs.Conditions.{is_within};
-ghost use Rattle.plan_reasons.specs.Own.{bars_bulk, child_faults, count_faults, faults_of, has, is_other_job, key_faults, list_faults, own_faults, part_faults, word_at};
+ghost use Rattle.plan_reasons.specs.Own.{bars_bulk, child_faults, count_faults, faults_of, has, is_other_job, key_faults, list_faults, own_faults, part_faults, node_word_at};
 
 use exec_job::Job;
 use plan_parts::{
@@ -36,8 +36,8 @@ impl Fault {
 }
 
 /// The node that the name of a value is of, in a plan of version 1 or of a later one.
-pub fn word_at(is_first: bool, value: &Value) -> Option<NodeWord>
-    ensures { result ≡ word_at is_first (view value.now) }
+pub fn node_word_at(is_first: bool, value: &Value) -> Option<NodeWord>
+    ensures { result ≡ node_word_at is_first (view value.now) }
 {
     match text_at(value, "do") {
         Some(name) => node_named(is_first, name),

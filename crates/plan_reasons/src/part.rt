@@ -1,6 +1,6 @@
 //! The keys of plans, nodes and jobs, and what each takes.
 ghost use Rattle.std.specs.Prelude.{◌≡◌};
-ghost use Rattle.plan_reasons.specs.Parts.{is_values, key_of, wanted_at};
+ghost use Rattle.plan_reasons.specs.Parts.{is_values, part_key, wanted_at};
 
 use exec_value::{DATA, ERROR_NAME_BYTES, NUMBERS, TEXT_BYTES};
 use plan_parts::MOST_PLACE;
@@ -55,7 +55,7 @@ pub(crate) enum Part {
 impl Part {
     /// The key.
     pub(crate) fn key(self) -> &'static str
-        ensures { result.now ≡ key_of self }
+        ensures { result.now ≡ part_key self }
     {
         match self {
             Part::Do => "do",

@@ -1,6 +1,6 @@
 //! What jobs and kinds are called in a sentence.
 ghost use Rattle.std.specs.Prelude.{◌≡◌, IfOk, string_bytes};
-ghost use Rattle.plan_reasons.specs.Texts.{job_name, joined_names, kind_name, kind_names, shape_text, wanted_by};
+ghost use Rattle.plan_reasons.specs.Texts.{job_name, joined_names, shown_kind, kind_names, shape_text, wanted_by};
 
 use crate::shown::joined;
 use exec_job::Job;
@@ -55,8 +55,8 @@ pub(crate) fn wanted_by(job: &Job) -> &'static str
 }
 
 /// What a kind is called.
-pub(crate) fn kind_name(kind: Kind) -> &'static str
-    ensures { result.now ≡ kind_name kind }
+pub(crate) fn shown_kind(kind: Kind) -> &'static str
+    ensures { result.now ≡ shown_kind kind }
 {
     match kind {
         Kind::Int => "int",
@@ -73,7 +73,7 @@ fn joined_names(alloc: Global, kinds: &[Kind]) -> Result<String, AllocError>
 {
     let mut names = Vec::new(alloc);
     for kind in kinds {
-        names.push(kind_name(*kind))?;
+        names.push(shown_kind(*kind))?;
     }
     let text = joined(alloc, &names, " ")?;
     Ok(text)

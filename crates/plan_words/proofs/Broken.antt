@@ -1,16 +1,14 @@
 -- Texts and rows that go on in the next line.
-use Rattle.std.proofs.Common.{◌≡◌, inl, inr, ℕ, zero, suc, ◌==◌, ◌||◌, ◌&&◌, not, Bool, true, false, List, [], ◌∷◌, ◌++◌, append_assoc, replicate, cond, refl, sym, ap, subst, ◌∙◌}
-use Rattle.std.proofs.lemmas.Bool.{cases_Bool, cond-false, cond-true, eqb-true, false≢true, or_parts}
-use Rattle.std.proofs.lemmas.List.{append-nil}
+use Rattle.std.proofs.Common.{◌≡◌, inl, inr, ℕ, ◌==◌, ◌&&◌, not, Bool, true, false, List, [], ◌∷◌, ◌++◌, replicate, cond, refl, sym, ap, subst, ◌∙◌}
+use Rattle.std.proofs.lemmas.Bool.{cases_Bool, cond-false, cond-true}
 use Rattle.plan_words.specs.declared.cutter.Mode.{Mode}
-use Rattle.plan_words.specs.declared.cutter.Mode.TheVariants.{Between, Word, Text, Escaped, Quoted, Joined, Row, Gap}
-use Rattle.plan_words.specs.Bytes.{ends_word, is_blank, is_mark}
-use Rattle.plan_words.specs.Cutting.{mode_of}
-use Rattle.plan_words.specs.Seen.{IsBetween, IsInRow, IsInText, Seen, can_end, mode_in_row, mode_in_text, seen_in, words_in}
-use Rattle.plan_words.specs.Wholes.{is_last, is_whole, row_ends, text_ends, word_ends}
-use Rattle.plan_words.proofs.Bytes.{of_mark}
-use Rattle.plan_words.proofs.Unplaced.{after_row', closed', ended', grown', in_mode', next, seen_more, words_seen}
-use Rattle.plan_words.proofs.Laying.{at, no_more, passed, row_step, run, run_spaces, seen_run}
+use Rattle.plan_words.specs.declared.cutter.Mode.TheVariants.{Text, Escaped, Joined, Gap}
+use Rattle.plan_words.specs.Bytes.{is_blank}
+use Rattle.plan_words.specs.Seen.{IsBetween, IsInRow, IsInText, Seen, mode_in_row, mode_in_text, seen_in}
+use Rattle.plan_words.specs.Wholes.{nothing_follows, is_whole, row_ends, text_ends}
+use Rattle.plan_words.proofs.Unplaced.{next, seen_more}
+use Rattle.plan_words.proofs.Blanks.{at, run, run_spaces, seen_run}
+use Rattle.plan_words.proofs.Laying.{no_more, passed, row_step}
 
 pub same_more : (x y : List ℕ) (b : ℕ) → seen_in x ≡ seen_in y → seen_in (x ++ b ∷ []) ≡ seen_in (y ++ b ∷ [])
 same_more x y b e = seen_more x b ∙ ap (next b) e ∙ sym (seen_more y b)
@@ -47,7 +45,7 @@ text_step true b bytes ws p h =
           (in_text_at bytes false (next b (at ws p Text)) (ap (λ (t : Seen). t.mode) (cond-true (b == 92) (at ws p Escaped) _ e))
           (sym (cond-true (b == 92) _ _ e) ∙ h))
       | inr e ↦
-          let h1 : cond (b == 34) (is_last bytes) (text_ends bytes false) ≡ true = sym (cond-false (b == 92) _ _ e) ∙ h in
+          let h1 : cond (b == 34) (nothing_follows bytes) (text_ends bytes false) ≡ true = sym (cond-false (b == 92) _ _ e) ∙ h in
           subst (λ (q : Bool). IsInText (not q) bytes (next b (at ws p Text))) (sym e)
           (elim (cases_Bool (b == 34)) [
             | inl f ↦

@@ -1,7 +1,7 @@
 -- Which byte is none of which.
 use Rattle.std.proofs.Common.{◌≡◌, inl, inr, ℕ, ◌==◌, ◌||◌, true, subst, sym}
 use Rattle.std.proofs.lemmas.Bool.{eqb-true, or_cases}
-use Rattle.plan_words.specs.Bytes.{ends_word, is_blank, is_mark}
+use Rattle.plan_words.specs.Bytes.{is_blank, is_mark}
 
 -- what holds of four bytes
 pub one_of_four : (b w x y z : ℕ) (P : ℕ → Type 0) → P w → P x → P y → P z

@@ -1,5 +1,6 @@
 pub mod Unplaced
 pub mod Bytes
+pub mod Blanks
 pub mod Laying
 pub mod Broken
 pub mod PageLemmas

@@ -1,9 +1,9 @@
 -- Numbers in decimal are tokens.
-use Rattle.std.proofs.Common.{◌≡◌, ℕ, ℤ, pos, negsuc, zero, suc, ◌+◌, ◌<◌, ◌/◌, ◌%◌, ◌==◌, ◌&&◌, Bool, true, false, List, [], ◌∷◌, ◌++◌, cond, nat_le, refl, sym, ap, subst, ◌∙◌, arith, decimal}
+use Rattle.std.proofs.Common.{◌≡◌, ℕ, ℤ, pos, negsuc, zero, suc, ◌<◌, ◌/◌, ◌%◌, ◌==◌, ◌&&◌, Bool, true, false, List, [], ◌∷◌, ◌++◌, cond, nat_le, refl, sym, ap, ◌∙◌, arith, decimal}
 use Rattle.std.specs.Fmt.{digit_glyph, digits, digits_onto, signed_decimal}
-use Rattle.std.proofs.lemmas.Bool.{agree_below, agree_below_at, and_from, and_parts, and_cases, cond-false, false≢true, leb-true, true≢false}
+use Rattle.std.proofs.lemmas.Bool.{agree_below, agree_below_at, and_from, and_parts, cond-false, false≢true, leb-true, true≢false}
 use Rattle.plan_words.specs.Bytes.{ends_word, is_blank}
-use Rattle.plan_words.specs.Wholes.{is_last, is_whole, row_ends, word_ends}
+use Rattle.plan_words.specs.Wholes.{nothing_follows, is_whole, row_ends, word_ends}
 use Rattle.plan_words.proofs.Laying.{plain}
 
 -- a minus or a digit
@@ -44,12 +44,12 @@ pub number_in_row : (bytes rest : List ℕ) → are_in_number bytes ≡ true →
 number_in_row [] rest h = refl
 number_in_row (b ∷ bytes) rest h =
     let is = and_parts (in_number b) (are_in_number bytes) h in
-    cond-false (b == 93) (is_last (bytes ++ rest)) _ (none_is (λ (x : ℕ). x == 93) refl b is.0)
+    cond-false (b == 93) (nothing_follows (bytes ++ rest)) _ (none_is (λ (x : ℕ). x == 93) refl b is.0)
     ∙ cond-false (is_blank b) false (row_ends (bytes ++ rest)) (none_is is_blank refl b is.0)
     ∙ number_in_row bytes rest is.1
 
 -- a word that is no text and no row
-pub plain_whole : (bytes : List ℕ) → word_ends bytes ≡ true → is_last bytes ≡ false → is_whole bytes ≡ true
+pub plain_whole : (bytes : List ℕ) → word_ends bytes ≡ true → nothing_follows bytes ≡ false → is_whole bytes ≡ true
 plain_whole [] h some = absurd (true≢false some)
 plain_whole (b ∷ bytes) h some =
     let is = plain b (passes (ends_word b) (word_ends bytes) h) in
@@ -70,22 +70,22 @@ digits_in_number (suc k) n acc h =
     both (n / 10 == 0) (digit_glyph false (n % 10) ∷ acc) (digits_onto k 10 false (n / 10) (digit_glyph false (n % 10) ∷ acc))
     (λ (bs : List ℕ). are_in_number bs ≡ true) more (digits_in_number k (n / 10) (digit_glyph false (n % 10) ∷ acc) more)
 
-digits_some : (k n : ℕ) (acc : List ℕ) → is_last acc ≡ false → is_last (digits_onto k 10 false n acc) ≡ false
+digits_some : (k n : ℕ) (acc : List ℕ) → nothing_follows acc ≡ false → nothing_follows (digits_onto k 10 false n acc) ≡ false
 digits_some zero n acc h = h
 digits_some (suc k) n acc h =
     both (n / 10 == 0) (digit_glyph false (n % 10) ∷ acc) (digits_onto k 10 false (n / 10) (digit_glyph false (n % 10) ∷ acc))
-    (λ (bs : List ℕ). is_last bs ≡ false) refl (digits_some k (n / 10) (digit_glyph false (n % 10) ∷ acc) refl)
+    (λ (bs : List ℕ). nothing_follows bs ≡ false) refl (digits_some k (n / 10) (digit_glyph false (n % 10) ∷ acc) refl)
 
-first_some : (k n : ℕ) → is_last (digits_onto (suc k) 10 false n []) ≡ false
+first_some : (k n : ℕ) → nothing_follows (digits_onto (suc k) 10 false n []) ≡ false
 first_some k n =
     both (n / 10 == 0) (digit_glyph false (n % 10) ∷ []) (digits_onto k 10 false (n / 10) (digit_glyph false (n % 10) ∷ []))
-    (λ (bs : List ℕ). is_last bs ≡ false) refl (digits_some k (n / 10) (digit_glyph false (n % 10) ∷ []) refl)
+    (λ (bs : List ℕ). nothing_follows bs ≡ false) refl (digits_some k (n / 10) (digit_glyph false (n % 10) ∷ []) refl)
 
 pub decimal_in_number : (n : ℕ) → are_in_number (decimal n) ≡ true
 unfolding digits
 decimal_in_number n = digits_in_number 64 n [] refl
 
-decimal_some : (n : ℕ) → is_last (decimal n) ≡ false
+decimal_some : (n : ℕ) → nothing_follows (decimal n) ≡ false
 unfolding digits
 decimal_some n = first_some 63 n
 
@@ -93,7 +93,7 @@ pub signed_in_number : (z : ℤ) → are_in_number (signed_decimal z) ≡ true
 signed_in_number (pos n) = decimal_in_number n
 signed_in_number (negsuc n) = decimal_in_number (suc n)
 
-signed_some : (z : ℤ) → is_last (signed_decimal z) ≡ false
+signed_some : (z : ℤ) → nothing_follows (signed_decimal z) ≡ false
 signed_some (pos n) = decimal_some n
 signed_some (negsuc n) = refl
 

@@ -12,6 +12,6 @@ kind_of_first b =
     if b == 124 then Bar else (if b == 40 then Open else (if b == 41 then Close
     else (if b == 44 then Comma else (if begins_constant b then Constant else Word))))
 
-abbrev pub kind_of : List ℕ → TokenKind
-kind_of [] = Word
-kind_of (b ∷ bytes) = kind_of_first b
+abbrev pub token_kind : List ℕ → TokenKind
+token_kind [] = Word
+token_kind (b ∷ bytes) = kind_of_first b

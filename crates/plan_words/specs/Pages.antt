@@ -8,20 +8,22 @@ pub record PageSeen : Type 0 where
   pub apart : Bool
 
 -- these are the tokens so far, and more can come
-pub record Holds (words : List (List ℕ)) (page : PageSeen) : Type 0 where
+pub record HoldsTokens (words : List (List ℕ)) (page : PageSeen) : Type 0 where
   pub words_are : words_in page.text ≡ words
   pub can_end : can_end (seen_in page.text).mode ≡ true
   pub between : page.apart ≡ false → IsBetween (seen_in page.text)
 
 -- no token more, or this one
-abbrev pub Keeps : PageSeen → PageSeen → Type 0
-Keeps old new = (words : List (List ℕ)) → Holds words old → Holds words new
+abbrev pub KeepsTokens : PageSeen → PageSeen → Type 0
+KeepsTokens old new = (words : List (List ℕ)) → HoldsTokens words old → HoldsTokens words new
 
-abbrev pub Adds : List ℕ → PageSeen → PageSeen → Type 0
-Adds word old new = (words : List (List ℕ)) → Holds words old → Holds (words ++ word ∷ []) new
+abbrev pub AddsToken : List ℕ → PageSeen → PageSeen → Type 0
+AddsToken word old new = (words : List (List ℕ)) → HoldsTokens words old
+    → HoldsTokens (words ++ word ∷ []) new
 
-abbrev pub AddsAll : List (List ℕ) → PageSeen → PageSeen → Type 0
-AddsAll more old new = (words : List (List ℕ)) → Holds words old → Holds (words ++ more) new
+abbrev pub AddsTokens : List (List ℕ) → PageSeen → PageSeen → Type 0
+AddsTokens more old new = (words : List (List ℕ)) → HoldsTokens words old
+    → HoldsTokens (words ++ more) new
 
 -- a line begins
 pub record IsOnNextLine (old new : PageSeen) : Type 0 where

@@ -15,5 +15,5 @@ abbrev pub first_place : Place
 first_place = record { line = 1; column = 1 }
 
 -- behind so many bytes of the text
-abbrev pub place_of : List ℕ → ℕ → Place
-place_of text at = fold after_byte first_place (take at text)
+abbrev pub place_behind : List ℕ → ℕ → Place
+place_behind text at = fold after_byte first_place (take at text)

@@ -1,8 +1,8 @@
 -- What is seen at the end of a text, wherever its tokens stand.
-use Rattle.std.specs.Prelude.{◌≡◌, ⊤, ℕ, Bool, true, false, ◌==◌, ◌&&◌, List, [], ◌∷◌, ◌++◌, map, not}
+use Rattle.std.specs.Prelude.{◌≡◌, ⊤, ℕ, Bool, true, false, List, [], ◌∷◌, map, not}
 use Rattle.plan_words.specs.declared.cutter.Mode.{Mode}
-use Rattle.plan_words.specs.declared.cutter.Mode.TheVariants.{Between, Comment, Word, Text, Escaped, Quoted, Joined, Row, Gap}
-use Rattle.plan_words.specs.Cutting.{Cut, at_start, cut, tokens_of}
+use Rattle.plan_words.specs.declared.cutter.Mode.TheVariants.{Between, Word, Text, Escaped, Quoted, Row, Gap}
+use Rattle.plan_words.specs.Cutting.{CutSoFar, before_text, cut, tokens_of}
 use Rattle.plan_words.specs.Lexemes.{Lexeme}
 use Rattle.plan_words.specs.Wholes.{row_ends, text_ends}
 
@@ -15,12 +15,12 @@ pub record Seen : Type 0 where
 abbrev pub texts : List Lexeme → List (List ℕ)
 texts = map (λ t. t.text)
 
-abbrev pub seen : Cut → Seen
+abbrev pub seen : CutSoFar → Seen
 seen c = record { words = texts c.tokens; part = c.part.text; mode = c.mode }
 
 -- at the end of a text
 unfoldable pub seen_in : List ℕ → Seen
-seen_in text = seen (cut 0 text at_start)
+seen_in text = seen (cut 0 text before_text)
 
 -- its tokens
 unfoldable pub words_in : List ℕ → List (List ℕ)

@@ -1,7 +1,7 @@
 //! How a text is cut into tokens.
 ghost use Rattle.std.specs.Prelude.{◌≡◌, IfOk, OnOk};
 ghost use Rattle.plan_words.specs.Bytes.{ends_word, is_blank, is_mark};
-ghost use Rattle.plan_words.specs.Cutting.{after_byte, after_escape, after_join, after_quote, after_row, after_text, at_start, begun, between, closed, finished, grown, mode_of, tokens_of};
+ghost use Rattle.plan_words.specs.Cutting.{after_byte, after_escape, after_joint, after_quote, after_row, after_text_byte, before_text, token_begun, between_tokens, closed, all_tokens, grown, mode_of, tokens_of};
 
 use crate::token::Token;
 use std::alloc::{AllocError, Global};
@@ -37,9 +37,9 @@ struct Cutter {
 }
 
 impl Model for Cutter {
-    ghost use Rattle.plan_words.specs.Cutting.{Cut};
+    ghost use Rattle.plan_words.specs.Cutting.{CutSoFar};
 
-    ghost Value = { Cut };
+    ghost Value = { CutSoFar };
 
     ghost view = { λ c. record {
       tokens = c.tokens.items;
@@ -62,7 +62,7 @@ pub fn tokens_of(alloc: Global, text: &[u8]) -> Result<Vec<Token>, AllocError>
 impl Cutter {
     /// A cutter before the first byte.
     fn new(alloc: Global) -> Cutter
-        ensures { result ≡ at_start }
+        ensures { result ≡ before_text }
     {
         Cutter {
             alloc,
@@ -75,7 +75,7 @@ impl Cutter {
 
     /// The tokens, where the text ends here.
     fn finish(mut self) -> Result<Vec<Token>, AllocError>
-        ensures { IfOk result (λ tokens. tokens.items ≡ finished self) }
+        ensures { IfOk result (λ tokens. tokens.items ≡ all_tokens self) }
     {
         match self.mode {
             Mode::Between | Mode::Comment => Ok(self.tokens),
@@ -96,7 +96,7 @@ impl Cutter {
         ensures { OnOk result (self.new ≡ after_byte at byte self.old) }
     {
         match self.mode {
-            Mode::Between => self.between(at, byte),
+            Mode::Between => self.between_tokens(at, byte),
             Mode::Comment => {
                 if byte == b'\n' {
                     self.mode = Mode::Between;
@@ -106,15 +106,15 @@ impl Cutter {
             Mode::Word => {
                 if ends_word(byte) {
                     self.close()?;
-                    self.between(at, byte)
+                    self.between_tokens(at, byte)
                 } else {
                     self.grow(byte)
                 }
             }
-            Mode::Text => self.after_text(byte),
+            Mode::Text => self.after_text_byte(byte),
             Mode::Escaped => self.after_escape(byte),
             Mode::Quoted => self.after_quote(at, byte),
-            Mode::Joined => self.after_join(at, byte),
+            Mode::Joined => self.after_joint(at, byte),
             Mode::Row => self.after_row(byte),
             Mode::Gap => {
                 if is_blank(byte) {
@@ -127,8 +127,8 @@ impl Cutter {
     }
 
     /// A byte that belongs to no token before it.
-    fn between(&mut self, at: usize, byte: u8) -> Result<(), AllocError>
-        ensures { OnOk result (self.new ≡ between at byte self.old) }
+    fn between_tokens(&mut self, at: usize, byte: u8) -> Result<(), AllocError>
+        ensures { OnOk result (self.new ≡ between_tokens at byte self.old) }
     {
         if is_blank(byte) {
             self.mode = Mode::Between;
@@ -144,7 +144,7 @@ impl Cutter {
 
     /// Begins a token.
     fn begin(&mut self, at: usize, byte: u8) -> Result<(), AllocError>
-        ensures { OnOk result (self.new ≡ begun at byte self.old) }
+        ensures { OnOk result (self.new ≡ token_begun at byte self.old) }
     {
         self.at = at;
         self.mode = mode_of(byte);
@@ -154,8 +154,8 @@ impl Cutter {
     }
 
     /// The next byte of a text.
-    fn after_text(&mut self, byte: u8) -> Result<(), AllocError>
-        ensures { OnOk result (self.new ≡ after_text byte self.old) }
+    fn after_text_byte(&mut self, byte: u8) -> Result<(), AllocError>
+        ensures { OnOk result (self.new ≡ after_text_byte byte self.old) }
     {
         match byte {
             b'\\' => {
@@ -189,13 +189,13 @@ impl Cutter {
         }
         self.grow(b'"')?;
         self.close()?;
-        self.between(at, byte)
+        self.between_tokens(at, byte)
     }
 
     /// The byte behind such a backslash. Blanks don't count, and what isn't joined keeps the
     /// backslash.
-    fn after_join(&mut self, at: usize, byte: u8) -> Result<(), AllocError>
-        ensures { OnOk result (self.new ≡ after_join at byte self.old) }
+    fn after_joint(&mut self, at: usize, byte: u8) -> Result<(), AllocError>
+        ensures { OnOk result (self.new ≡ after_joint at byte self.old) }
     {
         if is_blank(byte) {
             return Ok(());
@@ -207,7 +207,7 @@ impl Cutter {
         self.grow(b'"')?;
         self.grow(b'\\')?;
         self.close()?;
-        self.between(at, byte)
+        self.between_tokens(at, byte)
     }
 
     /// The next byte of a row.

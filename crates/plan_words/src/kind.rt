@@ -1,6 +1,6 @@
 //! What a token is, by its first byte.
 ghost use Rattle.std.specs.Prelude.{◌≡◌};
-ghost use Rattle.plan_words.specs.Kinds.{kind_of};
+ghost use Rattle.plan_words.specs.Kinds.{token_kind};
 
 /// What a token is.
 #[derive(Clone, Copy, Debug, PartialEq, Eq)]
@@ -15,8 +15,8 @@ pub enum TokenKind {
 }
 
 /// What a token with these bytes is.
-pub fn kind_of(text: &[u8]) -> TokenKind
-    ensures { result ≡ kind_of text.now }
+pub fn token_kind(text: &[u8]) -> TokenKind
+    ensures { result ≡ token_kind text.now }
 {
     match text {
         [b'|', ..] => TokenKind::Bar,

@@ -7,9 +7,9 @@ ghost use Rattle.std.specs.Prelude.{◌≡◌, ◌++◌, IfOk, OnOk, map, true};
 ghost use Rattle.std.specs.List.{list_all};
 ghost use Rattle.plan_words.specs.Seen.{words_in};
 ghost use Rattle.plan_words.specs.Wholes.{is_sign, is_token, is_whole};
-ghost use Rattle.plan_words.specs.Pages.{Adds, AddsAll};
+ghost use Rattle.plan_words.specs.Pages.{AddsToken, AddsTokens};
 
-use crate::kind::{TokenKind, kind_of};
+use crate::kind::{TokenKind, token_kind};
 use crate::page::Page;
 use crate::widths::width_of_group;
 use std::alloc::{AllocError, Global};
@@ -36,7 +36,7 @@ pub fn laid_out(
 /// Adds settings, two tokens each, in lines of their own.
 fn put_settings(settings: &[Vec<u8>], page: &mut Page) -> Result<(), AllocError>
     requires { list_all is_whole (map (λ word. word.items) settings.now) ≡ true }
-    ensures { OnOk result (AddsAll (map (λ word. word.items) settings.now) page.old page.new) }
+    ensures { OnOk result (AddsTokens (map (λ word. word.items) settings.now) page.old page.new) }
 {
     let mut is_name = true;
     'settings: for word in settings {
@@ -49,7 +49,7 @@ fn put_settings(settings: &[Vec<u8>], page: &mut Page) -> Result<(), AllocError>
 /// Adds a setting's name, or its value, which ends the line.
 fn put_setting(word: &[u8], is_name: bool, page: &mut Page) -> Result<(), AllocError>
     requires { is_whole word.now ≡ true }
-    ensures { OnOk result (Adds word.now page.old page.new) }
+    ensures { OnOk result (AddsToken word.now page.old page.new) }
 {
     page.blank()?;
     page.put_whole(word)?;
@@ -63,7 +63,7 @@ fn put_setting(word: &[u8], is_name: bool, page: &mut Page) -> Result<(), AllocE
 /// Adds tokens.
 fn put_tokens(words: &[Vec<u8>], page: &mut Page) -> Result<(), AllocError>
     requires { list_all is_token (map (λ word. word.items) words.now) ≡ true }
-    ensures { OnOk result (AddsAll (map (λ word. word.items) words.now) page.old page.new) }
+    ensures { OnOk result (AddsTokens (map (λ word. word.items) words.now) page.old page.new) }
 {
     'words: for (index, word) in words.iter().enumerate() {
         put_token(word, &words[index + 1..], page)?;
@@ -75,9 +75,9 @@ fn put_tokens(words: &[Vec<u8>], page: &mut Page) -> Result<(), AllocError>
 #[tactic(auto, using(crate::proofs::PageLemmas::token_kinds))]
 fn put_token(word: &[u8], later: &[Vec<u8>], page: &mut Page) -> Result<(), AllocError>
     requires { is_token word.now ≡ true }
-    ensures { OnOk result (Adds word.now page.old page.new) }
+    ensures { OnOk result (AddsToken word.now page.old page.new) }
 {
-    match kind_of(word) {
+    match token_kind(word) {
         TokenKind::Open => {
             page.put_sign(word, false)?;
             let fits = page.fits(width_of_group(later));
@@ -105,7 +105,7 @@ fn put_token(word: &[u8], later: &[Vec<u8>], page: &mut Page) -> Result<(), Allo
 /// Adds a word or a constant.
 fn put_apart(word: &[u8], page: &mut Page) -> Result<(), AllocError>
     requires { is_whole word.now ≡ true }
-    ensures { OnOk result (Adds word.now page.old page.new) }
+    ensures { OnOk result (AddsToken word.now page.old page.new) }
 {
     page.guard(word.len() + 2)?;
     page.blank()?;
@@ -116,7 +116,7 @@ fn put_apart(word: &[u8], page: &mut Page) -> Result<(), AllocError>
 /// Adds a bar.
 fn put_bar(word: &[u8], page: &mut Page) -> Result<(), AllocError>
     requires { is_sign word.now ≡ true }
-    ensures { OnOk result (Adds word.now page.old page.new) }
+    ensures { OnOk result (AddsToken word.now page.old page.new) }
 {
     if page.breaks_bars() {
         page.line()?;

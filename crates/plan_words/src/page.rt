@@ -1,10 +1,9 @@
-//! A text that is laid out: bytes, lines, and constants over several lines.
-ghost use Rattle.std.specs.Prelude.{◌≡◌, ◌<◌, ◌++◌, ◌==◌, ◌&&◌, [], OnOk, false, length, not, true};
-ghost use Rattle.plan_words.specs.Seen.{IsBetween, IsInRow, IsInText, seen_in};
+//! A text that is laid out token by token.
+ghost use Rattle.std.specs.Prelude.{◌≡◌, ◌++◌, [], OnOk, false, true};
 ghost use Rattle.plan_words.specs.Wholes.{is_sign, is_whole};
-ghost use Rattle.plan_words.specs.Pages.{Adds, IsOnNextLine, Keeps};
+ghost use Rattle.plan_words.specs.Pages.{AddsToken, IsOnNextLine, KeepsTokens};
 
-use crate::widths::{width_of_argument, width_of_character, width_of_item};
+use crate::widths::width_of_argument;
 use std::alloc::{AllocError, Global};
 use std::marker::Model;
 
@@ -65,7 +64,7 @@ impl Page {
     /// Adds a bar, a bracket or a comma; a blank stands behind it before a word, or doesn't.
     pub(crate) fn put_sign(&mut self, word: &[u8], apart: bool) -> Result<(), AllocError>
         requires { is_sign word.now ≡ true }
-        ensures { OnOk result (Adds word.now self.old self.new) }
+        ensures { OnOk result (AddsToken word.now self.old self.new) }
     {
         self.put(word)?;
         self.set_apart(apart);
@@ -97,7 +96,7 @@ impl Page {
         arguments: bool,
         later: &[Vec<u8>],
     ) -> Result<(), AllocError>
-        ensures { OnOk result (Keeps self.old self.new) }
+        ensures { OnOk result (KeepsTokens self.old self.new) }
     {
         let columns = width_of_argument(later)
             .saturating_add(self.indent())
@@ -132,7 +131,7 @@ impl Page {
     /// Begins a line where so many columns aren't left.
     #[tactic(auto, using(crate::proofs::PageLemmas::line_keeps))]
     pub(crate) fn guard(&mut self, columns: usize) -> Result<(), AllocError>
-        ensures { OnOk result (Keeps self.old self.new) }
+        ensures { OnOk result (KeepsTokens self.old self.new) }
     {
         if self.fits(columns) || self.is_at_head() {
             return Ok(());
@@ -144,7 +143,7 @@ impl Page {
     /// A blank, where one has to stand.
     #[tactic(auto, using(crate::proofs::PageLemmas::space_keeps))]
     pub(crate) fn blank(&mut self) -> Result<(), AllocError>
-        ensures keeps { OnOk result (Keeps self.old self.new) }
+        ensures keeps { OnOk result (KeepsTokens self.old self.new) }
         ensures apart { OnOk result (self.new.apart ≡ false) }
     {
         if !self.is_apart() {
@@ -172,7 +171,7 @@ impl Page {
 
     /// Ends the line.
     pub(crate) fn end_line(&mut self) -> Result<(), AllocError>
-        ensures { OnOk result (Keeps self.old self.new) }
+        ensures { OnOk result (KeepsTokens self.old self.new) }
     {
         self.put(b"\n")?;
         self.start_line();
@@ -201,7 +200,7 @@ impl Page {
     }
 
     /// Adds bytes.
-    fn put(&mut self, bytes: &[u8]) -> Result<(), AllocError>
+    pub(crate) fn put(&mut self, bytes: &[u8]) -> Result<(), AllocError>
         ensures text { OnOk result (self.new.text ≡ self.old.text ++ bytes.now) }
         ensures apart { OnOk result (self.new.apart ≡ self.old.apart) }
     {
@@ -214,95 +213,10 @@ impl Page {
     pub(crate) fn put_whole(&mut self, word: &[u8]) -> Result<(), AllocError>
         requires whole { is_whole word.now ≡ true }
         requires apart { self.old.apart ≡ false }
-        ensures { OnOk result (Adds word.now self.old self.new) }
+        ensures { OnOk result (AddsToken word.now self.old self.new) }
     {
         self.put_long(word)?;
         self.set_apart(true);
-        Ok(())
-    }
-
-    /// Adds a word or a constant, over several lines where it has to be.
-    #[tactic(auto, using(crate::proofs::LongLemmas::puts))]
-    fn put_long(&mut self, word: &[u8]) -> Result<(), AllocError>
-        requires { is_whole word.now ≡ true }
-        ensures { OnOk result (IsBetween (seen_in self.old.text)
-            → seen_in self.new.text ≡ seen_in (self.old.text ++ word.now)) }
-    {
-        if self.fits(word.len()) {
-            return self.put(word);
-        }
-        let Some((first, rest)) = word.split_first() else {
-            return Ok(());
-        };
-        self.put(&[*first])?;
-        match *first {
-            b'"' => {
-                self.put_text(rest)?;
-                Ok(())
-            }
-            b'[' => {
-                self.put_row(rest)?;
-                Ok(())
-            }
-            _ => self.put(rest),
-        }
-    }
-
-    /// Adds a text's bytes behind the first quote.
-    fn put_text(&mut self, bytes: &[u8]) -> Result<(), AllocError>
-        ensures { OnOk result (IsInText true bytes.now (seen_in self.old.text)
-            → seen_in self.new.text ≡ seen_in (self.old.text ++ bytes.now)) }
-    {
-        let mut can_cut = true;
-        'bytes: for (index, byte) in bytes.iter().enumerate() {
-            self.cut_text(can_cut, &bytes[index..])?;
-            self.put(&[*byte])?;
-            can_cut = can_cut_behind(can_cut, *byte);
-        }
-        Ok(())
-    }
-
-    /// Goes on in the next line, if the text can be cut before these bytes and the character that
-    /// they begin with doesn't fit.
-    #[tactic(auto, using(crate::proofs::Broken::text_broken))]
-    fn cut_text(&mut self, can_cut: bool, rest: &[u8]) -> Result<(), AllocError>
-        requires { 0 < length rest.now }
-        ensures { OnOk result (IsInText can_cut rest.now (seen_in self.old.text)
-            → seen_in self.new.text ≡ seen_in self.old.text) }
-    {
-        if can_cut && !self.fits(width_of_character(rest).saturating_add(2)) {
-            self.put(b"\"\\")?;
-            self.line()?;
-            self.put(b"\"")?;
-        }
-        Ok(())
-    }
-
-    /// Adds a row's bytes behind the bracket.
-    fn put_row(&mut self, bytes: &[u8]) -> Result<(), AllocError>
-        ensures { OnOk result (IsInRow true bytes.now (seen_in self.old.text)
-            → seen_in self.new.text ≡ seen_in (self.old.text ++ bytes.now)) }
-    {
-        let mut can_cut = true;
-        'bytes: for (index, byte) in bytes.iter().enumerate() {
-            self.cut_row(can_cut, &bytes[index..])?;
-            self.put(&[*byte])?;
-            can_cut = *byte == b',';
-        }
-        Ok(())
-    }
-
-    /// Goes on in the next line, if the row can be cut before these bytes and the number that they
-    /// begin with doesn't fit.
-    #[tactic(auto, using(crate::proofs::Broken::row_broken))]
-    fn cut_row(&mut self, can_cut: bool, rest: &[u8]) -> Result<(), AllocError>
-        requires { 0 < length rest.now }
-        ensures { OnOk result (IsInRow can_cut rest.now (seen_in self.old.text)
-            → seen_in self.new.text ≡ seen_in self.old.text) }
-    {
-        if can_cut && !self.fits(width_of_item(rest).saturating_add(2)) {
-            self.line()?;
-        }
         Ok(())
     }
 
@@ -315,11 +229,4 @@ impl Page {
     pub(crate) fn fits(&self, columns: usize) -> bool {
         self.column.saturating_add(columns) <= MOST_COLUMNS
     }
-}
-
-/// Whether a text can be cut behind this byte: not behind a backslash that escapes the next.
-fn can_cut_behind(can_cut: bool, byte: u8) -> bool
-    ensures { result ≡ not (can_cut && (byte == 92)) }
-{
-    !(can_cut && byte == b'\\')
 }

@@ -1,6 +1,6 @@
 //! Places in a text, for people.
 ghost use Rattle.std.specs.Prelude.{◌≡◌, ◌<◌, ◌≤◌, length};
-ghost use Rattle.plan_words.specs.Places.{after_byte, place_of};
+ghost use Rattle.plan_words.specs.Places.{after_byte, place_behind};
 
 /// A line and a column, from 1. A column is a character.
 #[derive(Clone, Copy, Debug, PartialEq, Eq)]
@@ -10,9 +10,9 @@ pub struct Place {
 }
 
 /// The place behind so many bytes of a text.
-pub fn place_of(text: &[u8], at: usize) -> Place
+pub fn place_behind(text: &[u8], at: usize) -> Place
     requires { at ≤ length text.now }
-    ensures { result ≡ place_of text.now at }
+    ensures { result ≡ place_behind text.now at }
 {
     let mut place = Place { line: 1, column: 1 };
     for byte in &text[..at] {

@@ -1,5 +1,5 @@
 //! How many columns tokens take on a line.
-use crate::kind::{TokenKind, kind_of};
+use crate::kind::{TokenKind, token_kind};
 
 /// The columns of a character or an escape at the front of a text.
 pub(crate) fn width_of_character(rest: &[u8]) -> usize {
@@ -23,7 +23,7 @@ pub(crate) fn width_of_item(rest: &[u8]) -> usize {
 
 /// The columns of a token and what stands before or behind it on a line.
 fn width(word: &[u8]) -> usize {
-    match kind_of(word) {
+    match token_kind(word) {
         TokenKind::Open | TokenKind::Close => 1,
         TokenKind::Comma => 2,
         TokenKind::Bar => 2,
@@ -37,7 +37,7 @@ pub(crate) fn width_of_group(words: &[Vec<u8>]) -> usize {
     let mut depth = 0_usize;
     for word in words {
         columns = columns.saturating_add(width(word));
-        match kind_of(word) {
+        match token_kind(word) {
             TokenKind::Open => depth = depth.saturating_add(1),
             TokenKind::Close => {
                 if depth == 0 {
@@ -56,7 +56,7 @@ pub(crate) fn width_of_argument(words: &[Vec<u8>]) -> usize {
     let mut columns = 0_usize;
     let mut depth = 0_usize;
     for word in words {
-        let kind = kind_of(word);
+        let kind = token_kind(word);
         if depth == 0 && (kind == TokenKind::Comma || kind == TokenKind::Close) {
             return columns;
         }

@@ -5,9 +5,10 @@ use Rattle.std.specs.Option.{option_map, option_and_then, unwrap_or}
 use Rattle.show_words.specs.declared.asked.Asked.{Asked}
 use Rattle.show_words.specs.declared.asked.Asked.TheVariants.{Plan, Trace, Why, Write, Text}
 use Rattle.show_words.specs.declared.asked.Rows.{Rows}
-use Rattle.show_words.specs.declared.number.TheConstants.{MOST_ENTRY}
+use Rattle.show_words.specs.declared.asked.TheConstants.{MOST_ENTRY}
 use Rattle.show_words.specs.declared.reading.Reading.{Reading}
-use Rattle.show_words.specs.Reading.{is_name, nothing_said, read_on}
+use Rattle.exec_words.specs.Command.{only_name}
+use Rattle.show_words.specs.Reading.{nothing_said_of_rows, read_rows_on}
 
 -- All rows, where nothing else is said.
 abbrev pub rows_of : Reading → Rows
@@ -24,11 +25,6 @@ trace_of r =
     if nat_lt (rows_of r).last (rows_of r).first then None
     else option_map (λ file. Trace file (rows_of r)) r.file)
 
--- One word, which is a name.
-abbrev pub only_name : List (Bor (List ℕ)) → Option (Bor (List ℕ))
-only_name (name ∷ []) = if is_name name.now then Some name else None
-only_name _ = None
-
 -- What a list of words asks for. None is a fault of usage.
 abbrev pub asked_of : List (Bor (List ℕ)) → Option Asked
 asked_of [] = None
@@ -36,7 +32,7 @@ asked_of (first ∷ words) =
     let file = only_name words in
     if bytes_eq first.now (codes "plan") then option_map (λ name. Plan name) file else (
     if bytes_eq first.now (codes "trace")
-    then option_and_then trace_of (read_on nothing_said words) else (
+    then option_and_then trace_of (read_rows_on nothing_said_of_rows words) else (
     if bytes_eq first.now (codes "why") then option_map (λ name. Why name) file else (
     if bytes_eq first.now (codes "write") then option_map (λ name. Write name) file else (
     if bytes_eq first.now (codes "text") then option_map (λ name. Text name) file else None))))

@@ -1,5 +1,8 @@
 //! What a list of words may ask for.
 
+/// The greatest number of an entry.
+pub const MOST_ENTRY: u32 = 999_999_999;
+
 /// Which rows a picture of a trace has, and whether it marks the entry that is refused.
 #[derive(Clone, Copy, Debug, PartialEq, Eq)]
 pub struct Rows {

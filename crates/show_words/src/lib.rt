@@ -4,18 +4,16 @@
 //!     trace FILE [options]     words --Reading::with_word--> Reading --trace_of--> Asked::Trace
 //!
 //! Options stand in any place behind the first word, each once, with a value as `--name value` or
-//! `--name=value`. It stands on no crate. `read_words` gives exactly what the definition in specs/
-//! says; every other list of words is a fault of usage, for which `usage_lines` gives the lines that
-//! are told.
+//! `--name=value`. Numbers and names are read as exec_words reads them. `read_words` gives exactly
+//! what the definition in specs/ says; every other list of words is a fault of usage, for which
+//! `show_usage_lines` gives the lines that are told.
 #![tactic(auto)]
 
 mod asked;
-mod number;
 mod reading;
 mod usage;
 mod words;
 
-pub use asked::{Asked, Rows};
-pub use number::MOST_ENTRY;
-pub use usage::usage_lines;
+pub use asked::{Asked, MOST_ENTRY, Rows};
+pub use usage::show_usage_lines;
 pub use words::read_words;

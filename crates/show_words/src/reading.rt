@@ -7,9 +7,10 @@
 //!
 //! Each is said once.
 ghost use Rattle.std.specs.Prelude.{◌≡◌};
-ghost use Rattle.show_words.specs.Reading.{is_name, nothing_said, setting_named, with_from, with_to, with_value, with_refused, with_name, with_option, with_word};
+ghost use Rattle.show_words.specs.Reading.{nothing_said_of_rows, row_setting_named, with_from, with_to, with_row, with_refused, with_trace_file, with_trace_option, with_trace_word};
 
-use crate::number::{MOST_ENTRY, number_between};
+use crate::asked::MOST_ENTRY;
+use exec_words::{is_name, number_between};
 
 /// The options that take a value.
 #[derive(Clone, Copy, PartialEq, Eq)]
@@ -29,19 +30,9 @@ pub struct Reading<'a> {
     pub awaits: Option<Setting>,
 }
 
-/// Whether a word is a name: it isn't empty and doesn't begin with `-`.
-pub fn is_name(word: &str) -> bool
-    ensures { result ≡ is_name word.now }
-{
-    match word.as_bytes() {
-        [] => false,
-        [first, ..] => *first != b'-',
-    }
-}
-
 // The option of this name, which takes a value.
-fn setting_named(name: &str) -> Option<Setting>
-    ensures { result ≡ setting_named name.now }
+fn row_setting_named(name: &str) -> Option<Setting>
+    ensures { result ≡ row_setting_named name.now }
 {
     if name == "--from" {
         return Some(Setting::From);
@@ -55,7 +46,7 @@ fn setting_named(name: &str) -> Option<Setting>
 impl<'a> Reading<'a> {
     /// Nothing was said yet.
     pub fn new() -> Reading<'a>
-        ensures { result ≡ nothing_said }
+        ensures { result ≡ nothing_said_of_rows }
     {
         Reading {
             file: None,
@@ -67,20 +58,20 @@ impl<'a> Reading<'a> {
     }
 
     /// With one word more. `None` is a fault of usage.
-    pub fn with_word(self, word: &'a str) -> Option<Reading<'a>>
-        ensures { result ≡ with_word word.entry self.entry }
+    pub fn with_trace_word(self, word: &'a str) -> Option<Reading<'a>>
+        ensures { result ≡ with_trace_word word.entry self.entry }
     {
         if let Some(setting) = self.awaits {
-            return self.with_value(setting, word);
+            return self.with_row(setting, word);
         }
         if is_name(word) {
-            return self.with_name(word);
+            return self.with_trace_file(word);
         }
-        self.with_option(word)
+        self.with_trace_option(word)
     }
 
-    fn with_name(self, name: &'a str) -> Option<Reading<'a>>
-        ensures { result ≡ with_name name.entry self.entry }
+    fn with_trace_file(self, name: &'a str) -> Option<Reading<'a>>
+        ensures { result ≡ with_trace_file name.entry self.entry }
     {
         if self.file.is_none() {
             return Some(Reading {
@@ -91,10 +82,10 @@ impl<'a> Reading<'a> {
         None
     }
 
-    fn with_option(self, word: &str) -> Option<Reading<'a>>
-        ensures { result ≡ with_option word.now self.entry }
+    fn with_trace_option(self, word: &str) -> Option<Reading<'a>>
+        ensures { result ≡ with_trace_option word.now self.entry }
     {
-        if let Some(setting) = setting_named(word) {
+        if let Some(setting) = row_setting_named(word) {
             return Some(Reading {
                 awaits: Some(setting),
                 ..self
@@ -104,8 +95,8 @@ impl<'a> Reading<'a> {
             return self.with_refused();
         }
         let (name, value) = word.split_once('=')?;
-        let setting = setting_named(name)?;
-        self.with_value(setting, value)
+        let setting = row_setting_named(name)?;
+        self.with_row(setting, value)
     }
 
     fn with_refused(self) -> Option<Reading<'a>>
@@ -120,8 +111,8 @@ impl<'a> Reading<'a> {
         })
     }
 
-    fn with_value(self, setting: Setting, value: &str) -> Option<Reading<'a>>
-        ensures { result ≡ with_value setting value.now self.entry }
+    fn with_row(self, setting: Setting, value: &str) -> Option<Reading<'a>>
+        ensures { result ≡ with_row setting value.now self.entry }
     {
         match setting {
             Setting::From => self.with_from(value),

@@ -1,10 +1,10 @@
 //! How the program is called.
 ghost use Rattle.std.specs.Prelude.{◌≡◌};
-ghost use Rattle.show_words.specs.Usage.{usage_lines};
+ghost use Rattle.show_words.specs.Usage.{show_usage_lines};
 
 /// The lines that tell how the program is called.
-pub fn usage_lines() -> &'static [u8]
-    ensures { result.now ≡ usage_lines }
+pub fn show_usage_lines() -> &'static [u8]
+    ensures { result.now ≡ show_usage_lines }
 {
     b"usage: exec_show plan FILE\n\
 usage: exec_show trace FILE [--refused] [--from N] [--to M]\n\

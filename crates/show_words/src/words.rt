@@ -1,11 +1,11 @@
 //! What a list of words asks for.
 ghost use Rattle.std.specs.Prelude.{◌≡◌};
-ghost use Rattle.show_words.specs.Asks.{rows_of, trace_of, only_name, asked_of};
-ghost use Rattle.show_words.specs.Reading.{read_on};
+ghost use Rattle.show_words.specs.Asks.{rows_of, trace_of, asked_of};
+ghost use Rattle.show_words.specs.Reading.{read_rows_on};
 
-use crate::asked::{Asked, Rows};
-use crate::number::MOST_ENTRY;
-use crate::reading::{Reading, is_name};
+use crate::asked::{Asked, MOST_ENTRY, Rows};
+use crate::reading::Reading;
+use exec_words::only_name;
 
 /// What the words behind the program's name ask for. `None` is a fault of usage.
 pub fn read_words<'a>(words: &[&'a str]) -> Option<Asked<'a>>
@@ -17,7 +17,7 @@ pub fn read_words<'a>(words: &[&'a str]) -> Option<Asked<'a>>
         return Some(Asked::Plan { file });
     }
     if *first == "trace" {
-        return trace_of(read_on(Reading::new(), rest)?);
+        return trace_of(read_rows_on(Reading::new(), rest)?);
     }
     if *first == "why" {
         let file = only_name(rest)?;
@@ -34,26 +34,16 @@ pub fn read_words<'a>(words: &[&'a str]) -> Option<Asked<'a>>
     None
 }
 
-// What these words say after what was said before them. There are few steps: the seventh word, or the
-// first fault before it, is the last that is read.
-fn read_on<'a>(reading: Reading<'a>, words: &[&'a str]) -> Option<Reading<'a>>
-    ensures { result ≡ read_on reading.entry words.now }
+// What these words say after what was said before them. There are few steps: the seventh word, or
+// the first fault before it, is the last that is read.
+fn read_rows_on<'a>(reading: Reading<'a>, words: &[&'a str]) -> Option<Reading<'a>>
+    ensures { result ≡ read_rows_on reading.entry words.now }
 {
     let Some((word, rest)) = words.split_first() else {
         return Some(reading);
     };
-    let next = reading.with_word(*word)?;
-    read_on(next, rest)
-}
-
-// The one word there is, which is a name.
-fn only_name<'a>(words: &[&'a str]) -> Option<&'a str>
-    ensures { result ≡ only_name words.now }
-{
-    match words {
-        [name] if is_name(*name) => Some(*name),
-        _ => None,
-    }
+    let next = reading.with_trace_word(*word)?;
+    read_rows_on(next, rest)
 }
 
 // A picture of a trace needs a file, and its last row isn't before its first.

@@ -1,8 +1,8 @@
 -- How marks are added, one number after another.
 use Rattle.std.proofs.Common.{ℕ, ◌+◌, ◌<◌, ◌≤◌, List, take, sym}
 use Rattle.std.specs.List.{flat_map, range_with_len}
-use Rattle.picture_text.specs.Adding.{Adds}
-use Rattle.picture_text.proofs.Joining.{Adds-then, Adds-same}
+use Rattle.pictures.specs.Adding.{Adds}
+use Rattle.pictures.proofs.Joining.{Adds-then, Adds-same}
 use Rattle.replay_core.proofs.Kept.{numbers_next, numbers_all}
 
 -- of one number more

@@ -1,7 +1,7 @@
 -- Texts that are put together of parts.
 use Rattle.std.proofs.Common.{ℕ, List, [], ◌∷◌, append_assoc}
-use Rattle.picture_text.specs.Adding.{Adds}
-use Rattle.picture_text.proofs.Joining.{Adds-then, Adds-same}
+use Rattle.pictures.specs.Adding.{Adds}
+use Rattle.pictures.proofs.Joining.{Adds-then, Adds-same}
 use Rattle.trace_text.specs.Texts.{apart, blank}
 
 -- a word and a blank were added, and then others

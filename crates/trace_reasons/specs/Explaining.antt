@@ -12,8 +12,8 @@ use Rattle.trace_reasons.specs.Sentences.{between, own_place, fact_text}
 use Rattle.trace_reasons.specs.Since.{IsReason}
 
 -- the line of the text on which the entry stands, from 1
-abbrev pub line_of : TraceValue → ℕ → ℕ
-line_of t e = length t.opening.nodes + 1 + e
+abbrev pub entry_line : TraceValue → ℕ → ℕ
+entry_line t e = length t.opening.nodes + 1 + e
 
 abbrev pub since_text : ℕ → List ℕ
 since_text j = if j == 0 then [] else between (codes " since entry ") j []
@@ -22,7 +22,7 @@ since_text j = if j == 0 then [] else between (codes " since entry ") j []
 abbrev pub refused_text : TraceValue → ℕ → Entry → Fact → ℕ → List ℕ
 refused_text t e entry fact j =
     between (codes "entry ") e (codes ", line ")
-    ++ (between [] (line_of t e) (codes ": ")
+    ++ (between [] (entry_line t e) (codes ": ")
     ++ (entry_text entry
     ++ (codes ": " ++ (fact_text (own_place entry.event) fact ++ (since_text j ++ codes "\n")))))
 

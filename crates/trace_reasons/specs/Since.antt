@@ -7,8 +7,8 @@ use Rattle.step_reasons.specs.So.{IsSo}
 use Rattle.trace_text.specs.declared.entry.Entry.{Entry}
 use Rattle.trace_text.specs.Values.{TraceValue}
 
--- It is so in the state after the trace's first j entries and in each up to that after k, and wasn't
--- before: entry j made it so. 0 where it was so from the beginning.
+-- It is so in the state after the trace's first j entries and in each up to that after k, and
+-- wasn't before: entry j made it so. 0 where it was so from the beginning.
 pub record IsSince (t : TraceValue) (fact : Fact) (k j : ℕ) : Type 0 where
   pub within : j ≤ k
   pub holds : (i : ℕ) → j ≤ i → i ≤ k → IsSo (state_at t i) fact

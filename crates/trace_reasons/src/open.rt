@@ -3,7 +3,7 @@ ghost use Rattle.std.specs.Prelude.{◌≡◌, ◌<◌, OnOk, true};
 ghost use Rattle.std.specs.List.{flat_map};
 ghost use Rattle.exec_life.specs.StateLists.{machine};
 ghost use Rattle.life_rules.specs.States.{size};
-ghost use Rattle.picture_text.specs.Adding.{Adds};
+ghost use Rattle.pictures.specs.Adding.{Adds};
 ghost use Rattle.replay_core.specs.Candidates.{blocks_of, place_of};
 ghost use Rattle.trace_reasons.specs.Open.{block_mark, callback_mark, is_unscanned, scan_mark, association_mark, callback_marks, scan_marks, marks, open_text};
 

@@ -1,6 +1,6 @@
 //! How sentences are put together. Each call adds to the end of `out`.
 ghost use Rattle.std.specs.Prelude.{OnOk, ◌++◌, [], decimal};
-ghost use Rattle.picture_text.specs.Adding.{Adds};
+ghost use Rattle.pictures.specs.Adding.{Adds};
 ghost use Rattle.trace_reasons.specs.Sentences.{between, source_name};
 ghost use Rattle.trace_text.specs.Texts.{place_text, source_text, bit_text, scope_text, apart};
 

@@ -1,58 +1,13 @@
 //! What is told of a fact, as a sentence. Each call adds to the end of `out`.
 ghost use Rattle.std.specs.Prelude.{◌≡◌, ◌++◌, OnOk, codes};
-ghost use Rattle.picture_text.specs.Adding.{Adds};
-ghost use Rattle.trace_reasons.specs.Sentences.{between, source_name, place_of_source, own_place, subject_text, children_word, standing_text, callback_text, block_text, nearest_text, next_text, request_text, scope_reading, source_subject, fact_text};
+ghost use Rattle.pictures.specs.Adding.{Adds};
+ghost use Rattle.trace_reasons.specs.Sentences.{between, source_name, subject_text, children_word, standing_text, callback_text, block_text, nearest_text, next_text, request_text, scope_reading, source_subject, fact_text};
 ghost use Rattle.trace_text.specs.Texts.{place_text, scope_text};
 
 use crate::put::{put, put_between, put_place, put_scope, put_source_name};
-use life_rules::{BlockState, Event, Place, ScopeWord, SourceAt};
+use life_rules::{BlockState, Place, ScopeWord, SourceAt};
 use std::alloc::AllocError;
 use step_reasons::{Callback, Fact, Standing};
-
-fn place_of_source(source: SourceAt) -> Option<Place>
-    ensures { result ≡ place_of_source source }
-{
-    match source {
-        SourceAt::Scope => None,
-        SourceAt::At(place) => Some(place),
-    }
-}
-
-/// The place that `it` means in a sentence on an event: its own, or that of its source.
-pub fn own_place(event: &Event) -> Option<Place>
-    ensures { result ≡ own_place event.now }
-{
-    match event {
-        Event::Begin { place }
-        | Event::Await { place, children: _ }
-        | Event::Rest { place, to: _ }
-        | Event::Take { place }
-        | Event::Finish { place }
-        | Event::Report { place }
-        | Event::Arm { place }
-        | Event::Run { source: _, place }
-        | Event::EndRun { place }
-        | Event::Withdraw { place }
-        | Event::WithdrawOwn { place }
-        | Event::Rouse { place } => Some(*place),
-        Event::Look { source, after } => match after {
-            None => place_of_source(*source),
-            Some(place) => Some(*place),
-        },
-        Event::Request { source, failure: _ } | Event::SealScan { source } => {
-            place_of_source(*source)
-        }
-        Event::Claim { block: _ }
-        | Event::Release { block: _ }
-        | Event::Skip { block: _ }
-        | Event::Enter
-        | Event::MarkUsed
-        | Event::Leave
-        | Event::Close
-        | Event::Join
-        | Event::Seal { expected: _ } => None,
-    }
-}
 
 // Adds the place as a sentence names it.
 fn put_subject(own: Option<Place>, place: Place, out: &mut Vec<u8>) -> Result<(), AllocError>

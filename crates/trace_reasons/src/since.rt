@@ -9,8 +9,8 @@ use replay_core::Trace;
 use std::alloc::{AllocError, Global};
 use step_reasons::{Fact, is_so};
 
-/// The entry that made the fact so, which is so after the first entries of the trace, so many; 0 where
-/// it was so from the beginning.
+/// The entry that made the fact so, which is so after the first entries of the trace, so many; 0
+/// where it was so from the beginning.
 pub fn since(alloc: Global, trace: &Trace, count: u32, fact: &Fact) -> Result<u32, AllocError>
     requires within { count < length trace.now.entries }
     requires so { IsSo (state_at trace.now count) fact.now }

@@ -1,6 +1,6 @@
 //! What is said of a trace.
 ghost use Rattle.std.specs.Prelude.{◌≡◌, IfOk, OnOk};
-ghost use Rattle.picture_text.specs.Adding.{Adds};
+ghost use Rattle.pictures.specs.Adding.{Adds};
 ghost use Rattle.exec_life.specs.StateLists.{machine};
 ghost use Rattle.replay_core.specs.Verdicts.{IsFirstRefused, AllTaken};
 ghost use Rattle.trace_reasons.specs.Explaining.{Explains, entries_word, since_text, refused_text, taken_text};
@@ -8,8 +8,9 @@ ghost use Rattle.trace_reasons.specs.Since.{IsReason};
 
 use crate::entry::text_of;
 use crate::open::{put_marks, put_open};
+use crate::places::own_place;
 use crate::put::{put, put_between};
-use crate::sentence::{own_place, put_fact};
+use crate::sentence::put_fact;
 use crate::since::since;
 use crate::walk::state_after;
 use exec_life::State;
@@ -27,8 +28,8 @@ pub struct Explained {
     pub text: Vec<u8>,
 }
 
-/// Says which entry of the trace is the first that is no step, why, and since when what keeps its hand
-/// from it is so; or, where each is a step, how many there are and what is open after them.
+/// Says which entry of the trace is the first that is no step, why, and since when what keeps its
+/// hand from it is so; or, where each is a step, how many there are and what is open after them.
 pub fn explain(alloc: Global, trace: &Trace) -> Result<Explained, AllocError>
     ensures { IfOk result (λ explained.
         Explains trace.now explained.taken explained.text.items) }

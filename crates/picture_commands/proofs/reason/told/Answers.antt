@@ -1,6 +1,6 @@
 use Rattle.std.proofs.Common.{◌≡◌}
 use Rattle.picture_commands.specs.Answers.{IsReasoned}
-use Rattle.picture_commands.specs.Reasons.{reason_of}
+use Rattle.picture_commands.specs.Reasons.{reason_line}
 use Rattle.picture_commands.proofs.Plans.{if-ok}
 use Rattle.picture_commands.proofs.reason.told.Goals as goal
 
@@ -8,7 +8,7 @@ pub returns : goal.returns
 returns c =
     let refusal = c.in_ok-refusal.refusal in
     let bytes = c.args.bytes.now in
-    if-ok c.reason_of.result (λ text. text.items ≡ reason_of refusal) (λ text. IsReasoned bytes text.items)
+    if-ok c.reason_line.result (λ text. text.items ≡ reason_line refusal) (λ text. IsReasoned bytes text.items)
     (λ text is. record {
       fault = c.args.fault;
       cause = c.requires.cause;
@@ -17,4 +17,4 @@ returns c =
       tells = c.in_ok-refusal.ensures;
       text_is = is;
     })
-    c.reason_of.ensures
+    c.reason_line.ensures

@@ -17,6 +17,6 @@ laid_out-requires-clause-words c =
     let nodes = c.args.plan.now.nodes in
     ap (list_all is_token)
     (c.words_at-root.ensures
-    ∙ ap (λ (done : Done). words_at done (c.size.result - 1)) (c.deref.ensures.value ∙ c.in_ok-done.ensures)
+    ∙ ap (λ (done : Done). words_at done (c.size.result - 1)) (c.deref.ensures.value ∙ c.in_ok-done.ensures.words)
     ∙ ap (λ (n : ℕ). words_at (all_words nodes) (n - 1)) c.size.ensures.size)
     ∙ nodes_are_tokens nodes (length nodes - 1)

@@ -1,4 +1,4 @@
-use Rattle.std.proofs.Common.{ℕ, List, [], ◌++◌, Global, Vec, map, ap, ◌∙◌}
+use Rattle.std.proofs.Common.{ℕ, [], ◌++◌, Global, Vec, map, ap, ◌∙◌}
 use Rattle.plan_words.specs.Seen.{words_in}
 use Rattle.plan_words.proofs.PageLemmas.{blank_page}
 use Rattle.plan_words.proofs.layout.laid_out.Goals as goal

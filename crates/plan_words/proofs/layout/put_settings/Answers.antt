@@ -1,5 +1,5 @@
 use Rattle.std.proofs.Common.{ℕ, List, ◌<◌, length, Global, Vec, ap, subst, ◌∙◌, arith}
-use Rattle.plan_words.specs.Pages.{Adds}
+use Rattle.plan_words.specs.Pages.{AddsToken}
 use Rattle.plan_words.specs.Wholes.{is_whole}
 use Rattle.plan_words.proofs.PageLemmas.{adds_more, all_at}
 use Rattle.plan_words.proofs.layout.put_settings.Goals as goal
@@ -15,4 +15,4 @@ settings-preserved c =
     let within : c.settings.word-index < length c.args.settings.now = omega arith in
     adds_more (λ (word : Vec ℕ Global). word.items) c.args.settings.now c.settings.word-index c.word-item.result
     c.args.page.now c.settings.page c.put_setting.new.page within c.word-item.is c.settings.invariant
-    (subst (λ (w : List ℕ). Adds w c.settings.page c.put_setting.new.page) c.deref.ensures.value c.in_ok-put_setting.ensures)
+    (subst (λ (w : List ℕ). AddsToken w c.settings.page c.put_setting.new.page) c.deref.ensures.value c.in_ok-put_setting.ensures)

@@ -1,7 +1,7 @@
 use Rattle.std.proofs.Common.{ap, ◌∙◌}
 use Rattle.exec_life.specs.WordLists.{WordLists}
 use Rattle.life_rules.specs.declared.scope.ScopeWord.{ScopeWord}
-use Rattle.picture_text.proofs.Joining.{Adds-then, Adds-same}
+use Rattle.pictures.proofs.Joining.{Adds-then, Adds-same}
 use Rattle.trace_reasons.specs.Open.{association_mark}
 use Rattle.trace_reasons.proofs.open.put_marks.Goals as goal
 

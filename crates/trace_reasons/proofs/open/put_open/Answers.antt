@@ -1,7 +1,7 @@
 use Rattle.std.proofs.Common.{◌≡◌, ◌≤◌, ℕ, ◌-◌, false, nat_lt, List, ◌++◌, length, take, drop, codes, sym, ap, ◌∙◌, arith, length-drop}
 use Rattle.std.proofs.lemmas.Bool.{le-ltb, cond-false}
 use Rattle.std.proofs.lemmas.List.{take_all}
-use Rattle.picture_text.proofs.Joining.{Adds-then, Adds-same}
+use Rattle.pictures.proofs.Joining.{Adds-then, Adds-same}
 use Rattle.trace_reasons.proofs.open.put_open.Goals as goal
 
 pub returns : goal.returns

@@ -1,7 +1,7 @@
 use Rattle.std.proofs.Common.{take}
 use Rattle.std.specs.List.{flat_map}
 use Rattle.exec_life.specs.StateLists.{machine}
-use Rattle.picture_text.specs.Adding.{Adds}
+use Rattle.pictures.specs.Adding.{Adds}
 use Rattle.life_rules.specs.declared.event.SourceAt.TheVariants.{At}
 use Rattle.replay_core.specs.Candidates.{nodes_of, place_of}
 use Rattle.trace_reasons.specs.Open.{scan_mark}

@@ -1,4 +1,4 @@
-use Rattle.picture_text.proofs.Joining.{Adds-then}
+use Rattle.pictures.proofs.Joining.{Adds-then}
 use Rattle.trace_reasons.proofs.sentence.put_nearest.Goals as goal
 
 pub returns-in_ok-put_source_name-in-Some : goal.returns-in_ok-put_source_name-in-Some

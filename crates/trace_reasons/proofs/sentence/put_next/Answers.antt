@@ -1,4 +1,4 @@
-use Rattle.picture_text.proofs.Joining.{Adds-then}
+use Rattle.pictures.proofs.Joining.{Adds-then}
 use Rattle.trace_reasons.proofs.sentence.put_next.Goals as goal
 
 pub returns-in_ok-put_place-in-Some : goal.returns-in_ok-put_place-in-Some

@@ -1,4 +1,4 @@
-use Rattle.picture_text.proofs.Joining.{Adds-then}
+use Rattle.pictures.proofs.Joining.{Adds-then}
 use Rattle.trace_reasons.proofs.sentence.put_no_place.Goals as goal
 
 pub returns : goal.returns

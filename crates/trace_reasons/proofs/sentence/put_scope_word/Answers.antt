@@ -1,4 +1,4 @@
-use Rattle.picture_text.proofs.Joining.{Adds-then, Adds-same}
+use Rattle.pictures.proofs.Joining.{Adds-then, Adds-same}
 use Rattle.trace_reasons.proofs.sentence.put_scope_word.Goals as goal
 
 pub returns : goal.returns

@@ -1,5 +1,5 @@
 use Rattle.std.proofs.Common.{[], ap, ◌∙◌}
-use Rattle.picture_text.proofs.Joining.{Adds-then, Adds-same}
+use Rattle.pictures.proofs.Joining.{Adds-then, Adds-same}
 use Rattle.trace_reasons.specs.Open.{open_text}
 use Rattle.trace_reasons.specs.Sentences.{between}
 use Rattle.trace_reasons.proofs.telling.taken_line.Goals as goal

@@ -1,6 +1,6 @@
 use Rattle.std.proofs.Common.{◌≡◌, ◌+◌, ◌-◌, [], length, codes, true, ap, sym, subst, ◌∙◌}
-use Rattle.picture_text.proofs.Joining.{Adds-then, Adds-same}
-use Rattle.trace_reasons.specs.Explaining.{line_of}
+use Rattle.pictures.proofs.Joining.{Adds-then, Adds-same}
+use Rattle.trace_reasons.specs.Explaining.{entry_line}
 use Rattle.trace_reasons.specs.Sentences.{between, fact_text}
 use Rattle.trace_text.specs.Setups.{Setup}
 use Rattle.trace_text.specs.Values.{has_entry}
@@ -19,7 +19,7 @@ returns c =
     let t = c.args.trace.now in
     let nodes = ap (λ (o : Setup). o.nodes) c.opening-opening.ensures.opening in
     let size : c.size.result ≡ length t.opening.nodes = c.size.ensures.size ∙ ap length (c.tree.ensures.tree ∙ nodes) in
-    let line : c.size.result + 1 + c.args.number ≡ line_of t c.args.number = ap (λ n. n + 1 + c.args.number) size in
+    let line : c.size.result + 1 + c.args.number ≡ entry_line t c.args.number = ap (λ n. n + 1 + c.args.number) size in
     let at = Adds-same (ap (λ n. between [] n (codes ": ")) line) c.in_ok-put_between-2.ensures in
     let entry = Adds-same (c.deref.ensures.value ∙ c.in_ok-text_of.ensures) c.in_ok-put.ensures in
     let fact = Adds-same (ap (λ own. fact_text own c.args.fact.now) c.own_place.ensures) c.in_ok-put_fact.ensures in

@@ -24,7 +24,7 @@ first-returns-in-Some t c =
     let some : 0 < self.levels = omega arith in
     let P : Option Site → Type 0 = λ o. IfOk c.in_parts.result (IsSite o) in
     subst P (first-below self c.under.result c.args.path.now (view c.args.value.now) c.in-Some.word some
-    (sym c.in_ok-is_it.ensures ∙ c.if-branch.false) (sym c.word_at.ensures ∙ c.in-Some.is) c.under.ensures)
+    (sym c.in_ok-is_it.ensures ∙ c.if-branch.false) (sym c.node_word_at.ensures ∙ c.in-Some.is) c.under.ensures)
     c.in_parts.ensures
 
 pub first-returns-in-None : goal.first-returns-in-None
@@ -32,4 +32,4 @@ first-returns-in-None t c =
     let self = c.args.self in
     let some : 0 < self.levels = omega arith in
     first-unknown self.is_first self.levels self.sought c.args.path.now (view c.args.value.now) some
-    (sym c.in_ok-is_it.ensures ∙ c.if-branch.false) (sym c.word_at.ensures ∙ c.in-None.is)
+    (sym c.in_ok-is_it.ensures ∙ c.if-branch.false) (sym c.node_word_at.ensures ∙ c.in-None.is)

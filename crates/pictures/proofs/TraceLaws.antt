@@ -1,0 +1,3 @@
+-- TraceLaws: lemmas of the picture of a trace.
+pub mod Rows
+pub mod Children

@@ -1,4 +1,0 @@
-use Rattle.plan_picture.proofs.job.text_of_datum.Goals as goal
-
-pub returns : goal.returns
-returns c = rw c.new-text.ensures.items at c.in_ok-put_datum.ensures.added

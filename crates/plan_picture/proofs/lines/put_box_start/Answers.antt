@@ -1,4 +1,0 @@
-use Rattle.plan_picture.proofs.lines.put_box_start.Goals as goal
-
-pub returns : goal.returns
-returns c = simp (c.format-digits.ensures.text, c.name_of.ensures) at c.put_all.ensures

@@ -1,8 +1,0 @@
-use Rattle.std.proofs.Common.{◌≡◌, take}
-use Rattle.std.specs.Prelude.{map}
-use Rattle.plan_picture.specs.Folds.{texts_of}
-use Rattle.plan_picture.specs.Names.{kind_word}
-use Rattle.plan_picture.proofs.lines.words_of_kinds.Given as goal
-
-abbrev pub invariant-loop-kind : goal.invariant-loop-kind
-invariant-loop-kind l = texts_of l.words.items ≡ map kind_word (take l.kind-index l.kinds)

@@ -1,4 +1,0 @@
-use Rattle.plan_picture.proofs.picture.put_sample.Goals as goal
-
-pub returns : goal.returns
-returns c = simp (c.fill_of.ensures, c.border_of.ensures) at c.put_all.ensures

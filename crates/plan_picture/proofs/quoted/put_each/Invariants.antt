@@ -1,9 +1,0 @@
-use Rattle.std.proofs.Common.{take}
-use Rattle.std.specs.List.{flat_map}
-use Rattle.picture_text.specs.Adding.{Adds}
-use Rattle.plan_picture.specs.Quoted.{byte_text}
-use Rattle.plan_picture.proofs.quoted.put_each.Given as goal
-
-abbrev pub invariant-loop-byte : goal.invariant-loop-byte
-invariant-loop-byte l =
-    Adds l.initial.text.items l.text.items (flat_map byte_text (take l.byte-index l.bytes))

@@ -1,4 +1,0 @@
-use Rattle.plan_picture.proofs.shape.one_shape.Goals as goal
-
-pub returns : goal.returns
-returns c = rw c.new-shape.ensures.items at c.in_ok-put_shape.ensures.added

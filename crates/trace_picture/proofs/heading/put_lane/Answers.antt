@@ -1,6 +1,0 @@
-use Rattle.trace_picture.specs.Headings.{lane_text}
-use Rattle.trace_picture.proofs.heading.put_lane.Goals as goal
-
-pub returns : goal.returns
-unfolding lane_text
-returns c = simp (c.lane_x-x.ensures, c.rows_of.ensures, c.format.ensures.text, c.format-2.ensures.text, c.format-3.ensures.text, c.format-4.ensures.text) at c.put_all.ensures

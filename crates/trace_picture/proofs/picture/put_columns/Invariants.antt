@@ -1,9 +1,0 @@
-use Rattle.std.proofs.Common.{take}
-use Rattle.std.specs.List.{flat_map, range_with_len}
-use Rattle.picture_text.specs.Adding.{Adds}
-use Rattle.trace_picture.specs.Headings.{column_text}
-use Rattle.trace_picture.proofs.picture.put_columns.Given as goal
-
-abbrev pub invariant-loop-block : goal.invariant-loop-block
-invariant-loop-block l =
-    Adds l.initial.text.items l.text.items (flat_map column_text (take l.block (range_with_len 0 l.fn.blocks)))

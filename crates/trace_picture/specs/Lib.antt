@@ -1,7 +1,0 @@
-pub mod Layout
-pub mod Frames
-pub mod Armed
-pub mod Bars
-pub mod Rows
-pub mod Headings
-pub mod Picture
