@@ -14,7 +14,7 @@ use anyhow::{Context, Result, bail};
 use by_example::run_text;
 use pool_backends::{Backend, Order, RingBackend};
 use record_lines::End;
-use run_crew::Crew;
+use run_workers::Crew;
 use std::fs;
 use std::io::BufWriter;
 use std_streams::{Reading, Writing, words_of_command};

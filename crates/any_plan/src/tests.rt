@@ -1,6 +1,6 @@
 //! The calls of by_example, over a source and a sink in memory.
 ghost use Rattle.std.specs.Prelude.{IfOk, vec_len};
-ghost use Rattle.run_crew.specs.Crews.{IsCrew};
+ghost use Rattle.run_workers.specs.Crews.{IsCrew};
 
 use super::{RING_NAMES, WORKERS};
 use by_example::{add_lines, add_one, run_text};
@@ -8,7 +8,7 @@ use exec_io::{MemSink, MemSource, Source};
 use exec_value::{Completion, Datum};
 use plan_reader::PlanFault;
 use pool_backends::{Backend, RingBackend};
-use run_crew::{Crew, Order};
+use run_workers::{Crew, Order};
 use std::alloc::{AllocError, Global};
 use std::test::Fail;
 

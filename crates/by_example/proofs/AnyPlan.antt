@@ -8,10 +8,10 @@ use Rattle.plan_shape.specs.Blueprint.{Blueprint, IsPlan}
 use Rattle.plan_shape.specs.Conditions.{is_within}
 use Rattle.plan_shape.specs.declared.limits.TheConstants.{MOST_STOP_AFTER}
 use Rattle.record_loop.specs.declared.printer.Form.TheVariants.{Lines}
-use Rattle.record_runs.specs.Accounts.{EndsRun, IsClosedFor}
-use Rattle.record_runs.specs.Endings.{Streams}
-use Rattle.record_runs.specs.declared.account.Account.{Account}
-use Rattle.run_rules.specs.PlanTerms.{MayRun, window_of}
+use Rattle.whole_run.specs.Accounts.{EndsRun, IsClosedFor}
+use Rattle.whole_run.specs.Endings.{Streams}
+use Rattle.whole_run.specs.declared.account.Account.{Account}
+use Rattle.line_rules.specs.PlanTerms.{MayRun, window_of}
 use Rattle.by_example.specs.AnyPlan.{RunsText}
 use Rattle.by_example.specs.declared.streaming.TheConstants.{WINDOW}
 

@@ -22,11 +22,11 @@ use Rattle.record_loop.specs.Printing.{Finished}
 use Rattle.record_loop.specs.ReadStarts.{ReadStart}
 use Rattle.record_loop.specs.declared.printer.Form.TheVariants.{Lines}
 use Rattle.record_loop.specs.Tallies.{IsToldBy}
-use Rattle.record_runs.specs.Accounts.{EndsRun, IsClosedFor}
-use Rattle.record_runs.specs.Endings.{Streams, WantsMemory, streams}
-use Rattle.record_runs.specs.declared.account.Account.{Account}
-use Rattle.run_rules.specs.Lawful.{Lawful, MayEnd, datum_of}
-use Rattle.run_rules.specs.PlanTerms.{AllowsRecord, terms_of}
+use Rattle.whole_run.specs.Accounts.{EndsRun, IsClosedFor}
+use Rattle.whole_run.specs.Endings.{Streams, WantsMemory, streams}
+use Rattle.whole_run.specs.declared.account.Account.{Account}
+use Rattle.line_rules.specs.Lawful.{Lawful, MayEnd, datum_of}
+use Rattle.line_rules.specs.PlanTerms.{AllowsRecord, terms_of}
 use Rattle.by_example.specs.Adder.{pool_adder}
 use Rattle.by_example.specs.Streams.{AddsOneToEach, answered, number_of, outcome_of}
 use Rattle.by_example.specs.declared.streaming.TheConstants.{WINDOW}

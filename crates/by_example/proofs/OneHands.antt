@@ -1,8 +1,8 @@
 -- What may be done with the one hand of a table, and what may be done with it at the end.
 use Rattle.std.proofs.Common.{◌≡◌, ℕ, ◌+◌, ◌≤◌, List, [], ◌∷◌, refl, sym, ap, ◌∙◌, subst, arith}
 use Rattle.std.specs.Prelude.{slice_index_or}
-use Rattle.exec_start.specs.declared.entry.Entry.{Entry}
-use Rattle.exec_start.specs.declared.item.Item.{Item}
+use Rattle.home_items.specs.declared.entry.Entry.{Entry}
+use Rattle.home_items.specs.declared.item.Item.{Item}
 use Rattle.loop_walk.specs.Resting.{IsAtRest}
 use Rattle.plan_shape.specs.Blueprint.{Blueprint}
 use Rattle.run_loop.specs.Loops.{IsOpened, IsReady}
@@ -11,8 +11,8 @@ use Rattle.table_rules.specs.declared.view.View.{View}
 use Rattle.table_steps.specs.Closings.{AreAllBack, HasNothing, IsCountedBy}
 use Rattle.table_steps.specs.Views.{AreFreshHands, Board, IsHandOf, knows}
 use Rattle.table_steps.specs.declared.remains.Remains.{Remains}
-use Rattle.record_runs.specs.Opened.{IsFreshHand}
-use Rattle.run_crew.specs.Crews.{IsSpare}
+use Rattle.whole_run.specs.Opened.{IsFreshHand}
+use Rattle.run_workers.specs.Crews.{IsSpare}
 use Rattle.by_example.specs.OneHand.{TheHand}
 
 abbrev TheView : Type 0

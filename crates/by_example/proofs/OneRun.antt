@@ -4,10 +4,10 @@ use Rattle.std.specs.Prelude.{ℤ, ◌-◌, [], ◌∷◌, length, IfOk, IfErr}
 use Rattle.std.proofs.lemmas.Bool.{false≢true}
 use Rattle.exec_recv.specs.Asides.{Aside, aside_of}
 use Rattle.exec_recv.specs.Over.{IsOver}
-use Rattle.exec_start.proofs.Beginning.{record-kinds}
-use Rattle.exec_start.specs.Entries.{record_start}
-use Rattle.exec_start.specs.declared.entry.Entry.{Entry}
-use Rattle.exec_start.specs.declared.item.Item.{Item}
+use Rattle.home_items.proofs.Beginning.{record-kinds}
+use Rattle.home_items.specs.Entries.{record_start}
+use Rattle.home_items.specs.declared.entry.Entry.{Entry}
+use Rattle.home_items.specs.declared.item.Item.{Item}
 use Rattle.exec_value.specs.Kinds.{HasKind}
 use Rattle.exec_value.specs.declared.data.Datum.{Datum}
 use Rattle.exec_value.specs.declared.data.Datum.TheVariants.{Int}
@@ -22,16 +22,16 @@ use Rattle.loop_roots.specs.Starts.{CanRun, MissesEach}
 use Rattle.loop_roots.specs.declared.completing.Collected.{Collected}
 use Rattle.run_loop.specs.Loops.{IsReady}
 use Rattle.run_loop.specs.Starts.{FindsNoBlock}
-use Rattle.run_loop.specs.Waits.{HasRun, Waits, with_used}
+use Rattle.run_loop.specs.Waits.{HasRun, Waits, with_block_used}
 use Rattle.run_loop.specs.declared.looped.Loop.{Loop as Looped}
 use Rattle.run_loop.specs.declared.waiting.Waited.{Waited}
 use Rattle.run_loop.specs.declared.waiting.Waited.TheVariants.{Completed, NoBlock}
 use Rattle.table_rules.specs.declared.view.View.{View}
 use Rattle.table_steps.specs.Claims.{Missed, Seated}
 use Rattle.table_steps.specs.Views.{Board, fresh_with, knows}
-use Rattle.by_example.specs.Answers.{IsCause, MayComplete, answer_of}
-use Rattle.record_runs.specs.Opened.{IsFreshHand}
-use Rattle.run_crew.specs.Crews.{IsSpare}
+use Rattle.by_example.specs.Answers.{IsAddCause, MayComplete, answer_of}
+use Rattle.whole_run.specs.Opened.{IsFreshHand}
+use Rattle.run_workers.specs.Crews.{IsSpare}
 use Rattle.by_example.specs.OneHand.{TheHand}
 
 abbrev TheView : Type 0
@@ -96,7 +96,7 @@ module _ (board : Board Blueprint) (hand : TheHand) (new : IsFreshHand board han
 
   little-later : (start : List Entry) (waited : Waited) → Waits board start old later waited → LeavesLittle (beside later.hand.me)
   little-later start (Completed c) did =
-      subst LeavesLittle (sym (did.leaves.is ∙ ap with_used beside-old))
+      subst LeavesLittle (sym (did.leaves.is ∙ ap with_block_used beside-old))
       (record { made = refl; making = refl; refused = refl; even = refl })
   little-later start (NoBlock back) did =
       subst LeavesLittle (sym (none-beside board old later did.none ∙ beside-old))
@@ -140,7 +140,7 @@ module _ (board : Board Blueprint) (hand : TheHand) (new : IsFreshHand board han
 
   -- where no block was free, each was missed
   pub waited-fault : old.next ≡ 0 → (start : List Entry) (waited : Waited) → Waits board start old later waited →
-      IfErr (answer_of waited) (IsCause board hand later.hand)
+      IfErr (answer_of waited) (IsAddCause board hand later.hand)
   waited-fault front start (Completed c) did = tt
   waited-fault front start (NoBlock back) did =
       subst (λ (h : TheHand). MissesEach board 0 h later.hand) is

@@ -44,4 +44,5 @@ one_more number = then_of (Add (pos 1)) (Value (Int number ∷ []))
 -- the next number, or the error `overflow` where an i64 holds no next
 abbrev pub next_of : ℤ → Completion
 next_of number =
-    if is_i64 (number +ℤ pos 1) then Value (Int (number +ℤ pos 1) ∷ []) else Error (codes "overflow")
+    if is_i64 (number +ℤ pos 1) then Value (Int (number +ℤ pos 1) ∷ [])
+    else Error (codes "overflow")

@@ -32,6 +32,6 @@ answer_of (NoBlock back) = Err NoneFree
 
 -- Want of memory has no cause. No block was free only where the hand missed each block at a step of
 -- its own: it wasn't free, or another hand moved it.
-abbrev pub IsCause : Board Blueprint → TheHand → TheHand → AddFault → Type 0
-IsCause board old new NoMemory = ⊤
-IsCause board old new NoneFree = MissesEach board 0 old new
+abbrev pub IsAddCause : Board Blueprint → TheHand → TheHand → AddFault → Type 0
+IsAddCause board old new NoMemory = ⊤
+IsAddCause board old new NoneFree = MissesEach board 0 old new

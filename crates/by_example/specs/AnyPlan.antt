@@ -5,10 +5,10 @@ use Rattle.plan_reader.specs.declared.fault.PlanFault.{PlanFault}
 use Rattle.plan_reader.specs.declared.fault.PlanFault.TheVariants.{NoMemory}
 use Rattle.plan_shape.specs.Blueprint.{Blueprint}
 use Rattle.record_loop.specs.declared.printer.Form.TheVariants.{Lines}
-use Rattle.record_runs.specs.Accounts.{EndsRun, IsClosedFor}
-use Rattle.record_runs.specs.Endings.{Streams}
-use Rattle.record_runs.specs.declared.account.Account.{Account}
-use Rattle.run_rules.specs.PlanTerms.{window_of}
+use Rattle.whole_run.specs.Accounts.{EndsRun, IsClosedFor}
+use Rattle.whole_run.specs.Endings.{Streams}
+use Rattle.whole_run.specs.declared.account.Account.{Account}
+use Rattle.line_rules.specs.PlanTerms.{window_of}
 use Rattle.by_example.specs.declared.streaming.TheConstants.{WINDOW}
 
 -- The text is a plan, and a run of it over the lines of a source ended so, on a table that was

@@ -11,8 +11,8 @@ use Rattle.record_loop.specs.Printing.{Finished}
 use Rattle.record_loop.specs.Reading.{Reads}
 use Rattle.record_loop.specs.declared.printer.Form.TheVariants.{Lines}
 use Rattle.record_loop.specs.Tallies.{IsToldBy}
-use Rattle.record_runs.specs.Accounts.{IsClosedFor}
-use Rattle.record_runs.specs.declared.account.Account.{Account}
+use Rattle.whole_run.specs.Accounts.{IsClosedFor}
+use Rattle.whole_run.specs.declared.account.Account.{Account}
 use Rattle.by_example.specs.Adder.{next_of, pool_adder}
 use Rattle.by_example.specs.declared.streaming.TheConstants.{WINDOW}
 
@@ -32,8 +32,8 @@ outcome_of line = answered (number_of line)
 -- answered so in the sink, in order, but those of a rest that was read when a write was lost. Each
 -- number was answered by an operation of one table, which was closed with its scope joined and each
 -- block given back.
-pub record AddsOneToEach {S K : Type 0} (source : S → SourceView) (sink : K → SinkView) (old new : S)
-    (before after : K) (account : Account) : Type 0 where
+pub record AddsOneToEach {S K : Type 0} (source : S → SourceView) (sink : K → SinkView)
+    (old new : S) (before after : K) (account : Account) : Type 0 where
   pub bytes : List ℕ
   pub rest : List ℕ
   pub reads : Reads (source old).left (source new).left account.ending.end bytes rest

@@ -1,21 +1,21 @@
 //! A plan that isn't known beforehand: it is read from JSON, and run over the lines of a stream.
 ghost use Rattle.std.specs.Prelude.{IfOk, IfErr, OnErr, vec_len};
 ghost use Rattle.std.specs.Thread.{IsSync};
-ghost use Rattle.record_runs.specs.Endings.{IsUnbegun, streams};
-ghost use Rattle.run_crew.specs.Crews.{IsCrew};
+ghost use Rattle.whole_run.specs.Endings.{IsUnbegun, streams};
+ghost use Rattle.run_workers.specs.Crews.{IsCrew};
 ghost use Rattle.by_example.specs.AnyPlan.{AnswersFault, RunsText};
 
 use crate::streaming::WINDOW;
 use exec_io::Sink;
 use exec_recv::OpenGate;
+use line_rules::at_once;
 use plan_reader::{PlanFault, read_plan};
 use record_loop::{Form, RecordSource};
-use record_runs::{Account, run_lines};
-use run_crew::Crew;
-use run_rules::at_once;
+use run_workers::Crew;
 use std::alloc::Global;
 use std::sync::Wait;
 use std::thread::Threads;
+use whole_run::{Account, run_lines};
 
 /// Reads a plan from JSON, runs it for each line of a source, and writes a line for each, in order.
 /// What it promises holds if it returns.

@@ -2,8 +2,8 @@
 //! workers, by the library's calls.
 //!
 //! It stands on the crates that make plans (plan_builder, sig_check), on op_table, which has
-//! operations, on exec_steps, which steps their nodes, on run_loop, which runs them, and for the
-//! stream on record_runs. docs/LIBRARY.md goes through it. It keeps one promise: what is answered
+//! operations, on node_stepper, which steps their nodes, on run_loop, which runs them, and for the
+//! stream on whole_run. docs/LIBRARY.md goes through it. It keeps one promise: what is answered
 //! for a number is the next number, or the error `overflow`, and nothing else, whoever does the
 //! work.
 //!

@@ -1,7 +1,7 @@
 //! A table with one block and one hand: how it is opened, and how it is closed.
 ghost use Rattle.std.specs.Prelude.{◌≡◌, ◌+◌, ◌<◌, [], IfOk, vec_capacity};
 ghost use Rattle.table_steps.specs.Views.{AreFreshHands};
-ghost use Rattle.run_crew.specs.Crews.{IsSpare};
+ghost use Rattle.run_workers.specs.Crews.{IsSpare};
 ghost use Rattle.by_example.specs.OneHand.{IsForOne};
 
 use exec_recv::Item;

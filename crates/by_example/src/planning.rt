@@ -6,8 +6,8 @@ ghost use Rattle.by_example.specs.Adder.{adder, pool_adder};
 
 use exec_job::Job;
 use exec_recv::OpenGate;
-use exec_steps::NodeSteps;
 use exec_value::Kind;
+use node_stepper::NodeSteps;
 use node_tree::ScopeKind;
 use plan_builder::{BuildFault, Context, Plan, PlanBuilder, Settings};
 use sig_check::{SigFault, check};

@@ -1,10 +1,10 @@
 //! One operation on a loop, from its number to its completion.
 ghost use Rattle.std.specs.Prelude.{◌≡◌, IfOk, IfErr};
 ghost use Rattle.std.specs.Thread.{IsSync};
-ghost use Rattle.record_runs.specs.Opened.{IsFreshHand};
-ghost use Rattle.run_crew.specs.Crews.{IsSpare};
+ghost use Rattle.whole_run.specs.Opened.{IsFreshHand};
+ghost use Rattle.run_workers.specs.Crews.{IsSpare};
 ghost use Rattle.by_example.specs.OneHand.{IsForOne};
-ghost use Rattle.by_example.specs.Answers.{IsCause, IsOfInts, MayComplete, answer_of};
+ghost use Rattle.by_example.specs.Answers.{IsAddCause, IsOfInts, MayComplete, answer_of};
 
 use crate::fault::AddFault;
 use exec_recv::{Env, Item, Stepper};
@@ -49,7 +49,7 @@ pub(crate) fn run_number<T: Stepper, R: Wait + Sync>(
     requires table { IsForOne plan.now table.now }
     requires hand { IsFreshHand table.now hand }
     ensures completion { IfOk result.completion (MayComplete plan.now number) }
-    ensures fault { IfErr result.completion (IsCause table.now hand result.hand) }
+    ensures fault { IfErr result.completion (IsAddCause table.now hand result.hand) }
     ensures hand { IsSpare table.now result.hand }
 {
     let mut looped = match Loop::open(alloc, plan, table, hand) {

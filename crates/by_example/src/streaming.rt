@@ -2,9 +2,9 @@
 ghost use Rattle.std.specs.Prelude.{IfOk, OnErr, vec_len};
 ghost use Rattle.std.specs.Thread.{IsSync};
 ghost use Rattle.record_loop.specs.declared.printer.Form.{Form};
-ghost use Rattle.record_runs.specs.Accounts.{EndsRun};
-ghost use Rattle.record_runs.specs.Endings.{IsUnbegun, streams};
-ghost use Rattle.run_crew.specs.Crews.{IsCrew};
+ghost use Rattle.whole_run.specs.Accounts.{EndsRun};
+ghost use Rattle.whole_run.specs.Endings.{IsUnbegun, streams};
+ghost use Rattle.run_workers.specs.Crews.{IsCrew};
 ghost use Rattle.by_example.specs.Adder.{pool_adder};
 ghost use Rattle.by_example.specs.Streams.{AddsOneToEach};
 ghost use Rattle.by_example.specs.declared.streaming.TheConstants.{WINDOW};
@@ -13,11 +13,11 @@ use crate::planning::plan_pool_adder;
 use exec_io::Sink;
 use exec_recv::OpenGate;
 use record_loop::{Form, RecordSource};
-use record_runs::{Account, run_lines};
-use run_crew::Crew;
+use run_workers::Crew;
 use std::alloc::{AllocError, Global};
 use std::sync::Wait;
 use std::thread::Threads;
+use whole_run::{Account, run_lines};
 
 /// So many lines are worked on at once.
 pub const WINDOW: usize = 64;

@@ -1,4 +1,4 @@
-//! Tests of record_runs: which layer runs a plan's records, what it makes of them, and how it leaves
+//! Tests of whole_run: which layer runs a plan's records, what it makes of them, and how it leaves
 //! its table.
 //!
 //! They stand here since a crate with tests is proved twice.

@@ -1,25 +1,27 @@
 //! The tests, and what they share.
 ghost use Rattle.std.specs.Prelude.{IfOk, vec_len};
 ghost use Rattle.plan_kinds.specs.Reached.{KindsMatch};
-ghost use Rattle.run_crew.specs.Crews.{IsCrew};
+ghost use Rattle.run_workers.specs.Crews.{IsCrew};
 
 mod aheads;
 mod bodies;
 mod closings;
 mod crews;
 mod layers;
+mod orders;
 mod races;
+mod reports;
 mod unlawful;
 
 use life_rules::ScopeState;
+use line_rules::at_once;
 use plan_reader::read_plan;
 use plan_shape::Plan;
-use record_runs::Account;
-use run_crew::{Crew, Order};
-use run_rules::at_once;
+use run_workers::{Crew, Order};
 use sig_check::check;
 use std::alloc::Global;
 use std::test::Fail;
+use whole_run::Account;
 
 /// One more than the record.
 const ADDING: &str = r#"{"do":"then","child":{"do":"input"},"job":{"job":"add","n":1}}"#;

@@ -1,5 +1,5 @@
-//! A few steps, and what is read of the state after them. Runs with steps of all kinds are data for the
-//! program (tests/cases/machine.json).
+//! A few steps, and what is read of the state after them. Runs with steps of all kinds are data for
+//! the program (tests/cases/machine.json).
 
 use exec_life::{State, opening};
 use life_rules::{BlockState, BlockWord, CallbackPhase, ControlWord, Event, Place};

@@ -1,5 +1,5 @@
-//! Texts that are read and written, and replayed, once each. What a check refuses is data for the program
-//! (tests/cases/machine.json).
+//! Texts that are read and written, and replayed, once each. What a check refuses is data for the
+//! program (tests/cases/machine.json).
 
 use replay_core::{Verdict, check_trace, replay};
 use std::test::Fail;

@@ -2,17 +2,17 @@
 //! it, since each record ends as it may without it.
 ghost use Rattle.std.specs.Prelude.{◌≡◌};
 ghost use Rattle.exec_io.specs.Memory.{source_view};
-ghost use Rattle.plain_runs.specs.PlainWork.{work_of, WantsMemory};
+ghost use Rattle.plain_runs.specs.PlainWork.{plain_work, WantsMemory};
 
 use super::OF_INTS;
 use super::runs::{adding, run};
 use exec_io::{Failed, MemSink, MemSource, Source};
 use exec_value::{Completion, Datum, Kind};
+use line_rules::may_run;
 use plain_runs::PlainRuns;
 use plan_builder::PlanBuilder;
 use record_lines::End;
 use record_loop::{Form, Generated, Operations, run_records};
-use run_rules::may_run;
 use sig_check::check;
 use std::alloc::Global;
 use std::sync::Wait;
@@ -92,7 +92,7 @@ impl<'a> Reluctant<'a> {
 }
 
 impl<'a> Operations for Reluctant<'a> {
-    ghost state = { λ s. work_of s.runs };
+    ghost state = { λ s. plain_work s.runs };
 
     ghost WantsMemory = { WantsMemory };
 

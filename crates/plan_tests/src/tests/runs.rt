@@ -1,16 +1,16 @@
 //! Runs over records: what no file of cases can show of them.
 ghost use Rattle.std.specs.Thread.{IsSync};
-ghost use Rattle.plain_runs.specs.PlainWork.{work_of, WantsMemory};
+ghost use Rattle.plain_runs.specs.PlainWork.{plain_work, WantsMemory};
 
 use super::OF_INTS;
 use exec_io::{MemSink, MemSource};
 use exec_job::Job;
 use exec_value::{Completion, Datum};
+use line_rules::may_run;
 use plain_runs::PlainRuns;
 use plan_builder::{Built, Context, PlanBuilder};
 use record_lines::End;
 use record_loop::{Ending, Form, Operations, RecordSource, run_records};
-use run_rules::may_run;
 use sig_check::check;
 use std::alloc::Global;
 use std::process::Abort;
@@ -32,7 +32,7 @@ struct InTurns<'a> {
 }
 
 impl<'a> Operations for InTurns<'a> {
-    ghost state = { λ s. work_of s.runs };
+    ghost state = { λ s. plain_work s.runs };
 
     ghost WantsMemory = { WantsMemory };
 

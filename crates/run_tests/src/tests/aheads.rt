@@ -4,7 +4,7 @@ ghost use Rattle.std.specs.Thread.{IsSync};
 ghost use Rattle.life_rules.specs.declared.limits.TheConstants.{MOST_BLOCKS, MOST_HANDS};
 ghost use Rattle.record_lines.specs.declared.limits.TheConstants.{MOST_RECORDS};
 
-use super::crews::{crew_of, writes};
+use super::crews::{Trial, crew_of, writes};
 use super::unlawful::Way;
 use exec_recv::OpenGate;
 use std::alloc::Global;
@@ -25,21 +25,19 @@ const ABANDONED: &str =
 fn is_so<R: Threads + Wait + Abort + Sync>(
     rt: &R,
     alloc: Global,
-    root: &str,
-    window: u32,
+    trial: Trial<'_>,
     workers: u32,
     way: Way,
-    count: u32,
     line: &str,
 ) -> Result<bool, Fail>
     requires sync { IsSync R.row }
-    requires some { 0 < window }
-    requires most { window ≤ MOST_BLOCKS }
+    requires some { 0 < trial.window }
+    requires most { trial.window ≤ MOST_BLOCKS }
     requires workers { workers < MOST_HANDS }
-    requires few { count ≤ MOST_RECORDS }
+    requires few { trial.count ≤ MOST_RECORDS }
 {
     let crew = crew_of(alloc, workers, way)?;
-    writes(rt, alloc, root, window, count, crew, &OpenGate, line)
+    writes(rt, alloc, trial, crew, &OpenGate, &[line])
 }
 
 #[test]
@@ -48,7 +46,13 @@ fn an_ahead_joins_both_with_any_window_and_workers(rt: HostRuntime) -> Result<()
     let line = "records 300 values 300 errors 0 stopped 0 out-of-memory 0 bad 0 sum 44813316\n";
     for window in [1, 2, 63, 64, 65, 192, 193, 256] {
         for workers in [0, 1, 3, 16] {
-            assert!(rt; is_so(&rt, alloc, BOTH, window, workers, Way::None, 300, line)?);
+            let trial = Trial {
+                settings: "",
+                root: BOTH,
+                window,
+                count: 300,
+            };
+            assert!(rt; is_so(&rt, alloc, trial, workers, Way::None, line)?);
         }
     }
     Ok(())
@@ -60,7 +64,13 @@ fn what_is_abandoned_is_ended_before_the_scope_is_joined(rt: HostRuntime) -> Res
     let line = "records 300 values 0 errors 300 stopped 0 out-of-memory 0 bad 0 sum 0\n";
     for window in [1, 4, 100, 256] {
         for workers in [0, 2] {
-            assert!(rt; is_so(&rt, alloc, ABANDONED, window, workers, Way::None, 300, line)?);
+            let trial = Trial {
+                settings: "",
+                root: ABANDONED,
+                window,
+                count: 300,
+            };
+            assert!(rt; is_so(&rt, alloc, trial, workers, Way::None, line)?);
         }
     }
     Ok(())
@@ -71,7 +81,13 @@ fn a_backend_that_is_not_lawful_loses_no_future(rt: HostRuntime) -> Result<(), F
     let alloc = rt.alloc();
     let line = "records 300 values 300 errors 0 stopped 0 out-of-memory 0 bad 0 sum 44813316\n";
     for way in [Way::Drops, Way::Repeats, Way::Invents, Way::Keeps] {
-        assert!(rt; is_so(&rt, alloc, BOTH, 8, 4, way, 300, line)?);
+        let trial = Trial {
+            settings: "",
+            root: BOTH,
+            window: 8,
+            count: 300,
+        };
+        assert!(rt; is_so(&rt, alloc, trial, 4, way, line)?);
     }
     Ok(())
 }

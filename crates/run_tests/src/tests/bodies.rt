@@ -4,12 +4,12 @@ ghost use Rattle.std.specs.Thread.{IsSync};
 use super::{is_left, nobody, plan_of};
 use exec_io::{MemSink, MemSource};
 use exec_recv::{Gate, Point};
+use line_rules::may_run;
 use record_loop::Form;
-use record_runs::run_lines;
-use run_rules::may_run;
 use std::sync::Wait;
 use std::sync::atomic::{AtomicU64, Ordering};
 use std::test::Fail;
+use whole_run::run_lines;
 
 /// The node of the job in the third body.
 const THIRD: u32 = 4;

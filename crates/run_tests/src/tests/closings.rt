@@ -5,15 +5,15 @@ use super::{ADDING, is_left, nobody, plan_of};
 use exec_io::{MemSink, MemSource};
 use exec_recv::OpenGate;
 use exec_value::Kind;
+use line_rules::may_run;
 use record_lines::End;
 use record_loop::{Form, Generated, RecordSource};
-use record_runs::{Account, run_lines};
-use run_rules::may_run;
 use std::alloc::Global;
 use std::process::Abort;
 use std::sync::Wait;
 use std::test::Fail;
 use std::thread::Threads;
+use whole_run::{Account, run_lines};
 
 /// What a run left.
 #[derive(Drop)]

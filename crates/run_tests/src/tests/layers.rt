@@ -3,23 +3,23 @@ ghost use Rattle.std.specs.Prelude.{◌<◌, ◌≤◌, vec_len};
 ghost use Rattle.std.specs.Thread.{IsSync};
 ghost use Rattle.life_rules.specs.declared.limits.TheConstants.{MOST_BLOCKS};
 ghost use Rattle.plan_kinds.specs.Reached.{KindsMatch};
-ghost use Rattle.run_crew.specs.Crews.{IsCrew};
-ghost use Rattle.run_rules.specs.PlanTerms.{MayRun};
+ghost use Rattle.run_workers.specs.Crews.{IsCrew};
+ghost use Rattle.line_rules.specs.PlanTerms.{MayRun};
 
 use super::{ADDING, blocks_of, is_left, nobody, plan_of};
 use exec_io::{MemSink, MemSource};
 use exec_recv::OpenGate;
+use line_rules::{at_once, may_run};
 use plain_runs::PlainRuns;
 use plan_shape::Plan;
 use record_loop::{Form, run_records};
-use record_runs::run_lines;
-use run_crew::Crew;
-use run_rules::{at_once, may_run};
+use run_workers::Crew;
 use std::alloc::Global;
 use std::process::Abort;
 use std::sync::Wait;
 use std::test::Fail;
 use std::thread::Threads;
+use whole_run::run_lines;
 
 /// Further settings and a root, of each kind of node.
 const CASES: [(&str, &str); 26] = [
@@ -146,8 +146,8 @@ fn plainly<R: Wait + Sync>(
     Ok(out)
 }
 
-/// Whether the plan runs so many records to the same lines over a table, with this crew, as by plain
-/// evaluation, and leaves the table with its scope joined and all blocks free.
+/// Whether the plan runs so many records to the same lines over a table, with this crew, as by
+/// plain evaluation, and leaves the table with its scope joined and all blocks free.
 pub(super) fn agree_with<R: Threads + Wait + Abort + Sync>(
     rt: &R,
     alloc: Global,

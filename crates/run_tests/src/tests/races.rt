@@ -1,7 +1,7 @@
 //! Races between a worker and hand 0 that a gate forces.
 ghost use Rattle.std.specs.Thread.{IsSync};
 
-use super::crews::{MOST_LOOKS, RUNS, comes, crew_of, writes};
+use super::crews::{MOST_LOOKS, RUNS, Trial, comes, crew_of, writes};
 use super::unlawful::Way;
 use exec_recv::{Gate, Point};
 use std::alloc::Global;
@@ -119,11 +119,17 @@ fn is_forced<R: Threads + Wait + Abort + Sync>(
     requires { IsSync R.row }
 {
     let line = "records 1 values 0 errors 1 stopped 0 out-of-memory 0 bad 0 sum 0\n";
+    let trial = Trial {
+        settings: "",
+        root: ROOT,
+        window: 1,
+        count: 1,
+    };
     let mut all = true;
     for _run in 0..RUNS {
         let gate = Seen::new(held);
         let crew = crew_of(alloc, 1, Way::None)?;
-        let written = writes(rt, alloc, ROOT, 1, 1, crew, &gate, line)?;
+        let written = writes(rt, alloc, trial, crew, &gate, &[line])?;
         all = all && written && gate.saw(late_runs, due_runs);
     }
     Ok(all)

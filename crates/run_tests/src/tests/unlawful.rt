@@ -1,8 +1,10 @@
 //! A backend that isn't lawful, in one of several ways.
 use life_rules::Name;
 use pool_backends::RingBackend;
-use run_crew::{Backend, Order};
+use run_workers::{Backend, Order};
 use std::alloc::{AllocError, Global};
+use std::sync::Arc;
+use std::sync::atomic::{AtomicU64, Ordering};
 
 /// What a backend does that it may not.
 #[derive(Clone, Copy, PartialEq, Eq)]
@@ -24,6 +26,8 @@ pub enum Way {
 #[derive(Drop)]
 pub struct Unlawful {
     way: Way,
+    /// How many names all backends of its crew were submitted.
+    submitted: Arc<AtomicU64, Global>,
     ring: RingBackend,
     /// What was handed out last, where it is to be handed out again.
     again: Option<Name>,
@@ -34,9 +38,14 @@ pub struct Unlawful {
 }
 
 impl Unlawful {
-    pub fn new(alloc: Global, way: Way) -> Result<Unlawful, AllocError> {
+    pub fn new(
+        alloc: Global,
+        way: Way,
+        submitted: Arc<AtomicU64, Global>,
+    ) -> Result<Unlawful, AllocError> {
         Ok(Unlawful {
             way,
+            submitted,
             ring: RingBackend::new(alloc, 256)?,
             again: None,
             count: 0,
@@ -88,6 +97,7 @@ impl Backend for Unlawful {
     }
 
     fn submit(&mut self, name: Name) -> Result<(), Name> {
+        let _before = self.submitted.fetch_add(1, Ordering::SeqCst);
         self.count = self.count.wrapping_add(1);
         if self.way == Way::Drops && self.count % 2 == 0 {
             return Ok(());

@@ -2,14 +2,14 @@ use Rattle.std.proofs.Common.{◌≡◌, List, sym, subst, w64, to_z, of_z, arit
 use Rattle.std.specs.Prelude.{Result, IfOk, IfErr}
 use Rattle.std.proofs.lemmas.Int.{to_z-of_z}
 use Rattle.exec_recv.specs.Over.{IsOver}
-use Rattle.exec_start.specs.declared.entry.Entry.{Entry}
+use Rattle.home_items.specs.declared.entry.Entry.{Entry}
 use Rattle.exec_value.specs.declared.outcome.Completion.{Completion}
 use Rattle.plan_kinds.specs.Runnable.{IsRunnable}
 use Rattle.plan_shape.specs.Blueprint.{Blueprint}
 use Rattle.loop_roots.specs.Starts.{CanRun}
 use Rattle.run_loop.specs.Waits.{Waits}
-use Rattle.by_example.specs.Answers.{IsCause, MayComplete}
-use Rattle.run_crew.specs.Crews.{IsSpare}
+use Rattle.by_example.specs.Answers.{IsAddCause, MayComplete}
+use Rattle.run_workers.specs.Crews.{IsSpare}
 use Rattle.by_example.specs.OneHand.{TheHand}
 use Rattle.by_example.specs.declared.fault.AddFault.{AddFault}
 use Rattle.by_example.proofs.OneHands.{first-number, new-back, new-ready}
@@ -58,8 +58,8 @@ returns-clause-fault g c =
     let board = c.args.table.now in
     let opened = c.in-Ok.ensures.opened in
     let later = c.sync_wait-waited.new.self in
-    subst (λ (back : TheHand). IfErr c.answer_of.result (IsCause board c.args.hand back)) (sym c.into_hand.ensures)
-    (subst (λ (answer : Result Completion AddFault). IfErr answer (IsCause board c.args.hand later.hand)) (sym c.answer_of.ensures)
+    subst (λ (back : TheHand). IfErr c.answer_of.result (IsAddCause board c.args.hand back)) (sym c.into_hand.ensures)
+    (subst (λ (answer : Result Completion AddFault). IfErr answer (IsAddCause board c.args.hand later.hand)) (sym c.answer_of.ensures)
     (waited-fault board c.args.hand c.requires.hand c.in-Ok.looped later opened.hand_is opened.next c.of_record-env.result
     c.sync_wait-waited.result c.sync_wait-waited.ensures.waits))
 

@@ -1,7 +1,7 @@
 use Rattle.std.proofs.Common.{refl, sym, subst}
 use Rattle.plan_kinds.specs.Reached.{KindsMatch}
 use Rattle.plan_shape.specs.Blueprint.{Blueprint}
-use Rattle.run_rules.specs.PlanTerms.{MayRun}
+use Rattle.line_rules.specs.PlanTerms.{MayRun}
 use Rattle.by_example.proofs.AdderKinds.{pool-matches}
 use Rattle.by_example.proofs.LineLaws.{same-ends, ends-adding}
 use Rattle.by_example.proofs.streaming.add_lines.Goals as goal

@@ -1,8 +1,0 @@
-//! Tests of commands: of exec_words, exec_status, trace_commands and exec_engine.
-//!
-//! They stand here since a crate with tests is proved twice. What a command does where no call
-//! fails is data for the program, in tests/cases/.
-#![tactic(auto)]
-
-#[cfg(test)]
-mod tests;

@@ -1,0 +1,187 @@
+//! How futures are spawned, polled, abandoned and swept, over a table of a few blocks.
+ghost use Rattle.std.specs.Prelude.{◌≡◌, ◌≤◌, IfOk, IfSome};
+ghost use Rattle.std.specs.Thread.{IsSync};
+ghost use Rattle.plan_kinds.specs.Runnable.{IsRunnable};
+ghost use Rattle.exec_recv.specs.Over.{IsOver};
+ghost use Rattle.loop_roots.specs.Starts.{CanRun};
+ghost use Rattle.spawn_future.specs.Keeping.{IsKeeping};
+ghost use Rattle.hand_tests.specs.Ready.{IsFirst};
+
+use exec_recv::OpenGate;
+use exec_value::{Completion, Data, Datum};
+use life_rules::Name;
+use node_tree::{Context, ScopeKind};
+use op_table::{Hand, OpTable};
+use plan_reader::read_plan;
+use plan_shape::Plan;
+use spawn_future::{Env, Futures, Item, Mail, Polled, SpawnFault, Stepper};
+use std::alloc::Global;
+use std::sync::Wait;
+use std::test::Fail;
+
+mod acts;
+
+// Names of nodes that are ready are told to nobody.
+#[derive(Drop)]
+struct NoMail;
+
+impl Mail for NoMail {
+    ghost use Rattle.std.specs.Prelude.{⊤};
+
+    ghost keeps = { λ _ _. ⊤ };
+
+    ghost none = { λ _. tt };
+
+    ghost on = { λ _ _ _ _ _. tt };
+
+    fn ready<R: Wait + Sync>(&mut self, _rt: &R, _name: Name, _on: Context) {}
+}
+
+// What a spawn came to.
+#[derive(Clone, Copy, Debug, PartialEq, Eq)]
+enum Spawn {
+    Spawned,
+    Full,
+    Scope,
+    NoBlock,
+    // the owner waits for one already, or no record could be made
+    Not,
+}
+
+// What a poll came to.
+#[derive(Clone, Copy, Debug, PartialEq, Eq)]
+enum Poll {
+    // the value 5, and no request was seen
+    Five,
+    Other,
+    Waiting,
+    Unknown,
+}
+
+// The plan of these bytes.
+fn read(alloc: Global, bytes: &[u8]) -> Option<Plan>
+    ensures { IfSome result (λ plan. IsRunnable plan) }
+{
+    match read_plan(alloc, bytes) {
+        Ok(plan) => {
+            // Asked for what it says of every plan.
+            let _ = plan.size();
+            Some(plan)
+        }
+        Err(_) => None,
+    }
+}
+
+// A table of so many blocks over the plan, and its one hand. Its scope takes two associations.
+fn opened(alloc: Global, plan: &Plan, blocks: u32) -> Result<(OpTable<Item>, Hand<Item>), Fail>
+    requires some { 1 ≤ blocks }
+    requires few { blocks ≤ 3 }
+    ensures over { IfOk result (λ t. IsOver t.0 plan.now) }
+    ensures hand { IfOk result (λ t. IsFirst t.0 t.1) }
+{
+    let tree = plan.tree();
+    let (table, mut hands) = OpTable::open(alloc, tree, plan, blocks, 1, ScopeKind::Simple, 2)?;
+    // Asked for what they say of every tree and of every plan.
+    let over = table.tree();
+    let nodes = over.size();
+    let size = plan.size();
+    let _ = (nodes, size);
+    let hand = hands.swap_remove(0);
+    Ok((table, hand))
+}
+
+// The start of the plan's operation for the record `5`, of number 1.
+fn started(alloc: Global, plan: &Plan, table: &OpTable<Item>) -> Option<Env>
+    requires over { IsOver table.now plan.now }
+    ensures { IfSome result (λ env. CanRun table.now env) }
+{
+    let datum = Datum::Int(5);
+    if !datum.is_of(plan.settings().input) {
+        return None;
+    }
+    Some(Env::of_record(plan, Data::one(alloc, datum), 1, false))
+}
+
+// An owner of this number.
+fn owner(node: u32) -> Name {
+    Name {
+        block: 0,
+        generation: 0,
+        node,
+    }
+}
+
+// Polls the owner's future.
+fn poll_for<R: Wait + Sync>(
+    rt: &R,
+    plan: &Plan,
+    table: &OpTable<Item>,
+    hand: &mut Hand<Item>,
+    futures: &mut Futures,
+    owner: Name,
+) -> Poll
+    requires sync { IsSync R.row }
+    requires over { IsOver table.now plan.now }
+    requires keeping { IsKeeping table.now futures.old hand.old }
+    ensures keeping { IsKeeping table.now futures.new hand.new }
+{
+    let _ = plan;
+    match futures.poll(rt, table, hand, owner, &OpenGate) {
+        Polled::Ready(Completion::Value(data), false) => {
+            if matches!(data.as_slice(), [Datum::Int(5)]) {
+                Poll::Five
+            } else {
+                Poll::Other
+            }
+        }
+        Polled::Ready(_, _) => Poll::Other,
+        Polled::Waiting => Poll::Waiting,
+        Polled::Unknown => Poll::Unknown,
+    }
+}
+
+// Spawns an operation for an owner that waits for none.
+fn spawn_for<T: Stepper, R: Wait + Sync>(
+    rt: &R,
+    alloc: Global,
+    plan: &Plan,
+    table: &OpTable<Item>,
+    hand: &mut Hand<Item>,
+    futures: &mut Futures,
+    stepper: &T,
+    owner: Name,
+) -> Spawn
+    requires sync { IsSync R.row }
+    requires over { IsOver table.now plan.now }
+    requires kinds { IsRunnable plan.now }
+    requires stepper { T.plan stepper.now ≡ plan.now }
+    requires keeping { IsKeeping table.now futures.old hand.old }
+    ensures keeping { IsKeeping table.now futures.new hand.new }
+{
+    let Some(env) = started(alloc, plan, table) else {
+        return Spawn::Not;
+    };
+    let Some(first) = env.child() else {
+        return Spawn::Not;
+    };
+    match futures.poll(rt, table, hand, owner, &OpenGate) {
+        Polled::Unknown => {}
+        Polled::Waiting | Polled::Ready(_, _) => return Spawn::Not,
+    }
+    match futures.spawn(
+        rt,
+        alloc,
+        table,
+        hand,
+        stepper,
+        owner,
+        first,
+        env,
+        &mut NoMail,
+    ) {
+        Ok(()) => Spawn::Spawned,
+        Err(SpawnFault::Full(_)) => Spawn::Full,
+        Err(SpawnFault::Scope(_, _)) => Spawn::Scope,
+        Err(SpawnFault::NoBlock(_)) => Spawn::NoBlock,
+    }
+}

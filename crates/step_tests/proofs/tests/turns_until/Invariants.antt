@@ -1,9 +1,0 @@
-use Rattle.loop_roots.specs.Completes.{IsListed}
-use Rattle.run_loop.specs.Loops.{IsReady}
-use Rattle.step_tests.proofs.tests.turns_until.Given as goal
-
-abbrev pub invariant-loop-turns : goal.invariant-loop-turns
-invariant-loop-turns g l = record {
-  ready : IsReady l.table l.looped;
-  listed : IsListed l.table l.block l.looped.hand.me;
-}

@@ -1,5 +1,0 @@
-use Rattle.std.proofs.Common.{length}
-use Rattle.value_tests.proofs.tests.records.shown.Given as goal
-
-abbrev pub decreases-lines : goal.decreases-lines
-decreases-lines l = length l.left
