@@ -27,7 +27,7 @@ PATH = re.compile(r"(?<![\w/.<])(?:[\w.-]+/)+[\w.-]+\.(?:rt|antt|md|json|py|sh|e
 UNLISTED = re.compile(r"(?:\.|::)(peek|load_new_seat|swap_new_seat|park|wake_one|wake_all)\b")
 
 # a line of a drawing: calls, then files below crates/, of which a later one may be named without its folder
-DRAWN = re.compile(r" *(\S.*?)  +((?:\w+/src/\w+\.rt)(?:, (?:\w+/src/)?\w+\.rt)*)(?:  .*)?")
+DRAWN = re.compile(r" *(\S.*?)  +((?:\w+/src/(?:\w+/)*\w+\.rt)(?:, (?:\w+/src/(?:\w+/)*)?\w+\.rt)*)(?:  .*)?")
 CALL = re.compile(r"(?:\w+::)?([a-z]\w*)(?: \.\.)?")
 
 
