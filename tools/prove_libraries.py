@@ -5,8 +5,13 @@
 
 A library is proved once those that it stands on are, and first the one with the longest chain above it. What was
 proved before isn't proved again. The status is 1 where one isn't proved; what `rt lib` said of it is printed.
+
+`rt lib` keeps others out of the folders of all crates below while it works. So each lane has a copy of the sources, to
+which the libraries below are linked, and from which the library that was proved there is linked back.
 """
 import os
+import queue
+import shutil
 import subprocess
 import sys
 import tempfile
@@ -63,24 +68,73 @@ def chains_above(below):
     return {name: chain(name) for name in below}
 
 
-def prove(name):
-    """Proves a library by `rt lib`. The answer is whether it is proved, and what was said."""
-    with tempfile.TemporaryFile("w+", errors="replace") as said:
-        folder = os.path.join(make_rooms.TOP, "crates", name)
-        ran = subprocess.run(["rt", "lib", "--jobs", "1"], cwd=folder, stdout=said, stderr=subprocess.STDOUT, check=False)
-        said.seek(0)
-        return ran.returncode == 0, said.read()
+def link(one, other):
+    """The file under a second name, or a copy of it where that is on another disk."""
+    try:
+        os.link(one, other)
+    except OSError:
+        shutil.copy2(one, other)
+
+
+def hand_over(name, one, other):
+    """Links the library that was built in one tree into the other, where it isn't yet."""
+    built, wanted = (os.path.join(top, "crates", name, "out", "rlib") for top in (one, other))
+    if os.path.isdir(built) and not os.path.isdir(wanted):
+        shutil.copytree(built, wanted, copy_function=link)
+
+
+def lane_in(folder, number):
+    """A copy of what the proofs of libraries read."""
+    lane = os.path.join(folder, str(number))
+    os.mkdir(lane)
+    for it in ("crates.txt", "HANDLES"):
+        shutil.copy2(os.path.join(make_rooms.TOP, it), lane)
+    aside = shutil.ignore_patterns("out", "must-fail")
+    shutil.copytree(os.path.join(make_rooms.TOP, "crates"), os.path.join(lane, "crates"), ignore=aside)
+    return lane
+
+
+def closure(name, below):
+    """The libraries below this one, its own and theirs."""
+    found, left = set(), list(below[name])
+    while left:
+        it = left.pop()
+        if it not in found:
+            found.add(it)
+            left += below[it]
+    return found
+
+
+def prove(name, below, free):
+    """Proves a library by `rt lib` in a free lane. The answer is whether it is proved, and what was said."""
+    lane = free.get()
+    try:
+        for it in [*closure(name, below), name]:
+            hand_over(it, make_rooms.TOP, lane)
+        with tempfile.TemporaryFile("w+", errors="replace") as said:
+            folder = os.path.join(lane, "crates", name)
+            ran = subprocess.run(["rt", "lib", "--jobs", "1"], cwd=folder, stdout=said, stderr=subprocess.STDOUT, check=False)
+            said.seek(0)
+            if not ran.returncode:
+                shutil.rmtree(os.path.join(make_rooms.TOP, "crates", name, "out", "rlib"), ignore_errors=True)
+                hand_over(name, lane, make_rooms.TOP)
+            return ran.returncode == 0, said.read()
+    finally:
+        free.put(lane)
 
 
 def prove_all(names):
     below, begun = libraries_below(names), time.time()
     chain = chains_above(below)
     left, done, running = sorted(below, key=lambda it: -chain[it]), set(), {}
-    with ThreadPoolExecutor(lanes()) as pool:
+    many, free = lanes(), queue.Queue()
+    with tempfile.TemporaryDirectory(prefix=".lanes-", dir=make_rooms.TOP) as folder, ThreadPoolExecutor(many) as pool:
+        for number in range(many):
+            free.put(lane_in(folder, number))
         while left or running:
-            for name in [it for it in left if done.issuperset(below[it])][: pool._max_workers - len(running)]:
+            for name in [it for it in left if done.issuperset(below[it])][: many - len(running)]:
                 left.remove(name)
-                running[pool.submit(prove, name)] = name
+                running[pool.submit(prove, name, below, free)] = name
             for it in wait(running, return_when=FIRST_COMPLETED).done:
                 name, (is_proved, said) = running.pop(it), it.result()
                 if not is_proved:
