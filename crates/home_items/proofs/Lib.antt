@@ -9,4 +9,7 @@ pub mod Beginning
 pub mod Standing
 pub mod Shares
 pub mod Starting
+pub mod Kept
+pub mod Lots
 pub mod Sending
+pub mod States

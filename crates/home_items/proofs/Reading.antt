@@ -4,7 +4,7 @@ use Rattle.std.proofs.lemmas.Option.{same_Some}
 use Rattle.plan_rules.specs.Allowed.{IsFailure}
 use Rattle.home_items.specs.declared.entry.Entry.{Entry}
 use Rattle.home_items.specs.declared.item.Item.{Item}
-use Rattle.home_items.specs.declared.item.Item.TheVariants.{Start, Rest, Done}
+use Rattle.home_items.specs.Contents.{Start, Rest, Done}
 use Rattle.home_items.specs.Entries.{node_of, node_above}
 use Rattle.home_items.specs.Parcels.{Delivery}
 use Rattle.home_items.specs.Items.{start_in, HasCompleted}

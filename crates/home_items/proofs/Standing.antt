@@ -52,7 +52,7 @@ pub kinds-within : (plan : Blueprint) → IsPlan plan → (n : ℕ) (args : List
 kinds-within plan is_plan n args has = reach-within plan.nodes plan.settings.input is_plan.forest has.reached
 
 -- two children of an `ahead` differ
-second-differs : (first second : ℕ) → are_different (first ∷ second ∷ []) ≡ true → (first == second) ≡ false
+pub second-differs : (first second : ℕ) → are_different (first ∷ second ∷ []) ≡ true → (first == second) ≡ false
 second-differs first second different =
     either (first == second)
     (λ t.

@@ -8,7 +8,7 @@ use Rattle.plan_rules.specs.declared.node.Node.TheVariants.{StartsOn, ContinuesO
 use Rattle.plan_rules.specs.Children.{named_by}
 use Rattle.plan_shape.specs.declared.limits.TheConstants.{BULK_PARTS}
 use Rattle.home_items.specs.declared.item.Item.{Item}
-use Rattle.home_items.specs.declared.item.Item.TheVariants.{Start, Rest, Done}
+use Rattle.home_items.specs.Contents.{Start, Rest, Done}
 use Rattle.home_items.specs.Items.{item_node}
 use Rattle.home_items.specs.Parcels.{Delivery}
 

@@ -1,12 +1,15 @@
 -- A start, as a list of entries: that of its node, and then those of its parent's start. What is
 -- read of a start is read of its first entry.
-use Rattle.std.specs.Prelude.{ℕ, ◌-◌, ℤ, Bool, false, List, [], ◌∷◌, length, slice_get, Option, Some, None}
+use Rattle.std.specs.Prelude.{ℕ, ◌-◌, ℤ, pos, Bool, false, List, [], ◌∷◌, length, slice_get, Option, Some, None}
 use Rattle.exec_value.specs.declared.kinds.Kind.TheVariants.{Int}
 use Rattle.exec_value.specs.declared.data.Datum.{Datum}
+use Rattle.exec_value.specs.declared.data.Datum.TheVariants.{Row}
 use Rattle.node_tree.specs.declared.scope_kind.ScopeKind.TheVariants.{Simple}
 use Rattle.plan_rules.specs.declared.node.Node.{Node}
+use Rattle.plan_rules.specs.declared.node.Node.TheVariants.{Part}
 use Rattle.plan_shape.specs.Blueprint.{Blueprint}
 use Rattle.home_items.specs.declared.entry.Entry.{Entry}
+use Rattle.home_items.specs.Shares.{part_args}
 
 -- no node and no rule: the plan of no start
 abbrev pub no_plan : Blueprint
@@ -90,3 +93,48 @@ start_below node args whole asked above = record {
   whole = whole;
   child = None;
 } ∷ above
+
+-- The lot of a row that a bulk cuts into parts, and that of no row. They differ, and neither is
+-- empty.
+abbrev pub row_lot : List ℤ → List ℤ
+row_lot row = pos 1 ∷ row
+
+abbrev pub no_row : List ℤ
+no_row = pos 0 ∷ []
+
+-- what a child draws: a part the row, every other child none
+abbrev pub drawn_by : Option Node → List ℤ → List ℤ
+drawn_by (Some (Part bulk part)) whole = row_lot whole
+drawn_by _ whole = no_row
+
+-- What the start of a child draws of its parent's item, by the node that the parent's plan has
+-- there. The start of the receiver node draws nothing.
+abbrev pub drawn_of : List Entry → List ℤ
+drawn_of [] = []
+drawn_of (e ∷ []) = []
+drawn_of (e ∷ p ∷ above) = drawn_by (slice_get p.plan.nodes e.node) e.whole
+
+-- The data with which a node runs: of a part its bulk's whole row, which all parts share, and of
+-- every other node its arguments.
+abbrev pub carried_by : Option Node → Entry → List Datum
+carried_by (Some (Part bulk part)) e = Row e.whole ∷ []
+carried_by _ e = e.args
+
+abbrev pub carried_of : List Entry → List Datum
+carried_of [] = []
+carried_of (e ∷ above) = carried_by (plan_node e) e
+
+-- the numbers of data that are one row
+abbrev pub row_in : List Datum → List ℤ
+row_in (Row numbers ∷ []) = numbers
+row_in carried = []
+
+-- the start of a child that runs with these data: a part has its share of the row
+abbrev pub begun_with : Option Node → ℕ → List Datum → Bool → List Entry → List Entry
+begun_with (Some (Part bulk part)) node carried asked above =
+    start_below node (part_args (row_in carried) part) (row_in carried) asked above
+begun_with _ node carried asked above = start_below node carried [] asked above
+
+abbrev pub start_with : ℕ → List Datum → Bool → List Entry → List Entry
+start_with node carried asked above =
+    begun_with (slice_get (plan_of above).nodes node) node carried asked above

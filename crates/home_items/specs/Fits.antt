@@ -5,7 +5,7 @@ use Rattle.plan_rules.specs.Allowed.{IsFailure}
 use Rattle.plan_kinds.specs.Small.{IsSmall}
 use Rattle.home_items.specs.declared.entry.Entry.{Entry}
 use Rattle.home_items.specs.declared.item.Item.{Item}
-use Rattle.home_items.specs.declared.item.Item.TheVariants.{Rest, Done}
+use Rattle.home_items.specs.Contents.{Rest, Done}
 use Rattle.home_items.specs.Entries.{plan_of, node_of, args_of, child_of, node_above, plan_node}
 use Rattle.home_items.specs.HasKinds.{HasKinds}
 use Rattle.home_items.specs.Below.{IsPlainChild}

@@ -5,7 +5,7 @@ use Rattle.plan_rules.specs.declared.node.Node.{Node}
 use Rattle.plan_shape.specs.declared.limits.TheConstants.{BULK_PARTS}
 use Rattle.plan_kinds.specs.Runnable.{IsRunnable}
 use Rattle.home_items.specs.declared.entry.Entry.{Entry}
-use Rattle.home_items.specs.declared.item.Item.TheVariants.{Rest}
+use Rattle.home_items.specs.Contents.{Rest}
 use Rattle.home_items.specs.Entries.{plan_node}
 use Rattle.home_items.specs.HasKinds.{HasKinds}
 use Rattle.home_items.specs.Shares.{first_index, share_of}

@@ -5,6 +5,8 @@ pub mod Below
 pub mod Starts
 pub mod Environments
 pub mod Parcels
+pub mod Contents
+pub mod Keeping
 pub mod Items
 pub mod Bounds
 pub mod Fits

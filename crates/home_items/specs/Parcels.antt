@@ -12,6 +12,18 @@ pub record Delivery : Type 0 where
   pub completion : Completion
   pub saw : Bool
 
+-- the parcel of a node with this start
+abbrev pub parcel_with : List Entry → Completion → Bool → Delivery
+parcel_with start done saw = record { start = start; completion = done; saw = saw }
+
+-- what a parcel says beside its completion
+pub record Sent : Type 0 where
+  pub start : List Entry
+  pub saw : Bool
+
+abbrev pub delivery_of : Sent → Completion → Delivery
+delivery_of sent done = parcel_with sent.start done sent.saw
+
 -- The completion is allowed for the start of the node: where the request stood before the operation
 -- was started, where one was seen, or where there was none.
 abbrev pub AllowedFor : List Entry → Bool → Completion → Type 0

@@ -9,7 +9,8 @@ pub struct Entry {
     pub plan: Plan,
     /// The receiver node has the number after the plan's root.
     pub node: NodeId,
-    /// The arguments of the receiver's environment ([exec.get.env]).
+    /// The arguments of the receiver's environment ([exec.get.env]); of a part of a bulk its share,
+    /// and the index of the first number of that.
     pub args: Data,
     /// The record's number.
     pub number: u32,

@@ -1,15 +1,13 @@
 //! The environment of a receiver ([exec.get.env]), which shows a start.
-ghost use Rattle.std.specs.Prelude.{◌≡◌, IsOk, IfOk};
-ghost use Rattle.exec_value.specs.Place.{AreInPlace};
-ghost use Rattle.home_items.specs.Entries.{plan_of, args_of, record_number, asked_of, child_of, record_start, start_naming, start_below};
+ghost use Rattle.std.specs.Prelude.{◌≡◌};
+ghost use Rattle.home_items.specs.Entries.{plan_of, carried_of, record_number, asked_of, child_of, record_start, start_naming, start_with};
 ghost use Rattle.plan_kinds.specs.TreeLaws.{IsSpawned};
-ghost use Rattle.home_items.specs.Starts.{IsReceiverStart, BeginsBelow, IsStart};
+ghost use Rattle.home_items.specs.Starts.{IsReceiverStart, IsStart};
 
 use crate::shown::{Shown, Shows};
-use exec_value::{Data, copy_data};
+use exec_value::Data;
 use plan_rules::NodeId;
 use plan_shape::Plan;
-use std::alloc::{AllocError, Global};
 use std::marker::Model;
 
 /// What a receiver's environment answers: the arguments, the record's number, and whether the
@@ -17,11 +15,11 @@ use std::marker::Model;
 /// shows.
 #[derive(Drop)]
 pub struct Env {
-    args: Data,
-    number: u32,
-    asked: bool,
-    child: Option<NodeId>,
-    shown: Shown,
+    pub(crate) args: Data,
+    pub(crate) number: u32,
+    pub(crate) asked: bool,
+    pub(crate) child: Option<NodeId>,
+    pub(crate) shown: Shown,
 }
 
 impl Model for Env {
@@ -58,18 +56,17 @@ impl<'a> Shows for OfRecord<'a> {
 
 /// A start of a child.
 #[derive(Drop)]
-struct Below<'a> {
-    above: &'a Env,
+struct Below<'a, X> {
+    above: &'a X,
     node: NodeId,
     args: &'a Data,
-    whole: &'a [i64],
     asked: bool,
 }
 
-impl<'a> Shows for Below<'a> {
-    ghost use Rattle.home_items.specs.Entries.{start_below};
+impl<'a, X: Shows> Shows for Below<'a, X> {
+    ghost use Rattle.home_items.specs.Entries.{start_with};
 
-    ghost start = { λ b. start_below b.node b.args.now b.whole.now b.asked b.above.now };
+    ghost start = { λ b. start_with b.node b.args.now b.asked (X.start b.above.now) };
 }
 
 /// The same start, naming another child.
@@ -105,26 +102,25 @@ impl Env {
         }
     }
 
-    /// The start of a child of this start's node, with the same plan and record number. The row is
-    /// the whole row that a part of a bulk shows, and empty for every other child; the start keeps
-    /// it for contracts alone. It takes no memory.
+    /// The start of a child of the node that has the start above, with the same plan and record
+    /// number. A part of a bulk has the whole row as its arguments, and shows its share of it. It
+    /// takes no memory.
     #[inline(always)]
-    pub fn below(&self, plan: &Plan, node: NodeId, args: Data, whole: &[i64], asked: bool) -> Env
-        requires plan { plan.now ≡ plan_of self.now }
-        requires goes_on { BeginsBelow (start_below node args whole.now asked self.now) }
-        ensures { result ≡ start_below node args whole.now asked self.now }
+    pub fn below<X: Shows>(above: &X, node: NodeId, args: Data, number: u32, asked: bool) -> Env
+        requires number { number ≡ record_number (X.start above.now) }
+        requires goes_on { IsStart (start_with node args asked (X.start above.now)) }
+        requires carries { carried_of (start_with node args asked (X.start above.now)) ≡ args }
+        ensures { result ≡ start_with node args asked (X.start above.now) }
     {
-        let _ = plan;
         let shown = Shown::of(&Below {
-            above: self,
+            above,
             node,
             args: &args,
-            whole,
             asked,
         });
         Env {
             args,
-            number: self.number,
+            number,
             asked,
             child: None,
             shown,
@@ -151,17 +147,17 @@ impl Env {
         }
     }
 
-    /// The arguments.
+    /// The data with which the node runs.
     pub fn args(&self) -> &Data
-        ensures { result.now ≡ args_of self.now }
+        ensures { result.now ≡ carried_of self.now }
     {
         &self.args
     }
 
-    /// The arguments, taken out.
+    /// The same, taken out.
     #[inline(always)]
     pub fn into_args(self) -> Data
-        ensures { result ≡ args_of self }
+        ensures { result ≡ carried_of self }
     {
         self.args
     }
@@ -186,25 +182,4 @@ impl Env {
     {
         self.child
     }
-
-    /// What every environment keeps: it shows a start.
-    pub fn known(&self)
-        ensures { IsStart self.now }
-    {
-        let _ = &self.shown;
-    }
-}
-
-/// An equal environment. Where its arguments stand in place, it wants no memory.
-pub fn copy_env(alloc: Global, env: &Env) -> Result<Env, AllocError>
-    ensures ok { IfOk result (λ copy. copy ≡ env.now) }
-    ensures in_place { AreInPlace (args_of env.now) → IsOk result }
-{
-    Ok(Env {
-        args: copy_data(alloc, &env.args)?,
-        number: env.number,
-        asked: env.asked,
-        child: env.child,
-        shown: Shown::of(env),
-    })
 }

@@ -6,11 +6,11 @@
 //! allowed for its record, whatever the nodes did on the way (`collected_is_allowed`).
 //!
 //!     Env::of_record (the receiver node) --below--> Env (a child) --below--> Env (its child) ..
-//!     Env --Parcel::of--> Parcel (of the same node)
+//!     Env --Item::starting--> Item (of the same node) --take_done--> Parcel
 //!
 //! In the home of a node lies, one after the other:
 //!
-//!     Start(env) --> Rest(env, None) --> Rest(env, Some(its child's parcel)) --> Done(parcel)
+//!     its start --> a rest --> a rest with its child's parcel --> its own parcel
 #![tactic(auto)]
 
 mod entry;
@@ -21,8 +21,8 @@ mod parcel;
 mod shown;
 
 pub use entry::Entry;
-pub use env::{Env, copy_env};
-pub use item::Item;
+pub use env::Env;
+pub use item::{Item, State};
 pub use law::{collected_is_allowed, kinds_go_down, shares_make_the_row};
-pub use parcel::Parcel;
+pub use parcel::{Label, Parcel};
 pub use shown::{Shown, Shows};

@@ -37,5 +37,9 @@ impl Shown {
     }
 }
 
+impl Shows for Shown {
+    ghost start = { λ shown. shown.start };
+}
+
 // It owns nothing.
 unsafe impl Send for Shown {}

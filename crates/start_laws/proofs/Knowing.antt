@@ -8,7 +8,7 @@ use Rattle.plan_kinds.proofs.Placing.{no-part, child-no_body}
 use Rattle.plan_shape.specs.Blueprint.{IsPlan}
 use Rattle.home_items.specs.declared.entry.Entry.{Entry}
 use Rattle.home_items.specs.declared.item.Item.{Item}
-use Rattle.home_items.specs.declared.item.Item.TheVariants.{Rest, Done}
+use Rattle.home_items.specs.Contents.{Rest, Done}
 use Rattle.home_items.specs.Entries.{plan_of, node_of, plan_node}
 use Rattle.home_items.specs.Below.{IsPlainChild, ByNode}
 use Rattle.home_items.specs.Starts.{IsReceiverStart, IsStart, NeedsNoRequest}

@@ -17,7 +17,7 @@ use Rattle.plan_shape.proofs.TreeLemmas.{tree_of-receiver}
 use Rattle.common_lemmas.proofs.Bool.{either}
 use Rattle.home_items.specs.declared.entry.Entry.{Entry}
 use Rattle.home_items.specs.declared.item.Item.{Item}
-use Rattle.home_items.specs.declared.item.Item.TheVariants.{Start, Rest, Done}
+use Rattle.home_items.specs.Contents.{Start, Rest, Done}
 use Rattle.home_items.specs.Entries.{plan_of, node_of, asked_of}
 use Rattle.home_items.specs.Starts.{IsReceiverStart}
 use Rattle.home_items.specs.Parcels.{Delivery}

@@ -4,7 +4,7 @@ use Rattle.std.proofs.Common.{◌≡◌, ℕ, Bool, false, List, Some, sym, ◌�
 use Rattle.plan_rules.specs.declared.node.Node.{Node}
 use Rattle.plan_shape.specs.PlanTree.{is_when_all, tree_of}
 use Rattle.home_items.specs.declared.entry.Entry.{Entry}
-use Rattle.home_items.specs.declared.item.Item.TheVariants.{Rest}
+use Rattle.home_items.specs.Contents.{Rest}
 use Rattle.home_items.specs.Entries.{plan_of, node_of}
 use Rattle.home_items.specs.Starts.{IsReceiverStart}
 use Rattle.home_items.specs.Parcels.{Delivery}

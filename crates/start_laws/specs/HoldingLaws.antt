@@ -12,7 +12,7 @@ use Rattle.plan_shape.specs.PlanTree.{is_when_all, tree_of}
 use Rattle.plan_kinds.specs.Small.{IsSmall}
 use Rattle.home_items.specs.declared.entry.Entry.{Entry}
 use Rattle.home_items.specs.declared.item.Item.{Item}
-use Rattle.home_items.specs.declared.item.Item.TheVariants.{Start, Rest, Done}
+use Rattle.home_items.specs.Contents.{Start, Rest, Done}
 use Rattle.home_items.specs.Entries.{plan_of, node_of, asked_of, child_of}
 use Rattle.home_items.specs.Starts.{IsReceiverStart, IsStart}
 use Rattle.home_items.specs.Parcels.{Delivery, IsDelivery}

@@ -4,7 +4,7 @@ use Rattle.exec_value.specs.declared.outcome.Completion.TheVariants.{Stopped, No
 use Rattle.plan_rules.specs.declared.node.Node.{Node}
 use Rattle.plan_shape.specs.PlanTree.{is_when_all}
 use Rattle.home_items.specs.declared.entry.Entry.{Entry}
-use Rattle.home_items.specs.declared.item.Item.TheVariants.{Start, Rest, Done}
+use Rattle.home_items.specs.Contents.{Start, Rest, Done}
 use Rattle.home_items.specs.Entries.{args_of, asked_of, child_of, start_below}
 use Rattle.home_items.specs.Starts.{IsReceiverStart, BeginsBelow}
 use Rattle.home_items.specs.Below.{asked_below}

@@ -3,7 +3,7 @@ use Rattle.std.specs.Prelude.{ℕ, IsFalse, Bool, List, Contains, Some}
 use Rattle.plan_rules.specs.declared.node.Node.{Node}
 use Rattle.plan_shape.specs.PlanTree.{is_when_all, tree_of}
 use Rattle.home_items.specs.declared.entry.Entry.{Entry}
-use Rattle.home_items.specs.declared.item.Item.TheVariants.{Rest, Done}
+use Rattle.home_items.specs.Contents.{Rest, Done}
 use Rattle.home_items.specs.Entries.{plan_of, asked_of}
 use Rattle.home_items.specs.Starts.{IsReceiverStart}
 use Rattle.home_items.specs.Parcels.{Delivery, MayDeliver}
