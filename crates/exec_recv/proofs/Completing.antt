@@ -24,15 +24,13 @@ use Rattle.table_steps.specs.Slots.{slot_of, kids_of, kept, is_of_family, has_se
 use Rattle.table_steps.specs.Steps.{control_index}
 use Rattle.table_steps.specs.declared.report.Report.{Report}
 use Rattle.table_steps.specs.declared.report.Report.TheVariants.{Last, Others}
-use Rattle.op_slot.specs.Puts.{CanPut, IsPut}
 use Rattle.op_slot.specs.Tends.{IsCalm, HasPlaces, OwesReport, Tends}
-use Rattle.op_slot.proofs.Tending.{swapped-calm, swapped-own, swapped-else}
-use Rattle.op_slot.proofs.Leaving.{tends-puts, tends-finishes, finished-owes, finished-calm}
+use Rattle.op_slot.proofs.Leaving.{tends-finishes, finished-owes, finished-calm}
 use Rattle.op_slot.proofs.Kept.{kept-shed}
 use Rattle.home_items.specs.contracts.item.ItemCargo.TheImpl.{ghosts}
 use Rattle.home_items.specs.declared.entry.Entry.{Entry}
 use Rattle.home_items.specs.declared.item.Item.{Item}
-use Rattle.home_items.specs.declared.item.Item.TheVariants.{Done}
+use Rattle.home_items.specs.Contents.{Done}
 use Rattle.home_items.specs.Items.{start_in}
 use Rattle.home_items.specs.Fits.{FitsHome}
 use Rattle.home_items.specs.Parcels.{Delivery}
@@ -40,7 +38,7 @@ use Rattle.exec_recv.specs.Asides.{Aside, aside_of, SeesMore, KeepsAside}
 use Rattle.exec_recv.specs.Beginnings.{AllCanStart}
 use Rattle.exec_recv.specs.Deliveries.{CanDeliver}
 use Rattle.exec_recv.specs.Family.{AreOwedElsewhere}
-use Rattle.exec_recv.proofs.Asiding.{aside-one}
+use Rattle.exec_recv.specs.Seats.{HandSeat}
 use Rattle.exec_recv.proofs.Starts.{KeepsHomes, all-still}
 
 or-left : (a b : Bool) → (a || b) ≡ false → a ≡ false
@@ -58,47 +56,19 @@ inside-same : (a b : Item) → Some (Some a) ≡ Some (Some b) → a ≡ b
 inside-same a b e = cc
 
 -- The node x has its parcel in its home.
-module _ (board : Board Blueprint) (x : Name) (parcel : Delivery) (m m1 : Seated Item Entry) (can : CanDeliver board x parcel m) where
-  completion-fits : FitsHome (Done parcel) x.node (has_seen board.frame.tree m.0 x || can.held.told)
-  completion-fits = (inl can.of, can.calmly)
+module _ (board : Board Blueprint) (x : Name) (failed : Bool) (hand : HandSeat) (can : CanDeliver board x failed hand) where
+  completion-fits : FitsHome (Done can.parcel) x.node (has_seen board.frame.tree hand.me.0 x || can.held.told)
+  completion-fits = (inl can.item, can.calmly)
 
-  pub can-put : CanPut ghosts board.frame m x (Done parcel)
-  can-put = tends-puts board.frame x m can.held None (λ _. None) can.tends ghosts (Done parcel) refl can.shows completion-fits
-
-  module _ (places : HasPlaces board.frame x) (put : IsPut board.frame x (Done parcel) m m1) where
-    put-tends : Tends board.frame x can.held (Some (Done parcel)) (λ _. None) m1
-    put-tends = swapped-own board.frame x (Some (Done parcel)) None m m1 put can.held None (λ _. None) places can.tends
-
-    pub put-home : kept (slot_of board.frame.layout x) m1.1 ≡ Some (Some (Done parcel))
-    put-home = put-tends.own
-
-    pub put-aside : KeepsAside m m1
-    put-aside =
-        aside-one (entry (control_index board x) put.word put.word) m m1 (ap (λ (z : Seated Item Entry). aside_of z.0) put.me_is)
-        (ap (λ (z : Seated Item Entry). z.0.steps) put.me_is) (ap (λ (z : Seated Item Entry). z.0.seen) put.me_is)
-
-    put-homes : KeepsHomes board m m1
-    put-homes y owed owes inside home =
-        swapped-else board.frame x (Some (Done parcel)) None m m1 put (slot_of board.frame.layout y)
-        (own-apart board x y (can.elsewhere y owed owes))
-        ∙ home
-
-    pub put-starts : AllCanStart board m → AllCanStart board m1
-    put-starts = all-still board m m1 (ap (λ (z : Seated Item Entry). z.0.owed) put.me_is) put-homes put-aside.sees
-
-    pub can-finish : CanFinish ghosts board.frame m1 x
-    can-finish = of can.held.phase refl can.settled
-      where
-        of : (phase : Option CallbackPhase) → can.held.phase ≡ phase → MatchOption phase ⊥ (λ p. is_settled p ≡ true) →
-            CanFinish ghosts board.frame m1 x
-        of None is settled = absurd settled
-        of (Some phase) is settled =
-            tends-finishes ghosts board.frame x m1 can.held (λ _. None)
-            (swapped-calm board.frame x (Some (Done parcel)) None m m1 put can.calm) (λ n child. refl) (Done parcel) phase put-tends is
-            settled can.bound can.shows
-            (subst (λ b. FitsHome (Done parcel) x.node (b || can.held.told))
-            (sym (ap (λ (z : Seated Item Entry). has_seen board.frame.tree z.0 x) put.me_is)) completion-fits)
-            tt
+  pub can-finish : CanFinish ghosts board.frame hand.me x
+  can-finish = of can.held.phase refl can.settled
+    where
+      of : (phase : Option CallbackPhase) → can.held.phase ≡ phase → MatchOption phase ⊥ (λ p. is_settled p ≡ true) →
+          CanFinish ghosts board.frame hand.me x
+      of None is settled = absurd settled
+      of (Some phase) is settled =
+          tends-finishes ghosts board.frame x hand.me can.held (λ _. None) can.calm (λ n child. refl) (Done can.parcel) phase can.tends is
+          settled can.bound can.shows completion-fits tt
 
 -- It is finished with it.
 module _ (board : Board Blueprint) (x : Name) (parcel : Delivery) (m1 m2 : Seated Item Entry) (inner : is_root board.frame.tree x.node ≡ false)

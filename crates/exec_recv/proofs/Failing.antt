@@ -22,7 +22,7 @@ use Rattle.op_slot.specs.Tends.{OwesReport}
 use Rattle.home_items.specs.contracts.item.ItemCargo.TheImpl.{ghosts}
 use Rattle.home_items.specs.declared.entry.Entry.{Entry}
 use Rattle.home_items.specs.declared.item.Item.{Item}
-use Rattle.home_items.specs.declared.item.Item.TheVariants.{Done}
+use Rattle.home_items.specs.Contents.{Done}
 use Rattle.home_items.specs.Entries.{plan_of, node_of, node_above}
 use Rattle.home_items.specs.Fits.{FitsHome}
 use Rattle.home_items.specs.Parcels.{Delivery}

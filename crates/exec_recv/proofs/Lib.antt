@@ -16,3 +16,6 @@ pub mod Failing
 pub mod Stopping
 pub mod Completing
 pub mod Delivered
+pub mod Unbegun
+pub mod Stepped
+pub mod Sites

@@ -11,7 +11,7 @@ use Rattle.table_steps.specs.Slots.{has_seen}
 use Rattle.home_items.specs.contracts.item.ItemCargo.TheImpl.{ghosts}
 use Rattle.home_items.specs.declared.entry.Entry.{Entry}
 use Rattle.home_items.specs.declared.item.Item.{Item}
-use Rattle.home_items.specs.declared.item.Item.TheVariants.{Start}
+use Rattle.home_items.specs.Contents.{Start}
 use Rattle.home_items.specs.Items.{start_in}
 use Rattle.home_items.specs.Fits.{FitsHome}
 

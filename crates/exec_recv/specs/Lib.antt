@@ -7,6 +7,8 @@ pub mod Since
 pub mod Areas
 pub mod Actions
 pub mod Nexts
+pub mod Seats
+pub mod Sites
 pub mod Deliveries
 -- the definitions that the public contracts cite
 pub use Rattle.table_steps.specs.Views

@@ -25,10 +25,6 @@ use Rattle.exec_recv.specs.Asides.{KeepsAside}
 use Rattle.exec_recv.specs.Beginnings.{AllCanStart}
 use Rattle.exec_recv.specs.Steppable.{CanStep}
 
--- what a step of a node does, from the hand as it was to the hand afterwards
-abbrev pub Doing : Type 1
-Doing = Board Blueprint → Name → Next → Seated Item Entry → Seated Item Entry → Type 0
-
 module _ (board : Board Blueprint) (x : Name) (m m' : Seated Item Entry) where
   -- the hand holds the node no more, and nothing in its place
   abbrev pub LetsGo : Type 0

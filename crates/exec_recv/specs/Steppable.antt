@@ -13,8 +13,8 @@ use Rattle.table_steps.specs.Slots.{kids_of}
 use Rattle.op_slot.specs.Tends.{IsCalm, Tends}
 use Rattle.home_items.specs.declared.entry.Entry.{Entry}
 use Rattle.home_items.specs.declared.item.Item.{Item}
-use Rattle.home_items.specs.declared.item.Item.TheVariants.{Start}
-use Rattle.home_items.specs.Entries.{plan_of, whole_row}
+use Rattle.home_items.specs.Contents.{Start}
+use Rattle.home_items.specs.Entries.{plan_of, drawn_of}
 use Rattle.home_items.specs.Items.{start_in, HasCompleted, lot_of}
 use Rattle.home_items.specs.Bounds.{least_of}
 use Rattle.home_items.specs.Fits.{FitsHome, MayRest}
@@ -28,7 +28,7 @@ pub record IsDoneBelow (held : Held Entry) (n : ℕ) (kid : Item) : Type 0 where
   pub fit : FitsHome kid n held.told_children
   pub entry : Entry
   pub below : start_in kid ≡ entry ∷ held.start
-  pub draws : held.lot ≡ Some (whole_row (start_in kid))
+  pub draws : held.lot ≡ Some (drawn_of (start_in kid))
 
 -- How the hand came to hold the node x.
 module _ (board : Board Blueprint) (x : Name) (held : Held Entry) (item : Item)

@@ -14,11 +14,17 @@
 
 mod delivering;
 mod gate;
+mod kind;
 mod next;
 mod scans;
+mod site;
+mod stepper;
 
 pub use delivering::deliver;
-pub use gate::{Gate, OpenGate, Point, Stepper};
-pub use home_items::{Env, Item, Parcel};
+pub use gate::{Gate, OpenGate, Point};
+pub use home_items::{Env, Item, Label, Parcel};
+pub use kind::Kind;
 pub use next::Next;
 pub use scans::run_scan;
+pub use site::Site;
+pub use stepper::Stepper;

@@ -1,10 +1,9 @@
 //! How a hand that requested a stop runs the callbacks of the source ([stopsource.inplace.mem]).
-ghost use Rattle.std.specs.Thread.{IsSync};
 ghost use Rattle.table_steps.specs.Views.{IsHandOf, IsPlaceIn, Stays, knows};
 ghost use Rattle.stop_calls.specs.Asides.{ComesBack, EndsScan};
 ghost use Rattle.stop_calls.specs.Nestings.{Nests, RunsInside};
-ghost use Rattle.exec_recv.specs.Over.{IsOver};
 ghost use Rattle.exec_recv.specs.Actions.{Acts, ListsActions};
+ghost use Rattle.exec_recv.specs.Over.{IsOver};
 
 use crate::gate::{Gate, Point};
 use home_items::Item;
@@ -18,7 +17,7 @@ use stop_calls::{Request, Scan, request_stop};
 // What the callback of a node does: that of a delay wakes it, that of a `when_all` passes the
 // request on to its children. No callback completes a node.
 #[cycle(scanning)]
-fn act<G: Gate, R: Wait + Sync>(
+fn act<R: Wait, G: Gate>(
     rt: &R,
     plan: &Plan,
     table: &OpTable<Item>,
@@ -26,7 +25,6 @@ fn act<G: Gate, R: Wait + Sync>(
     place: Name,
     gate: &G,
 )
-    requires sync { IsSync R.row }
     requires hand { IsHandOf table.now hand.old }
     requires over { IsOver table.now plan.now }
     requires place { IsPlaceIn table.now place }
@@ -62,7 +60,7 @@ fn act<G: Gate, R: Wait + Sync>(
 /// block; of the scope's it didn't move the scope's own word. Beside requests that it has seen and
 /// the list of its steps all that the hand knows and has in homes is as before.
 #[cycle(scanning)]
-pub fn run_scan<G: Gate, R: Wait + Sync>(
+pub fn run_scan<R: Wait, G: Gate>(
     rt: &R,
     plan: &Plan,
     table: &OpTable<Item>,
@@ -70,7 +68,6 @@ pub fn run_scan<G: Gate, R: Wait + Sync>(
     mut scan: Scan,
     gate: &G,
 )
-    requires sync { IsSync R.row }
     requires hand { IsHandOf table.now hand.old }
     requires over { IsOver table.now plan.now }
     requires nests { Nests table.now scan hand.old.me }
@@ -80,7 +77,7 @@ pub fn run_scan<G: Gate, R: Wait + Sync>(
 {
     while let Some(due) = scan.next(table, hand) {
         let place = due.place();
-        gate.pass(rt, Point::Run(place));
+        gate.pass(Point::Run(place));
         act(rt, plan, table, hand, place, gate);
         due.finish(table, hand);
     }

@@ -1,5 +1,5 @@
 -- A look at the source that a node hears, in the middle of its step, and the registration of its callback there.
-use Rattle.std.proofs.Common.{◌≡◌, ℕ, Bool, true, false, ◌||◌, List, [], ◌∷◌, refl, sym, ap, ◌∙◌, subst}
+use Rattle.std.proofs.Common.{◌≡◌, Bool, true, false, ◌||◌, List, [], ◌∷◌, refl, sym, ap, ◌∙◌, subst}
 use Rattle.std.specs.Prelude.{Option, Some, None, MatchOption, is_some}
 use Rattle.std.specs.Option.{option_map_or}
 use Rattle.std.proofs.lemmas.Bool.{both_ways}
@@ -32,9 +32,10 @@ use Rattle.exec_recv.specs.Asides.{aside_of, KeepsAside}
 use Rattle.exec_recv.specs.Since.{HasReadSince}
 use Rattle.exec_recv.proofs.Asiding.{aside-one}
 use Rattle.exec_recv.proofs.Moves.{moves-look, moves-callback}
-use Rattle.exec_recv.proofs.Since.{moved-one, since-before, since-after}
-use Rattle.step_parts.specs.Heard.{MaySee, was_told, has_heard, Looked, TellsRequest}
-use Rattle.step_parts.specs.Midway.{IsReady, KeepsReady}
+use Rattle.exec_recv.proofs.Since.{moved-one, since-before}
+use Rattle.step_parts.specs.Heard.{MaySee, was_told, has_heard, Looked}
+use Rattle.step_parts.specs.Kids.{KeepsIdle}
+use Rattle.step_parts.specs.Midway.{KeepsReady}
 use Rattle.step_parts.proofs.Frames.{keeps-on}
 use Rattle.step_parts.proofs.Noting.{NotesEntry, notes-held, notes-keeps, looks-keeps, or-true}
 use Rattle.step_parts.proofs.Settled.{with_phase, phase-slight}
@@ -48,6 +49,17 @@ seen-still source false seen other is = is
 abbrev HasLooked : Board Blueprint → Name → Bool → Seated Item Entry → Seated Item Entry → Option SourceRef → Type 0
 HasLooked board x answer m m' near =
     MatchOption near (answer ≡ false) (λ source. HasReadSince (index board.frame.layout (spot_of source)) (λ word. says_requested source word ≡ answer) m m')
+
+-- a look is one of what is done from before it on
+pub looked-from : (board : Board Blueprint) (x : Name) (answer : Bool) (m before m' : Seated Item Entry) → KeepsAside m before →
+    Looked board x answer before m' → Looked board x answer m m'
+looked-from board x answer m before m' first looked =
+    record { read = of (source_for x (nearest board.frame.tree x.node)) looked.read; yes = looked.yes; no = looked.no }
+  where
+    of : (near : Option SourceRef) → HasLooked board x answer before m' near → HasLooked board x answer m m' near
+    of None none = none
+    of (Some source) read =
+        since-before (index board.frame.layout (spot_of source)) (λ word. says_requested source word ≡ answer) m before m' first read
 
 module _ (board : Board Blueprint) (x : Name) (source : SourceRef) (after : Option Name) (answer : Bool) (old new : Seat (Option Item) (View Item Entry))
     (near : source_for x (nearest board.frame.tree x.node) ≡ Some source) (looked : IsLookedAt board source after answer old new) where
@@ -63,7 +75,7 @@ module _ (board : Board Blueprint) (x : Name) (source : SourceRef) (after : Opti
       }
 
   -- and the word was read
-  pub look-reads : Looked board x answer old.me new.me
+  look-reads : HasLooked board x answer old.me new.me (source_for x (nearest board.frame.tree x.node))
   look-reads =
       subst (λ (o : Option SourceRef). HasLooked board x answer old.me new.me o) (sym near)
       (moved-one (index board.frame.layout (spot_of source)) looked.0 looked.0 (λ word left. says_requested source word ≡ answer) old.me new.me
@@ -108,33 +120,32 @@ module _ (board : Board Blueprint) (x : Name) (source : SourceRef) (after : Opti
         absurd (both_ways answer not (told bit))))
         (λ f. f)
 
-    pub look-says : TellsRequest board x answer new.me
-    look-says = record { yes = look-yes; no = λ not some. look-no not }
+    look-looked : Looked board x answer old.me new.me
+    look-looked = record { read = look-reads; yes = look-yes; no = λ not some. look-no not }
 
-  -- the source can't go away under the hand
-  stays-alive : IsReady board x old.me → KeepsAlive old.me.0 source
-  stays-alive is = of (nearest board.frame.tree x.node) near
-    where
-      some-source : (a b : SourceRef) → Some a ≡ Some b → a ≡ b
-      some-source a b e = cc
+  -- The hand holds x.
+  module _ (held : Held Entry) (holds : held_at old.me.0 x ≡ Some held) where
+    -- so the source can't go away under it
+    stays-alive : KeepsAlive old.me.0 source
+    stays-alive = of (nearest board.frame.tree x.node) near
+      where
+        some-source : (a b : SourceRef) → Some a ≡ Some b → a ≡ b
+        some-source a b e = cc
 
-      none-source : (a : SourceRef) → None ≡ Some a → ⊥
-      none-source a e = cc
+        none-source : (a : SourceRef) → None ≡ Some a → ⊥
+        none-source a e = cc
 
-      of : (n : Nearest) → source_for x n ≡ Some source → KeepsAlive old.me.0 source
-      of TheScope e = subst (KeepsAlive old.me.0) (some-source Scope source e) tt
-      of (TheNode p) e =
-          subst (KeepsAlive old.me.0) (some-source (Node (beside x p)) source e) (ByNode x.node is.ready.held is.ready.tends.holds)
-      of Nowhere e = absurd (none-source source e)
+        of : (n : Nearest) → source_for x n ≡ Some source → KeepsAlive old.me.0 source
+        of TheScope e = subst (KeepsAlive old.me.0) (some-source Scope source e) tt
+        of (TheNode p) e = subst (KeepsAlive old.me.0) (some-source (Node (beside x p)) source e) (ByNode x.node held holds)
+        of Nowhere e = absurd (none-source source e)
 
-  pub look-tells : IsReady board x old.me → StillAsked old.me.0 source answer → AgreesWithTold board.frame.tree old.me.0 source answer →
-      TellsRequest board x answer new.me
-  look-tells is still told =
-      look-says is.ready.held is.ready.tends.holds (λ seen. still seen (stays-alive is))
-      ((told x is.ready.held is.ready.tends.holds).told near)
+    -- and what was answered is what it knows
+    pub hears-so : StillAsked old.me.0 source answer → AgreesWithTold board.frame.tree old.me.0 source answer → Looked board x answer old.me new.me
+    hears-so still told = look-looked held holds (λ seen. still seen stays-alive) ((told x held holds).told near)
 
 -- The node's callback is registered on that source, and then the source is looked at.
-module _ (board : Board Blueprint) (x : Name) (answer : Armed) (old new : Seat (Option Item) (View Item Entry)) (is : IsReady board x old.me) (armed : IsArmedSo board x answer old new) where
+module _ (board : Board Blueprint) (x : Name) (answer : Armed) (old new : Seat (Option Item) (View Item Entry)) (armed : IsArmedSo board x answer old new) where
   arm-notes : NotesEntry board x (with_phase IsArmed) old.me armed.middle.me
   arm-notes =
       let so = armed.armed.me_is in
@@ -154,47 +165,49 @@ module _ (board : Board Blueprint) (x : Name) (answer : Armed) (old new : Seat (
       (notes-keeps board x (with_phase IsArmed) (phase-slight IsArmed) old.me armed.middle.me arm-notes)
       (look-keeps board x armed.source (Some x) (is_asked answer) armed.middle new armed.nearest_is armed.looked)
 
-  armed-held : held_at armed.middle.me.0 x ≡ Some (with_phase IsArmed is.ready.held)
-  armed-held =
-      notes-held board x (with_phase IsArmed) (phase-slight IsArmed) old.me armed.middle.me arm-notes is.ready.held is.ready.tends.holds
+  module _ (held : Held Entry) (holds : held_at old.me.0 x ≡ Some held) where
+    armed-held : held_at armed.middle.me.0 x ≡ Some (with_phase IsArmed held)
+    armed-held = notes-held board x (with_phase IsArmed) (phase-slight IsArmed) old.me armed.middle.me arm-notes held holds
 
-  -- the hand knows it armed
-  pub arm-held : held_at new.me.0 x ≡ Some (with_phase IsArmed is.ready.held)
-  arm-held = look-held board x armed.source (Some x) (is_asked answer) armed.middle new armed.nearest_is armed.looked ∙ armed-held
+    -- the hand knows it armed
+    pub arm-held : held_at new.me.0 x ≡ Some (with_phase IsArmed held)
+    arm-held = look-held board x armed.source (Some x) (is_asked answer) armed.middle new armed.nearest_is armed.looked ∙ armed-held
 
-  pub arm-tells : TellsRequest board x (is_asked answer) new.me
-  arm-tells =
-      look-says board x armed.source (Some x) (is_asked answer) armed.middle new armed.nearest_is armed.looked (with_phase IsArmed is.ready.held)
-      armed-held
-      (λ seen. armed.stands (sym (ap (λ (z : Seated Item Entry). has_source_ref z.0.seen armed.source) armed.armed.me_is) ∙ seen))
-      ((armed.told x is.ready.held is.ready.tends.holds).told armed.nearest_is)
+    pub arm-looks : Looked board x (is_asked answer) old.me new.me
+    arm-looks =
+        looked-from board x (is_asked answer) old.me armed.middle.me new.me arm-notes.aside
+        (look-looked board x armed.source (Some x) (is_asked answer) armed.middle new armed.nearest_is armed.looked (with_phase IsArmed held)
+        armed-held
+        (λ seen. armed.stands (sym (ap (λ (z : Seated Item Entry). has_source_ref z.0.seen armed.source) armed.armed.me_is) ∙ seen))
+        ((armed.told x held holds).told armed.nearest_is))
 
--- a look of a step is one of what is done from before it on, and until after it
-pub looked-within : (board : Board Blueprint) (x : Name) (answer : Bool) (m before after m' : Seated Item Entry) → KeepsAside m before →
-    KeepsAside after m' → Looked board x answer before after → Looked board x answer m m'
-looked-within board x answer m before after m' first last = of (source_for x (nearest board.frame.tree x.node))
-  where
-    of : (near : Option SourceRef) → HasLooked board x answer before after near → HasLooked board x answer m m' near
-    of None none = none
-    of (Some source) read =
-        let i : ℕ = index board.frame.layout (spot_of source) in
-        since-before i (λ word. says_requested source word ≡ answer) m before m' first
-        (since-after i (λ word. says_requested source word ≡ answer) before after m' read last)
+  -- and of which children it knew that they haven't begun
+  pub arm-idle : KeepsIdle x old.me new.me
+  arm-idle =
+      record {
+        held = λ before had. with_phase IsArmed before;
+        holds = arm-held;
+        still = λ before had n knows. knows;
+      }
 
--- where it hears no source, there is no look
-pub none-tells : (board : Board Blueprint) (x : Name) (m : Seated Item Entry) → source_for x (nearest board.frame.tree x.node) ≡ None → TellsRequest board x false m
-none-tells board x m near =
-    record { yes = λ e. cc; no = λ e some. absurd (none-some (source_for x (nearest board.frame.tree x.node)) near some) }
+pub idle-here : (x : Name) (m : Seated Item Entry) → KeepsIdle x m m
+idle-here x m = record { held = λ before had. before; holds = λ before had. had; still = λ before had n knows. knows }
+
+-- where x hears no source, there is no look
+pub deaf-looked : (board : Board Blueprint) (x : Name) (m : Seated Item Entry) → source_for x (nearest board.frame.tree x.node) ≡ None → Looked board x false m m
+deaf-looked board x m near =
+    record {
+      read = subst (λ (o : Option SourceRef). HasLooked board x false m m o) (sym near) refl;
+      yes = λ e. cc;
+      no = λ e some. absurd (none-some (source_for x (nearest board.frame.tree x.node)) near some);
+    }
   where
     none-some : (o : Option SourceRef) → o ≡ None → is_some o ≡ true → ⊥
     none-some None e t = cc
     none-some (Some s) e t = cc
 
-pub none-looked : (board : Board Blueprint) (x : Name) (m : Seated Item Entry) → source_for x (nearest board.frame.tree x.node) ≡ None → Looked board x false m m
-none-looked board x m near = subst (λ (o : Option SourceRef). HasLooked board x false m m o) (sym near) refl
-
 -- what a look answers may be said of what was seen
-pub look-sees : (board : Board Blueprint) (x : Name) (answer : Bool) (m : Seated Item Entry) → TellsRequest board x answer m →
-    MaySee board x answer m
-look-sees board x false m tells none = refl
-look-sees board x true m tells none = let seen = tells.yes refl in cc
+pub look-sees : (board : Board Blueprint) (x : Name) (answer : Bool) (m m' : Seated Item Entry) → Looked board x answer m m' → MaySee board x answer m'
+look-sees board x false m m' looked none = refl
+look-sees board x true m m' looked none =
+    absurd (both_ways (has_heard board x m') none (ap (λ b. b || was_told x m') (looked.yes refl)))

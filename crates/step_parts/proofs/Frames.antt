@@ -1,6 +1,7 @@
 -- What calls within a step keep, one after the other.
 use Rattle.std.proofs.Common.{◌≡◌, inl, inr, ℕ, ◌≤◌, Bool, true, List, ◌∷◌, arith, refl, sym, ap, ◌∙◌, subst}
 use Rattle.std.specs.Prelude.{Option, Some, None}
+use Rattle.std.proofs.lemmas.Option.{same_Some}
 use Rattle.life_rules.specs.declared.event.Name.{Name}
 use Rattle.node_tree.specs.Tree.{is_child}
 use Rattle.plan_shape.specs.Blueprint.{Blueprint}
@@ -10,10 +11,12 @@ use Rattle.table_rules.specs.Named.{find_by}
 use Rattle.table_steps.specs.Views.{Board}
 use Rattle.table_steps.specs.Claims.{Seated}
 use Rattle.table_steps.specs.Hearings.{HearsAs}
+use Rattle.table_steps.specs.Slots.{held_at}
 use Rattle.op_slot.specs.Tends.{Tends}
 use Rattle.home_items.specs.declared.entry.Entry.{Entry}
 use Rattle.home_items.specs.declared.item.Item.{Item}
 use Rattle.home_items.specs.Fits.{FitsHome}
+use Rattle.home_items.specs.Items.{start_in, GoesOn}
 use Rattle.exec_recv.specs.declared.next.Next.{Next}
 use Rattle.exec_recv.specs.declared.next.Next.TheVariants.{Go, Rest, Ready as IsReadyIn, Parked}
 use Rattle.exec_recv.specs.Family.{AreOwedElsewhere}
@@ -23,7 +26,7 @@ use Rattle.exec_recv.proofs.Asiding.{aside-here, aside-on}
 use Rattle.exec_recv.proofs.Fitting.{hears-still}
 use Rattle.exec_recv.proofs.Moves.{moves-here, moves-on}
 use Rattle.exec_recv.proofs.Starts.{KeepsHomes, owes-as, all-still}
-use Rattle.step_parts.specs.Midway.{Emptying, Ready, IsReady, KeepsOthers, KeepsReady}
+use Rattle.step_parts.specs.Midway.{IsMidway, Ready, KeepsOthers, KeepsReady}
 
 module _ (board : Board Blueprint) (x : Name) where
   pub others-here : (m : Seated Item Entry) → KeepsOthers board x m m
@@ -40,14 +43,14 @@ module _ (board : Board Blueprint) (x : Name) where
       }
 
   pub keeps-here : (m : Seated Item Entry) → KeepsReady board x m m
-  keeps-here m = record { beside = others-here m; ready = λ start least kid is. is; heard = λ h. h }
+  keeps-here m = record { beside = others-here m; midway = λ start inside least kid is. is; heard = λ h. h }
 
   pub keeps-on : (m between m' : Seated Item Entry) → KeepsReady board x m between → KeepsReady board x between m' →
       KeepsReady board x m m'
   keeps-on m between m' first next =
       record {
         beside = others-on m between m' first.beside next.beside;
-        ready = λ start least kid is. next.ready start least kid (first.ready start least kid is);
+        midway = λ start inside least kid is. next.midway start inside least kid (first.midway start inside least kid is);
         heard = λ h. next.heard (first.heard h);
       }
 
@@ -121,13 +124,14 @@ pub elsewhere-still : (board : Board Blueprint) (x : Name) (m m' : Seated Item E
 elsewhere-still board x m m' owed_same elsewhere y owed owes =
     elsewhere y owed (ap (λ (l : List (Owed Entry)). find_by (λ (e : Owed Entry). e.name) l y) (sym owed_same) ∙ owes)
 
--- after calls that leave the rest the homes of x and of its children are emptied still
+-- The homes of x and of its children were changed, by calls that leave the rest: this lies in them now.
 module _ (board : Board Blueprint) (x : Name) (m m' : Seated Item Entry) (beside : KeepsOthers board x m m') (homes : KeepsHomes board m m') where
-  pub emptying-on : (start : List Entry) (least : ℕ) (kid kid' : ℕ → Option Item) (was : Emptying board x start least kid m)
-      (held : Held Entry) → SameEntry was.held held → Tends board.frame x held None kid' m' →
+  pub midway-on : (start : List Entry) (least : ℕ) (inside inside' : Item) (kid kid' : ℕ → Option Item) →
+      (was : IsMidway board x start inside least kid m) → GoesOn inside' → start_in inside' ≡ start →
+      (held : Held Entry) → SameEntry was.held held → Tends board.frame x held (Some inside') kid' m' →
       ((n : ℕ) (done : Item) → is_child board.frame.tree x.node n ≡ true → kid' n ≡ Some done → kid n ≡ Some done) →
-      Emptying board x start least kid' m'
-  emptying-on start least kid kid' was held same tends fewer =
+      IsMidway board x start inside' least kid' m'
+  midway-on start least inside inside' kid kid' was goes_on inside_is held same tends fewer =
       record {
         place = was.place;
         places = was.places;
@@ -135,6 +139,8 @@ module _ (board : Board Blueprint) (x : Name) (m m' : Seated Item Entry) (beside
         unrun = ap (λ a. a.runs) beside.aside.same ∙ was.unrun;
         held = held;
         tends = tends;
+        goes_on = goes_on;
+        inside_is = inside_is;
         shows = was.shows ∙ sym same.start;
         node = was.node;
         kinds = was.kinds;
@@ -146,16 +152,17 @@ module _ (board : Board Blueprint) (x : Name) (m m' : Seated Item Entry) (beside
             (ap (λ a. a.requested) beside.aside.same) was.hears));
         named = subst (λ n. least ≤ n) (sym same.named) was.named;
         kids = λ n done at full. done-still was.held held n done same (was.kids n done at (fewer n done at full));
+        awaited = λ n done at full. subst (λ k. 1 ≤ k) (sym same.named) (was.awaited n done at (fewer n done at full));
         starts = all-still board m m' beside.owed homes beside.aside.sees was.starts;
         elsewhere = elsewhere-still board x m m' beside.owed was.elsewhere;
       }
 
--- what is said of so many children holds of fewer
-module _ (board : Board Blueprint) (x : Name) (start : List Entry) (m : Seated Item Entry) where
+-- What is said of so many children holds of fewer.
+module _ (board : Board Blueprint) (x : Name) (start : List Entry) (inside : Item) (m : Seated Item Entry) where
   -- what is said of the number alone changes
-  pub named-so : (less : ℕ) (kid : ℕ → Option Item) (least : ℕ) (is : Emptying board x start least kid m) → less ≤ is.held.named →
-      Emptying board x start less kid m
-  named-so less kid least is few =
+  pub named-so : (least less : ℕ) (kid : ℕ → Option Item) (is : IsMidway board x start inside least kid m) → less ≤ is.held.named →
+      IsMidway board x start inside less kid m
+  named-so least less kid is few =
       record {
         place = is.place;
         places = is.places;
@@ -163,6 +170,8 @@ module _ (board : Board Blueprint) (x : Name) (start : List Entry) (m : Seated I
         unrun = is.unrun;
         held = is.held;
         tends = is.tends;
+        goes_on = is.goes_on;
+        inside_is = is.inside_is;
         shows = is.shows;
         node = is.node;
         kinds = is.kinds;
@@ -171,18 +180,26 @@ module _ (board : Board Blueprint) (x : Name) (start : List Entry) (m : Seated I
         hears = is.hears;
         named = few;
         kids = is.kids;
+        awaited = is.awaited;
         starts = is.starts;
         elsewhere = is.elsewhere;
       }
 
-  pub emptying-less : (least less : ℕ) (kid : ℕ → Option Item) → less ≤ least → Emptying board x start least kid m →
-      Emptying board x start less kid m
-  emptying-less least less kid below is = named-so less kid least is (let n = is.named in omega (arith, below, n))
+  -- as many as the entry says with which the hand holds x
+  pub named-at : (least less : ℕ) (kid : ℕ → Option Item) (held : Held Entry) → held_at m.0 x ≡ Some held → less ≤ held.named →
+      IsMidway board x start inside least kid m → IsMidway board x start inside less kid m
+  named-at least less kid held holds few is =
+      named-so least less kid is
+      (subst (λ (h : Held Entry). less ≤ h.named) (same_Some held is.held (sym holds ∙ is.tends.holds)) few)
+
+  pub midway-less : (least less : ℕ) (kid : ℕ → Option Item) → less ≤ least → IsMidway board x start inside least kid m →
+      IsMidway board x start inside less kid m
+  midway-less least less kid below is = named-so least less kid is (let n = is.named in omega (arith, below, n))
 
   -- and where each child's home is empty all are
-  pub emptying-none : (least : ℕ) (kid : ℕ → Option Item) → ((n : ℕ) → is_child board.frame.tree x.node n ≡ true → kid n ≡ None) →
-      Emptying board x start least kid m → Ready board x start least m
-  emptying-none least kid none is =
+  pub midway-none : (least : ℕ) (kid : ℕ → Option Item) → ((n : ℕ) → is_child board.frame.tree x.node n ≡ true → kid n ≡ None) →
+      IsMidway board x start inside least kid m → IsMidway board x start inside least (λ _. None) m
+  midway-none least kid none is =
       record {
         place = is.place;
         places = is.places;
@@ -194,6 +211,8 @@ module _ (board : Board Blueprint) (x : Name) (start : List Entry) (m : Seated I
           own = is.tends.own;
           kids = λ n at. is.tends.kids n at ∙ ap (λ (o : Option Item). Some o) (none n at);
         };
+        goes_on = is.goes_on;
+        inside_is = is.inside_is;
         shows = is.shows;
         node = is.node;
         kinds = is.kinds;
@@ -202,12 +221,21 @@ module _ (board : Board Blueprint) (x : Name) (start : List Entry) (m : Seated I
         hears = is.hears;
         named = is.named;
         kids = λ n done at full. cc;
+        awaited = λ n done at full. cc;
         starts = is.starts;
         elsewhere = is.elsewhere;
       }
 
-  pub ready-start : (least : ℕ) → Ready board x start least m → Ready board x start 0 m
-  ready-start least ready = emptying-less least 0 (λ _. None) (omega arith) ready
+module _ (board : Board Blueprint) (x : Name) (start : List Entry) (m : Seated Item Entry) where
+  pub ready-less : (least less : ℕ) → less ≤ least → Ready board x start least m → Ready board x start less m
+  ready-less least less below ready =
+      record { inside = ready.inside; is = midway-less board x start ready.inside m least less (λ _. None) below ready.is }
 
-  pub ready-is : (least : ℕ) → Ready board x start least m → IsReady board x m
-  ready-is least ready = record { start = start; ready = ready-start least ready }
+  pub ready-start : (least : ℕ) → Ready board x start least m → Ready board x start 0 m
+  ready-start least ready = ready-less least 0 (omega arith) ready
+
+  -- as many as the entry says with which the hand holds x
+  pub ready-at : (least more : ℕ) (held : Held Entry) → held_at m.0 x ≡ Some held → more ≤ held.named → Ready board x start least m →
+      Ready board x start more m
+  ready-at least more held holds few ready =
+      record { inside = ready.inside; is = named-at board x start ready.inside m least more (λ _. None) held holds few ready.is }

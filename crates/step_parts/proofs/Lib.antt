@@ -5,6 +5,8 @@ pub mod Settled
 pub mod Completed
 pub mod Left
 pub mod Opened
+pub mod Emptied
+pub mod Unkept
 pub mod RunKinds
 pub mod Awaited
 pub mod Wanted
@@ -15,3 +17,16 @@ pub mod Reading
 pub mod Asked
 pub mod Topped
 pub mod Telling
+pub mod Took
+pub mod Finding
+pub mod Ended
+pub mod Stopping
+pub mod Listened
+pub mod Lists
+pub mod Below
+pub mod Changing
+pub mod Many
+pub mod Begun
+pub mod Puts
+pub mod Several
+pub mod AllStarted

@@ -1,6 +1,6 @@
 -- What a hand notes of its node in the middle of a step changes nothing on which the step rests.
 use Rattle.std.proofs.Common.{◌≡◌, ℕ, Bool, true, false, ◌||◌, List, [], ◌∷◌, refl, sym, ap, ◌∙◌}
-use Rattle.std.specs.Prelude.{Option, Some, None}
+use Rattle.std.specs.Prelude.{Option, Some}
 use Rattle.std.specs.Option.{option_map_or}
 use Rattle.std.proofs.lemmas.Bool.{both_ways, cond-true, cond-false}
 use Rattle.common_lemmas.proofs.Bool.{either}
@@ -25,7 +25,7 @@ use Rattle.exec_recv.proofs.Fitting.{sees-more}
 use Rattle.exec_recv.proofs.Starts.{KeepsHomes}
 use Rattle.step_parts.specs.Heard.{was_told, has_heard}
 use Rattle.step_parts.specs.Midway.{KeepsOthers, KeepsReady}
-use Rattle.step_parts.proofs.Frames.{SameEntry, entry-here, emptying-on}
+use Rattle.step_parts.proofs.Frames.{SameEntry, entry-here, midway-on}
 
 -- what is noted of the first entry of x leaves the others
 without-noted : {A : Type 0} (name : A → Name) (change : A → A) → ((e : A) → name (change e) ≡ name e) → (x : Name) (l : List A) →
@@ -99,9 +99,9 @@ module _ (board : Board Blueprint) (x : Name) (change : Held Entry → Held Entr
       ap (λ (l : List (Held Entry)). find_by (λ (e : Held Entry). e.name) l x) notes.held
       ∙ find-noted (λ (e : Held Entry). e.name) change slight.names x m.0.held held holds
 
-  notes-tends : (held : Held Entry) (kid : ℕ → Option Item) → Tends board.frame x held None kid m →
-      Tends board.frame x (change held) None kid m'
-  notes-tends held kid has =
+  notes-tends : (held : Held Entry) (inside : Item) (kid : ℕ → Option Item) → Tends board.frame x held (Some inside) kid m →
+      Tends board.frame x (change held) (Some inside) kid m'
+  notes-tends held inside kid has =
       record {
         holds = notes-held held has.holds;
         own = ap (λ (cs : List (ℕ × Option Item)). kept (slot_of board.frame.layout x) cs) notes.homes ∙ has.own;
@@ -117,9 +117,9 @@ module _ (board : Board Blueprint) (x : Name) (change : Held Entry → Held Entr
   notes-keeps =
       record {
         beside = notes-beside;
-        ready = λ start least kid was.
-            emptying-on board x m m' notes-beside notes-homes start least kid kid was (change was.held) (slight.same was.held)
-            (notes-tends was.held kid was.tends) (λ n done at full. full);
+        midway = λ start inside least kid was.
+            midway-on board x m m' notes-beside notes-homes start least inside inside kid kid was was.goes_on was.inside_is
+            (change was.held) (slight.same was.held) (notes-tends was.held inside kid was.tends) (λ n done at full. full);
         heard = heard-still board x m m' notes.aside
             (λ held is.
             ap (λ (o : Option (Held Entry)). option_map_or (λ (e : Held Entry). e.told) o false) (notes-held held is)
@@ -145,10 +145,10 @@ module _ (board : Board Blueprint) (x : Name) (m m' : Seated Item Entry) (held_s
   looks-keeps =
       record {
         beside = looks-beside;
-        ready = λ start least kid was.
-            emptying-on board x m m' looks-beside
-            (λ y owed owes inside lies. ap (λ (cs : List (ℕ × Option Item)). kept (slot_of board.frame.layout y) cs) homes_same ∙ lies)
-            start least kid kid was was.held (entry-here was.held)
+        midway = λ start inside least kid was.
+            midway-on board x m m' looks-beside
+            (λ y owed owes item lies. ap (λ (cs : List (ℕ × Option Item)). kept (slot_of board.frame.layout y) cs) homes_same ∙ lies)
+            start least inside inside kid kid was was.goes_on was.inside_is was.held (entry-here was.held)
             (record {
               holds = looks-held ∙ was.tends.holds;
               own = ap (λ (cs : List (ℕ × Option Item)). kept (slot_of board.frame.layout x) cs) homes_same ∙ was.tends.own;

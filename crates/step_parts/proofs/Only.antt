@@ -12,7 +12,7 @@ use Rattle.plan_kinds.proofs.Trees.{trees-show}
 use Rattle.table_steps.specs.Views.{Board}
 use Rattle.home_items.proofs.KindsBelow.{in-option, option-in}
 use Rattle.exec_recv.specs.Over.{IsOver}
-use Rattle.step_parts.specs.TakenOut.{IsOnlyChild}
+use Rattle.step_parts.specs.Takes.{IsOnlyChild}
 
 -- a node that names this child alone, or none, and spawns none
 pub only-named : (board : Board Blueprint) (plan : Blueprint) (x : Name) (node : Node) (child : Option ℕ) → IsOver board plan → slice_get plan.nodes x.node ≡ Some node →

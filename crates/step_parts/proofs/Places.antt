@@ -28,7 +28,7 @@ use Rattle.home_items.specs.Entries.{plan_of, node_of}
 use Rattle.home_items.specs.Starts.{IsStart}
 use Rattle.exec_recv.specs.Over.{IsOver}
 use Rattle.start_laws.specs.Nodes.{IsStartOf}
-use Rattle.step_parts.specs.Midway.{Emptying}
+use Rattle.step_parts.specs.Midway.{IsMidway}
 
 module _ (board : Board Blueprint) (plan : Blueprint) (x : Name) (node : Node) (over : IsOver board plan)
     (at : slice_get plan.nodes x.node ≡ Some node) where
@@ -50,9 +50,9 @@ module _ (board : Board Blueprint) (plan : Blueprint) (x : Name) (node : Node) (
       (λ f. f)
 
   -- the start of a node that is held is one of this node
-  pub start-of : (start : List Entry) (least : ℕ) (kid : ℕ → Option Item) (m : Seated Item Entry) → IsRunnable plan →
-      Emptying board x start least kid m → IsStart start → IsStartOf start node
-  start-of start least kid m runnable lies is =
+  pub start-of : (start : List Entry) (inside : Item) (least : ℕ) (kid : ℕ → Option Item) (m : Seated Item Entry) → IsRunnable plan →
+      IsMidway board x start inside least kid m → IsStart start → IsStartOf start node
+  start-of start inside least kid m runnable lies is =
       let same : plan_of start ≡ plan = lies.key ∙ over.over in
       record {
         start_is = is;

@@ -23,7 +23,7 @@ use Rattle.exec_recv.specs.Asides.{aside_of}
 use Rattle.exec_recv.proofs.Moves.{moves-look}
 use Rattle.exec_recv.proofs.Asiding.{aside-one}
 use Rattle.step_parts.specs.Midway.{Ready, KeepsReady}
-use Rattle.step_parts.specs.TakenOut.{HasJustBegun}
+use Rattle.step_parts.specs.Takes.{HasJustBegun}
 use Rattle.step_parts.proofs.Noting.{NotesEntry, ChangesNotes, notes-held, notes-keeps, looks-keeps}
 
 -- a child that hasn't begun is noted
@@ -55,12 +55,12 @@ module _ (board : Board Blueprint) (x : Name) (start : List Entry) (n : ℕ) (le
       record {
         parent = x.node;
         parent_is = child-parent board.frame.tree x.node n child;
-        held = ready.held;
-        holds = ready.tends.holds;
+        held = ready.is.held;
+        holds = ready.is.tends.holds;
       }
 
   pub child-place : IsPlaceIn board (beside x n)
-  child-place = record { block = ready.place.block; node = kid-within board.frame x ready.places n child }
+  child-place = record { block = ready.is.place.block; node = kid-within board.frame x ready.is.places n child }
 
   pub above-is : above_it board.frame.tree (beside x n) ≡ x
   above-is =
@@ -113,7 +113,7 @@ module _ (board : Board Blueprint) (x : Name) (start : List Entry) (n : ℕ) (le
       pub idle-known : KnowsIdle x n m'
       idle-known =
           record {
-            held = with_idle n ready.held;
-            holds = notes-held board x (with_idle n) (idle-slight n) m m' idle-notes ready.held ready.tends.holds;
-            idle = or_right (ready.held.named == 0) _ (ap (λ b. b || list_any (λ q. q == n) ready.held.idle) (eq-eqb n n refl));
+            held = with_idle n ready.is.held;
+            holds = notes-held board x (with_idle n) (idle-slight n) m m' idle-notes ready.is.held ready.is.tends.holds;
+            idle = or_right (ready.is.held.named == 0) _ (ap (λ b. b || list_any (λ q. q == n) ready.is.held.idle) (eq-eqb n n refl));
           }

@@ -1,8 +1,9 @@
 -- A child that runs with its node's arguments begins with arguments of its kinds, which stand in place in a
 -- small plan, but for one text.
 use Rattle.std.specs.Prelude.{Contains, slice_get}
-use Rattle.std.proofs.Common.{◌≡◌, ◌⊎◌, inl, inr, ℕ, true, false, List, [], ◌∷◌, Option, Some, None, arith, refl, sym, ap, ◌∙◌, subst}
-use Rattle.std.proofs.lemmas.List.Elements.{All-nil, All-cons}
+use Rattle.std.proofs.Common.{◌≡◌, ◌⊎◌, inl, inr, ℕ, suc, true, false, List, [], ◌∷◌, Option, Some, None, arith, refl, sym, ap, ◌∙◌, subst}
+use Rattle.std.proofs.lemmas.List.Elements.{All-nil, All-cons, All-contains}
+use Rattle.std.proofs.lemmas.Option.{same_Some}
 use Rattle.common_lemmas.proofs.Options.{known}
 use Rattle.exec_value.specs.Kinds.{HaveKinds}
 use Rattle.exec_value.specs.Place.{IsInPlace, AreInPlace}
@@ -13,32 +14,42 @@ use Rattle.exec_value.specs.declared.kinds.Kind.TheVariants.{Int as IntKind, Tex
 use Rattle.life_rules.specs.declared.event.Name.{Name}
 use Rattle.node_tree.specs.Tree.{is_child}
 use Rattle.plan_rules.specs.declared.node.Node.{Node}
-use Rattle.plan_rules.specs.declared.node.Node.TheVariants.{LetValue, LetError, LetStopped, Bulk, Part}
+use Rattle.plan_rules.specs.declared.node.Node.TheVariants.{LetValue, LetError, LetStopped, Bulk, Part, Ahead}
+use Rattle.plan_rules.specs.Children.{named_by}
 use Rattle.plan_shape.specs.Blueprint.{Blueprint, IsPlan}
 use Rattle.plan_shape.specs.PlanTree.{tree_of}
 use Rattle.plan_shape.proofs.ForestLaws.{node_at}
-use Rattle.plan_kinds.specs.Built.{AreArguments}
+use Rattle.plan_kinds.specs.Built.{IsNoPart, AreArguments}
 use Rattle.plan_kinds.specs.Gives.{text_alone}
 use Rattle.plan_kinds.specs.Reached.{Reaches}
 use Rattle.plan_kinds.specs.Runnable.{IsRunnable}
 use Rattle.plan_kinds.specs.Shapes.{Shape, HasShape}
 use Rattle.plan_kinds.specs.Signatures.{sig_of, own_sigs}
 use Rattle.plan_kinds.specs.Small.{IsSmallShape, IsSmall}
+use Rattle.plan_kinds.specs.TreeLaws.{IsTop}
 use Rattle.plan_kinds.specs.Values.{body_arguments}
 use Rattle.plan_kinds.proofs.Jobs.{one-int}
+use Rattle.plan_kinds.proofs.Placing.{no-member, run-named}
+use Rattle.plan_kinds.proofs.Plans.{plans-built}
+use Rattle.plan_kinds.proofs.Roots.{last-no_part}
 use Rattle.table_steps.specs.Views.{Board}
 use Rattle.home_items.specs.declared.entry.Entry.{Entry}
 use Rattle.home_items.specs.Below.{run_below, asked_below, IsPlainChild, ByNode}
-use Rattle.home_items.specs.Entries.{plan_of, node_of, args_of, plan_node, start_below}
+use Rattle.home_items.specs.Entries.{plan_of, node_of, args_of, carried_by, carried_of, plan_node, start_below, start_with}
 use Rattle.home_items.specs.Fits.{FitsChild}
-use Rattle.home_items.specs.Starts.{BeginsBelow, IsStart, NeedsNoRequest}
+use Rattle.home_items.specs.Starts.{BeginsBelow, IsReceiver, IsStart, NeedsNoRequest}
 use Rattle.home_items.proofs.Beginning.{run-begins, top-begins}
 use Rattle.home_items.proofs.Collecting.{receiver-none}
 use Rattle.home_items.proofs.KindsBelow.{in-option}
 use Rattle.home_items.proofs.Standing.{kinds-within, stands-below}
+use Rattle.home_items.proofs.Starting.{plain-start}
 use Rattle.exec_recv.specs.Over.{IsOver}
-use Rattle.step_parts.specs.Starts.{RunsBelow, child_start}
+use Rattle.step_parts.specs.Starts.{RunsBelow, asked_for_child}
 use Rattle.step_parts.specs.Wants.{is_text_alone}
+
+-- the start of a child with its node's arguments
+abbrev pub child_start : ℕ → List Entry → List Entry
+child_start n start = start_below n (args_of start) [] (asked_for_child start) start
 
 no-node : (node : Node) → Some node ≡ None → ⊥
 no-node node e = cc
@@ -169,7 +180,7 @@ module _ (plan : Blueprint) (small : IsSmall plan) where
       ]
 
 -- so a child's arguments stand in place there, or are one text
-pub small-child : (start : List Entry) (n : ℕ) → BeginsBelow (child_start n start) → IsSmall (plan_of start) →
+small-child : (start : List Entry) (n : ℕ) → BeginsBelow (child_start n start) → IsSmall (plan_of start) →
     AreInPlace (args_of start) ⊎ (is_text_alone (args_of start) ≡ true)
 small-child [] n begins small = absurd begins
 small-child (p ∷ above) n begins small =
@@ -178,3 +189,71 @@ small-child (p ∷ above) n begins small =
       | inl in_place ↦ inl in_place
       | inr text ↦ inr (ap is_text_alone text.1)
     ]
+
+-- A child that runs with its node's arguments is no part, and neither is the node.
+named-run : (node : Node) (p : Entry) (n : ℕ) → Contains (run_below (Some node) p) n → Contains (named_by node) n
+named-run (Ahead first second) p n runs = let i = runs.0 in (suc i, omega (arith, runs.1), runs.2)
+named-run node p n runs = run-named node n runs
+
+named-plain : (plan : Blueprint) → IsPlan plan → (k : ℕ) (node : Node) → slice_get plan.nodes k ≡ Some node → (n : ℕ) → Contains (named_by node) n →
+    IsNoPart (slice_get plan.nodes n)
+named-plain plan is k node at n among =
+    All-contains (λ i. IsNoPart (slice_get plan.nodes i)) (named_by node) n ((plans-built plan is).no_parts k node at) among
+
+top-plain : (plan : Blueprint) → IsPlan plan → (n : ℕ) → IsTop plan.nodes n → IsNoPart (slice_get plan.nodes n)
+top-plain plan is n (inl last) = last-no_part plan is n (sym last) (slice_get plan.nodes n) refl
+top-plain plan is n (inr spawned) =
+    named-plain plan is spawned.ahead (Ahead n spawned.second) spawned.node n (0, omega arith, refl)
+
+module _ (p : Entry) (n : ℕ) (is_plan : IsPlan p.plan) where
+  receiver-plain : IsReceiver p → p.child ≡ Some n → IsNoPart (slice_get p.plan.nodes n)
+  receiver-plain is names =
+      top-plain p.plan is_plan n (subst (IsTop p.plan.nodes) (same_Some is.top n (sym is.names ∙ names)) is.is_top)
+
+  none-plain : (above : List Entry) → IsStart (p ∷ above) → plan_node p ≡ None → Contains (run_below (plan_node p) p) n →
+      IsNoPart (slice_get p.plan.nodes n)
+  none-plain [] is none runs =
+      receiver-plain is (in-option p.child n (subst (λ (o : Option Node). Contains (run_below o p) n) none runs))
+  none-plain (q ∷ above) is none runs =
+      node_at p.plan.nodes p.node (kinds-within p.plan is_plan p.node p.args is.0.kinds)
+      (λ node at. absurd (no-node node (sym at ∙ none)))
+
+pub runs-plain : (start : List Entry) (n : ℕ) → IsStart start → IsPlan (plan_of start) → RunsBelow start n →
+    IsNoPart (slice_get (plan_of start).nodes n)
+runs-plain [] n is is_plan runs = absurd runs
+runs-plain (p ∷ above) n is is_plan runs =
+    known (plan_node p) (λ none. none-plain p n is_plan above is none runs)
+    (λ node at.
+    named-plain p.plan is_plan p.node node at n
+    (named-run node p n (subst (λ (o : Option Node). Contains (run_below o p) n) at runs)))
+
+runs-own : (o : Option Node) (p : Entry) (n : ℕ) → Contains (run_below o p) n → carried_by o p ≡ p.args
+runs-own (Some (Part bulk part)) p n runs = no-member n runs
+runs-own o p n runs = refl
+
+-- what such a node runs with are its arguments
+pub runs-carried : (start : List Entry) (n : ℕ) → RunsBelow start n → carried_of start ≡ args_of start
+runs-carried [] n runs = absurd runs
+runs-carried (p ∷ above) n runs = runs-own (plan_node p) p n runs
+
+-- The child's start, as a step makes it.
+module _ (start : List Entry) (n : ℕ) (is : IsStart start) (runnable : IsRunnable (plan_of start)) (runs : RunsBelow start n) where
+  abbrev pub run_start : List Entry
+  run_start = start_with n (carried_of start) (asked_for_child start) start
+
+  pub run-is : run_start ≡ child_start n start
+  run-is =
+      plain-start n (carried_of start) (asked_for_child start) start (runs-plain start n is runnable.plan_is runs)
+      ∙ ap (λ (args : List Datum). start_below n args [] (asked_for_child start) start) (runs-carried start n runs)
+
+  pub runs-begin : FitsChild start → BeginsBelow run_start
+  runs-begin fits = subst BeginsBelow (sym run-is) (child-begins start n is runnable fits runs)
+
+  pub runs-calm : NeedsNoRequest run_start
+  runs-calm = subst NeedsNoRequest (sym run-is) (plain-below start n runs)
+
+  -- in a small plan the node's arguments stand in place, or are one text
+  pub runs-small : FitsChild start → IsSmall (plan_of start) → AreInPlace (carried_of start) ⊎ (is_text_alone (carried_of start) ≡ true)
+  runs-small fits small =
+      subst (λ (args : List Datum). AreInPlace args ⊎ (is_text_alone args ≡ true)) (sym (runs-carried start n runs))
+      (small-child start n (child-begins start n is runnable fits runs) small)

@@ -20,21 +20,26 @@ use Rattle.table_rules.specs.declared.view.Held.{Held}
 use Rattle.table_rules.specs.declared.view.Scanning.{Scanning}
 use Rattle.table_rules.specs.Named.{count_by}
 use Rattle.table_rules.specs.ShownViews.{has_source_ref, scan_in}
-use Rattle.table_steps.specs.Views.{Board}
+use Rattle.table_steps.specs.Views.{Board, Stays}
 use Rattle.table_steps.specs.Callbacks.{callback_index, is_registered, learns, left_by}
 use Rattle.table_steps.specs.Claims.{Seated, with_step}
 use Rattle.table_steps.specs.Finishes.{is_settled}
 use Rattle.table_steps.specs.Readings.{at_entry, notes_phase, Holds, IsPhaseAs}
+use Rattle.table_steps.specs.Slots.{held_at}
 use Rattle.stop_calls.specs.declared.removing.Settled.{Settled}
 use Rattle.stop_calls.specs.declared.removing.Settled.TheVariants.{NeverRan, Ran, OwnHand}
 use Rattle.stop_calls.specs.Removals.{MayWithdraw, IsReadAs, IsLastTry, IsSettled, Waits}
 use Rattle.home_items.specs.declared.entry.Entry.{Entry}
 use Rattle.home_items.specs.declared.item.Item.{Item}
 use Rattle.exec_recv.specs.Asides.{aside_of}
+use Rattle.exec_recv.specs.Seats.{HandSeat}
 use Rattle.exec_recv.proofs.Moves.{moves-look, moves-callback}
 use Rattle.exec_recv.proofs.Asiding.{aside-one}
-use Rattle.step_parts.specs.Midway.{IsReady, KeepsReady}
+use Rattle.step_parts.specs.Midway.{Ready, KeepsReady}
 use Rattle.step_parts.specs.Settles.{HasSettled}
+use Rattle.step_parts.specs.Stepping.{Stepping}
+use Rattle.step_parts.specs.Takes.{IsTaken, Keeps}
+use Rattle.step_parts.proofs.Ended.{taken-on}
 use Rattle.step_parts.proofs.Frames.{keeps-here, keeps-on}
 use Rattle.step_parts.proofs.Noting.{NotesEntry, ChangesNotes, notes-held, notes-keeps, or-true}
 
@@ -116,10 +121,6 @@ module _ (board : Board Blueprint) (x : Name) where
           moves = moves-callback board x tried.told.word ran-is.0 old.me new.me (ap (λ (z : Seated Item Entry). z.0.steps) is);
         }
 
-  -- where a hand is ready it is so after calls that keep it
-  pub ready-after : (m m' : Seated Item Entry) → KeepsReady board x m m' → IsReady board x m → IsReady board x m'
-  ready-after m m' keeps is = record { start = is.start; ready = keeps.ready is.start 0 (λ _. None) is.ready }
-
   -- tries that found a run of another hand
   waits-keep : (count : ℕ) (old new : Seat (Option Item) (View Item Entry)) → Waits board x count old new →
       KeepsReady board x old.me new.me
@@ -129,60 +130,80 @@ module _ (board : Board Blueprint) (x : Name) where
       (notes-keeps board x (with_phase Runs) (phase-slight Runs) waited.0.me new.me (ran-notes Runs refl waited.0 new waited.2))
 
   -- the phase that was noted is what the hand has read
-  noted-settles : (phase : CallbackPhase) (m m' : Seated Item Entry) → NotesEntry board x (with_phase phase) m m' → IsReady board x m →
-      is_settled phase ≡ true → HasSettled x m'
-  noted-settles phase m m' notes is settled =
+  noted-settles : (phase : CallbackPhase) (m m' : Seated Item Entry) → NotesEntry board x (with_phase phase) m m' → (held : Held Entry) →
+      held_at m.0 x ≡ Some held → is_settled phase ≡ true → HasSettled x m'
+  noted-settles phase m m' notes held holds settled =
       record {
-        held = record (is.ready.held) { phase = Some phase };
-        holds = notes-held board x (with_phase phase) (phase-slight phase) m m' notes is.ready.held is.ready.tends.holds;
+        held = with_phase phase held;
+        holds = notes-held board x (with_phase phase) (phase-slight phase) m m' notes held holds;
         settled = settled;
       }
 
   -- the last try: it never ran, or ran; this hand doesn't run it
-  last-keeps : (answer : Settled) (old new : Seat (Option Item) (View Item Entry)) → IsReady board x old.me →
+  last-keeps : (answer : Settled) (old new : Seat (Option Item) (View Item Entry)) (start : List Entry) → Ready board x start 0 old.me →
       IsLastTry board x old new answer → KeepsReady board x old.me new.me × HasSettled x new.me
-  last-keeps NeverRan old new is tried =
+  last-keeps NeverRan old new start ready tried =
       let notes = armed-notes old new tried in (
         notes-keeps board x (with_phase Removed) (phase-slight Removed) old.me new.me notes,
-        noted-settles Removed old.me new.me notes is refl,
+        noted-settles Removed old.me new.me notes ready.is.held ready.is.tends.holds refl,
       )
-  last-keeps Ran old new is tried =
+  last-keeps Ran old new start ready tried =
       let notes = ran-notes HasRun refl old new tried in (
         notes-keeps board x (with_phase HasRun) (phase-slight HasRun) old.me new.me notes,
-        noted-settles HasRun old.me new.me notes is refl,
+        noted-settles HasRun old.me new.me notes ready.is.held ready.is.tends.holds refl,
       )
-  last-keeps OwnHand old new is tried =
+  last-keeps OwnHand old new start ready tried =
       let runs = tried.runs in
       let none : count_by (λ (y : Name). y) old.me.0.runs x ≡ 0 =
-      ap (λ (l : List Name). count_by (λ (y : Name). y) l x) is.ready.unrun in
+      ap (λ (l : List Name). count_by (λ (y : Name). y) l x) ready.is.unrun in
       absurd (omega (arith, runs, none))
 
-  pub settled-keeps : (answer : Settled) (old new : Seat (Option Item) (View Item Entry)) → IsReady board x old.me →
+  settled-keeps : (answer : Settled) (old new : Seat (Option Item) (View Item Entry)) (start : List Entry) → Ready board x start 0 old.me →
       IsSettled board x old new answer → KeepsReady board x old.me new.me × HasSettled x new.me
-  settled-keeps answer old new is settled =
+  settled-keeps answer old new start ready settled =
       let waited = waits-keep settled.count old settled.middle settled.waited in
-      let last = last-keeps answer settled.middle new (ready-after old.me settled.middle.me waited is) settled.last in
+      let middle : Ready board x start 0 settled.middle.me =
+      record { inside = ready.inside; is = waited.midway start ready.inside 0 (λ _. None) ready.is } in
+      let last = last-keeps answer settled.middle new start middle settled.last in
       (keeps-on board x old.me settled.middle.me new.me waited last.0, last.1)
 
-  -- the hand can read the phase
-  pub can-read : (m : Seated Item Entry) → IsReady board x m → Holds m.0 x
-  can-read m is = record { held = is.ready.held; holds = is.ready.tends.holds }
+-- So does a step with the callback of the node that it has taken up.
+module _ (board : Board Blueprint) (t : Stepping) where
+  -- it can read the phase
+  pub can-read : (hand : HandSeat) → IsTaken board t hand → Holds hand.me.0 t.name
+  can-read hand is = record { held = is.ready.is.held; holds = is.ready.is.tends.holds }
 
-  -- and where it says that the callback may run still, remove it
-  module _ (phase : CallbackPhase) (m m' : Seated Item Entry) (is : IsReady board x m) (read : IsPhaseAs board.frame x phase m m') where
-    pub read-keeps : KeepsReady board x m m'
-    read-keeps = notes-keeps board x (with_phase phase) (phase-slight phase) m m' (phase-notes phase m m' read)
+  module _ (phase : CallbackPhase) (old new : HandSeat) (is : IsTaken board t old) (read : IsPhaseAs board.frame t.name phase old.me new.me) where
+    notes : NotesEntry board t.name (with_phase phase) old.me new.me
+    notes = phase-notes board t.name phase old.me new.me read
 
-    pub read-settles : is_settled phase ≡ true → HasSettled x m'
-    read-settles settled = noted-settles phase m m' (phase-notes phase m m' read) is settled
+    pub read-keeps : Stays board old new → Keeps board t old new
+    read-keeps stays =
+        record { stays = stays; ready = notes-keeps board t.name (with_phase phase) (phase-slight phase) old.me new.me notes }
 
-    pub may-withdraw : is_registered phase ≡ true → MayWithdraw m'.0 x
-    may-withdraw registered =
+    pub read-settles : is_settled phase ≡ true → HasSettled t.name new.me
+    read-settles settled =
+        noted-settles board t.name phase old.me new.me notes is.ready.is.held is.ready.is.tends.holds settled
+
+    -- and where it says that the callback may run still, remove it
+    pub may-withdraw : Stays board old new → is_registered phase ≡ true → MayWithdraw new.me.0 t.name
+    may-withdraw stays registered =
         record {
-          held = record (is.ready.held) { phase = Some phase };
-          holds = notes-held board x (with_phase phase) (phase-slight phase) m m' (phase-notes phase m m' read) is.ready.held is.ready.tends.holds;
+          held = with_phase phase is.ready.is.held;
+          holds = notes-held board t.name (with_phase phase) (phase-slight phase) old.me new.me notes is.ready.is.held is.ready.is.tends.holds;
           known = phase;
           known_is = refl;
           registered = registered;
-          unscanned = λ runs. ap (λ (l : List Scanning). scan_in l (Node x)) (ready-after m m' read-keeps is).ready.calm;
+          unscanned = λ runs. ap (λ (l : List Scanning). scan_in l (Node t.name)) (taken-on board t old new (read-keeps stays) is).ready.is.calm;
         }
+
+  -- once it is removed, the step goes on, and the callback is over
+  module _ (answer : Settled) (old new : HandSeat) (is : IsTaken board t old) (settled : IsSettled board t.name old new answer) where
+    both : KeepsReady board t.name old.me new.me × HasSettled t.name new.me
+    both = settled-keeps board t.name answer old new t.start is.ready settled
+
+    pub withdraw-keeps : Stays board old new → Keeps board t old new
+    withdraw-keeps stays = record { stays = stays; ready = both.0 }
+
+    pub withdraw-settles : HasSettled t.name new.me
+    withdraw-settles = both.1

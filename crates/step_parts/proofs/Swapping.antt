@@ -12,7 +12,7 @@ use Rattle.plan_shape.specs.Blueprint.{Blueprint}
 use Rattle.table_words.specs.Layouts.{place_number}
 use Rattle.table_rules.specs.declared.view.Held.{Held}
 use Rattle.table_rules.specs.Named.{find_by, without}
-use Rattle.table_steps.specs.Views.{Board}
+use Rattle.table_steps.specs.Views.{Board, Stays}
 use Rattle.table_steps.specs.Claims.{Seated}
 use Rattle.table_steps.specs.Finishes.{is_of_kids}
 use Rattle.table_steps.specs.Slots.{slot_of, kids_of, is_of_family, held_at}
@@ -25,11 +25,12 @@ use Rattle.home_items.specs.declared.entry.Entry.{Entry}
 use Rattle.home_items.specs.declared.item.Item.{Item}
 use Rattle.exec_recv.specs.Asides.{aside_of}
 use Rattle.exec_recv.specs.Family.{AreOwedElsewhere}
+use Rattle.exec_recv.specs.Seats.{HandSeat}
 use Rattle.exec_recv.proofs.Moves.{moves-look}
 use Rattle.exec_recv.proofs.Asiding.{aside-one}
 use Rattle.exec_recv.proofs.Starts.{KeepsHomes}
 use Rattle.step_parts.specs.Heard.{has_heard}
-use Rattle.step_parts.specs.Midway.{KeepsOthers}
+use Rattle.step_parts.specs.Midway.{KeepsOthers, ChangesHomes}
 use Rattle.step_parts.proofs.Noting.{or-true}
 
 -- the homes of the family: the node's own, and a child's
@@ -77,3 +78,14 @@ module _ (board : Board Blueprint) (x y : Name) (new old : Option Item) (m m' : 
         (subst (λ s. is_of_family board.frame.tree l x s ≡ true) (eqb-true (slot_of l y) slot t) family)))
         (λ f. f))
         ∙ lies
+
+-- So a call that moves what lies there leaves all else.
+pub swap-changes : (board : Board Blueprint) (x y : Name) (new old : Option Item) (before after : HandSeat) → Stays board before after →
+    IsSwapped board.frame y new old before.me after.me → ChangesHomes board x before after
+swap-changes board x y new old before after stays did =
+    record {
+      stays = stays;
+      beside = swap-beside board x y new old before.me after.me did;
+      same_held = swap-held board x y new old before.me after.me did;
+      heard = swap-heard board x y new old before.me after.me did;
+    }

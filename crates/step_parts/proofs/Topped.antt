@@ -6,7 +6,6 @@ use Rattle.std.proofs.lemmas.Option.{slice_get_within}
 use Rattle.exec_value.specs.Place.{AreInPlace}
 use Rattle.exec_value.specs.declared.kinds.Kind.{Kind}
 use Rattle.exec_value.specs.declared.outcome.Completion.TheVariants.{NoMemory}
-use Rattle.life_rules.specs.declared.event.Name.{Name}
 use Rattle.node_tree.specs.Tree.{is_root}
 use Rattle.plan_rules.specs.declared.node.Node.{Node}
 use Rattle.plan_rules.specs.declared.node.Node.TheVariants.{Ahead}
@@ -19,17 +18,17 @@ use Rattle.plan_kinds.specs.TreeLaws.{IsSpawned}
 use Rattle.plan_kinds.proofs.Placing.{run-named, body-named, before, part-before}
 use Rattle.plan_kinds.proofs.Trees.{trees-show}
 use Rattle.table_steps.specs.Views.{Board}
-use Rattle.table_steps.specs.Claims.{Seated}
 use Rattle.home_items.specs.declared.entry.Entry.{Entry}
-use Rattle.home_items.specs.declared.item.Item.{Item}
-use Rattle.home_items.specs.Entries.{plan_of, args_of, node_of}
+use Rattle.home_items.specs.Entries.{plan_of, args_of, carried_of, node_of}
 use Rattle.home_items.specs.Fits.{FitsChild}
 use Rattle.home_items.specs.Starts.{IsReceiver, IsStart}
 use Rattle.home_items.proofs.Standing.{kinds-within}
-use Rattle.exec_recv.specs.Over.{IsOver}
+use Rattle.exec_recv.specs.Seats.{HandSeat}
+use Rattle.exec_recv.specs.Sites.{plan_at}
 use Rattle.step_parts.specs.Leaves.{MayLeave}
 use Rattle.step_parts.specs.Starts.{MayRun}
-use Rattle.step_parts.proofs.RunKinds.{shape-in_place, plain-small}
+use Rattle.step_parts.specs.Stepping.{Stepping}
+use Rattle.step_parts.proofs.RunKinds.{shape-in_place, plain-small, runs-carried}
 
 -- the plan's root is reached with the input alone
 root-shape : (nodes : List Node) (input : Kind) → IsForest nodes → {n : ℕ} {a : Shape} → Reaches nodes input n a → n + 1 ≡ length nodes →
@@ -72,21 +71,24 @@ none-known : None ≡ Some NoMemory → ⊥
 none-known e = cc
 
 -- where there is no memory for the child's arguments, the receiver node may be left with its start alone
-pub top-leaves : (board : Board Blueprint) (plan : Blueprint) (x : Name) (start : List Entry) (n : ℕ) (asked : Bool) (m : Seated Item Entry) → IsOver board plan →
-    is_root board.frame.tree x.node ≡ true → IsStart start → MayRun board x start n asked m → (AreInPlace (args_of start) → ⊥) → MayLeave board x start None m
-top-leaves board plan x start n asked m over root is may none =
-    let same : plan_of start ≡ plan = may.ready.key ∙ over.over in
+pub top-leaves : (board : Board Blueprint) (t : Stepping) (n : ℕ) (asked : Bool) (hand : HandSeat) → is_root board.frame.tree t.name.node ≡ true →
+    MayRun board t n asked hand → (AreInPlace (carried_of t.start) → ⊥) → MayLeave board t None hand
+top-leaves board t n asked hand root may none =
+    let over = may.taken.site.over in
+    let plan = plan_at board in
+    let same : plan_of t.start ≡ plan = may.few.is.key in
     let size : length board.frame.tree ≡ length plan.nodes + 1 = ap length over.tree ∙ (trees-show plan over.is_plan).size in
-    let last : x.node + 1 ≡ length board.frame.tree = eqb-true (x.node + 1) (length board.frame.tree) root in
-    let nodes : length (plan_of start).nodes ≡ length plan.nodes = ap (λ (b : Blueprint). length b.nodes) same in
-    let own = may.ready.node in
+    let last : t.name.node + 1 ≡ length board.frame.tree = eqb-true (t.name.node + 1) (length board.frame.tree) root in
+    let nodes : length (plan_of t.start).nodes ≡ length plan.nodes = ap (λ (b : Blueprint). length b.nodes) same in
+    let own = may.few.is.node in
     record {
-      keep = record { ready = may.ready; child = tt; saw = λ e. refl; small = λ small. none-known };
+      keep = record { taken = may.taken; few = may.few; child = tt; saw = λ e. refl; small = λ small. none-known };
       rests = record {
         rest = tt;
         kept = λ small at.
             absurd (none
-            (root-start start is (subst (λ (b : Blueprint). IsPlan b) (sym same) over.is_plan) (omega (arith, size, last, nodes, own))
-            may.ready.kinds small));
+            (subst AreInPlace (sym (runs-carried t.start n may.runs))
+            (root-start t.start may.taken.start_is (subst (λ (b : Blueprint). IsPlan b) (sym same) over.is_plan)
+            (omega (arith, size, last, nodes, own)) may.few.is.kinds small)));
       };
     }

@@ -27,18 +27,17 @@ has_heard board x m = has_seen board.frame.tree m.0 x || was_told x m
 abbrev pub MaySee : Board Blueprint → Name → Bool → Seated Item Entry → Type 0
 MaySee board x saw m = has_heard board x m ≡ false → saw ≡ false
 
--- the answer to a look at the source that x hears: the request was read, and so seen; or it wasn't,
--- and where x hears a source the hand has heard of none
-pub record TellsRequest (board : Board Blueprint) (x : Name) (answer : Bool)
-    (m : Seated Item Entry) : Type 0 where
-  pub yes : answer ≡ true → has_seen board.frame.tree m.0 x ≡ true
-  pub no : answer ≡ false → is_some (source_for x (nearest board.frame.tree x.node)) ≡ true →
-      has_heard board x m ≡ false
+-- x hears a source: its nearest, or the scope's
+abbrev pub hears_one : Board Blueprint → Name → Bool
+hears_one board x = is_some (source_for x (nearest board.frame.tree x.node))
 
--- Since then the word of the source that x hears was read, and this is what it said of a request.
--- Where x hears none, no request was found.
-abbrev pub Looked : Board Blueprint → Name → Bool → Seated Item Entry → Seated Item Entry → Type 0
-Looked board x saw m m' =
-    MatchOption (source_for x (nearest board.frame.tree x.node)) (saw ≡ false)
-    (λ source. HasReadSince (index board.frame.layout (spot_of source))
-    (λ word. says_requested source word ≡ saw) m m')
+-- The answer to a look at the source that x hears: what its word said, which was read then. A
+-- request that was read is seen, and where none was read the hand has heard of none. Where x hears
+-- no source, the answer is no.
+pub record Looked (board : Board Blueprint) (x : Name) (saw : Bool)
+    (m m' : Seated Item Entry) : Type 0 where
+  pub read : MatchOption (source_for x (nearest board.frame.tree x.node)) (saw ≡ false)
+      (λ source. HasReadSince (index board.frame.layout (spot_of source))
+      (λ word. says_requested source word ≡ saw) m m')
+  pub yes : saw ≡ true → has_seen board.frame.tree m'.0 x ≡ true
+  pub no : saw ≡ false → hears_one board x ≡ true → has_heard board x m' ≡ false

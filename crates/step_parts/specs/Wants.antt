@@ -3,24 +3,21 @@ use Rattle.std.specs.Prelude.{◌≡◌, Bool, true, false, List, [], ◌∷◌,
 use Rattle.exec_value.specs.declared.data.Datum.{Datum}
 use Rattle.exec_value.specs.declared.data.Datum.TheVariants.{Text}
 use Rattle.exec_value.specs.declared.outcome.Completion.TheVariants.{NoMemory}
-use Rattle.life_rules.specs.declared.event.Name.{Name}
-use Rattle.node_tree.specs.declared.context.Context.TheVariants.{Loop}
-use Rattle.plan_shape.specs.Blueprint.{Blueprint}
+use Rattle.life_rules.specs.declared.event.Resting.TheVariants.{Loop as InLoop}
+use Rattle.node_tree.specs.Tree.{is_root}
 use Rattle.plan_kinds.specs.Small.{IsSmall}
+use Rattle.plan_shape.specs.Blueprint.{Blueprint}
 use Rattle.table_steps.specs.Views.{Board}
-use Rattle.table_steps.specs.Claims.{Seated}
-use Rattle.table_steps.specs.Takes.{resting_in}
-use Rattle.home_items.specs.declared.entry.Entry.{Entry}
-use Rattle.home_items.specs.declared.item.Item.{Item}
-use Rattle.home_items.specs.declared.item.Item.TheVariants.{Rest}
 use Rattle.home_items.specs.Bounds.{least_of}
-use Rattle.home_items.specs.Entries.{plan_of, args_of}
-use Rattle.home_items.specs.Parcels.{Delivery}
+use Rattle.home_items.specs.Contents.{Rest}
+use Rattle.home_items.specs.Entries.{carried_of, plan_of}
 use Rattle.exec_recv.specs.declared.next.Next.{Next}
-use Rattle.exec_recv.specs.declared.next.Next.TheVariants.{Ready as IsReadyIn}
-use Rattle.step_parts.specs.Completes.{IsCompleted}
-use Rattle.step_parts.specs.Leaves.{IsLeftAt}
+use Rattle.exec_recv.specs.Seats.{HandSeat}
+use Rattle.step_parts.specs.Completes.{Completes}
+use Rattle.step_parts.specs.Leaves.{LeavesAt}
 use Rattle.step_parts.specs.Midway.{Ready}
+use Rattle.step_parts.specs.Stepping.{Stepping}
+use Rattle.step_parts.specs.Takes.{IsTaken, Keeps}
 
 -- the data are one text: of those with which the nodes of a small plan run, only such may not stand
 -- in place
@@ -28,23 +25,21 @@ abbrev pub is_text_alone : List Datum → Bool
 is_text_alone (Text bytes ∷ []) = true
 is_text_alone values = false
 
--- want of memory, with this start
-abbrev pub wanting : List Entry → Delivery
-wanting start = record { start = start; completion = NoMemory; saw = false }
+module _ (board : Board Blueprint) (t : Stepping) where
+  -- The step has come so far that the node, which isn't the receiver node, can be left with its
+  -- start alone, and the plan is small only where its arguments are one text.
+  pub record MayWant (hand : HandSeat) : Type 0 where
+    pub taken : IsTaken board t hand
+    pub inner : is_root board.frame.tree t.name.node ≡ false
+    pub few : Ready board t.name t.start (least_of (Rest t.start None)) hand.me
+    pub small : IsSmall (plan_of t.start) → is_text_alone (carried_of t.start) ≡ true
 
-module _ (board : Board Blueprint) (x : Name) (start : List Entry) where
-  -- The step has come so far that x can be left with its start alone, and the plan is small only
-  -- where its arguments are one text.
-  pub record MayWant (m : Seated Item Entry) : Type 0 where
-    pub ready : Ready board x start (least_of (Rest start None)) m
-    pub small : IsSmall (plan_of start) → is_text_alone (args_of start) ≡ true
-
-  -- x was left with its start alone, ready in the loop
-  pub record IsLeftBare (next : Next) (m m' : Seated Item Entry) : Type 0 where
-    pub next_is : next ≡ IsReadyIn Loop
-    pub left : IsLeftAt board x start None (resting_in Loop) m m'
-
-  -- it delivered want of memory; or, where its arguments are one text, it was left so
-  pub record EndsWanting (next : Next) (m m' : Seated Item Entry) : Type 0 where
-    pub later : is_text_alone (args_of start) ≡ true → IsLeftBare next m m'
-    pub now : is_text_alone (args_of start) ≡ false → IsCompleted board x (wanting start) next m m'
+  -- Its arguments were looked at, and then it completed with want of memory; or, where they are one
+  -- text, it was left in the loop with its start alone.
+  pub record EndsWanting (next : Next) (old new : HandSeat) : Type 0 where
+    pub looked : HandSeat
+    pub keeps : Keeps board t old looked
+    pub later : is_text_alone (carried_of t.start) ≡ true →
+        LeavesAt board t None InLoop next looked new
+    pub now : is_text_alone (carried_of t.start) ≡ false →
+        Completes board t NoMemory false next looked new

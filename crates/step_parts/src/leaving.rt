@@ -2,63 +2,83 @@
 ghost use Rattle.std.specs.Prelude.{◌≡◌};
 ghost use Rattle.life_rules.specs.declared.event.Resting.TheVariants.{Parked as IsParked};
 ghost use Rattle.table_steps.specs.Takes.{resting_in};
-ghost use Rattle.table_steps.specs.Views.{IsHandOf, Stays};
-ghost use Rattle.exec_recv.specs.declared.next.Next.TheVariants.{Ready, Parked};
-ghost use Rattle.exec_recv.specs.Nexts.{IsStepped};
-ghost use Rattle.step_parts.specs.Leaves.{MayLeave, IsLeftAt};
+ghost use Rattle.home_items.specs.Contents.{Rest};
+ghost use Rattle.step_parts.specs.Changes.{ChangesTo};
+ghost use Rattle.step_parts.specs.Leaves.{MayLeave, LeavesAt};
+ghost use Rattle.step_parts.specs.Takes.{IsTaken};
 
-use exec_recv::{Env, Item, Next, Parcel};
+use crate::taken::Taken;
+use exec_recv::{Item, Next, Parcel, Site};
 use life_rules::Name;
 use node_tree::Context;
-use op_slot::{Hand, OpTable, put_home};
+use op_slot::Hand;
 
-/// Leaves the node ready in the context, with its environment and what it keeps of its child in its
-/// home.
+// Leaves the node's start in its home, with what it keeps of its child. The node is named.
+#[inline(always)]
+pub(crate) fn rest<R, G>(
+    site: &Site<R, G>,
+    hand: &mut Hand<Item>,
+    taken: Taken,
+    kept: Option<Parcel>,
+) -> Name
+    requires taken { IsTaken site.now taken hand.old }
+    ensures name { result ≡ taken.name }
+    ensures changes { ChangesTo site.now taken (Rest taken.start kept) hand.old hand.new }
+{
+    let Taken {
+        name,
+        number: _,
+        asked: _,
+        child: _,
+        shown: _,
+        origin: _,
+    } = taken;
+    match hand.item_mut(site.table, name) {
+        Some(item) => match kept {
+            Some(parcel) => item.keep(parcel),
+            None => item.rest(),
+        },
+        None => unreachable!(),
+    }
+    name
+}
+
+/// Leaves the node ready in the context, with what it keeps of its child.
 ///
-/// Step: those of `put_home` and of `rest`.
-/// Needs: the homes of the node and of its children are empty. The environment shows the node's
-/// start, and the parcel is of its child. The node may rest so.
+/// Step: one load of the node's control word, by which the hand turns to its home, and that of
+/// `rest`.
+/// Needs: the parcel is of its child. The node may rest so.
 /// Afterwards: the hand holds the node no more.
 #[inline(always)]
-pub fn leave_at_rest(
-    table: &OpTable<Item>,
+pub fn leave_at_rest<R, G>(
+    site: &Site<R, G>,
     hand: &mut Hand<Item>,
-    name: Name,
-    env: Env,
+    taken: Taken,
     kept: Option<Parcel>,
     on: Context,
 ) -> Next
-    requires hand { IsHandOf table.now hand.old }
-    requires may { MayLeave table.now name env kept hand.old.me }
-    ensures stays { Stays table.now hand.old hand.new }
-    ensures next { result ≡ Ready on }
-    ensures left { IsLeftAt table.now name env kept (resting_in on) hand.old.me hand.new.me }
-    ensures stepped { IsStepped table.now name hand.old.me hand.new.me result }
+    requires may { MayLeave site.now taken kept hand.old }
+    ensures { LeavesAt site.now taken kept (resting_in on) result hand.old hand.new }
 {
-    put_home(table, hand, name, Item::Rest(env, kept));
-    table.rest(hand, name, on);
+    let name = rest(site, hand, taken, kept);
+    site.table.rest(hand, name, on);
     Next::Ready(on)
 }
 
 /// Leaves the node parked. What is said of `leave_at_rest` is said of this.
 ///
-/// Step: those of `put_home` and of `park`.
+/// Step: one load of the node's control word, and that of `park`.
 #[inline(always)]
-pub fn leave_parked(
-    table: &OpTable<Item>,
+pub fn leave_parked<R, G>(
+    site: &Site<R, G>,
     hand: &mut Hand<Item>,
-    name: Name,
-    env: Env,
+    taken: Taken,
     kept: Option<Parcel>,
 ) -> Next
-    requires hand { IsHandOf table.now hand.old }
-    requires may { MayLeave table.now name env kept hand.old.me }
-    ensures stays { Stays table.now hand.old hand.new }
-    ensures next { result ≡ Parked }
-    ensures left { IsLeftAt table.now name env kept IsParked hand.old.me hand.new.me }
-    ensures stepped { IsStepped table.now name hand.old.me hand.new.me result }
+    requires may { MayLeave site.now taken kept hand.old }
+    ensures { LeavesAt site.now taken kept IsParked result hand.old hand.new }
 {
-    put_home(table, hand, name, Item::Rest(env, kept));
-    table.park(hand, name);
+    let name = rest(site, hand, taken, kept);
+    site.table.park(hand, name);
     Next::Parked
 }

@@ -1,37 +1,48 @@
-//! What the steps of all nodes share, on the running table over a plan: how a step opens, how it
-//! settles its node's callback, and the ways in which it ends.
+//! What the steps of all nodes share, on the running table over a plan: how a step takes up its
+//! node, how it looks, listens and settles, and the ways in which it ends.
 //!
-//! It stands on exec_recv, whose deliveries it makes, and on op_slot and stop_calls. It keeps one
-//! promise: from where a step may begin to where it ends, whatever the hand has beside the node is
-//! as it was, and each start that it owes can begin.
+//! It stands on exec_recv, at whose sites steps are made and whose deliveries they make, and on
+//! op_slot and stop_calls. It keeps one promise: a node that was taken up is ended once, by one of
+//! the calls here; the step then ends as a step does, and whatever the hand has beside the node is
+//! as it was.
 //!
-//!     step of a node --take_out--> ready --complete--> Go(parent), Rest
-//!                                    |  \--without_memory--> the same, with want of memory
-//!                                    |
-//!                                    +--await_child, start_child--> Go(child), which it awaits
-//!                                    +--leave_at_rest--> Ready(on)
-//!                                    +--leave_parked--> Parked
+//!     take_up, take_one --> Taken --complete, complete_stopped-----> Go(parent), Rest
+//!                             |  \--want_memory, without_memory----> the same, with want of memory
+//!                             |
+//!                             +--start_child, start_again, begin---> Go(child), which it awaits
+//!                             +--await_many----> awaiting --put_start, for each child--> Rest
+//!                             +--leave_at_rest-----> Ready(on)
+//!                             +--leave_parked------> Parked
+//!                             +--take_child, hear, listen--> Taken
+//!
+//! A node's home is changed where it lies: its arguments stay there until it has completed.
 #![tactic(auto)]
 
 mod awaiting;
 mod completing;
+mod copying;
+mod found;
 mod hearing;
 mod leaving;
-mod receiving;
+mod listening;
+mod origin;
 mod settling;
 mod starting;
 mod taken;
 mod taking;
 mod wanting;
 
-pub use awaiting::{await_child, child_env};
-pub use completing::complete;
-pub use exec_recv::{Env, Gate, Item, Next, Parcel};
+pub use awaiting::{await_many, put_start};
+pub use completing::{complete, complete_stopped, complete_with_args};
+pub use copying::{copy_args, copy_waiting};
+pub use exec_recv::{Env, Gate, Item, Kind, Label, Next, Parcel, Point, Site};
+pub use found::Found;
 pub use hearing::hear;
 pub use leaving::{leave_at_rest, leave_parked};
-pub use receiving::start_top;
+pub use listening::listen;
+pub use origin::Origin;
 pub use settling::settle;
-pub use starting::{start_child, start_unbegun_child};
-pub use taken::{AtHome, TakenOut};
-pub use taking::{take_below, take_out, take_own};
-pub use wanting::{deliver_no_memory, without_memory};
+pub use starting::{begin, start_again, start_child, start_top};
+pub use taken::{Taken, TakenUp};
+pub use taking::{take_back, take_back_into, take_child, take_kept, take_one, take_up};
+pub use wanting::{want_memory, without_memory};

@@ -1,19 +1,21 @@
 //! How a node's callback is settled before the node completes ([stopcallback.inplace.cons]).
 ghost use Rattle.std.specs.Prelude.{◌≡◌, true, false};
-ghost use Rattle.std.specs.Thread.{IsSync};
 ghost use Rattle.table_steps.specs.Callbacks.{is_registered};
 ghost use Rattle.table_steps.specs.Finishes.{is_settled};
-ghost use Rattle.table_steps.specs.Views.{IsHandOf, Stays};
-ghost use Rattle.step_parts.specs.Midway.{IsReady, KeepsReady};
+ghost use Rattle.table_steps.specs.Views.{knows};
+ghost use Rattle.stop_calls.specs.Removals.{MayWithdraw};
 ghost use Rattle.step_parts.specs.Settles.{HasSettled};
+ghost use Rattle.step_parts.specs.Takes.{IsTaken, Keeps};
 
-use exec_recv::{Gate, Item, Point};
-use life_rules::{CallbackPhase, Name};
-use op_slot::{Hand, OpTable};
+use crate::taken::Taken;
+use exec_recv::{Gate, Item, Point, Site};
+use life_rules::CallbackPhase;
+use op_slot::Hand;
 use std::sync::Wait;
 use stop_calls::withdraw;
 
 // A callback that was read so may run still.
+#[inline(always)]
 fn must_withdraw(phase: CallbackPhase) -> bool
     ensures yes { result ≡ true → is_registered phase ≡ true }
     ensures no { result ≡ false → is_settled phase ≡ true }
@@ -25,27 +27,27 @@ fn must_withdraw(phase: CallbackPhase) -> bool
 ///
 /// Step: one load of the callback's word. Where that says armed or running, the gate is passed, and
 /// then those of `withdraw`.
-/// Needs: the homes of the node and of its children are empty.
-/// Afterwards: the callback never was, ran, or was removed, as the hand has read. What else it has
-/// is as before.
-pub fn settle<G: Gate, R: Wait + Sync>(
-    rt: &R,
-    table: &OpTable<Item>,
-    hand: &mut Hand<Item>,
-    name: Name,
-    gate: &G,
-)
-    requires sync { IsSync R.row }
-    requires hand { IsHandOf table.now hand.old }
-    requires ready { IsReady table.now name hand.old.me }
-    ensures stays { Stays table.now hand.old hand.new }
-    ensures keeps { KeepsReady table.now name hand.old.me hand.new.me }
-    ensures settled { HasSettled name hand.new.me }
+/// Afterwards: the callback never was, ran, or was removed, as the hand has read.
+#[inline(always)]
+pub fn settle<R: Wait, G: Gate>(site: &Site<R, G>, hand: &mut Hand<Item>, taken: &Taken)
+    requires taken { IsTaken site.now taken.now hand.old }
+    ensures keeps { Keeps site.now taken.now hand.old hand.new }
+    ensures settled { HasSettled taken.now.name hand.new.me }
 {
-    let phase = table.phase_of(hand, name);
-    if !must_withdraw(phase) {
-        return;
+    let phase = site.table.phase_of(hand, taken.name);
+    if must_withdraw(phase) {
+        remove(site, hand, taken);
     }
-    gate.pass(rt, Point::Withdraw(name));
-    let _settled = withdraw(rt, table, hand, name);
+}
+
+// Removes the callback, which may run still, past the gate.
+#[inline(never)]
+fn remove<R: Wait, G: Gate>(site: &Site<R, G>, hand: &mut Hand<Item>, taken: &Taken)
+    requires taken { IsTaken site.now taken.now hand.old }
+    requires may { MayWithdraw (knows hand.old) taken.now.name }
+    ensures keeps { Keeps site.now taken.now hand.old hand.new }
+    ensures settled { HasSettled taken.now.name hand.new.me }
+{
+    site.pass(Point::Withdraw(taken.name));
+    let _settled = withdraw(site.rt, site.table, hand, taken.name);
 }

@@ -1,60 +1,126 @@
-//! How a step starts the one child of its node.
-ghost use Rattle.std.specs.Prelude.{◌≡◌, false};
-ghost use Rattle.std.specs.Thread.{IsSync};
+//! How a step starts a child of its node, which the hand goes on with.
+ghost use Rattle.std.specs.Prelude.{◌≡◌, true, false, None, IfSome, MatchOption, is_some};
+ghost use Rattle.exec_value.specs.Place.{AreInPlace};
 ghost use Rattle.node_tree.specs.Tree.{is_root};
-ghost use Rattle.plan_kinds.specs.Runnable.{IsRunnable};
 ghost use Rattle.table_steps.specs.Readings.{KnowsIdle};
-ghost use Rattle.table_steps.specs.Views.{IsHandOf, Stays};
-ghost use Rattle.exec_recv.specs.Nexts.{IsStepped};
-ghost use Rattle.exec_recv.specs.Over.{IsOver};
-ghost use Rattle.step_parts.specs.Starts.{MayRun, StartsChild, ReadsAndStarts};
+ghost use Rattle.home_items.specs.Contents.{Rest};
+ghost use Rattle.home_items.specs.Entries.{carried_of, asked_of};
+ghost use Rattle.step_parts.specs.Changes.{LiesAt, ChangesTo};
+ghost use Rattle.step_parts.specs.Starts.{MayBegin, MayRun, AwaitsChild, Begins, StartsChild, StartsAgain, StartsTop};
+ghost use Rattle.step_parts.specs.Takes.{IsTaken, Keeps};
 
-use crate::awaiting::{await_child, child_env};
 use crate::leaving::leave_at_rest;
+use crate::taken::Taken;
 use crate::wanting::without_memory;
-use exec_recv::{Env, Gate, Item, Next};
+use exec_recv::{Env, Gate, Item, Next, Site};
+use exec_value::{Data, copy_data};
 use life_rules::Name;
 use node_tree::Context;
-use op_slot::{Hand, OpTable};
+use op_slot::Hand;
 use plan_rules::NodeId;
-use plan_shape::Plan;
-use std::alloc::{AllocError, Global};
+use std::alloc::AllocError;
 use std::sync::Wait;
 
-/// Makes the environment of the node's only child, and awaits the child. Where there is no memory
-/// for it, the step ends as `without_memory` says.
-///
-/// Step: those of `await_child`, or of `without_memory`.
-/// Needs: the node isn't the receiver node. The homes of the node and of its child are empty. The
-/// environment shows the node's start, with whose arguments the child runs. The hand has read that
-/// the child hasn't begun.
-pub fn start_child<G: Gate, R: Wait + Sync>(
-    rt: &R,
-    alloc: Global,
-    plan: &Plan,
-    table: &OpTable<Item>,
+// Leaves the node, whose start lies in its home, awaiting its child, and begins the child with
+// these arguments.
+#[inline(always)]
+fn go_below<R, G>(
+    site: &Site<R, G>,
     hand: &mut Hand<Item>,
-    name: Name,
-    env: Env,
+    taken: Taken,
+    child: NodeId,
+    args: Data,
+    asked: bool,
+) -> Next
+    requires may { MayBegin site.now taken child args asked hand.old }
+    requires lies { LiesAt site.now taken (Rest taken.start None) hand.old.me }
+    ensures { AwaitsChild site.now taken child args asked result hand.old hand.new }
+{
+    let below = Env::below(&taken, child, args, taken.number, asked);
+    let Taken {
+        name,
+        number: _,
+        asked: _,
+        child: _,
+        shown: _,
+        origin: _,
+    } = taken;
+    site.table
+        .begin_child(hand, name, child, Item::starting(below));
+    Next::Go(Name {
+        node: child,
+        ..name
+    })
+}
+
+// A copy of the node's arguments; then the node's start alone lies in its home. None where there is
+// no memory for it, which doesn't come where the arguments stand in place.
+#[inline(always)]
+fn rest_and_copy<R, G>(site: &Site<R, G>, hand: &mut Hand<Item>, taken: &Taken) -> Option<Data>
+    requires taken { IsTaken site.now taken.now hand.old }
+    ensures changes { MatchOption result (Keeps site.now taken.now hand.old hand.new)
+        (λ _. ChangesTo site.now taken.now (Rest taken.now.start None) hand.old hand.new) }
+    ensures copies { IfSome result (λ args. args ≡ carried_of taken.now.start) }
+    ensures in_place { AreInPlace (carried_of taken.now.start) → is_some result ≡ true }
+{
+    match hand.item_mut(site.table, taken.name) {
+        Some(item) => match copy_data(site.alloc, item.args()) {
+            Ok(args) => {
+                item.rest();
+                Some(args)
+            }
+            Err(AllocError) => None,
+        },
+        None => unreachable!(),
+    }
+}
+
+/// Begins a child of the node with these arguments, and leaves the node awaiting it.
+///
+/// Step: one load of the node's control word, by which the hand turns to its home, and those of
+/// `begin_child`.
+/// Needs: the hand knows that the child hasn't begun.
+/// Afterwards: the hand holds the child in place of the node, and may step it.
+#[inline(always)]
+pub fn begin<R, G>(
+    site: &Site<R, G>,
+    hand: &mut Hand<Item>,
+    taken: Taken,
+    child: NodeId,
+    args: Data,
+    asked: bool,
+) -> Next
+    requires may { MayBegin site.now taken child args asked hand.old }
+    ensures { Begins site.now taken child args asked result hand.old hand.new }
+{
+    match hand.item_mut(site.table, taken.name) {
+        Some(item) => item.rest(),
+        None => unreachable!(),
+    }
+    go_below(site, hand, taken, child, args, asked)
+}
+
+/// Begins the only child of a node that has just begun, with the node's own arguments. Where there
+/// is no memory for them, the step ends as `without_memory` says.
+///
+/// Step: one load of the node's control word, and those of `begin_child`, or of `without_memory`.
+/// Needs: the node isn't the receiver node. The child runs with its arguments.
+#[inline(always)]
+pub fn start_child<R: Wait, G: Gate>(
+    site: &Site<R, G>,
+    hand: &mut Hand<Item>,
+    taken: Taken,
     child: NodeId,
     asked: bool,
-    gate: &G,
 ) -> Next
-    requires sync { IsSync R.row }
-    requires hand { IsHandOf table.now hand.old }
-    requires over { IsOver table.now plan.now }
-    requires runnable { IsRunnable plan.now }
-    requires inner { is_root table.now.frame.tree name.node ≡ false }
-    requires may { MayRun table.now name env child asked hand.old.me }
-    requires idle { KnowsIdle name child hand.old.me }
-    ensures stays { Stays table.now hand.old hand.new }
-    ensures starts { StartsChild table.now name env child result hand.old.me hand.new.me }
-    ensures stepped { IsStepped table.now name hand.old.me hand.new.me result }
+    requires inner { is_root site.now.frame.tree taken.name.node ≡ false }
+    requires may { MayRun site.now taken child asked hand.old }
+    requires idle { KnowsIdle taken.name child hand.old.me }
+    ensures { StartsChild site.now taken child result hand.old hand.new }
 {
-    env.known();
-    match child_env(alloc, plan, &env, child, asked) {
-        Ok(below) => await_child(table, hand, name, env, child, below),
-        Err(AllocError) => without_memory(rt, plan, table, hand, name, env, gate),
+    match rest_and_copy(site, hand, &taken) {
+        Some(args) => go_below(site, hand, taken, child, args, asked),
+        None => without_memory(site, hand, taken),
     }
 }
 
@@ -63,36 +129,49 @@ pub fn start_child<G: Gate, R: Wait + Sync>(
 ///
 /// Step: one load of the child's control word, and then those of `start_child`, or of
 /// `leave_at_rest`.
-/// Needs: as `start_child`, but for what the hand has read of the child.
-pub fn start_unbegun_child<G: Gate, R: Wait + Sync>(
-    rt: &R,
-    alloc: Global,
-    plan: &Plan,
-    table: &OpTable<Item>,
+#[inline(never)]
+pub fn start_again<R: Wait, G: Gate>(
+    site: &Site<R, G>,
     hand: &mut Hand<Item>,
-    name: Name,
-    env: Env,
+    taken: Taken,
     child: NodeId,
     asked: bool,
-    gate: &G,
 ) -> Next
-    requires sync { IsSync R.row }
-    requires hand { IsHandOf table.now hand.old }
-    requires over { IsOver table.now plan.now }
-    requires runnable { IsRunnable plan.now }
-    requires inner { is_root table.now.frame.tree name.node ≡ false }
-    requires may { MayRun table.now name env child asked hand.old.me }
-    ensures stays { Stays table.now hand.old hand.new }
-    ensures starts { ReadsAndStarts table.now name env child result hand.old.me hand.new.me }
-    ensures stepped { IsStepped table.now name hand.old.me hand.new.me result }
+    requires inner { is_root site.now.frame.tree taken.name.node ≡ false }
+    requires may { MayRun site.now taken child asked hand.old }
+    ensures { StartsAgain site.now taken child result hand.old hand.new }
 {
-    env.known();
     let node = Name {
         node: child,
-        ..name
+        ..taken.name
     };
-    if table.has_begun(hand, node) {
-        return leave_at_rest(table, hand, name, env, None, Context::Loop);
+    if site.table.has_begun(hand, node) {
+        return leave_at_rest(site, hand, taken, None, Context::Loop);
     }
-    start_child(rt, alloc, plan, table, hand, name, env, child, asked, gate)
+    start_child(site, hand, taken, child, asked)
+}
+
+/// Begins the child that the receiver node's start names. Where there is no memory for it, the
+/// receiver node is left ready in the loop, with no parcel: what is collected there is want of
+/// memory. In a small plan that doesn't come.
+///
+/// Step: one load of the node's control word, and those of `begin_child`, or of `leave_at_rest`.
+/// Needs: the node is the receiver node.
+#[inline(always)]
+pub fn start_top<R, G>(
+    site: &Site<R, G>,
+    hand: &mut Hand<Item>,
+    taken: Taken,
+    child: NodeId,
+) -> Next
+    requires root { is_root site.now.frame.tree taken.name.node ≡ true }
+    requires may { MayRun site.now taken child (asked_of taken.start) hand.old }
+    requires idle { KnowsIdle taken.name child hand.old.me }
+    ensures { StartsTop site.now taken child result hand.old hand.new }
+{
+    let asked = taken.asked;
+    match rest_and_copy(site, hand, &taken) {
+        Some(args) => go_below(site, hand, taken, child, args, asked),
+        None => leave_at_rest(site, hand, taken, None, Context::Loop),
+    }
 }

@@ -1,20 +1,85 @@
-//! What lies in the homes that a step empties.
-use exec_recv::{Env, Parcel};
+//! A node that a step has taken up.
+ghost use Rattle.std.specs.Prelude.{◌≡◌};
+ghost use Rattle.home_items.specs.Entries.{record_number, asked_of, child_of};
+ghost use Rattle.home_items.specs.Starts.{IsStart};
 
-/// What lies in the home of a node that goes on.
-#[derive(Drop)]
-pub enum AtHome {
-    /// The node has its environment, and has begun nothing yet.
-    Start(Env),
-    /// It has begun. Where its child has completed, and it rested since, it keeps the child's
-    /// parcel.
-    Rest(Env, Option<Parcel>),
+use crate::found::Found;
+use crate::origin::Origin;
+use home_items::{Shown, Shows};
+use life_rules::Name;
+use plan_rules::NodeId;
+use std::marker::Model;
+
+/// A node that a step has taken up: the hand holds it, and its start lies in its home. It is no
+/// `Drop`: a call that ends the step takes it.
+pub struct Taken {
+    pub(crate) name: Name,
+    pub(crate) number: u32,
+    pub(crate) asked: bool,
+    pub(crate) child: Option<NodeId>,
+    pub(crate) shown: Shown,
+    pub(crate) origin: Origin,
 }
 
-/// What lay in the homes of a node with at most one child.
-#[derive(Drop)]
-pub struct TakenOut {
-    pub own: AtHome,
-    /// The child's parcel, where the child has completed.
-    pub below: Option<Parcel>,
+impl Model for Taken {
+    ghost use Rattle.step_parts.specs.Stepping.{Stepping};
+
+    ghost Value = { Stepping };
+
+    ghost use Rattle.step_parts.specs.Stepping.{IsHead};
+
+    ghost view = { λ t. record { name = t.name; start = t.shown.start; from = t.origin.seat } };
+
+    ghost invariant = { λ t. IsHead t.number t.asked t.child t.shown.start };
+}
+
+impl Shows for Taken {
+    ghost start = { λ t. t.start };
+}
+
+impl Taken {
+    /// The node's name.
+    #[inline(always)]
+    pub fn name(&self) -> Name
+        ensures { result ≡ self.now.name }
+    {
+        self.name
+    }
+
+    /// The record's number.
+    #[inline(always)]
+    pub fn number(&self) -> u32
+        ensures { result ≡ record_number self.now.start }
+    {
+        self.number
+    }
+
+    /// Whether the scope's request was made before the operation was started.
+    #[inline(always)]
+    pub fn asked(&self) -> bool
+        ensures { result ≡ asked_of self.now.start }
+    {
+        self.asked
+    }
+
+    /// The child that the operation runs, where the node is the receiver node; else none.
+    #[inline(always)]
+    pub fn child(&self) -> Option<NodeId>
+        ensures { result ≡ child_of self.now.start }
+    {
+        self.child
+    }
+
+    /// What every node that was taken up keeps: it shows a start.
+    pub fn known(&self)
+        ensures { IsStart self.now.start }
+    {
+        let _ = &self.shown;
+    }
+}
+
+/// A node that was taken up, and what was found of it.
+pub struct TakenUp {
+    pub taken: Taken,
+    pub found: Found,
 }

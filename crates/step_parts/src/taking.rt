@@ -1,116 +1,215 @@
-//! How a step opens: the homes of its node and of the node's children are emptied.
-ghost use Rattle.std.specs.Prelude.{◌≡◌, true, IfSome};
+//! How a step takes up its node.
+ghost use Rattle.std.specs.Option.{option_map};
+ghost use Rattle.std.specs.Prelude.{◌≡◌, true, Some, IfSome};
 ghost use Rattle.node_tree.specs.Tree.{is_child};
-ghost use Rattle.table_steps.specs.Views.{IsHandOf, Stays};
-ghost use Rattle.op_slot.specs.Tends.{HasPlaces};
-ghost use Rattle.home_items.specs.Parcels.{IsDelivery};
-ghost use Rattle.exec_recv.specs.Beginnings.{AllCanStart};
-ghost use Rattle.exec_recv.specs.Steppable.{CanStep};
-ghost use Rattle.step_parts.specs.TakenOut.{item_at, start_at, IsOnlyChild, IsEmptying, TakesOwn, TakesBelow, TakesOut};
+ghost use Rattle.home_items.specs.Parcels.{delivery_of};
+ghost use Rattle.exec_recv.specs.Sites.{node_at, MayStep};
+ghost use Rattle.step_parts.specs.Takes.{IsFoundBelow, IsOnlyChild, IsOpen, TakesBack, TakesChild, TakesFound, TakesKept, TakesOne, TakesState, TakesUp};
 
-use crate::taken::{AtHome, TakenOut};
-use exec_recv::{Item, Parcel};
+use crate::found::Found;
+use crate::origin::Origin;
+use crate::taken::{Taken, TakenUp};
+use exec_recv::{Item, Label, Parcel, Site};
+use exec_value::Completion;
+use home_items::{Shown, State};
 use life_rules::Name;
-use op_slot::{Hand, OpTable, take_home};
+use op_slot::Hand;
 use plan_rules::NodeId;
 
-// What a parcel keeps, where there is one.
-fn known_of(parcel: &Option<Parcel>)
-    ensures { IfSome parcel.now IsDelivery }
-{
-    if let Some(parcel) = parcel {
-        parcel.known();
-    }
-}
-
-/// Takes what lies in the node's own home.
+/// Takes up the node, whose step begins here. The answer says besides how far the node has come.
 ///
-/// Step: that of `take_home`.
-/// Needs: the step begins here.
-/// Afterwards: the node's home is empty, and its children's are as they were. The item is of the
-/// node, and what it keeps of the child is a parcel of the child.
+/// Step: one load of the node's control word, by which the hand turns to its home.
+/// Afterwards: what lies in the homes is as it was. Of a node that has its start still, which has
+/// just begun, the homes of the children are empty.
 #[inline(always)]
-pub fn take_own(table: &OpTable<Item>, hand: &mut Hand<Item>, name: Name) -> AtHome
-    requires hand { IsHandOf table.now hand.old }
-    requires places { HasPlaces table.now.frame name }
-    requires can { CanStep table.now name hand.old.me }
-    requires starts { AllCanStart table.now hand.old.me }
-    ensures stays { Stays table.now hand.old hand.new }
-    ensures takes { TakesOwn table.now name result hand.old.me hand.new.me }
+pub fn take_up<R, G>(site: &Site<R, G>, hand: &mut Hand<Item>, name: Name) -> (Taken, State)
+    requires may { MayStep site.now name hand.old }
+    ensures { TakesState site.now name result.0 result.1 hand.old hand.new }
 {
-    match take_home(table, hand, name) {
-        Some(Item::Start(env)) => AtHome::Start(env),
-        Some(Item::Rest(env, kept)) => {
-            known_of(&kept);
-            AtHome::Rest(env, kept)
+    let origin = Origin::of(hand);
+    match hand.item_mut(site.table, name) {
+        Some(item) => {
+            item.known();
+            let taken = Taken {
+                name,
+                number: item.number(),
+                asked: item.asked(),
+                child: item.child(),
+                shown: Shown::of(item),
+                origin,
+            };
+            (taken, item.state())
         }
-        Some(Item::Done(_)) | None => unreachable!(),
+        None => unreachable!(),
     }
 }
 
 /// Takes what lies in the home of a child of the node: the parcel with which the child completed,
 /// or nothing. A node with several children is opened by as many calls.
 ///
-/// Step: that of `take_home`.
-/// Needs: the hand has taken what lay in the node's own home, and since then only from its
-/// children's.
-/// Afterwards: the child's home is empty too.
+/// Step: one load of the child's control word, by which the hand turns to its home.
+/// Afterwards: the child's home is empty.
 #[inline(always)]
-pub fn take_below(
-    table: &OpTable<Item>,
+pub fn take_child<R, G>(
+    site: &Site<R, G>,
     hand: &mut Hand<Item>,
-    name: Name,
+    taken: &Taken,
     child: NodeId,
 ) -> Option<Parcel>
-    requires hand { IsHandOf table.now hand.old }
-    requires child { is_child table.now.frame.tree name.node child ≡ true }
-    requires emptying { IsEmptying table.now name hand.old.me }
-    ensures stays { Stays table.now hand.old hand.new }
-    ensures takes { TakesBelow table.now name child result hand.old.me hand.new.me }
+    requires child { is_child site.now.frame.tree taken.now.name.node child ≡ true }
+    requires opened { IsOpen site.now taken.now hand.old }
+    ensures { TakesChild site.now taken.now child result hand.old hand.new }
 {
     let below = Name {
         node: child,
-        ..name
+        ..taken.name
     };
-    match take_home(table, hand, below) {
-        Some(Item::Done(parcel)) => {
-            parcel.known();
-            Some(parcel)
-        }
-        Some(Item::Start(_)) => unreachable!(),
-        Some(Item::Rest(_, _)) => unreachable!(),
-        None => None,
+    match hand.home_mut(site.table, below) {
+        Some(home) => match home {
+            Some(item) => {
+                let parcel = item.take_done();
+                *home = None;
+                Some(parcel)
+            }
+            None => None,
+        },
+        None => unreachable!(),
     }
 }
 
-/// Opens the step of a node that has no child, or one: takes what lies in its own home, and the
-/// child's parcel.
+/// Takes what the node keeps of its child out of its home.
 ///
-/// Step: one `take_home`, or two.
-/// Needs: the step begins here. This is the node's only child, where it has one.
-/// Afterwards: the homes are empty. Where no parcel of the child was there, the hand has just begun
-/// the node, or the node may rest with what lay in its home.
+/// Step: one load of the node's control word.
 #[inline(always)]
-pub fn take_out(
-    table: &OpTable<Item>,
+pub fn take_kept<R, G>(site: &Site<R, G>, hand: &mut Hand<Item>, taken: &Taken) -> Option<Parcel>
+    requires opened { IsOpen site.now taken.now hand.old }
+    ensures { TakesKept site.now taken.now result hand.old hand.new }
+{
+    match hand.item_mut(site.table, taken.name) {
+        Some(item) => item.take_kept(),
+        None => unreachable!(),
+    }
+}
+
+/// Takes what lies in the home of the only child of a node that has begun and awaits one child at a
+/// time: the parcel with which the child completed, or nothing.
+///
+/// Step: that of `take_child`.
+/// Needs: this is the node's only child, where it has one. It runs with the node's arguments.
+/// Afterwards: the homes of the node's children are empty.
+#[inline(always)]
+pub fn take_back<R, G>(
+    site: &Site<R, G>,
+    hand: &mut Hand<Item>,
+    taken: &Taken,
+    child: NodeId,
+) -> Option<Parcel>
+    requires only { IsOnlyChild site.now taken.now.name (Some child) }
+    requires one { TakesOne (node_at site.now taken.now.name) (Some child) }
+    requires opened { IsOpen site.now taken.now hand.old }
+    ensures takes { TakesBack site.now taken.now child result hand.old hand.new }
+    ensures found { IfSome result (IsFoundBelow site.now taken.now child hand.new.me) }
+{
+    take_child(site, hand, taken, child)
+}
+
+/// The same, where what the child completed with moves in place of what is no more wanted. Where
+/// nothing lay in the home, that stays.
+#[inline(always)]
+pub fn take_back_into<R, G>(
+    site: &Site<R, G>,
+    hand: &mut Hand<Item>,
+    taken: &Taken,
+    child: NodeId,
+    done: &mut Completion,
+) -> Option<Label>
+    requires only { IsOnlyChild site.now taken.now.name (Some child) }
+    requires one { TakesOne (node_at site.now taken.now.name) (Some child) }
+    requires opened { IsOpen site.now taken.now hand.old }
+    ensures { TakesBack site.now taken.now child
+        (option_map (λ label. delivery_of label done.new) result)
+        hand.old hand.new }
+{
+    let below = Name {
+        node: child,
+        ..taken.name
+    };
+    match hand.home_mut(site.table, below) {
+        Some(home) => match home {
+            Some(item) => {
+                let label = item.give_done(done);
+                *home = None;
+                Some(label)
+            }
+            None => None,
+        },
+        None => unreachable!(),
+    }
+}
+
+/// Takes up a node that awaits one child at a time, with what its child completed with.
+///
+/// Step: those of `take_up`; of a node that has begun those of `take_child` besides, and where no
+/// parcel lay there those of `take_kept`.
+/// Needs: the node isn't the receiver node, awaits one child at a time, and has this child alone,
+/// or none.
+/// Afterwards: the homes of its children are empty, and its own keeps no parcel.
+#[inline(always)]
+pub fn take_one<R, G>(
+    site: &Site<R, G>,
     hand: &mut Hand<Item>,
     name: Name,
     child: Option<NodeId>,
-) -> TakenOut
-    requires hand { IsHandOf table.now hand.old }
-    requires places { HasPlaces table.now.frame name }
-    requires only { IsOnlyChild table.now name child }
-    requires can { CanStep table.now name hand.old.me }
-    requires starts { AllCanStart table.now hand.old.me }
-    ensures stays { Stays table.now hand.old hand.new }
-    ensures takes { TakesOut table.now name child result hand.old.me hand.new.me }
+) -> TakenUp
+    requires may { MayStep site.now name hand.old }
+    requires only { IsOnlyChild site.now name child }
+    requires one { TakesOne (node_at site.now name) child }
+    ensures { TakesUp site.now name child result hand.old hand.new }
 {
-    let own = take_own(table, hand, name);
+    let (taken, state) = take_up(site, hand, name);
+    match state {
+        State::Start => TakenUp {
+            taken,
+            found: Found::Begun,
+        },
+        _ => find_below(site, hand, taken, child),
+    }
+}
+
+// Takes of a node that has begun what its child completed with, or else what it kept of it.
+#[inline(always)]
+fn find_below<R, G>(
+    site: &Site<R, G>,
+    hand: &mut Hand<Item>,
+    taken: Taken,
+    child: Option<NodeId>,
+) -> TakenUp
+    requires only { IsOnlyChild site.now taken.name child }
+    requires one { TakesOne (node_at site.now taken.name) child }
+    requires opened { IsOpen site.now taken hand.old }
+    ensures taken { result.taken ≡ taken }
+    ensures found { TakesFound site.now taken child result.found hand.old hand.new }
+{
     match child {
-        Some(child) => {
-            let below = take_below(table, hand, name, child);
-            TakenOut { own, below }
+        Some(below) => match take_back(site, hand, &taken, below) {
+            Some(parcel) => TakenUp {
+                taken,
+                found: Found::Back(parcel),
+            },
+            None => {
+                let kept = take_kept(site, hand, &taken);
+                TakenUp {
+                    taken,
+                    found: Found::Again(kept),
+                }
+            }
+        },
+        None => {
+            let kept = take_kept(site, hand, &taken);
+            TakenUp {
+                taken,
+                found: Found::Again(kept),
+            }
         }
-        None => TakenOut { own, below: None },
     }
 }

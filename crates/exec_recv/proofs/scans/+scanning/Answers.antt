@@ -1,4 +1,4 @@
-use Rattle.std.proofs.Common.{◌<◌, ◌≤◌, false, arith, inl, refl, sym, ap, ◌∙◌, subst}
+use Rattle.std.proofs.Common.{◌≡◌, ◌<◌, ◌≤◌, false, arith, inl, refl, sym, ap, ◌∙◌, subst}
 use Rattle.life_rules.specs.declared.event.Name.{Name}
 use Rattle.life_rules.specs.declared.event.SourceRef.{SourceRef}
 use Rattle.life_rules.specs.declared.event.SourceRef.TheVariants.{Node}
@@ -31,8 +31,8 @@ act-request_stop-requires-clause-source g t c κs =
 pub act-request_stop-requires-clause-needs : goal.act-request_stop-requires-clause-needs
 act-request_stop-requires-clause-needs g t c κs = inl (inl c.requires.inside.runs)
 
-pub act-run_scan-requires-clause-nests : goal.act-run_scan-requires-clause-nests
-act-run_scan-requires-clause-nests g t c κs within =
+pub act-run_scan-requires : goal.act-run_scan-requires
+act-run_scan-requires g t c κs within =
     let makes : MakesScan _ _ c.args.table.now (Node c.args.place) = record {
       tree = c.requires.over.is_tree;
       is_one = own-source c.args.table.now c.args.place c.requires.place
@@ -45,7 +45,11 @@ act-run_scan-requires-clause-nests g t c κs within =
       may = c.requires.inside.may;
       asked = c.in-Made.ensures.requested;
     } in
-    asked-nests makes
+    let falls = c.decreases in
+    let tree = c.args.table.now.frame.tree in
+    let same : depth_of tree c.in-Made.scan.source ≡ c.args.place.node =
+    ap (λ (s : Scan). depth_of tree s.source) makes.asked.answer_is.1 in
+    (omega (arith, falls, same), (within.0, (within.1, (c.request_stop.ensures.stays.hand, (c.requires.over, asked-nests makes)))))
 
 pub act-returns-in-Delay-clause-back : goal.act-returns-in-Delay-clause-back
 act-returns-in-Delay-clause-back g t c = roused-back c.args.table.now c.args.hand.now c.rouse.new.hand c.args.place c.rouse.result c.rouse.ensures.roused
@@ -237,18 +241,12 @@ run_scan-act-requires g t c κs within =
         (
           within.1,
           (
-            c.requires.sync,
+            c.next.ensures.stays.hand,
             (
-              c.requires.sync,
+              c.requires.over,
               (
-                c.next.ensures.stays.hand,
-                (
-                  c.requires.over,
-                  (
-                    subst (λ (x : Name). IsPlaceIn c.args.table.now x) place c.in-Some.ensures.place,
-                    subst (λ (x : Name). RunsInside c.next.new.hand.me.0 x) place inside,
-                  ),
-                ),
+                subst (λ (x : Name). IsPlaceIn c.args.table.now x) place c.in-Some.ensures.place,
+                subst (λ (x : Name). RunsInside c.next.new.hand.me.0 x) place inside,
               ),
             ),
           ),

@@ -1,29 +1,56 @@
-use Rattle.step_parts.proofs.Completed.{complete-starts, can-deliver}
-use Rattle.step_parts.proofs.Frames.{ready-is, stepped-after}
+use Rattle.std.proofs.Common.{ap, sym, ◌∙◌, subst}
+use Rattle.home_items.specs.Contents.{Done}
+use Rattle.home_items.specs.Parcels.{MayDeliver, parcel_with}
+use Rattle.op_slot.proofs.Loans.{if-there}
+use Rattle.step_parts.proofs.Changing.{taken-home, lent-goes, lent-start, lent-there, lent-changes}
+use Rattle.step_parts.proofs.Completed.{can-deliver, completes}
+use Rattle.step_parts.proofs.Ended.{taken-on}
 use Rattle.step_parts.proofs.completing.complete.Goals as goal
 
-pub settle-requires-clause-ready : goal.settle-requires-clause-ready
-settle-requires-clause-ready g c κs within =
-    ready-is c.args.table.now c.args.name c.args.parcel.start c.args.hand.now.me _ c.requires.may.ready
+pub item_mut-requires-clause-home : goal.item_mut-requires-clause-home
+item_mut-requires-clause-home g c κs =
+    taken-home _ _ _ (taken-on _ _ _ _ (rw (← c.site.view_is, ← c.taken.view_is) at c.settle.ensures.keeps) (rw (← c.site.view_is, ← c.taken.view_is) at c.requires.may).taken)
 
-pub deliver-requires-clause-can : goal.deliver-requires-clause-can
-deliver-requires-clause-can g c κs within =
-    can-deliver c.args.table.now c.args.name c.args.parcel c.args.hand.now.me c.settle.new.hand.me c.requires.may c.settle.ensures.keeps
-    c.requires.inner c.settle.ensures.settled
+pub end-failed-requires-clause-goes_on : goal.end-failed-requires-clause-goes_on
+end-failed-requires-clause-goes_on g c =
+    lent-goes _ _ _ (taken-on _ _ _ _ (rw (← c.site.view_is, ← c.taken.view_is) at c.settle.ensures.keeps) (rw (← c.site.view_is, ← c.taken.view_is) at c.requires.may).taken)
+    c.item_mut.result c.item_mut.ensures.value
+    c.in-Some.item c.in-Some.is
 
-pub deliver-requires-clause-starts : goal.deliver-requires-clause-starts
-deliver-requires-clause-starts g c κs within =
-    complete-starts c.args.table.now c.args.name c.args.parcel c.args.hand.now.me c.settle.new.hand.me c.requires.may
-    c.settle.ensures.keeps
+pub end-failed-requires-clause-may : goal.end-failed-requires-clause-may
+end-failed-requires-clause-may g c =
+    subst (λ s. MayDeliver s c.args.saw c.args.done.now)
+    (sym (lent-start _ _ _ (taken-on _ _ _ _ (rw (← c.site.view_is, ← c.taken.view_is) at c.settle.ensures.keeps) (rw (← c.site.view_is, ← c.taken.view_is) at c.requires.may).taken)
+    c.item_mut.result c.item_mut.ensures.value
+    c.in-Some.item c.in-Some.is))
+    (rw (← c.site.view_is, ← c.taken.view_is) at c.requires.may).allowed
 
-pub returns-clause-completed : goal.returns-clause-completed
-returns-clause-completed g c = record {
-  settled = c.settle.new.hand.me;
-  keeps = c.settle.ensures.keeps;
-  delivered = c.deliver.ensures.delivered;
+pub unreachable-requires : goal.unreachable-requires
+unreachable-requires g c =
+    lent-there _ _ _ (taken-on _ _ _ _ (rw (← c.site.view_is, ← c.taken.view_is) at c.settle.ensures.keeps) (rw (← c.site.view_is, ← c.taken.view_is) at c.requires.may).taken)
+    c.item_mut.result c.item_mut.ensures.value c.in-None.is
+
+pub deliver-requires : goal.deliver-requires
+deliver-requires g c = record {
+  can = rw (← c.site.view_is)
+      (can-deliver _ _ _ _ _ _ _ (rw (← c.site.view_is, ← c.taken.view_is) at c.requires.may)
+      (rw (← c.site.view_is, ← c.taken.view_is) at c.settle.ensures.keeps) (rw (← c.taken.view_is) at c.settle.ensures.settled)
+      (lent-changes _ _ _ (taken-on _ _ _ _ (rw (← c.site.view_is, ← c.taken.view_is) at c.settle.ensures.keeps) (rw (← c.site.view_is, ← c.taken.view_is) at c.requires.may).taken)
+      c.item_mut.result c.item_mut.ensures.value
+      c.in-Some.item c.in-Some.is c.end-failed.new.self _
+      (λ start. c.end-failed.ensures.ended ∙ ap (λ s. Done (parcel_with s c.args.done.now c.args.saw)) start)
+      _ (if-there _ (c.item_mut.follows.holds c.end-failed.new.self) c.in-Some.is))
+      _ c.end-failed.ensures.on c.end-failed.ensures.off);
 }
 
-pub returns-clause-stepped : goal.returns-clause-stepped
-returns-clause-stepped g c =
-    stepped-after c.args.table.now c.args.name c.args.hand.now.me c.settle.new.hand.me c.deliver.new.hand.me
-    c.settle.ensures.keeps.beside c.deliver.result c.deliver.ensures.stepped
+pub returns : goal.returns
+returns g c =
+    rw (← c.site.view_is, ← c.taken.view_is)
+    (completes _ _ _ _ _ _ _ (rw (← c.site.view_is, ← c.taken.view_is) at c.requires.may)
+    (rw (← c.site.view_is, ← c.taken.view_is) at c.settle.ensures.keeps) (rw (← c.taken.view_is) at c.settle.ensures.settled)
+    (lent-changes _ _ _ (taken-on _ _ _ _ (rw (← c.site.view_is, ← c.taken.view_is) at c.settle.ensures.keeps) (rw (← c.site.view_is, ← c.taken.view_is) at c.requires.may).taken)
+    c.item_mut.result c.item_mut.ensures.value
+    c.in-Some.item c.in-Some.is c.end-failed.new.self _
+    (λ start. c.end-failed.ensures.ended ∙ ap (λ s. Done (parcel_with s c.args.done.now c.args.saw)) start)
+    _ (if-there _ (c.item_mut.follows.holds c.end-failed.new.self) c.in-Some.is))
+    _ _ (rw (← c.site.view_is) at c.deliver.ensures.steps) (rw (← c.site.view_is) at c.deliver.ensures.delivers))

@@ -1,40 +1,54 @@
-use Rattle.step_parts.proofs.Wanted.{bare-leaves}
-use Rattle.std.proofs.Common.{List, sym, ap, ◌∙◌}
-use Rattle.std.proofs.lemmas.Bool.{both_ways}
-use Rattle.exec_value.specs.declared.data.Datum.{Datum}
-use Rattle.home_items.specs.Entries.{args_of}
+use Rattle.std.proofs.Common.{sym, ap, ◌∙◌}
+use Rattle.home_items.specs.Entries.{carried_of}
+use Rattle.op_slot.proofs.Loans.{if-there}
 use Rattle.step_parts.specs.Wants.{is_text_alone}
-use Rattle.step_parts.proofs.Frames.{ready-start}
+use Rattle.step_parts.proofs.Changing.{taken-home, lent-keeps, lent-start}
+use Rattle.step_parts.proofs.Wanted.{look-leaves, look-wants, ends-later, ends-now}
 use Rattle.step_parts.proofs.wanting.without_memory.Goals as goal
 
-pub leave_at_rest-requires-clause-may : goal.leave_at_rest-requires-clause-may
-leave_at_rest-requires-clause-may g c =
-    bare-leaves c.args.table.now c.args.plan.now c.args.name c.args.env c.args.hand.now.me c.requires.over c.requires.inner
-    c.requires.may.ready
+pub item_mut-requires-clause-home : goal.item_mut-requires-clause-home
+item_mut-requires-clause-home g c κs = taken-home _ _ _ (rw (← c.site.view_is, ← c.taken.view_is) at c.requires.may).taken
 
-pub deliver_no_memory-requires-clause-ready : goal.deliver_no_memory-requires-clause-ready
-deliver_no_memory-requires-clause-ready g c κs within =
-    ready-start c.args.table.now c.args.name c.args.env c.args.hand.now.me _ c.requires.may.ready
-
-pub deliver_no_memory-requires-clause-large : goal.deliver_no_memory-requires-clause-large
-deliver_no_memory-requires-clause-large g c κs within =
-    λ small.
-    both_ways (is_text_alone (args_of c.args.env))
-    (ap (λ (values : List Datum). is_text_alone values) (sym c.args-2.ensures) ∙ sym c.is_text_alone.ensures ∙ c.if-is_text_alone.false)
-    (c.requires.may.small small)
-
-pub returns-then-is_text_alone-clause-ends : goal.returns-then-is_text_alone-clause-ends
-returns-then-is_text_alone-clause-ends g c = record {
-  later = λ e. record { next_is = c.leave_at_rest.ensures.next; left = c.leave_at_rest.ensures.left };
-  now = λ e.
-      absurd (both_ways (is_text_alone (args_of c.args.env)) e
-      (ap (λ (values : List Datum). is_text_alone values) (sym c.args-2.ensures) ∙ sym c.is_text_alone.ensures ∙ c.if-is_text_alone.true));
+pub leave_at_rest-requires : goal.leave_at_rest-requires
+leave_at_rest-requires g c = record {
+  may = rw (← c.site.view_is, ← c.taken.view_is)
+      (look-leaves _ _ _ (rw (← c.site.view_is, ← c.taken.view_is) at c.requires.may) _ (lent-keeps _ _ _ (rw (← c.site.view_is, ← c.taken.view_is) at c.requires.may).taken c.item_mut.result c.item_mut.ensures.value
+      c.in-Some.item c.in-Some.is _
+      (if-there _ (c.item_mut.follows.holds c.in-Some.item.now) c.in-Some.is)));
 }
 
-pub returns-clause-ends : goal.returns-clause-ends
-returns-clause-ends g c = record {
-  later = λ e.
-      absurd (both_ways (is_text_alone (args_of c.args.env))
-      (ap (λ (values : List Datum). is_text_alone values) (sym c.args-2.ensures) ∙ sym c.is_text_alone.ensures ∙ c.if-is_text_alone.false) e);
-  now = λ e. c.deliver_no_memory.ensures.completed;
+pub want_memory-requires : goal.want_memory-requires
+want_memory-requires g c = record {
+  may = rw (← c.site.view_is, ← c.taken.view_is)
+      (look-wants _ _ _ (rw (← c.site.view_is, ← c.taken.view_is) at c.requires.may) _ (lent-keeps _ _ _ (rw (← c.site.view_is, ← c.taken.view_is) at c.requires.may).taken c.item_mut.result c.item_mut.ensures.value
+      c.in-Some.item c.in-Some.is _
+      (if-there _ (c.item_mut.follows.holds c.in-Some.item.now) c.in-Some.is))
+      (sym (c.is_text_alone-later.ensures ∙ ap is_text_alone (c.args-in-Some.ensures
+      ∙ ap carried_of (lent-start _ _ _ (rw (← c.site.view_is, ← c.taken.view_is) at c.requires.may).taken c.item_mut.result c.item_mut.ensures.value
+      c.in-Some.item c.in-Some.is)))
+      ∙ c.if-later.false));
 }
+
+pub returns-then-later : goal.returns-then-later
+returns-then-later g c =
+    rw (← c.site.view_is, ← c.taken.view_is)
+    (ends-later _ _ _ (rw (← c.site.view_is, ← c.taken.view_is) at c.requires.may) _ (lent-keeps _ _ _ (rw (← c.site.view_is, ← c.taken.view_is) at c.requires.may).taken c.item_mut.result c.item_mut.ensures.value
+    c.in-Some.item c.in-Some.is _
+    (if-there _ (c.item_mut.follows.holds c.in-Some.item.now) c.in-Some.is)) _ _
+    (sym (c.is_text_alone-later.ensures ∙ ap is_text_alone (c.args-in-Some.ensures
+    ∙ ap carried_of (lent-start _ _ _ (rw (← c.site.view_is, ← c.taken.view_is) at c.requires.may).taken c.item_mut.result c.item_mut.ensures.value
+    c.in-Some.item c.in-Some.is)))
+    ∙ c.if-later.true)
+    (rw (← c.site.view_is, ← c.taken.view_is) at c.leave_at_rest.ensures))
+
+pub returns : goal.returns
+returns g c =
+    rw (← c.site.view_is, ← c.taken.view_is)
+    (ends-now _ _ _ (rw (← c.site.view_is, ← c.taken.view_is) at c.requires.may) _ (lent-keeps _ _ _ (rw (← c.site.view_is, ← c.taken.view_is) at c.requires.may).taken c.item_mut.result c.item_mut.ensures.value
+    c.in-Some.item c.in-Some.is _
+    (if-there _ (c.item_mut.follows.holds c.in-Some.item.now) c.in-Some.is)) _ _
+    (sym (c.is_text_alone-later.ensures ∙ ap is_text_alone (c.args-in-Some.ensures
+    ∙ ap carried_of (lent-start _ _ _ (rw (← c.site.view_is, ← c.taken.view_is) at c.requires.may).taken c.item_mut.result c.item_mut.ensures.value
+    c.in-Some.item c.in-Some.is)))
+    ∙ c.if-later.false)
+    (rw (← c.site.view_is, ← c.taken.view_is) at c.want_memory.ensures))

@@ -1,4 +1,0 @@
-pub mod Lists
-pub mod ReadIdle
-pub mod Awaited
-pub mod Put

@@ -1,4 +1,0 @@
-pub mod Kids
-pub mod Starting
-pub mod Awaits
-pub mod Puts

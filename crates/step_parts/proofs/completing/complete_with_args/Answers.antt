@@ -1,0 +1,58 @@
+use Rattle.std.proofs.Common.{false, ap, sym, ◌∙◌, subst}
+use Rattle.exec_value.specs.declared.outcome.Completion.TheVariants.{Value}
+use Rattle.home_items.specs.Contents.{Done}
+use Rattle.home_items.specs.Entries.{carried_of}
+use Rattle.home_items.specs.Parcels.{MayDeliver, parcel_with}
+use Rattle.op_slot.proofs.Loans.{if-there}
+use Rattle.step_parts.proofs.Changing.{taken-home, lent-goes, lent-start, lent-there, lent-changes}
+use Rattle.step_parts.proofs.Completed.{can-deliver, completes}
+use Rattle.step_parts.proofs.Ended.{taken-on}
+use Rattle.step_parts.proofs.completing.complete_with_args.Goals as goal
+
+pub item_mut-requires-clause-home : goal.item_mut-requires-clause-home
+item_mut-requires-clause-home g c κs =
+    taken-home _ _ _ (taken-on _ _ _ _ (rw (← c.site.view_is, ← c.taken.view_is) at c.settle.ensures.keeps) (rw (← c.site.view_is, ← c.taken.view_is) at c.requires.may).taken)
+
+pub end_with_args-requires-clause-goes_on : goal.end_with_args-requires-clause-goes_on
+end_with_args-requires-clause-goes_on g c =
+    lent-goes _ _ _ (taken-on _ _ _ _ (rw (← c.site.view_is, ← c.taken.view_is) at c.settle.ensures.keeps) (rw (← c.site.view_is, ← c.taken.view_is) at c.requires.may).taken)
+    c.item_mut.result c.item_mut.ensures.value
+    c.in-Some.item c.in-Some.is
+
+pub end_with_args-requires-clause-may : goal.end_with_args-requires-clause-may
+end_with_args-requires-clause-may g c =
+    subst (λ s. MayDeliver s false (Value (carried_of s)))
+    (sym (lent-start _ _ _ (taken-on _ _ _ _ (rw (← c.site.view_is, ← c.taken.view_is) at c.settle.ensures.keeps) (rw (← c.site.view_is, ← c.taken.view_is) at c.requires.may).taken)
+    c.item_mut.result c.item_mut.ensures.value
+    c.in-Some.item c.in-Some.is))
+    (rw (← c.site.view_is, ← c.taken.view_is) at c.requires.may).allowed
+
+pub unreachable-requires : goal.unreachable-requires
+unreachable-requires g c =
+    lent-there _ _ _ (taken-on _ _ _ _ (rw (← c.site.view_is, ← c.taken.view_is) at c.settle.ensures.keeps) (rw (← c.site.view_is, ← c.taken.view_is) at c.requires.may).taken)
+    c.item_mut.result c.item_mut.ensures.value c.in-None.is
+
+pub deliver-requires : goal.deliver-requires
+deliver-requires g c = record {
+  can = rw (← c.site.view_is)
+      (can-deliver _ _ _ _ _ _ _ (rw (← c.site.view_is, ← c.taken.view_is) at c.requires.may)
+      (rw (← c.site.view_is, ← c.taken.view_is) at c.settle.ensures.keeps) (rw (← c.taken.view_is) at c.settle.ensures.settled)
+      (lent-changes _ _ _ (taken-on _ _ _ _ (rw (← c.site.view_is, ← c.taken.view_is) at c.settle.ensures.keeps) (rw (← c.site.view_is, ← c.taken.view_is) at c.requires.may).taken)
+      c.item_mut.result c.item_mut.ensures.value
+      c.in-Some.item c.in-Some.is c.end_with_args.new.self _
+      (λ start. c.end_with_args.ensures ∙ ap (λ s. Done (parcel_with s (Value (carried_of s)) false)) start)
+      _ (if-there _ (c.item_mut.follows.holds c.end_with_args.new.self) c.in-Some.is))
+      false (λ e. cc) (λ e. absurd e));
+}
+
+pub returns : goal.returns
+returns g c =
+    rw (← c.site.view_is, ← c.taken.view_is)
+    (completes _ _ _ _ _ _ _ (rw (← c.site.view_is, ← c.taken.view_is) at c.requires.may)
+    (rw (← c.site.view_is, ← c.taken.view_is) at c.settle.ensures.keeps) (rw (← c.taken.view_is) at c.settle.ensures.settled)
+    (lent-changes _ _ _ (taken-on _ _ _ _ (rw (← c.site.view_is, ← c.taken.view_is) at c.settle.ensures.keeps) (rw (← c.site.view_is, ← c.taken.view_is) at c.requires.may).taken)
+    c.item_mut.result c.item_mut.ensures.value
+    c.in-Some.item c.in-Some.is c.end_with_args.new.self _
+    (λ start. c.end_with_args.ensures ∙ ap (λ s. Done (parcel_with s (Value (carried_of s)) false)) start)
+    _ (if-there _ (c.item_mut.follows.holds c.end_with_args.new.self) c.in-Some.is))
+    _ _ (rw (← c.site.view_is) at c.deliver.ensures.steps) (rw (← c.site.view_is) at c.deliver.ensures.delivers))

@@ -1,0 +1,19 @@
+use Rattle.std.proofs.Common.{sym, subst}
+use Rattle.step_parts.specs.Stepping.{Stepping}
+use Rattle.step_parts.specs.Takes.{TakesUp}
+use Rattle.step_parts.proofs.Finding.{up-new, up-found}
+use Rattle.step_parts.proofs.taking.take_one.Goals as goal
+
+pub returns-in-Start : goal.returns-in-Start
+returns-in-Start g c =
+    up-new c.args.site.now c.args.name c.args.child c.args.hand.now c.take_up-taken.new.hand c.requires.may c.take_up-taken.result.0
+    c.take_up-taken.result.1 c.take_up-taken.ensures c.in-Start.is c.requires.only
+
+pub returns-in_default : goal.returns-in_default
+returns-in_default g c =
+    subst (λ (t : Stepping). TakesUp c.args.site.now c.args.name c.args.child (record { taken = t; found = c.find_below.result.found })
+    c.args.hand.now c.find_below.new.hand)
+    (sym c.find_below.ensures.taken)
+    (up-found c.args.site.now c.args.name c.args.child c.args.hand.now c.take_up-taken.new.hand c.requires.may c.take_up-taken.result.0
+    c.take_up-taken.result.1 c.take_up-taken.ensures c.in_default.not-Start c.find_below.result.found c.find_below.new.hand
+    c.find_below.ensures.found)

@@ -1,0 +1,21 @@
+-- What contracts see of a node that a step has taken up.
+use Rattle.std.specs.Prelude.{◌≡◌, ℕ, Bool, List, Option}
+use Rattle.life_rules.specs.declared.event.Name.{Name}
+use Rattle.home_items.specs.declared.entry.Entry.{Entry}
+use Rattle.home_items.specs.Entries.{record_number, asked_of, child_of}
+use Rattle.home_items.specs.Starts.{IsStart}
+use Rattle.exec_recv.specs.Seats.{HandSeat}
+
+-- its name, its start, and the hand as the step began
+pub record Stepping : Type 0 where
+  pub name : Name
+  pub start : List Entry
+  pub from : HandSeat
+
+-- the start has this record number, `asked` and child
+pub record IsHead (number : ℕ) (asked : Bool) (child : Option ℕ) (start : List Entry) :
+    Type 0 where
+  pub start_is : IsStart start
+  pub number_is : record_number start ≡ number
+  pub asked_is : asked_of start ≡ asked
+  pub child_is : child_of start ≡ child
