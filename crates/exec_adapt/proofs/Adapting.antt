@@ -1,54 +1,41 @@
 -- How the step of an adaptor goes on from what lay in the homes.
-use Rattle.std.specs.Prelude.{Contains, slice_get, max, is_some, IfSome}
-use Rattle.std.proofs.Common.{◌≡◌, ◌≢◌, ℕ, Bool, true, List, [], ◌∷◌, Option, Some, None, refl, sym, ap, ◌∙◌, subst, arith}
-use Rattle.std.proofs.lemmas.Option.{same_Some}
-use Rattle.exec_value.specs.declared.outcome.Completion.{Completion}
-use Rattle.exec_value.specs.declared.outcome.Completion.TheVariants.{Error, NoMemory}
+use Rattle.std.specs.Prelude.{Contains, IfSome}
+use Rattle.std.proofs.Common.{◌≡◌, ℕ, Bool, true, false, List, [], ◌∷◌, Option, Some, None, refl, sym, ap, ◌∙◌, subst, arith}
 use Rattle.life_rules.specs.declared.event.Name.{Name}
+use Rattle.node_tree.specs.Tree.{is_root}
 use Rattle.plan_rules.specs.declared.node.Node.{Node}
 use Rattle.plan_rules.specs.declared.node.Node.TheVariants.{Then, UponError, UponStopped, StoppedAsOptional, StoppedAsError}
 use Rattle.plan_shape.specs.Blueprint.{Blueprint}
-use Rattle.plan_kinds.specs.Runnable.{IsRunnable}
-use Rattle.plan_kinds.specs.Small.{IsSmall, own_name}
-use Rattle.common_lemmas.specs.Sums.{one}
 use Rattle.table_steps.specs.Views.{Board}
-use Rattle.table_steps.specs.Claims.{Seated}
+use Rattle.table_steps.specs.Readings.{KnowsIdle}
 use Rattle.home_items.specs.declared.entry.Entry.{Entry}
 use Rattle.home_items.specs.declared.item.Item.{Item}
-use Rattle.home_items.specs.declared.item.Item.TheVariants.{Rest, Done}
+use Rattle.home_items.specs.declared.item.State.{State}
+use Rattle.home_items.specs.declared.item.State.TheVariants.{Start as Begins}
 use Rattle.home_items.specs.Below.{run_below, asked_below}
 use Rattle.home_items.specs.Bounds.{least_of, least_at_rest}
-use Rattle.home_items.specs.Entries.{plan_of, asked_of}
+use Rattle.home_items.specs.Contents.{Start, Rest, Done}
+use Rattle.home_items.specs.Entries.{asked_of}
 use Rattle.home_items.specs.Fits.{IsItemOf}
-use Rattle.home_items.specs.Items.{parcel_in, saw_in}
-use Rattle.home_items.specs.Parcels.{Delivery, IsDelivery, MayDeliver}
-use Rattle.home_items.specs.Starts.{IsStart}
-use Rattle.exec_recv.specs.Over.{IsOver}
-use Rattle.start_laws.specs.Nodes.{IsStartOf, plain_children, JobTakes}
+use Rattle.home_items.specs.Items.{is_start, saw_in, state_of}
+use Rattle.home_items.specs.Parcels.{Delivery}
+use Rattle.exec_recv.specs.Seats.{HandSeat}
+use Rattle.exec_recv.specs.Sites.{node_at, MayStep}
+use Rattle.exec_recv.specs.Steppable.{CanStep}
+use Rattle.start_laws.specs.Nodes.{IsStartOf, plain_children}
 use Rattle.start_laws.proofs.Bounding.{few-begun}
-use Rattle.start_laws.proofs.ImageCases.{images-allowed, want-passes}
-use Rattle.start_laws.proofs.Knowing.{from-plain}
-use Rattle.start_laws.proofs.Operands.{jobs-take}
 use Rattle.start_laws.proofs.Pairs.{none-some, below-plain}
-use Rattle.start_laws.proofs.Rooms.{room-there}
-use Rattle.step_parts.specs.declared.taken.AtHome.{AtHome}
-use Rattle.step_parts.specs.declared.taken.AtHome.TheVariants.{Start as Unbegun, Rest as Rested}
-use Rattle.step_parts.specs.declared.taken.TakenOut.{TakenOut}
-use Rattle.step_parts.specs.Completes.{MayComplete}
 use Rattle.step_parts.specs.Heard.{MaySee}
-use Rattle.step_parts.specs.Leaves.{MayLeave}
 use Rattle.step_parts.specs.Midway.{Ready}
 use Rattle.step_parts.specs.Starts.{RunsBelow, asked_for_child, MayRun}
-use Rattle.step_parts.specs.TakenOut.{item_at, start_at, least_known, IsFoundBelow, TakesOut}
-use Rattle.step_parts.proofs.Frames.{emptying-less}
-use Rattle.step_parts.proofs.Places.{source-none, start-of}
-use Rattle.step_parts.proofs.Telling.{found-done, kept-from, from-keeps}
-use Rattle.exec_adapt.specs.Ends.{MayPass, MayName}
-use Rattle.exec_adapt.specs.Images.{names_error, adapted_to, StandsButForName}
+use Rattle.step_parts.specs.Stepping.{Stepping}
+use Rattle.step_parts.specs.Takes.{HasParcel, IsOnlyChild, IsOpen, IsTaken, TakesBack, TakesKept, TakesOne, TakesState}
+use Rattle.step_parts.proofs.Reading.{begun-idle}
+use Rattle.step_parts.proofs.Took.{taken-inner, taken-of}
+use Rattle.exec_adapt.specs.Ends.{MayGoOn, MayGoOnAgain, MayPass}
 use Rattle.exec_adapt.specs.Kinds.{IsAdaptor, adapted}
-use Rattle.exec_adapt.specs.Openings.{newest, parcel_at}
-use Rattle.exec_adapt.proofs.Making.{image-any, image-named}
-use Rattle.exec_adapt.proofs.Places.{adaptor-is, adaptor-runs, adaptor-plain, adaptor-awaits, adaptor-makes, adaptor-sees}
+use Rattle.exec_adapt.proofs.Places.{adaptor-is, adaptor-only, adaptor-one, adaptor-runs, adaptor-plain}
+use Rattle.exec_adapt.proofs.Rested.{kept-taken, kept-has}
 
 -- a rest of an adaptor that keeps a parcel has begun a child
 keeps-one : (node : Node) → IsAdaptor node → (parcel : Delivery) → least_at_rest (Some node) (Some parcel) ≡ 1
@@ -79,141 +66,117 @@ child-runs [] node child at among = none-some at.node_is
 child-runs (p ∷ above) node child at among =
     subst (λ o. Contains (run_below o p) child) (sym at.node_is) (below-plain node p child among)
 
--- The homes were emptied.
-module _ (board : Board Blueprint) (plan : Blueprint) (x : Name) (node : Node) (child : ℕ) (over : IsOver board plan)
-    (runnable : IsRunnable plan) (at : slice_get plan.nodes x.node ≡ Some node) (adapts : adapted node ≡ Some child)
-    (m : Seated Item Entry) where
-  abbrev is : IsAdaptor node
-  is = adaptor-is node child adapts
+-- An adaptor was taken up whose children's homes are empty: its child can be started.
+pub adaptor-runs-child : (board : Board Blueprint) (t : Stepping) (node : Node) (child : ℕ) (hand : HandSeat) → IsTaken board t hand →
+    node_at board t.name ≡ Some node → adapted node ≡ Some child → (asked : Bool) → asked ≡ asked_of t.start → MayRun board t child asked hand
+adaptor-runs-child board t node child hand taken at adapts asked asked_is =
+    let is = adaptor-is node child adapts in
+    let of = taken-of board t hand taken node at in
+    let none : least_of (Rest t.start None) ≡ 0 = few-begun.idle t.start node of.node_is (adaptor-plain node is) in
+    record {
+      taken = taken;
+      few = subst (λ k. Ready board t.name t.start k hand.me) (sym none) taken.ready;
+      least = omega (arith, none);
+      runs = child-runs t.start node child of (adaptor-runs node child adapts);
+      asked_is = asked_is ∙ child-asked t.start node of is;
+    }
 
-  -- what lay in the child's home, else what was kept, is the child's
-  pass-from : (own : AtHome) (below : Option Delivery) → Ready board x (start_at own) (max (least_of (item_at own)) (one (is_some below))) m →
-      IsItemOf (item_at own) x.node → MaySee board x (saw_in (item_at own)) m → IfSome (parcel_in (item_at own)) IsDelivery →
-      IfSome below (IsFoundBelow board x (start_at own) child m) → IsStartOf (start_at own) node → (parcel : Delivery) →
-      newest below (parcel_in (item_at own)) ≡ Some parcel → MayPass board x (start_at own) parcel m
-  pass-from own (Some q) ready of saw kept found of_node parcel e =
-      let start = start_at own in
-      let done = found-done board x start child m q found of_node.start_is (source-none board plan x node over at (adaptor-plain node is)) in
-      subst (λ (p : Delivery). MayPass board x start p m) (same_Some q parcel e)
-      (record {
-        ready = emptying-less board x start m (max (least_of (item_at own)) 1) 1 (λ _. None) (omega arith) ready;
-        from = from-plain start q child _ done node of_node (adaptor-runs node child adapts);
-      })
-  pass-from (Rested start (Some q)) None ready of saw kept found of_node parcel e =
-      let least : least_of (Rest start (Some q)) ≡ 1 = ap (λ o. least_at_rest o (Some q)) of_node.node_is ∙ keeps-one node is q in
-      subst (λ (p : Delivery). MayPass board x start p m) (same_Some q parcel e)
-      (record {
-        ready = emptying-less board x start m (max (least_of (Rest start (Some q))) 0) 1 (λ _. None) (omega (arith, least)) ready;
-        from = kept-from board x start m q of kept saw;
-      })
-  pass-from (Rested start None) None ready of saw kept found of_node parcel e = none-some e
-  pass-from (Unbegun start) None ready of saw kept found of_node parcel e = none-some e
+-- It was taken up.
+module _ (board : Board Blueprint) (x : Name) (node : Node) (child : ℕ) (at : node_at board x ≡ Some node) (adapts : adapted node ≡ Some child)
+    (taken : Stepping) (state : State) (old up : HandSeat) (takes : TakesState board x taken state old up) (may : MayStep board x old) where
+  abbrev can : CanStep board x old.me
+  can = may.can
 
-  module _ (taken : TakenOut) (m0 : Seated Item Entry) (takes : TakesOut board x (Some child) taken m0 m)
-      (env : List Entry) (env_is : env ≡ start_at taken.own) (starts : IsStart env) where
-    pub own-starts : IsStart (start_at taken.own)
-    own-starts = subst IsStart env_is starts
+  pub same-at : node_at board taken.name ≡ Some node
+  same-at = ap (node_at board) takes.name_is ∙ at
 
-    own-of : IsStartOf (start_at taken.own) node
-    own-of = start-of board plan x node over at (start_at taken.own) (least_known taken) (λ _. None) m runnable takes.ready own-starts
+  -- where it has begun nothing, it starts its child
+  module _ (begins : state ≡ Begins) where
+    first : is_start can.item ≡ true
+    first = start-is can.item (sym (takes.state_is can) ∙ begins)
+      where
+        start-is : (item : Item) → state_of item ≡ Begins → is_start item ≡ true
+        start-is (Start start) is = refl
+        start-is (Rest start None) is = cc
+        start-is (Rest start (Some parcel)) is = cc
+        start-is (Done parcel) is = cc
 
-    pub env-of : IsStartOf env node
-    env-of = subst (λ (s : List Entry). IsStartOf s node) (sym env_is) own-of
+    pub first-runs : (asked : Bool) → asked ≡ asked_of taken.start → MayRun board taken child asked up
+    first-runs asked asked_is = adaptor-runs-child board taken node child up (takes.fresh can first) same-at adapts asked asked_is
 
-    pub taken-passes : (parcel : Delivery) → parcel_at taken ≡ Some parcel → MayPass board x env parcel m
-    taken-passes parcel e =
-        subst (λ (s : List Entry). MayPass board x s parcel m) (sym env_is)
-        (pass-from taken.own taken.below takes.ready takes.of takes.saw takes.kept takes.below own-of parcel e)
+    pub first-idle : KnowsIdle taken.name child up.me
+    first-idle =
+        subst (λ (y : Name). KnowsIdle y child up.me) (sym takes.name_is)
+        (begun-idle board x child up.me ((adaptor-only board x node may.site at child adapts).is child refl) (takes.begun can first))
 
-    -- else the child can be started
-    pub taken-runs : (asked : Bool) → asked ≡ asked_of env → MayRun board x env child asked m
-    taken-runs asked asked_is =
-        let none : least_of (Rest env None) ≡ 0 = few-begun.idle env node env-of.node_is (adaptor-plain node is) in
-        record {
-          ready = subst (λ (s : List Entry). Ready board x s (least_of (Rest env None)) m) (sym env_is)
-              (emptying-less board x (start_at taken.own) m (least_known taken) (least_of (Rest env None)) (λ _. None)
-              (omega (arith, none)) takes.ready);
-          few = omega (arith, none);
-          runs = child-runs env node child env-of (adaptor-runs node child adapts);
-          asked_is = asked_is ∙ child-asked env node env-of is;
-        }
+    pub first-inner : is_root board.frame.tree taken.name.node ≡ false
+    first-inner = taken-inner board taken up (takes.fresh can first) node same-at
 
--- The child has completed.
-module _ (board : Board Blueprint) (x : Name) (start : List Entry) (node : Node) (parcel : Delivery) (m : Seated Item Entry)
-    (is : IsAdaptor node) (at : IsStartOf start node) (pass : MayPass board x start parcel m) where
-  -- the node's job takes what it completed with
-  pub pass-takes : JobTakes node parcel.completion
-  pass-takes = jobs-take start node at parcel pass.from.delivers pass.from.child
+  -- else it goes on
+  pub taken-goes : MayGoOn board taken node child up
+  taken-goes = record {
+    inside = can.item;
+    kid = can.kid;
+    rested = record {
+      is = takes.opened can;
+      of = subst (λ (y : Name). IsItemOf can.item y.node) (sym takes.name_is) (takes.of can);
+      saw = subst (λ (y : Name). MaySee board y (saw_in can.item) up.me) (sym takes.name_is) (takes.saw can);
+    };
+    node_is = same-at;
+    child_is = adapts;
+  }
 
-  -- what the node makes of it may be delivered
-  pub pass-may : MayDeliver start parcel.saw (adapted_to node parcel.completion)
-  pass-may =
-      subst (λ (c : Completion). MayDeliver start parcel.saw c) (image-any node is (asked_of start) parcel.completion)
-      (images-allowed start node at parcel pass.from.delivers pass.from.child (adaptor-makes node is parcel.completion)
-      (adaptor-sees node is parcel.saw))
+-- It had begun: it goes on with what the child completed with.
+module _ (board : Board Blueprint) (t : Stepping) (node : Node) (child : ℕ) (old : HandSeat) (may : MayGoOn board t node child old) where
+  pub goes-only : IsOnlyChild board t.name (Some child)
+  goes-only = adaptor-only board t.name node may.rested.is.site may.node_is child may.child_is
 
-  pass-memory : IsSmall (plan_of start) → adapted_to node parcel.completion ≢ NoMemory
-  pass-memory small =
-      subst (λ (c : Completion). c ≢ NoMemory) (image-any node is (asked_of start) parcel.completion)
-      (want-passes.no_other start node at parcel pass.from.delivers pass.from.child (adaptor-makes node is parcel.completion)
-      (adaptor-sees node is parcel.saw) (pass.from.small small))
+  pub goes-one : TakesOne (node_at board t.name) (Some child)
+  goes-one = adaptor-one board t.name node may.rested.is.site may.node_is child may.child_is
 
-  pub pass-completes : MayComplete board x (record { start = start; completion = adapted_to node parcel.completion; saw = parcel.saw }) m
-  pass-completes =
-      let image : Delivery = record { start = start; completion = adapted_to node parcel.completion; saw = parcel.saw } in
+  pub goes-open : IsOpen board t old
+  goes-open = record { inside = may.inside; kid = may.kid; is = may.rested.is }
+
+  module _ (answer : Option Delivery) (new : HandSeat) (back : TakesBack board t child answer old new) where
+    pub back-passes : (parcel : Delivery) → answer ≡ Some parcel → MayPass board t node parcel new
+    back-passes parcel is = record {
+      taken = back.taken;
+      node_is = may.node_is;
+      adaptor = adaptor-is node child may.child_is;
+      has = subst (λ (o : Option Delivery). IfSome o (HasParcel board t new.me)) is back.parcel;
+    }
+
+    pub back-goes : MayGoOnAgain board t node child new
+    back-goes = record {
+      inside = may.inside;
+      rested = record {
+        is = back.own may.inside may.kid may.rested.is;
+        of = may.rested.of;
+        saw = λ silent. may.rested.saw (sym back.keeps.heard ∙ silent);
+      };
+      node_is = may.node_is;
+      child_is = may.child_is;
+    }
+
+-- It had rested: it goes on with what it kept of its child, or its child can be started.
+module _ (board : Board Blueprint) (t : Stepping) (node : Node) (child : ℕ) (old : HandSeat) (may : MayGoOnAgain board t node child old) (kept : Option Delivery)
+    (new : HandSeat) (takes : TakesKept board t kept old new) where
+  abbrev is-taken : IsTaken board t new
+  is-taken = kept-taken board t may.inside old new may.rested kept takes
+
+  pub kept-passes : (parcel : Delivery) → kept ≡ Some parcel → MayPass board t node parcel new
+  kept-passes parcel is =
+      let adaptor = adaptor-is node child may.child_is in
       record {
-        ready = emptying-less board x start m 1 (least_of (Done image)) (λ _. None)
-            (few-begun.one image node at.node_is (adaptor-awaits node is)) pass.ready;
-        saw = pass.from.saw;
-        small = pass-memory;
+        taken = is-taken;
+        node_is = may.node_is;
+        adaptor = adaptor;
+        has = kept-has board t may.inside old new may.rested kept takes parcel is
+            (ap (λ o. least_at_rest o (Some parcel)) (taken-of board t new is-taken node may.node_is).node_is ∙ keeps-one node adaptor parcel);
       }
 
-  -- what was made so may be delivered
-  module _ (done : Completion) (saw : Bool) (same : done ≡ adapted_to node parcel.completion) (same_saw : saw ≡ parcel.saw) where
-    pub image-may : MayDeliver start saw done
-    image-may =
-        subst (λ (s : Bool). MayDeliver start s done) (sym same_saw)
-        (subst (λ (c : Completion). MayDeliver start parcel.saw c) (sym same) pass-may)
+  pub kept-runs : (asked : Bool) → asked ≡ asked_of t.start → MayRun board t child asked new
+  kept-runs asked asked_is = adaptor-runs-child board t node child new is-taken may.node_is may.child_is asked asked_is
 
-    pub image-completes : (image : Delivery) → image ≡ record { start = start; completion = done; saw = saw } →
-        MayComplete board x image m
-    image-completes image made =
-        subst (λ (p : Delivery). MayComplete board x p m) (sym made)
-        (subst (λ (s : Bool). MayComplete board x (record { start = start; completion = done; saw = s }) m) (sym same_saw)
-        (subst (λ (c : Completion). MayComplete board x (record { start = start; completion = c; saw = parcel.saw }) m) (sym same)
-        pass-completes))
-
-  -- with the parcel it may rest
-  pass-leaves : MayLeave board x start (Some parcel) m
-  pass-leaves =
-      record {
-        keep = from-keeps board x start m parcel
-            (emptying-less board x start m 1 (least_of (Rest start (Some parcel))) (λ _. None)
-            (few-begun.rest start node at.node_is (adaptor-awaits node is) (Some parcel)) pass.ready) pass.from;
-        rests = record { rest = tt; kept = λ small last. pass.from.small small };
-      }
-
-  -- it may complete with the error that it names, or rest so
-  pass-named : names_error node parcel.completion ≡ true → MayName board x start (Some parcel) parcel.saw (own_name node) m
-  pass-named named =
-      let image : adapted_to node parcel.completion ≡ Error (own_name node) = image-named node parcel.completion named in
-      record {
-        may = subst (λ (c : Completion). MayDeliver start parcel.saw c) image pass-may;
-        completes = subst (λ (c : Completion). MayComplete board x (record { start = start; completion = c; saw = parcel.saw }) m)
-            image pass-completes;
-        leaves = pass-leaves;
-      }
-
-  pub pass-names : (saw : Bool) (error : List ℕ) → saw ≡ parcel.saw → error ≡ own_name node →
-      names_error node parcel.completion ≡ true → MayName board x start (Some parcel) saw error m
-  pass-names saw error same_saw same named =
-      subst (λ (s : Bool). MayName board x start (Some parcel) s error m) (sym same_saw)
-      (subst (λ (e : List ℕ). MayName board x start (Some parcel) parcel.saw e m) (sym same) (pass-named named))
-
-  -- in a small plan what it makes stands in place, but for an error's name
-  pub pass-stands : IsSmall (plan_of start) → StandsButForName (adapted_to node parcel.completion)
-  pass-stands small = room-there.in_place start node at small parcel.saw (adapted_to node parcel.completion) pass-may
-
-  -- from there it may also want memory
-  pub pass-empty : Ready board x start 0 m
-  pass-empty = emptying-less board x start m 1 0 (λ _. None) (omega arith) pass.ready
+  pub kept-inner : is_root board.frame.tree t.name.node ≡ false
+  kept-inner = taken-inner board t new is-taken node may.node_is

@@ -1,10 +1,11 @@
 pub mod Making
 pub mod Places
+pub mod MakingOwn
+pub mod Passing
+pub mod Rested
 pub mod Adapting
-pub mod Leafing
-pub mod Looks
 pub mod TopPlaces
 pub mod Emptied
-pub mod TopTaken
 pub mod Receiving
-pub mod Found
+pub mod TopTaken
+pub mod Stepped

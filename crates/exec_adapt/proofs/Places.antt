@@ -1,7 +1,7 @@
 -- Where the nodes stand that are stepped here, and whose starts they have.
-use Rattle.std.specs.Prelude.{Contains, slice_get}
+use Rattle.std.specs.Prelude.{Contains, is_some}
 use Rattle.std.specs.Option.{option_to_list}
-use Rattle.std.proofs.Common.{◌≡◌, ℕ, Bool, false, [], ◌∷◌, Some, None, refl, ap, arith}
+use Rattle.std.proofs.Common.{◌≡◌, ℕ, Bool, true, false, [], ◌∷◌, Option, Some, None, refl, sym, ap, subst, arith}
 use Rattle.std.proofs.lemmas.Option.{same_Some}
 use Rattle.life_rules.specs.declared.event.Name.{Name}
 use Rattle.plan_rules.specs.declared.node.Node.{Node}
@@ -10,13 +10,12 @@ use Rattle.plan_shape.specs.Blueprint.{Blueprint}
 use Rattle.plan_shape.specs.Children.{children_of}
 use Rattle.plan_shape.specs.PlanTree.{is_when_all, spawns}
 use Rattle.table_steps.specs.Views.{Board}
-use Rattle.exec_recv.specs.Over.{IsOver}
+use Rattle.exec_recv.specs.Sites.{IsSite, node_at, plan_at}
 use Rattle.start_laws.specs.Nodes.{plain_children, AwaitsOne, MakesImage, MayHaveSeen}
-use Rattle.start_laws.specs.Leaves.{IsLeaf}
 use Rattle.exec_value.specs.declared.outcome.Completion.{Completion}
-use Rattle.step_parts.specs.TakenOut.{IsOnlyChild}
+use Rattle.step_parts.specs.Takes.{IsOnlyChild, TakesOne}
 use Rattle.step_parts.proofs.Only.{only-named}
-use Rattle.exec_adapt.specs.Kinds.{IsFactory, IsAdaptor, adapted, CanAdvance}
+use Rattle.exec_adapt.specs.Kinds.{IsFactory, IsFactoryNode, IsAdaptor, IsAdaptorNode, IsReceiverNode, adapted}
 
 -- an adaptor has one child, which runs with its arguments, and no source
 pub adaptor-is : (node : Node) (child : ℕ) → adapted node ≡ Some child → IsAdaptor node
@@ -103,43 +102,38 @@ factory-spawns JustStopped is k = refl
 factory-spawns (ReadEnv query) is k = refl
 factory-spawns node is k = absurd is
 
-pub factory-leaf : (node : Node) → IsFactory node → IsLeaf node
-factory-leaf Input is = tt
-factory-leaf (Just values) is = tt
-factory-leaf (JustError name) is = tt
-factory-leaf JustStopped is = tt
-factory-leaf (ReadEnv query) is = tt
-factory-leaf node is = absurd is
+-- the node that stands there
+pub factory-at : (o : Option Node) → IsFactoryNode o → is_some o ≡ true
+factory-at None is = absurd is
+factory-at (Some node) is = refl
 
-pub factory-plain : (node : Node) → IsFactory node → is_when_all node ≡ false
-factory-plain Input is = refl
-factory-plain (Just values) is = refl
-factory-plain (JustError name) is = refl
-factory-plain JustStopped is = refl
-factory-plain (ReadEnv query) is = refl
-factory-plain node is = absurd is
+pub adaptor-at : (o : Option Node) → IsAdaptorNode o → is_some o ≡ true
+adaptor-at None is = absurd is
+adaptor-at (Some node) is = refl
 
--- what is advanced, and is no adaptor, is a factory
-pub factory-is : (node : Node) → CanAdvance (Some node) → adapted node ≡ None → IsFactory node
-factory-is Input can none = tt
-factory-is (Just values) can none = tt
-factory-is (JustError name) can none = tt
-factory-is JustStopped can none = tt
-factory-is (ReadEnv query) can none = tt
-factory-is (Then x job) can none = cc
-factory-is (UponError x job) can none = cc
-factory-is (UponStopped x job) can none = cc
-factory-is (StoppedAsOptional x of) can none = cc
-factory-is (StoppedAsError x name) can none = cc
-factory-is node can none = absurd can
+pub receiver-at : (o : Option Node) → IsReceiverNode o → o ≡ None
+receiver-at None is = refl
+receiver-at (Some node) is = absurd is
+
+pub adaptor-some : (node : Node) → IsAdaptor node → adapted node ≡ None → ⊥
+adaptor-some (Then x job) is none = cc
+adaptor-some (UponError x job) is none = cc
+adaptor-some (UponStopped x job) is none = cc
+adaptor-some (StoppedAsOptional x of) is none = cc
+adaptor-some (StoppedAsError x name) is none = cc
+adaptor-some node is none = is
 
 -- a node of the plan, in the table over it
-module _ (board : Board Blueprint) (plan : Blueprint) (x : Name) (node : Node) (over : IsOver board plan)
-    (at : slice_get plan.nodes x.node ≡ Some node) where
+module _ (board : Board Blueprint) (x : Name) (node : Node) (site : IsSite board) (at : node_at board x ≡ Some node) where
   pub adaptor-only : (child : ℕ) → adapted node ≡ Some child → IsOnlyChild board x (Some child)
   adaptor-only child adapts =
-      only-named board plan x node (Some child) over at (adaptor-children node child x.node adapts)
+      only-named board (plan_at board) x node (Some child) site.over at (adaptor-children node child x.node adapts)
       (adaptor-spawns node (adaptor-is node child adapts))
 
+  pub adaptor-one : (child : ℕ) → adapted node ≡ Some child → TakesOne (node_at board x) (Some child)
+  adaptor-one child adapts =
+      subst (λ (o : Option Node). TakesOne o (Some child)) (sym at) (adaptor-awaits node (adaptor-is node child adapts), adaptor-runs node child adapts)
+
   pub factory-only : IsFactory node → IsOnlyChild board x None
-  factory-only is = only-named board plan x node None over at (factory-children node x.node is) (factory-spawns node is)
+  factory-only is =
+      only-named board (plan_at board) x node None site.over at (factory-children node x.node is) (factory-spawns node is)

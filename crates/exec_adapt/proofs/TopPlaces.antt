@@ -22,9 +22,9 @@ use Rattle.table_steps.specs.Views.{Board, IsPlaceIn}
 use Rattle.home_items.specs.declared.entry.Entry.{Entry}
 use Rattle.home_items.specs.Entries.{plan_of, node_of, child_of}
 use Rattle.home_items.specs.Starts.{IsReceiverStart, IsStart}
-use Rattle.exec_recv.specs.Over.{IsOver}
+use Rattle.exec_recv.specs.Sites.{IsSite, node_at, plan_at}
 use Rattle.start_laws.proofs.Knowing.{places-tell}
-use Rattle.step_parts.specs.TakenOut.{IsOnlyChild}
+use Rattle.step_parts.specs.Takes.{IsOnlyChild}
 
 -- the plan has no `ahead`: its root alone stands below the receiver node
 abbrev pub SpawnsNone : Blueprint → Type 0
@@ -68,18 +68,29 @@ names-top plan (e ∷ p ∷ above) is same n names = absurd is
 names-top plan (e ∷ []) is same n names =
     subst (IsTop plan.nodes) (same_Some is.top n (sym is.names ∙ names)) (subst (λ (b : Blueprint). IsTop b.nodes is.top) same is.is_top)
 
--- The receiver node, in a table over a plan.
-module _ (board : Board Blueprint) (plan : Blueprint) (x : Name) (over : IsOver board plan) (behind : length plan.nodes ≤ x.node)
-    (place : IsPlaceIn board x) where
-  shows : ShowsPlan plan.nodes (tree_of plan.nodes)
-  shows = trees-show plan over.is_plan
+none-past : (nodes : List Node) (i : ℕ) → slice_get nodes i ≡ None → length nodes ≤ i
+none-past [] i none = omega arith
+none-past (node ∷ nodes) zero none = cc
+none-past (node ∷ nodes) (suc i) none = let past = none-past nodes i none in omega (arith, past)
 
-  pub tree-size : length board.frame.tree ≡ length plan.nodes + 1
-  tree-size = ap length over.tree ∙ shows.size
+-- The receiver node, in a table over a plan.
+module _ (board : Board Blueprint) (x : Name) (site : IsSite board) (root : node_at board x ≡ None) (place : IsPlaceIn board x) where
+  abbrev plan : Blueprint
+  plan = plan_at board
+
+  shows : ShowsPlan plan.nodes (tree_of plan.nodes)
+  shows = trees-show plan site.over.is_plan
+
+  tree-size : length board.frame.tree ≡ length plan.nodes + 1
+  tree-size = ap length site.over.tree ∙ shows.size
 
   -- it stands behind the plan's root
   pub last-node : x.node ≡ length plan.nodes
-  last-node = let within = place.node in let nodes = over.nodes in omega (arith, behind, within, nodes, tree-size)
+  last-node =
+      let behind = none-past plan.nodes x.node root in
+      let within = place.node in
+      let nodes = site.over.nodes in
+      omega (arith, behind, within, nodes, tree-size)
 
   pub root-is : is_root board.frame.tree x.node ≡ true
   root-is = eq-eqb (x.node + 1) (length board.frame.tree) (omega (arith, last-node, tree-size))
@@ -87,21 +98,21 @@ module _ (board : Board Blueprint) (plan : Blueprint) (x : Name) (over : IsOver 
   pub source-none : has_source board.frame.tree x.node ≡ false
   source-none =
       ap (λ o. option_map_or (λ (one : TreeNode). one.source) o false)
-      (ap (slice_get board.frame.tree) last-node ∙ ap (λ t. slice_get t (length plan.nodes)) over.tree ∙ tree_of-receiver plan.nodes)
+      (ap (slice_get board.frame.tree) last-node ∙ ap (λ t. slice_get t (length plan.nodes)) site.over.tree ∙ tree_of-receiver plan.nodes)
 
   -- these are its children
   pub top-child : (n : ℕ) → IsTop plan.nodes n → is_child board.frame.tree x.node n ≡ true
   top-child n top =
       subst (λ k. is_child board.frame.tree k n ≡ true) (sym last-node)
-      (subst (λ t. is_child t (length plan.nodes) n ≡ true) (sym over.tree) ((shows.below n).1 top))
+      (subst (λ t. is_child t (length plan.nodes) n ≡ true) (sym site.over.tree) ((shows.below n).1 top))
 
   pub child-top : (n : ℕ) → is_child board.frame.tree x.node n ≡ true → IsTop plan.nodes n
   child-top n below =
       (shows.below n).0
-      (subst (λ t. is_child t (length plan.nodes) n ≡ true) over.tree (subst (λ k. is_child board.frame.tree k n ≡ true) last-node below))
+      (subst (λ t. is_child t (length plan.nodes) n ≡ true) site.over.tree (subst (λ k. is_child board.frame.tree k n ≡ true) last-node below))
 
   pub root-child : is_child board.frame.tree x.node (length plan.nodes - 1) ≡ true
-  root-child = let some = over.is_plan.some in top-child (length plan.nodes - 1) (inl (omega (arith, some)))
+  root-child = let some = site.over.is_plan.some in top-child (length plan.nodes - 1) (inl (omega (arith, some)))
 
   pub only-root : SpawnsNone plan → (child : ℕ) → IsTop plan.nodes child → IsOnlyChild board x (Some child)
   only-root spawns child top = record {
@@ -112,5 +123,5 @@ module _ (board : Board Blueprint) (plan : Blueprint) (x : Name) (over : IsOver 
   -- its start is one of the receiver node
   pub top-start : (start : List Entry) → node_of start ≡ x.node → plan_of start ≡ plan → IsStart start → IsReceiverStart start
   top-start start node same is =
-      places-tell.receiver start is (subst (λ (b : Blueprint). IsPlan b) (sym same) over.is_plan)
+      places-tell.receiver start is (subst (λ (b : Blueprint). IsPlan b) (sym same) site.over.is_plan)
       (node ∙ last-node ∙ ap (λ (b : Blueprint). length b.nodes) (sym same))

@@ -1,109 +1,138 @@
--- What the step of a factory, that of an adaptor and that of the receiver node do ([exec.recv]).
-use Rattle.std.specs.Prelude.{◌≡◌, ◌⊎◌, ℕ, Bool, true, false, ◌||◌, List, Option, Some, None, MatchOption}
+-- What the step of a factory and that of an adaptor do ([exec.factories], [exec.adapt]).
+use Rattle.std.specs.Prelude.{◌≡◌, ◌≢◌, ◌⊎◌, ◌||◌, ℕ, Bool, true, false, List, Option, Some, None}
 use Rattle.exec_value.specs.declared.outcome.Completion.{Completion}
-use Rattle.exec_value.specs.declared.outcome.Completion.TheVariants.{NoMemory}
+use Rattle.exec_value.specs.declared.outcome.Completion.TheVariants.{Value, Error, NoMemory}
 use Rattle.life_rules.specs.declared.event.Name.{Name}
-use Rattle.life_rules.specs.Views.{beside}
-use Rattle.node_tree.specs.declared.context.Context.TheVariants.{Loop}
+use Rattle.life_rules.specs.declared.event.Resting.TheVariants.{Loop as InLoop}
+use Rattle.plan_kinds.specs.Small.{own_name}
 use Rattle.plan_rules.specs.declared.node.Node.{Node}
-use Rattle.plan_kinds.specs.TreeLaws.{IsTop}
+use Rattle.plan_rules.specs.declared.node.Node.TheVariants.{Input, JustError, ReadEnv}
+use Rattle.plan_rules.specs.declared.node.Query.{Query}
+use Rattle.plan_rules.specs.declared.node.Query.TheVariants.{Stop, Record}
 use Rattle.plan_shape.specs.Blueprint.{Blueprint}
 use Rattle.table_steps.specs.Views.{Board}
-use Rattle.table_steps.specs.Claims.{Seated}
-use Rattle.table_steps.specs.Readings.{IsBegunAs}
-use Rattle.node_images.specs.Makes.{CompletesInPlace}
-use Rattle.home_items.specs.declared.entry.Entry.{Entry}
-use Rattle.home_items.specs.declared.item.Item.{Item}
-use Rattle.home_items.specs.Entries.{asked_of, child_of}
-use Rattle.home_items.specs.Items.{start_in}
+use Rattle.home_items.specs.declared.item.State.{State}
+use Rattle.home_items.specs.declared.item.State.TheVariants.{Start as Begins}
+use Rattle.home_items.specs.Entries.{args_of, asked_of, record_number}
 use Rattle.home_items.specs.Parcels.{Delivery}
+use Rattle.node_images.specs.Makes.{CompletesInPlace}
 use Rattle.exec_recv.specs.declared.next.Next.{Next}
-use Rattle.exec_recv.specs.Steppable.{CanStep}
-use Rattle.start_laws.specs.Leaves.{leaf_of}
-use Rattle.step_parts.specs.Completes.{CompletesWith}
+use Rattle.exec_recv.specs.Seats.{HandSeat}
+use Rattle.exec_recv.specs.Sites.{node_at}
+use Rattle.step_parts.specs.Completes.{Completes}
 use Rattle.step_parts.specs.Heard.{Looked}
-use Rattle.step_parts.specs.Leaves.{IsLeftIn}
-use Rattle.step_parts.specs.Midway.{KeepsOthers}
-use Rattle.step_parts.specs.Starts.{StartsOne, StartsTop}
-use Rattle.step_parts.specs.TakenOut.{newest_in}
-use Rattle.step_parts.specs.Wants.{IsLeftBare}
-use Rattle.exec_adapt.specs.Images.{adapted_to}
-use Rattle.exec_adapt.specs.Kinds.{adapted, asks_for_stop}
+use Rattle.step_parts.specs.Leaves.{LeavesAt}
+use Rattle.step_parts.specs.Starts.{StartsAgain, StartsChild}
+use Rattle.step_parts.specs.Stepping.{Stepping}
+use Rattle.step_parts.specs.Takes.{TakesBack, TakesKept, TakesNew, TakesState}
+use Rattle.exec_adapt.specs.Images.{adapted_to, names_error, made_of}
+use Rattle.exec_adapt.specs.Kinds.{adapted}
 
-module _ (board : Board Blueprint) (x : Name) where
-  -- There was no memory for this completion, which doesn't stand in place: x delivered that, or was
-  -- left ready in the loop, with this parcel of its child, where it has one.
-  pub record Wants (kept : Option Delivery) (done : Completion) (next : Next)
-      (m' : Seated Item Entry) : Type 0 where
+module _ (board : Board Blueprint) (t : Stepping) where
+  -- The node completed with this; or there was no memory for it, which doesn't stand in place, and
+  -- it completed with that.
+  pub record Wants (done : Completion) (next : Next) (old new : HandSeat) : Type 0 where
     pub large : CompletesInPlace done → ⊥
-    pub how : CompletesWith board x NoMemory next m' ⊎ IsLeftIn board x Loop kept next m'
+    pub completes : Completes board t NoMemory false next old new
 
-  -- x, which has this parcel of its child, completed with this, or there was no memory for it
-  abbrev pub EndsWith : Option Delivery → Completion → Next → Seated Item Entry → Type 0
-  EndsWith kept done next m' = CompletesWith board x done next m' ⊎ Wants kept done next m'
+  abbrev pub EndsWith : Completion → Bool → Next → HandSeat → HandSeat → Type 0
+  EndsWith done saw next old new =
+      Completes board t done saw next old new ⊎ Wants done next old new
 
-  -- A node that asks whether a stop was requested looked at the source that it hears, and this is
-  -- what it read. Others see no request.
-  pub record LooksFor (node : Node) (saw : Bool) (m m' : Seated Item Entry) : Type 0 where
-    pub asks : asks_for_stop node ≡ true → Looked board x saw m m'
-    pub asks_not : asks_for_stop node ≡ false → saw ≡ false
+  -- It completed with the error of this name; or there was no memory for the name, and it went on
+  -- later, in the loop, with this parcel of its child, where it has one.
+  pub record Delays (kept : Option Delivery) (name : List ℕ) (next : Next)
+      (old new : HandSeat) : Type 0 where
+    pub large : CompletesInPlace (Error name) → ⊥
+    pub left : LeavesAt board t kept InLoop next old new
 
-  -- A factory completes with what its start tells, and what it saw of requests.
-  pub record MakesOwn (node : Node) (next : Next) (m m' : Seated Item Entry) : Type 0 where
+  abbrev pub Names : Option Delivery → List ℕ → Bool → Next → HandSeat → HandSeat → Type 0
+  Names kept name saw next old new =
+      Completes board t (Error name) saw next old new ⊎ Delays kept name next old new
+
+  -- An adaptor whose child completed so completed with what it makes of that.
+  pub record Ends (node : Node) (parcel : Delivery) (next : Next) (old new : HandSeat) :
+      Type 0 where
+    pub named : names_error node parcel.completion ≡ true →
+        Names (Some parcel) (own_name node) parcel.saw next old new
+    pub made : names_error node parcel.completion ≡ false →
+        EndsWith (adapted_to node parcel.completion) parcel.saw next old new
+
+  -- The child hadn't completed since the adaptor rested: it completed by what it kept of the child,
+  -- or started it.
+  pub record GoesOnAgain (node : Node) (child : ℕ) (next : Next) (old new : HandSeat) :
+      Type 0 where
+    pub kept : Option Delivery
+    pub middle : HandSeat
+    pub takes : TakesKept board t kept old middle
+    pub ends : (parcel : Delivery) → kept ≡ Some parcel → Ends node parcel next middle new
+    pub starts : kept ≡ None → StartsAgain board t child next middle new
+
+  -- It had begun: what lay in the child's home was taken.
+  pub record GoesOn (node : Node) (child : ℕ) (next : Next) (old new : HandSeat) : Type 0 where
+    pub answer : Option Delivery
+    pub middle : HandSeat
+    pub takes : TakesBack board t child answer old middle
+    pub ends : (parcel : Delivery) → answer ≡ Some parcel → Ends node parcel next middle new
+    pub again : answer ≡ None → GoesOnAgain node child next middle new
+
+  -- A factory completed with what the plan says, or its environment, where this was found of a
+  -- stop.
+  abbrev pub Makes : Node → Bool → Bool → Next → HandSeat → HandSeat → Type 0
+  Makes node stop saw next old new =
+      EndsWith (made_of node (record_number t.start) stop) saw next old new
+
+  -- It looked first, where it is a query of stop, and answers what it found: a request that was
+  -- made before the operation was started, or one that it read.
+  pub record LooksAndMakes (next : Next) (old new : HandSeat) : Type 0 where
     pub saw : Bool
-    pub looks : LooksFor node saw m m'
-    pub ends : (can : CanStep board x m) →
-        let start = start_in can.item in
-        EndsWith None (leaf_of node (asked_of start || saw) start) next m'
+    pub middle : HandSeat
+    pub looked : Looked board t.name saw old.me middle.me
+    pub makes : Makes (ReadEnv Stop) (asked_of t.start || saw) saw next middle new
 
-  -- An adaptor starts its child, and completes with what it makes of the child's completion.
-  pub record Adapts (node : Node) (child : ℕ) (next : Next) (m m' : Seated Item Entry) :
-      Type 0 where
-    pub begins : (can : CanStep board x m) → newest_in (can.kid child) can.item ≡ None →
-        StartsOne board x child next m m'
-    pub ends : (can : CanStep board x m) (parcel : Delivery) →
-        newest_in (can.kid child) can.item ≡ Some parcel →
-        EndsWith (Some parcel) (adapted_to node parcel.completion) next m'
+  -- by the query
+  abbrev pub Answers : Query → Next → HandSeat → HandSeat → Type 0
+  Answers Stop next old new = LooksAndMakes next old new
+  Answers Record next old new = Makes (ReadEnv Record) false false next old new
 
-  -- the child's word was read: where it said that the child has begun, the receiver node was left
-  -- with its start alone, and else the child was started
-  pub record ReadsTop (start : List Entry) (n : ℕ) (next : Next) (m m' : Seated Item Entry) :
-      Type 0 where
-    pub begun : Bool
-    pub middle : Seated Item Entry
-    pub read : IsBegunAs board.frame (beside x n) begun m middle
-    pub has : begun ≡ true → IsLeftBare board x start next middle m'
-    pub has_not : begun ≡ false → StartsTop board x start n next middle m'
+  -- by the node
+  abbrev pub MakesAs : Node → Next → HandSeat → HandSeat → Type 0
+  MakesAs Input next old new =
+      Completes board t (Value (args_of t.start)) false next old new
+  MakesAs (JustError name) next old new = Names None name false next old new
+  MakesAs (ReadEnv query) next old new = Answers query next old new
+  MakesAs node next old new = Makes node false false next old new
 
-  -- the step emptied the homes of x before it did so
-  pub record StartsRoot (n : ℕ) (next : Next) (m m' : Seated Item Entry) : Type 0 where
-    pub start : List Entry
-    pub middle : Seated Item Entry
-    pub keeps : KeepsOthers board x m middle
-    pub reads : ReadsTop start n next middle m'
+module _ (board : Board Blueprint) (x : Name) (next : Next) (old new : HandSeat) where
+  -- A factory completes at once.
+  pub record MakesOwn : Type 0 where
+    pub node : Node
+    pub node_is : node_at board x ≡ Some node
+    pub taken : Stepping
+    pub state : State
+    pub up : HandSeat
+    pub takes : TakesState board x taken state old up
+    pub makes : MakesAs board taken node next up new
 
-  -- The receiver node starts its child, and is left ready in the loop with the parcel with which
-  -- the child completes, which is collected there.
-  pub record Receives (child : ℕ) (next : Next) (m m' : Seated Item Entry) : Type 0 where
-    pub begins : (can : CanStep board x m) → newest_in (can.kid child) can.item ≡ None →
-        StartsRoot child next m m'
-    pub ends : (can : CanStep board x m) (parcel : Delivery) →
-        newest_in (can.kid child) can.item ≡ Some parcel →
-        IsLeftIn board x Loop (Some parcel) next m'
+  -- An adaptor starts its child.
+  pub record AdaptsFirst (child : ℕ) : Type 0 where
+    pub taken : Stepping
+    pub up : HandSeat
+    pub takes : TakesNew board x taken old up
+    pub starts : StartsChild board taken child next up new
 
--- So it is with the child that the start of x names, which is one of those that an operation runs:
--- the plan's root, or where the plan has an `ahead` the first child of one.
-pub record ReceivesTop (plan : Blueprint) (board : Board Blueprint) (x : Name) (next : Next)
-    (m m' : Seated Item Entry) : Type 0 where
-  pub child : ℕ
-  pub top : IsTop plan.nodes child
-  pub names : (can : CanStep board x m) → child_of (start_in can.item) ≡ Some child
-  pub receives : Receives board x child next m m'
+  -- It completes with what it makes of the child's completion.
+  pub record AdaptsBack (node : Node) (child : ℕ) : Type 0 where
+    pub taken : Stepping
+    pub state : State
+    pub up : HandSeat
+    pub takes : TakesState board x taken state old up
+    pub begun : state ≢ Begins
+    pub goes_on : GoesOn board taken node child next up new
 
--- so it is by the node of the plan: the receiver node is none of it
-abbrev pub AdvancesAs : Blueprint → Board Blueprint → Name → Option Node → Next →
-    Seated Item Entry → Seated Item Entry → Type 0
-AdvancesAs plan board x None next m m' = ReceivesTop plan board x next m m'
-AdvancesAs plan board x (Some node) next m m' =
-    MatchOption (adapted node) (MakesOwn board x node next m m')
-    (λ child. Adapts board x node child next m m')
+  pub record Adapts : Type 0 where
+    pub node : Node
+    pub node_is : node_at board x ≡ Some node
+    pub child : ℕ
+    pub child_is : adapted node ≡ Some child
+    pub does : AdaptsFirst child ⊎ AdaptsBack node child

@@ -1,14 +1,22 @@
 -- What an adaptor makes of one completion of its child.
-use Rattle.std.specs.Prelude.{◌⊎◌, Bool, true, false, ◌&&◌}
+use Rattle.std.specs.Prelude.{◌⊎◌, ℕ, Bool, true, false, ◌&&◌}
 use Rattle.exec_value.specs.declared.outcome.Completion.{Completion}
 use Rattle.exec_value.specs.declared.outcome.Completion.TheVariants.{Value, Error, Stopped}
 use Rattle.exec_job.specs.declared.job.Job.{Job}
 use Rattle.exec_job.specs.declared.job.Job.TheVariants.{Fail}
 use Rattle.plan_rules.specs.declared.node.Node.{Node}
-use Rattle.plan_rules.specs.declared.node.Node.TheVariants.{Then, UponError, UponStopped, StoppedAsOptional, StoppedAsError}
+use Rattle.plan_rules.specs.declared.node.Node.TheVariants.{Just, ReadEnv, Then, UponError, UponStopped, StoppedAsOptional, StoppedAsError}
+use Rattle.plan_rules.specs.Settle.{shown_of}
 use Rattle.node_images.specs.Makes.{CompletesInPlace}
 use Rattle.start_laws.specs.Nodes.{image_of}
 use Rattle.start_laws.specs.RoomLaws.{IsLongError}
+
+-- what a node completes with that is made of the plan alone, or answered by its environment, for
+-- the record of this number and where this was found of a stop
+abbrev pub made_of : Node → ℕ → Bool → Completion
+made_of (Just values) number stop = Value values
+made_of (ReadEnv query) number stop = shown_of query number stop
+made_of node number stop = Stopped
 
 -- the completion is on the node's channel, so that the node makes something of it; others pass
 abbrev pub acts_on : Node → Completion → Bool

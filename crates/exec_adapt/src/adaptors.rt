@@ -1,159 +1,142 @@
 //! The steps of nodes that make an image of what their one child completes with ([exec.adapt]).
-ghost use Rattle.std.specs.Prelude.{◌≡◌, true, false, slice_get, Some};
-ghost use Rattle.std.specs.Thread.{IsSync};
-ghost use Rattle.node_tree.specs.Tree.{is_root};
-ghost use Rattle.plan_kinds.specs.Runnable.{IsRunnable};
-ghost use Rattle.table_steps.specs.Views.{IsHandOf, Stays};
-ghost use Rattle.exec_recv.specs.Over.{IsOver};
-ghost use Rattle.exec_recv.specs.Beginnings.{AllCanStart};
-ghost use Rattle.exec_recv.specs.Steppable.{CanStep};
-ghost use Rattle.exec_recv.specs.Nexts.{IsStepped};
-ghost use Rattle.start_laws.specs.Nodes.{IsStartOf};
-ghost use Rattle.exec_adapt.specs.Kinds.{adapted, IsAdaptor};
-ghost use Rattle.exec_adapt.specs.Adapts.{EndsWith, Adapts};
-ghost use Rattle.exec_adapt.specs.Images.{names_error, adapted_to};
-ghost use Rattle.exec_adapt.specs.Ends.{MayPass};
+ghost use Rattle.std.specs.Prelude.{◌≡◌};
+ghost use Rattle.exec_adapt.specs.Ends.{MayGoOn, MayGoOnAgain, MayPass};
+ghost use Rattle.exec_adapt.specs.Adapts.{Ends, GoesOn, GoesOnAgain};
+ghost use Rattle.exec_adapt.specs.Kinds.{adapted};
+ghost use Rattle.home_items.specs.Parcels.{delivery_of};
 
-use crate::errors::deliver_error;
 use crate::images::{make_image, names_error, own_name, runs_job};
-use crate::opening::at_hand;
-use exec_recv::Point;
+use crate::naming::complete_named;
+use exec_value::Completion;
+use home_items::State;
 use life_rules::Name;
-use op_slot::{Hand, OpTable};
+use op_slot::Hand;
 use plan_rules::{Node, NodeId};
-use plan_shape::Plan;
-use std::alloc::{AllocError, Global};
+use std::alloc::AllocError;
 use std::sync::Wait;
 use step_parts::{
-    Env, Gate, Item, Next, Parcel, complete, deliver_no_memory, start_unbegun_child, take_out,
+    Gate, Item, Kind, Label, Next, Point, Site, Taken, complete, start_again, start_child,
+    take_back_into, take_kept, take_up, want_memory,
 };
 
-// Delivers what the node makes of its child's completion, where that is no error that the plan
-// names.
-fn deliver_image<G: Gate, R: Wait + Sync>(
-    rt: &R,
-    alloc: Global,
-    plan: &Plan,
-    table: &OpTable<Item>,
+/// Each node with one child, which runs with the node's arguments, and of whose completion it makes
+/// an image.
+pub struct Adaptors;
+
+impl Kind for Adaptors {
+    ghost use Rattle.exec_adapt.specs.Kinds.{IsAdaptorNode};
+    ghost use Rattle.exec_adapt.specs.Adapts.{Adapts};
+
+    ghost is = { IsAdaptorNode };
+
+    ghost does = { Adapts };
+
+    /// Step: those of `take_up`, and then those of `start_child`; or those of `complete`; or those
+    /// of `leave_at_rest`, where a long name wants memory.
+    #[inline(never)]
+    fn step<R: Wait, G: Gate>(site: &Site<R, G>, hand: &mut Hand<Item>, name: Name) -> Next {
+        let node = site.node(name);
+        let Some(child) = adapted(node) else {
+            unreachable!()
+        };
+        let (taken, state) = take_up(site, hand, name);
+        match state {
+            State::Start => {
+                let asked = taken.asked();
+                start_child(site, hand, taken, child, asked)
+            }
+            _ => go_on(site, hand, taken, node, child),
+        }
+    }
+}
+
+// Goes on where the node had begun: with what the child completed with.
+#[inline(always)]
+fn go_on<R: Wait, G: Gate>(
+    site: &Site<R, G>,
     hand: &mut Hand<Item>,
-    name: Name,
+    taken: Taken,
     node: &Node,
-    env: Env,
-    parcel: Parcel,
-    gate: &G,
+    child: NodeId,
 ) -> Next
-    requires sync { IsSync R.row }
-    requires hand { IsHandOf table.now hand.old }
-    requires over { IsOver table.now plan.now }
-    requires inner { is_root table.now.frame.tree name.node ≡ false }
-    requires adaptor { IsAdaptor node.now }
-    requires start { IsStartOf env node.now }
-    requires may { MayPass table.now name env parcel hand.old.me }
-    requires unnamed { names_error node.now parcel.completion ≡ false }
-    ensures stays { Stays table.now hand.old hand.new }
-    ensures ends { EndsWith table.now name (Some parcel) (adapted_to node.now parcel.completion)
-        result hand.new.me }
-    ensures stepped { IsStepped table.now name hand.old.me hand.new.me result }
+    requires may { MayGoOn site.now taken node.now child hand.old }
+    ensures { GoesOn site.now taken node.now child result hand.old hand.new }
 {
-    let saw = parcel.saw();
-    let mut done = parcel.into_completion();
-    match make_image(alloc, node, &mut done) {
-        Ok(()) => {
-            let image = Parcel::of(&env, done, saw);
-            complete(rt, plan, table, hand, name, image, gate)
+    let mut done = Completion::Stopped;
+    match take_back_into(site, hand, &taken, child, &mut done) {
+        Some(label) => pass_on(site, hand, taken, node, label, &mut done),
+        None => go_on_again(site, hand, taken, node, child),
+    }
+}
+
+// Goes on where the child hasn't completed since the node rested: with what the node kept of it,
+// whose name wanted memory; else the child is started, where it hasn't begun.
+#[cold]
+#[inline(never)]
+fn go_on_again<R: Wait, G: Gate>(
+    site: &Site<R, G>,
+    hand: &mut Hand<Item>,
+    taken: Taken,
+    node: &Node,
+    child: NodeId,
+) -> Next
+    requires may { MayGoOnAgain site.now taken node.now child hand.old }
+    ensures { GoesOnAgain site.now taken node.now child result hand.old hand.new }
+{
+    match take_kept(site, hand, &taken) {
+        Some(parcel) => {
+            let (label, mut done) = parcel.open();
+            pass_on(site, hand, taken, node, label, &mut done)
         }
-        Err(AllocError) => {
-            drop(done);
-            deliver_no_memory(rt, plan, table, hand, name, env, gate)
+        None => {
+            let asked = taken.asked();
+            start_again(site, hand, taken, child, asked)
         }
+    }
+}
+
+// The one child of a node that makes an image of what its child completes with.
+#[inline(always)]
+fn adapted(node: &Node) -> Option<NodeId>
+    ensures { result ≡ adapted node.now }
+{
+    match node {
+        Node::Then { child, .. } => Some(*child),
+        Node::UponError { child, .. } => Some(*child),
+        Node::UponStopped { child, .. } => Some(*child),
+        Node::StoppedAsOptional { child, .. } => Some(*child),
+        Node::StoppedAsError { child, .. } => Some(*child),
+        _ => None,
     }
 }
 
 // Completes the node, whose child has completed. Its job is applied past the gate.
-fn pass_on<G: Gate, R: Wait + Sync>(
-    rt: &R,
-    alloc: Global,
-    plan: &Plan,
-    table: &OpTable<Item>,
+#[inline(always)]
+fn pass_on<R: Wait, G: Gate>(
+    site: &Site<R, G>,
     hand: &mut Hand<Item>,
-    name: Name,
+    taken: Taken,
     node: &Node,
-    env: Env,
-    parcel: Parcel,
-    gate: &G,
+    label: Label,
+    done: &mut Completion,
 ) -> Next
-    requires sync { IsSync R.row }
-    requires hand { IsHandOf table.now hand.old }
-    requires over { IsOver table.now plan.now }
-    requires inner { is_root table.now.frame.tree name.node ≡ false }
-    requires adaptor { IsAdaptor node.now }
-    requires start { IsStartOf env node.now }
-    requires may { MayPass table.now name env parcel hand.old.me }
-    ensures stays { Stays table.now hand.old hand.new }
-    ensures ends { EndsWith table.now name (Some parcel) (adapted_to node.now parcel.completion)
-        result hand.new.me }
-    ensures stepped { IsStepped table.now name hand.old.me hand.new.me result }
+    requires may { MayPass site.now taken node.now (delivery_of label done.old) hand.old }
+    ensures { Ends site.now taken node.now (delivery_of label done.old) result hand.old hand.new }
 {
-    if runs_job(node, parcel.completion()) {
-        gate.pass(
-            rt,
-            Point::Job {
-                number: env.number(),
-                node: name.node,
-            },
-        );
+    if runs_job(node, done) {
+        site.pass(Point::Job {
+            number: taken.number(),
+            node: taken.name().node,
+        });
     }
-    if names_error(node, parcel.completion()) {
-        let saw = parcel.saw();
-        let error = own_name(node);
-        return deliver_error(
-            rt,
-            plan,
-            table,
-            hand,
-            name,
-            env,
-            Some(parcel),
-            saw,
-            error,
-            gate,
-        );
+    let saw = label.saw();
+    if names_error(node, done) {
+        let kept = Some(label.parcel(done));
+        return complete_named(site, hand, taken, kept, own_name(node), saw);
     }
-    deliver_image(rt, alloc, plan, table, hand, name, node, env, parcel, gate)
-}
-
-/// Steps a node with one child, which runs with the node's arguments: starts the child, or where
-/// the child has completed delivers what the node makes of that.
-pub(crate) fn step_adaptor<G: Gate, R: Wait + Sync>(
-    rt: &R,
-    alloc: Global,
-    plan: &Plan,
-    table: &OpTable<Item>,
-    hand: &mut Hand<Item>,
-    name: Name,
-    node: &Node,
-    child: NodeId,
-    gate: &G,
-) -> Next
-    requires sync { IsSync R.row }
-    requires hand { IsHandOf table.now hand.old }
-    requires over { IsOver table.now plan.now }
-    requires kinds { IsRunnable plan.now }
-    requires node { slice_get plan.now.nodes name.node ≡ Some node.now }
-    requires adapts { adapted node.now ≡ Some child }
-    requires can { CanStep table.now name hand.old.me }
-    requires starts { AllCanStart table.now hand.old.me }
-    ensures stays { Stays table.now hand.old hand.new }
-    ensures adapts { Adapts table.now name node.now child result hand.old.me hand.new.me }
-    ensures stepped { IsStepped table.now name hand.old.me hand.new.me result }
-{
-    let (env, found) = at_hand(take_out(table, hand, name, Some(child)));
-    env.known();
-    match found {
-        Some(parcel) => pass_on(rt, alloc, plan, table, hand, name, node, env, parcel, gate),
-        None => {
-            let asked = env.asked();
-            start_unbegun_child(rt, alloc, plan, table, hand, name, env, child, asked, gate)
-        }
+    drop(label);
+    match make_image(site.alloc, node, done) {
+        Ok(()) => complete(site, hand, taken, done, saw),
+        Err(AllocError) => want_memory(site, hand, taken),
     }
 }

@@ -7,8 +7,8 @@
 //! plan for the node's start.
 //!
 //!     factory   Start --> Done(what it makes)
-//!     adaptor   Start --start_unbegun_child--> Rest .. its child is done --> Done(the image)
-//!     receiver  Start --start_top--> Rest .. its child is done --> Rest(with the child's parcel)
+//!     adaptor   Start --start_child--> Go(child) .. its child is done --> Done(the image)
+//!     receiver  Start --start_top--> Go(child) .. its child is done --> Ready, with its parcel
 //!               its child is the one that its start names: the root, or the first of an `ahead`
 //!
 //! Where a long name of an error wants memory, the node goes on later, in the loop. What else wants
@@ -16,12 +16,12 @@
 #![tactic(auto)]
 
 mod adaptors;
-mod advancing;
-mod errors;
 mod factories;
 mod images;
+mod naming;
 mod opening;
-mod receiver;
-mod tops;
+mod receivers;
 
-pub use advancing::advance;
+pub use adaptors::Adaptors;
+pub use factories::Factories;
+pub use receivers::Receivers;

@@ -1,5 +1,4 @@
 pub mod Kinds
-pub mod Openings
 pub mod Parks
 -- the definitions that the public contracts cite
 pub use Rattle.exec_recv.specs.Nexts

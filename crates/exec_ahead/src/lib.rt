@@ -11,9 +11,6 @@
 //! What hand 0 does with a node that it takes there is no step of the node's.
 #![tactic(auto)]
 
-mod opening;
-mod parking;
+mod stepping;
 
-pub use opening::{AtHand, open};
-pub use parking::advance_ahead;
-pub use step_parts::{Env, Item, Next, Parcel};
+pub use stepping::Aheads;

@@ -1,10 +1,8 @@
 pub mod Walking
-pub mod Emptied
 pub mod Plans
+pub mod Emptied
 pub mod Opened
-pub mod Watched
 pub mod Made
-pub mod Stopped
 pub mod Begun
 pub mod Ended
 pub mod Stepped

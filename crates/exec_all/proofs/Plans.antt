@@ -1,5 +1,5 @@
 -- A `when_all` of a plan, in the table over it.
-use Rattle.std.specs.Prelude.{Contains, slice_get, slice_index}
+use Rattle.std.specs.Prelude.{Contains, slice_index}
 use Rattle.std.proofs.Common.{◌≡◌, ℕ, ◌<◌, ◌≤◌, true, false, ◌&&◌, leb, eqb, List, [], ◌∷◌, length, Option, Some, None, arith, refl, sym, ap, ◌∙◌, subst}
 use Rattle.std.proofs.lemmas.Bool.{and_parts, eq-eqb, leb-true}
 use Rattle.std.proofs.lemmas.List.{append-nil, get_or_default}
@@ -18,26 +18,24 @@ use Rattle.plan_kinds.specs.TreeLaws.{ShowsNode}
 use Rattle.table_steps.specs.Awaits.{is_named}
 use Rattle.table_steps.specs.Views.{Board}
 use Rattle.home_items.specs.declared.entry.Entry.{Entry}
-use Rattle.home_items.specs.declared.item.Item.TheVariants.{Rest, Done}
+use Rattle.home_items.specs.Contents.{Rest, Done}
 use Rattle.home_items.specs.Below.{run_below, asked_below}
 use Rattle.home_items.specs.Bounds.{least_of, least_at_rest, least_when_done}
 use Rattle.home_items.specs.Parcels.{Delivery}
-use Rattle.exec_recv.specs.Over.{IsOver}
+use Rattle.exec_recv.specs.Sites.{plan_at, node_at, IsSite}
 use Rattle.start_laws.specs.Nodes.{IsStartOf}
 use Rattle.start_laws.proofs.Pairs.{none-some, below-plain}
-use Rattle.step_parts.specs.Starts.{asked_for_child}
+use Rattle.step_parts.specs.Starts.{RunsBelow, asked_for_child}
 use Rattle.step_parts.proofs.Places.{node-shown}
-use Rattle.many_steps.specs.Kids.{AreKids}
-use Rattle.many_steps.proofs.Lists.{any-at}
-use Rattle.exec_all.specs.Starts.{AllRun}
+use Rattle.step_parts.specs.Kids.{AreKids}
+use Rattle.step_parts.proofs.Lists.{any-at}
 
 children-are : (children : List ℕ) (n : ℕ) → children_of n (WhenAll children) ≡ children
 children-are children n = append-nil children
 
-module _ (board : Board Blueprint) (plan : Blueprint) (x : Name) (children : List ℕ) (over : IsOver board plan)
-    (at : slice_get plan.nodes x.node ≡ Some (WhenAll children)) where
+module _ (board : Board Blueprint) (x : Name) (children : List ℕ) (site : IsSite board) (at : node_at board x ≡ Some (WhenAll children)) where
   shown : ShowsNode board.frame.tree x.node (WhenAll children)
-  shown = node-shown board plan x (WhenAll children) over at
+  shown = node-shown board (plan_at board) x (WhenAll children) site.over at
 
   -- these are its children, and no others
   pub all-kids : AreKids board x children
@@ -47,7 +45,7 @@ module _ (board : Board Blueprint) (plan : Blueprint) (x : Name) (children : Lis
             (shown.children (slice_index children i)).1
             (subst (λ l. Contains l (slice_index children i)) (sym (children-are children x.node)) (Contains-get_or children i 0 within), refl);
         different = subst (λ l. are_different l ≡ true) (children-are children x.node)
-            (over.is_plan.forest.each x.node (WhenAll children) at).distinct;
+            (site.over.is_plan.forest.each x.node (WhenAll children) at).distinct;
       }
 
   pub among-kids : (n : ℕ) → is_child board.frame.tree x.node n ≡ true → (i : ℕ) × (i < length children) × (slice_index children i ≡ n)
@@ -65,7 +63,7 @@ module _ (board : Board Blueprint) (plan : Blueprint) (x : Name) (children : Lis
   pub some-kids : 1 ≤ length children
   some-kids =
       let count : (leb 2 (length children) && leb (length children) MOST_CHILDREN) ≡ true =
-      (over.is_plan.forest.each x.node (WhenAll children) at).count in
+      (site.over.is_plan.forest.each x.node (WhenAll children) at).count in
       let most = leb-true 2 (length children) (and_parts (leb 2 (length children)) (leb (length children) MOST_CHILDREN) count).0 in
       omega (arith, most)
 
@@ -89,7 +87,8 @@ done-all parcel children of =
     subst (λ o. least_when_done o parcel.completion ≤ length children) (sym of.node_is) (least-done children parcel.completion)
 
 -- its children run with its arguments, and no request was made before they start
-pub all-run : (start : List Entry) (children : List ℕ) → IsStartOf start (WhenAll children) → AllRun start children
+pub all-run : (start : List Entry) (children : List ℕ) → IsStartOf start (WhenAll children) → (i : ℕ) → i < length children →
+    RunsBelow start (slice_index children i)
 all-run [] children of i within = none-some of.node_is
 all-run (p ∷ above) children of i within =
     subst (λ (o : Option Node). Contains (run_below o p) (slice_index children i)) (sym of.node_is)

@@ -2,7 +2,6 @@ pub mod Kinds
 pub mod Joined
 pub mod Opens
 pub mod Starts
-pub mod Watches
 pub mod Begins
 pub mod Ends
 pub mod Steps

@@ -1,142 +1,77 @@
 //! How a `when_all` begins its children ([exec.when.all]).
-ghost use Rattle.std.specs.Prelude.{◌≡◌, false, length};
-ghost use Rattle.std.specs.Thread.{IsSync};
-ghost use Rattle.node_tree.specs.Tree.{is_root};
-ghost use Rattle.plan_kinds.specs.Runnable.{IsRunnable};
-ghost use Rattle.table_steps.specs.Views.{IsHandOf, Stays};
-ghost use Rattle.exec_recv.specs.Nexts.{IsStepped};
-ghost use Rattle.exec_recv.specs.Over.{IsOver};
-ghost use Rattle.exec_all.specs.Starts.{AreStarts};
-ghost use Rattle.exec_all.specs.Begins.{MayBegin, MayPutAll, PutsAll, StartsAll, LooksFirst, BeginsAll};
+ghost use Rattle.exec_recv.specs.Sites.{Steps};
+ghost use Rattle.exec_all.specs.Begins.{MayBegin, MayStartAll, BeginsAll, StartsAll};
 
-use crate::starts::Starts;
-use crate::stopping::stop_all;
-use crate::watching::watch;
+use crate::starts::Copies;
+use home_items::Shown;
 use life_rules::Name;
-use many_steps::{await_many, put_start, read_all_idle};
-use op_slot::{Hand, OpTable};
+use op_slot::Hand;
 use plan_rules::NodeId;
-use plan_shape::Plan;
-use std::alloc::{AllocError, Global};
+use std::alloc::AllocError;
 use std::sync::Wait;
-use step_parts::{Env, Gate, Item, Next, deliver_no_memory};
+use step_parts::{
+    Env, Gate, Item, Next, Site, Taken, await_many, complete_stopped, listen, put_start,
+    want_memory,
+};
 
-// Puts the children's starts into their homes, from the last child to the first.
-fn put_all<R: Wait>(
-    rt: &R,
-    alloc: Global,
-    plan: &Plan,
-    table: &OpTable<Item>,
+// Leaves the node awaiting all its children, and puts their starts into their homes, from the last
+// child to the first.
+#[inline(always)]
+fn start_all<R: Wait, G>(
+    site: &Site<R, G>,
     hand: &mut Hand<Item>,
-    name: Name,
+    taken: Taken,
     children: &[NodeId],
-    starts: &mut Starts,
-)
-    requires hand { IsHandOf table.now hand.old }
-    requires may { MayPutAll plan.now table.now name children.now starts.old hand.old.me }
-    ensures stays { Stays table.now hand.old hand.new }
-    ensures puts { PutsAll table.now hand.old.me hand.new.me }
+    copies: Copies,
+) -> Next
+    requires may { MayStartAll site.now taken children.now copies hand.old }
+    ensures { StartsAll site.now taken children.now result hand.old hand.new }
 {
+    let above = Shown::of(&taken);
+    let number = taken.number();
+    let name = taken.name();
+    await_many(site, hand, taken, None, children);
+    let mut copies = copies;
     let mut left = children.len();
     while left > 0 {
         left -= 1;
-        let child = children[left];
-        let below = starts.take_last(rt, alloc, plan, child);
-        let node = Name {
-            node: child,
+        let child = Name {
+            node: children[left],
             ..name
         };
-        put_start(table, hand, node, below);
+        let args = copies.take(site.rt, site.alloc);
+        let below = Env::below(&above, child.node, args, number, false);
+        put_start(site, hand, child, below);
     }
-}
-
-// Leaves the node awaiting all its children, and puts their starts into their homes.
-fn start_all<R: Wait + Sync>(
-    rt: &R,
-    alloc: Global,
-    plan: &Plan,
-    table: &OpTable<Item>,
-    hand: &mut Hand<Item>,
-    name: Name,
-    env: Env,
-    children: &[NodeId],
-    mut starts: Starts,
-) -> Next
-    requires sync { IsSync R.row }
-    requires hand { IsHandOf table.now hand.old }
-    requires over { IsOver table.now plan.now }
-    requires kinds { IsRunnable plan.now }
-    requires may { MayBegin table.now name env children.now hand.old.me }
-    requires starts { AreStarts env children.now (length children.now) starts }
-    ensures stays { Stays table.now hand.old hand.new }
-    ensures starts { StartsAll table.now name env children.now result hand.old.me hand.new.me }
-    ensures stepped { IsStepped table.now name hand.old.me hand.new.me result }
-{
-    read_all_idle(rt, table, hand, name, children);
-    await_many(table, hand, name, env, None, children);
-    put_all(rt, alloc, plan, table, hand, name, children, &mut starts);
     Next::Rest
 }
 
-// Listens to the source above the node, and starts its children, where no stop is requested there.
-fn look_and_start<G: Gate, R: Wait + Sync>(
-    rt: &R,
-    alloc: Global,
-    plan: &Plan,
-    table: &OpTable<Item>,
-    hand: &mut Hand<Item>,
-    name: Name,
-    env: Env,
-    children: &[NodeId],
-    starts: Starts,
-    gate: &G,
-) -> Next
-    requires sync { IsSync R.row }
-    requires hand { IsHandOf table.now hand.old }
-    requires over { IsOver table.now plan.now }
-    requires kinds { IsRunnable plan.now }
-    requires inner { is_root table.now.frame.tree name.node ≡ false }
-    requires may { MayBegin table.now name env children.now hand.old.me }
-    requires starts { AreStarts env children.now (length children.now) starts }
-    ensures stays { Stays table.now hand.old hand.new }
-    ensures looks { LooksFirst table.now name env children.now result hand.old hand.new }
-    ensures stepped { IsStepped table.now name hand.old.me hand.new.me result }
-{
-    if watch(table, hand, name) {
-        drop(starts);
-        return stop_all(rt, plan, table, hand, name, env, true, gate);
-    }
-    start_all(rt, alloc, plan, table, hand, name, env, children, starts)
-}
-
 /// Begins the children, with the node's arguments. The node listens to the source above it before,
-/// and looks: where a stop is requested there, it completes stopped, and begins none. Where there
-/// is no memory for the children's arguments, it begins none either, and delivers want of memory.
-pub(crate) fn begin_all<G: Gate, R: Wait + Sync>(
-    rt: &R,
-    alloc: Global,
-    plan: &Plan,
-    table: &OpTable<Item>,
+/// and looks: where a stop is requested there, or was before the operation was started, it
+/// completes stopped, and begins none. Where there is no memory for the children's arguments, it
+/// begins none either, and completes with want of memory.
+#[inline(always)]
+pub(crate) fn begin_all<R: Wait, G: Gate>(
+    site: &Site<R, G>,
     hand: &mut Hand<Item>,
-    name: Name,
-    env: Env,
+    taken: Taken,
     children: &[NodeId],
-    gate: &G,
 ) -> Next
-    requires sync { IsSync R.row }
-    requires hand { IsHandOf table.now hand.old }
-    requires over { IsOver table.now plan.now }
-    requires kinds { IsRunnable plan.now }
-    requires inner { is_root table.now.frame.tree name.node ≡ false }
-    requires may { MayBegin table.now name env children.now hand.old.me }
-    ensures stays { Stays table.now hand.old hand.new }
-    ensures begins { BeginsAll table.now name env children.now result hand.old hand.new }
-    ensures stepped { IsStepped table.now name hand.old.me hand.new.me result }
+    requires may { MayBegin site.now taken children.now hand.old }
+    ensures steps { Steps site.now taken.name result taken.from hand.new }
+    ensures begins { BeginsAll site.now taken children.now result hand.old hand.new }
 {
-    match Starts::of(rt, alloc, plan, &env, children) {
-        Ok(starts) => look_and_start(
-            rt, alloc, plan, table, hand, name, env, children, starts, gate,
-        ),
-        Err(AllocError) => deliver_no_memory(rt, plan, table, hand, name, env, gate),
+    if taken.asked() {
+        return complete_stopped(site, hand, taken, false);
+    }
+    match Copies::of(site, hand, &taken, children.len()) {
+        Ok(copies) => {
+            if listen(site, hand, &taken) {
+                drop(copies);
+                return complete_stopped(site, hand, taken, true);
+            }
+            start_all(site, hand, taken, children, copies)
+        }
+        Err(AllocError) => want_memory(site, hand, taken),
     }
 }

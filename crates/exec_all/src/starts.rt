@@ -1,31 +1,27 @@
-//! The starts of the children of a `when_all`, before they are in their homes.
-ghost use Rattle.std.specs.Prelude.{◌≡◌, true, false, length, IfOk, IsOk};
-ghost use Rattle.plan_kinds.specs.Runnable.{IsRunnable};
-ghost use Rattle.home_items.specs.Entries.{plan_of, args_of};
-ghost use Rattle.home_items.specs.Fits.{FitsChild};
-ghost use Rattle.step_parts.specs.Starts.{RunsBelow, asked_for_child, child_start};
-ghost use Rattle.exec_all.specs.Starts.{is_light, AllRun, all_starts, AreStarts, HasLast, TakesLast};
+//! The arguments with which the children of a `when_all` begin.
+ghost use Rattle.std.specs.Prelude.{◌≡◌, IfOk, IsOk, true};
+ghost use Rattle.home_items.specs.Entries.{carried_of};
+ghost use Rattle.table_steps.specs.Slots.{held_at};
+ghost use Rattle.step_parts.specs.Takes.{IsTaken, Keeps};
+ghost use Rattle.exec_all.specs.Starts.{is_light, AreCopies, HasLast, HasOne, TakesLast};
 
-use exec_value::{Data, Datum};
-use home_items::copy_env;
-use plan_rules::NodeId;
-use plan_shape::Plan;
+use exec_value::{Data, Datum, copy_data};
+use op_slot::Hand;
 use std::alloc::{AllocError, Global};
 use std::sync::Wait;
-use std::thread::yield_now;
-use step_parts::{Env, child_env};
+use step_parts::{Item, Site, Taken, copy_waiting};
 
-/// The starts of a node's children, which run with the node's arguments.
+/// As many copies of a node's arguments as it has children.
 #[derive(Drop)]
-pub(crate) enum Starts {
-    /// Copies of the arguments want no memory: each start is made as it is put into its home, from
-    /// this, the node's own.
-    Alike(Env),
-    /// They were made, in the children's order.
-    Each(Vec<Env>),
+pub(crate) enum Copies {
+    /// Copies want no memory: each is made as it is wanted, from this.
+    Light(Data),
+    /// They were made.
+    Made(Vec<Data>),
 }
 
 // Copies of these data want no memory: there are none, or it is one and no row.
+#[inline(always)]
 fn is_light(values: &Data) -> bool
     ensures { result ≡ is_light values.now }
 {
@@ -37,98 +33,68 @@ fn is_light(values: &Data) -> bool
     }
 }
 
-// An equal environment. Where there is no memory for it, this waits.
-fn copy_waiting<R: Wait>(rt: &R, alloc: Global, env: &Env) -> Env
-    ensures { result ≡ env.now }
+// So many copies.
+#[inline(never)]
+fn make_each(alloc: Global, values: &Data, count: usize) -> Result<Vec<Data>, AllocError>
+    ensures { IfOk result (λ made. AreCopies values.now count made.items) }
 {
-    for _ in rt.forever() {
-        match copy_env(alloc, env) {
-            Ok(copy) => return copy,
-            Err(AllocError) => yield_now(),
-        }
-    }
-    unreachable!()
-}
-
-// The start of a child. Where there is no memory for it, this waits.
-fn child_waiting<R: Wait>(rt: &R, alloc: Global, plan: &Plan, env: &Env, child: NodeId) -> Env
-    requires plan { plan.now ≡ plan_of env.now }
-    requires runnable { IsRunnable plan.now }
-    requires kinds { FitsChild env.now }
-    requires runs { RunsBelow env.now child }
-    requires unasked { asked_for_child env.now ≡ false }
-    ensures { result ≡ child_start child env.now }
-{
-    for _ in rt.forever() {
-        match child_env(alloc, plan, env, child, false) {
-            Ok(below) => return below,
-            Err(AllocError) => yield_now(),
-        }
-    }
-    unreachable!()
-}
-
-// The starts of these children, in order.
-fn make_each(
-    alloc: Global,
-    plan: &Plan,
-    env: &Env,
-    children: &[NodeId],
-) -> Result<Vec<Env>, AllocError>
-    requires plan { plan.now ≡ plan_of env.now }
-    requires runnable { IsRunnable plan.now }
-    requires kinds { FitsChild env.now }
-    requires runs { AllRun env.now children.now }
-    requires unasked { asked_for_child env.now ≡ false }
-    ensures { IfOk result (λ made. made.items ≡ all_starts env.now children.now
-        (length children.now)) }
-{
-    let mut made = Vec::with_capacity(alloc, children.len())?;
-    for child in children {
-        made.push_reserved(child_env(alloc, plan, env, *child, false)?);
+    let mut made = Vec::with_capacity(alloc, count)?;
+    for _ in 0..count {
+        made.push_reserved(copy_data(alloc, values)?);
     }
     Ok(made)
 }
 
-impl Starts {
-    /// The starts of these children. Where copies of the node's arguments want memory, all are made
-    /// now: where there is none, no child needs to be begun.
-    pub(crate) fn of<R: Wait>(
-        rt: &R,
-        alloc: Global,
-        plan: &Plan,
-        env: &Env,
-        children: &[NodeId],
-    ) -> Result<Starts, AllocError>
-        requires plan { plan.now ≡ plan_of env.now }
-        requires runnable { IsRunnable plan.now }
-        requires kinds { FitsChild env.now }
-        requires runs { AllRun env.now children.now }
-        requires unasked { asked_for_child env.now ≡ false }
-        ensures ok { IfOk result (AreStarts env.now children.now (length children.now)) }
-        ensures light { is_light (args_of env.now) ≡ true → IsOk result }
+// So many copies.
+#[inline(always)]
+fn copies_of<R: Wait>(
+    rt: &R,
+    alloc: Global,
+    values: &Data,
+    count: usize,
+) -> Result<Copies, AllocError>
+    ensures ok { IfOk result (HasLast values.now count) }
+    ensures light { is_light values.now ≡ true → IsOk result }
+{
+    if is_light(values) {
+        return Ok(Copies::Light(copy_waiting(rt, alloc, values)));
+    }
+    Ok(Copies::Made(make_each(alloc, values, count)?))
+}
+
+impl Copies {
+    /// So many copies of the node's arguments. Where they want memory, all are made now: where
+    /// there is none, no child needs to be begun.
+    #[inline(always)]
+    pub(crate) fn of<R: Wait, G>(
+        site: &Site<R, G>,
+        hand: &mut Hand<Item>,
+        taken: &Taken,
+        count: usize,
+    ) -> Result<Copies, AllocError>
+        requires taken { IsTaken site.now taken.now hand.old }
+        ensures keeps { Keeps site.now taken.now hand.old hand.new }
+        ensures same_held { held_at hand.new.me.0 taken.now.name
+            ≡ held_at hand.old.me.0 taken.now.name }
+        ensures ok { IfOk result (HasLast (carried_of taken.now.start) count) }
+        ensures light { is_light (carried_of taken.now.start) ≡ true → IsOk result }
     {
-        if is_light(env.args()) {
-            return Ok(Starts::Alike(copy_waiting(rt, alloc, env)));
+        match hand.item_mut(site.table, taken.name()) {
+            Some(item) => copies_of(site.rt, site.alloc, item.args(), count),
+            None => unreachable!(),
         }
-        Ok(Starts::Each(make_each(alloc, plan, env, children)?))
     }
 
-    /// The start of this child, which is the last of those that are left.
-    pub(crate) fn take_last<R: Wait>(
-        &mut self,
-        rt: &R,
-        alloc: Global,
-        plan: &Plan,
-        child: NodeId,
-    ) -> Env
-        requires { HasLast plan.now child self.old }
-        ensures { TakesLast child result self.old self.new }
+    /// One of them.
+    #[inline(always)]
+    pub(crate) fn take<R: Wait>(&mut self, rt: &R, alloc: Global) -> Data
+        requires { HasOne self.old }
+        ensures { TakesLast result self.old self.new }
     {
         match self {
-            Starts::Alike(env) => child_waiting(rt, alloc, plan, env, child),
-            Starts::Each(made) => match made.pop() {
-                Some(below) => below,
+            Copies::Light(values) => copy_waiting(rt, alloc, values),
+            Copies::Made(made) => match made.pop() {
+                Some(values) => values,
                 None => unreachable!(),
             },
         }

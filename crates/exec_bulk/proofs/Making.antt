@@ -1,7 +1,7 @@
 -- What is made of a row, share by share.
-use Rattle.std.proofs.Common.{◌≡◌, inl, inr, ℕ, suc, ◌+◌, ◌*◌, ◌<◌, ◌≤◌, min, ℤ, List, [], ◌∷◌, ◌++◌, length, take, take_all, Some, None, Result, Ok, Err, refl, sym, ap, ap₂, ◌∙◌, subst, arith}
+use Rattle.std.proofs.Common.{◌≡◌, inl, inr, Bool, true, false, ◌==◌, ℕ, suc, ◌+◌, ◌*◌, ◌<◌, ◌≤◌, min, ℤ, List, [], ◌∷◌, ◌++◌, length, take, take_all, Some, None, Result, Ok, Err, refl, sym, ap, ap₂, ◌∙◌, subst, arith}
 use Rattle.std.specs.Prelude.{◌/◌, ◌%◌, ⊤, IsOk}
-use Rattle.std.proofs.lemmas.Bool.{cases_lt}
+use Rattle.std.proofs.lemmas.Bool.{cases_lt, both_ways, eq-eqb, eqb-true}
 use Rattle.std.proofs.lemmas.List.Elements.{All-head}
 use Rattle.exec_value.specs.Place.{IsInPlace}
 use Rattle.exec_value.specs.declared.data.Datum.TheVariants.{Row}
@@ -15,12 +15,14 @@ use Rattle.plan_rules.specs.Bulks.{in_front, each_of, row_ending, bulk_of}
 use Rattle.plan_rules.specs.declared.node.Node.TheVariants.{Bulk}
 use Rattle.plan_shape.specs.declared.limits.TheConstants.{BULK_PARTS}
 use Rattle.home_items.specs.Bounds.{least_when_done}
+use Rattle.home_items.specs.Entries.{row_lot}
+use Rattle.home_items.specs.Items.{lot_for}
 use Rattle.home_items.specs.Shares.{first_index}
 use Rattle.start_laws.specs.BulkLaws.{share_made, front_made, made_behind}
 use Rattle.start_laws.proofs.Rows.{shares-made}
 use Rattle.exec_bulk.specs.declared.joining.Made.{Made}
 use Rattle.exec_bulk.specs.declared.joining.Made.TheVariants.{Numbers, Failed, Want}
-use Rattle.exec_bulk.specs.Made.{IsMade}
+use Rattle.exec_bulk.specs.Made.{IsFrontMade}
 use Rattle.exec_bulk.specs.Rows.{numbers_in, parts_for}
 
 -- the name of an error
@@ -67,16 +69,12 @@ abbrev pub HasNumbers : Made → Type 0
 HasNumbers (Numbers numbers) = ⊤
 HasNumbers made = ⊥
 
-pub front-ok : (made : Made) (job : Job) (whole : List ℤ) (part : ℕ) → HasNumbers made → IsMade made job whole part →
+pub front-ok : (made : Made) (job : Job) (whole : List ℤ) (part : ℕ) → HasNumbers made → IsFrontMade made job whole part →
     IsOk (front_made job whole part)
 front-ok (Numbers (Some numbers)) job whole part has is = subst (λ (r : Result (List ℤ) (List ℕ)). IsOk r) (sym is) refl
 front-ok (Numbers None) job whole part has is = is
 front-ok (Failed name) job whole part has is = absurd has
 front-ok Want job whole part has is = absurd has
-
-pub numbers-large : (made : Made) (job : Job) (whole : List ℤ) (part : ℕ) → HasNumbers made → IsMade made job whole part →
-    CompletesInPlace (row_ending (front_made job whole part)) → ⊥
-numbers-large made job whole part has is stands = row-large (front_made job whole part) (front-ok made job whole part has is) stands
 
 -- one share more
 module _ (job : Job) (whole : List ℤ) (part : ℕ) (within : part < BULK_PARTS) where
@@ -181,3 +179,30 @@ row-is (Value (datum ∷ values)) some = absurd (omega (arith, some))
 row-is (Error name) some = absurd (omega (arith, some))
 row-is Stopped some = absurd (omega (arith, some))
 row-is NoMemory some = absurd (omega (arith, some))
+
+-- what a bulk keeps fixes the row of its numbers, where it has some; and else no part's
+pub lot-row : (child : ℕ) (job : Job) (done : Completion) → 1 ≤ length (numbers_in done) →
+    lot_for (Some (Bulk child job)) done ≡ row_lot (numbers_in done)
+lot-row child job done some = ap (lot_for (Some (Bulk child job))) (row-is done some)
+
+-- no numbers are none
+pub numbers-none : (numbers : List ℤ) → length numbers ≡ 0 → numbers ≡ []
+numbers-none [] none = refl
+numbers-none (x ∷ xs) none = absurd (omega (arith, none))
+
+-- whether there are some, by the answer that there are none
+module _ (shown : List ℤ) (done at : Completion) (answer : Bool) (shown_is : shown ≡ numbers_in at) (at_is : at ≡ done)
+    (answer_is : answer ≡ (length shown == 0)) where
+  numbers-are : shown ≡ numbers_in done
+  numbers-are = shown_is ∙ ap numbers_in at_is
+
+  pub numbers-empty : answer ≡ true → numbers_in done ≡ []
+  numbers-empty is = sym numbers-are ∙ numbers-none shown (eqb-true (length shown) 0 (sym answer_is ∙ is))
+
+  pub numbers-some : answer ≡ false → 1 ≤ length (numbers_in done)
+  numbers-some is =
+      let same : length shown ≡ length (numbers_in done) = ap length numbers-are in
+      elim (cases_lt 0 (length shown)) [
+        | inl some ↦ omega (arith, some, same)
+        | inr none ↦ absurd (both_ways (length shown == 0) (sym answer_is ∙ is) (eq-eqb (length shown) 0 (omega (arith, none))))
+      ]

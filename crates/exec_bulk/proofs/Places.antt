@@ -1,10 +1,8 @@
--- Where a bulk and its parts stand, and whose starts they have.
+-- Where a bulk and its parts stand in the plan and in the table's tree.
 use Rattle.std.specs.Prelude.{IsTrue, slice_get}
 use Rattle.std.specs.List.{range_with_len}
-use Rattle.std.proofs.Common.{◌≡◌, ◌⊎◌, inl, inr, ℕ, ◌+◌, ◌<◌, ◌≤◌, true, false, List, [], ◌∷◌, Some, refl, ap, ◌∙◌, arith}
-use Rattle.std.proofs.lemmas.List.Elements.{Contains-append_cases, Contains-append_left, Contains-append_right}
-use Rattle.std.proofs.lemmas.Option.{slice_get_within}
-use Rattle.exec_value.specs.declared.limits.TheConstants.{NUMBERS}
+use Rattle.std.proofs.Common.{◌≡◌, ◌⊎◌, inl, inr, ℕ, ◌+◌, ◌<◌, ◌≤◌, true, false, [], ◌∷◌, Option, Some, None, refl, arith}
+use Rattle.std.proofs.lemmas.List.Elements.{All-head, Contains-append_cases, Contains-append_left, Contains-append_right}
 use Rattle.exec_job.specs.Takes.{is_element}
 use Rattle.exec_job.specs.declared.job.Job.{Job}
 use Rattle.life_rules.specs.declared.event.Name.{Name}
@@ -14,19 +12,33 @@ use Rattle.plan_rules.specs.declared.node.Node.TheVariants.{Bulk, Part}
 use Rattle.plan_shape.specs.Blueprint.{Blueprint, IsPlan}
 use Rattle.plan_shape.specs.Forest.{IsPlaced, IsPartOf}
 use Rattle.plan_shape.specs.declared.limits.TheConstants.{BULK_PARTS}
+use Rattle.plan_kinds.specs.Built.{IsNoPart}
 use Rattle.plan_kinds.specs.Small.{IsSmall}
 use Rattle.plan_kinds.specs.TreeLaws.{ShowsNode}
 use Rattle.plan_kinds.proofs.Placing.{no-member}
+use Rattle.plan_kinds.proofs.Plans.{plans-built}
 use Rattle.table_steps.specs.Views.{Board}
-use Rattle.home_items.specs.declared.entry.Entry.{Entry}
 use Rattle.home_items.specs.Entries.{plan_of, node_of}
-use Rattle.exec_recv.specs.Over.{IsOver}
+use Rattle.home_items.specs.declared.entry.Entry.{Entry}
+use Rattle.exec_recv.specs.Sites.{node_at, plan_at, IsSite}
 use Rattle.start_laws.specs.Nodes.{IsStartOf}
 use Rattle.start_laws.proofs.Pairs.{sole}
 use Rattle.step_parts.proofs.Places.{node-shown}
-use Rattle.exec_bulk.specs.Opens.{HasParts}
+use Rattle.exec_bulk.specs.Kinds.{IsBulkNode, IsPartNode}
 use Rattle.exec_bulk.specs.Rows.{first_part}
 use Rattle.exec_bulk.proofs.Ranges.{range-place, place-range}
+use Rattle.std.specs.Prelude.{List}
+
+-- a node of a kind
+pub bulk-of : (o : Option Node) → IsBulkNode o → (child : ℕ) × (job : Job) × (o ≡ Some (Bulk child job))
+bulk-of None kind = absurd kind
+bulk-of (Some (Bulk child job)) kind = (child, job, refl)
+bulk-of (Some node) kind = absurd kind
+
+pub part-of : (o : Option Node) → IsPartNode o → (bulk : ℕ) × (part : ℕ) × (o ≡ Some (Part bulk part))
+part-of None kind = absurd kind
+part-of (Some (Part bulk part)) kind = (bulk, part, refl)
+part-of (Some node) kind = absurd kind
 
 -- in a plan
 module _ (plan : Blueprint) (is_plan : IsPlan plan) (n child : ℕ) (job : Job) (at : slice_get plan.nodes n ≡ Some (Bulk child job)) where
@@ -44,18 +56,13 @@ module _ (plan : Blueprint) (is_plan : IsPlan plan) (n child : ℕ) (job : Job) 
       let place = made.place in
       omega (arith, place)
 
-  pub bulk-within : n ≤ NUMBERS
-  bulk-within =
-      let within = slice_get_within plan.nodes n (Bulk child job) at in
-      let few = is_plan.forest.few in
-      omega (arith, within, few)
-
   pub bulk-element : IsTrue (is_element job)
   bulk-element = placed.made
 
-pub job-element : (plan : Blueprint) → IsPlan plan → (n : ℕ) (node : Node) → slice_get plan.nodes n ≡ Some node → (child : ℕ) (job : Job) →
-    node ≡ Bulk child job → IsTrue (is_element job)
-job-element plan is_plan n node at child job is = bulk-element plan is_plan n child job (at ∙ ap (λ (d : Node). Some d) is)
+  -- and its child is none
+  pub child-plain : IsNoPart (slice_get plan.nodes child)
+  child-plain =
+      All-head (λ k. IsNoPart (slice_get plan.nodes k)) child [] ((plans-built plan is_plan).no_parts n (Bulk child job) at)
 
 -- a plan with a bulk, or a part of one, isn't small
 pub bulk-large : (start : List Entry) (child : ℕ) (job : Job) → IsStartOf start (Bulk child job) → ¬ IsSmall (plan_of start)
@@ -64,14 +71,13 @@ bulk-large start child job of small = small.nodes_are (node_of start) (Bulk chil
 pub part-large : (start : List Entry) (bulk part : ℕ) → IsStartOf start (Part bulk part) → ¬ IsSmall (plan_of start)
 part-large start bulk part of small = small.nodes_are (node_of start) (Part bulk part) of.node_is
 
--- a bulk
-module _ (board : Board Blueprint) (plan : Blueprint) (x : Name) (child : ℕ) (job : Job) (over : IsOver board plan)
-    (at : slice_get plan.nodes x.node ≡ Some (Bulk child job)) where
+-- a bulk in the table
+module _ (board : Board Blueprint) (x : Name) (child : ℕ) (job : Job) (site : IsSite board) (at : node_at board x ≡ Some (Bulk child job)) where
   abbrev node : Node
   node = Bulk child job
 
   abbrev its : ShowsNode board.frame.tree x.node node
-  its = node-shown board plan x node over at
+  its = node-shown board (plan_at board) x node site.over at
 
   pub bulk-plain : has_source board.frame.tree x.node ≡ false
   bulk-plain = its.source
@@ -83,7 +89,7 @@ module _ (board : Board Blueprint) (plan : Blueprint) (x : Name) (child : ℕ) (
   bulk-child =
       (its.children child).1 (Contains-append_left (child ∷ []) (range_with_len (first_part x.node) BULK_PARTS) child (0, omega arith, refl), refl)
 
-  pub bulk-parts : HasParts board x
+  pub bulk-parts : (part : ℕ) → part < BULK_PARTS → is_child board.frame.tree x.node (first_part x.node + part) ≡ true
   bulk-parts part within =
       let k = first_part x.node + part in
       (its.children k).1
@@ -99,8 +105,8 @@ module _ (board : Board Blueprint) (plan : Blueprint) (x : Name) (child : ℕ) (
       ]
 
 -- a part has none
-pub part-kids : (board : Board Blueprint) (plan : Blueprint) (x : Name) (bulk part : ℕ) (over : IsOver board plan) →
-    slice_get plan.nodes x.node ≡ Some (Part bulk part) → (k : ℕ) → is_child board.frame.tree x.node k ≡ true → ⊥
-part-kids board plan x bulk part over at k below =
-    let both = ((node-shown board plan x (Part bulk part) over at).children k).0 below in
+pub part-kids : (board : Board Blueprint) (x : Name) (bulk part : ℕ) → IsSite board → node_at board x ≡ Some (Part bulk part) →
+    (k : ℕ) → is_child board.frame.tree x.node k ≡ true → ⊥
+part-kids board x bulk part site at k below =
+    let both = ((node-shown board (plan_at board) x (Part bulk part) site.over at).children k).0 below in
     no-member k both.0

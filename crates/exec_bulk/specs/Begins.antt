@@ -1,67 +1,70 @@
--- How a bulk begins its parts.
-use Rattle.std.specs.Prelude.{◌≡◌, ◌⊎◌, ℕ, ◌≤◌, Bool, true, ℤ, List, length}
+-- How a bulk begins its parts ([exec.bulk]).
+use Rattle.std.specs.Prelude.{◌≡◌, ℕ, ◌≤◌, Bool, true, false, List, [], ◌∷◌, length, Some}
 use Rattle.std.specs.List.{range_with_len}
-use Rattle.exec_value.specs.declared.limits.TheConstants.{NUMBERS}
-use Rattle.exec_value.specs.declared.outcome.Completion.{Completion}
+use Rattle.exec_job.specs.declared.job.Job.{Job}
+use Rattle.exec_value.specs.declared.data.Datum.{Datum}
+use Rattle.exec_value.specs.declared.data.Datum.TheVariants.{Row}
 use Rattle.exec_value.specs.declared.outcome.Completion.TheVariants.{NoMemory}
-use Rattle.life_rules.specs.declared.event.Name.{Name}
+use Rattle.plan_rules.specs.declared.node.Node.TheVariants.{Bulk}
 use Rattle.plan_shape.specs.Blueprint.{Blueprint}
-use Rattle.plan_shape.specs.declared.limits.TheConstants.{BULK_PARTS}
-use Rattle.table_steps.specs.Claims.{Seated}
 use Rattle.table_steps.specs.Slots.{has_seen}
 use Rattle.table_steps.specs.Views.{Board}
-use Rattle.home_items.specs.declared.entry.Entry.{Entry}
-use Rattle.home_items.specs.declared.item.Item.{Item}
 use Rattle.home_items.specs.Parcels.{Delivery}
 use Rattle.exec_recv.specs.declared.next.Next.{Next}
-use Rattle.step_parts.specs.Midway.{KeepsReady}
-use Rattle.exec_bulk.specs.declared.beginning.Cut.{Cut}
-use Rattle.exec_bulk.specs.Ends.{HasChild, MayPut}
-use Rattle.exec_bulk.specs.Rows.{numbers_in, parts_for, first_part}
-use Rattle.exec_bulk.specs.Starts.{part_starts, AllBegin}
-use Rattle.step_parts.specs.Completes.{CompletesWith}
-use Rattle.exec_bulk.specs.Steps.{AwaitsParts}
+use Rattle.exec_recv.specs.declared.next.Next.TheVariants.{Rest as IsAtRest}
+use Rattle.exec_recv.specs.Seats.{HandSeat}
+use Rattle.exec_recv.specs.Sites.{node_at, Steps}
+use Rattle.step_parts.specs.Awaits.{AwaitsMany}
+use Rattle.step_parts.specs.Completes.{Completes}
+use Rattle.step_parts.specs.Heard.{Looked}
+use Rattle.step_parts.specs.Stepping.{Stepping}
+use Rattle.step_parts.specs.Takes.{HasParcel, IsTaken, Keeps}
+use Rattle.exec_bulk.specs.Rows.{first_part, numbers_in, parts_for}
 
--- the parts of x, which has this start, can be made for the row in the parcel
-pub record MayCut (x : Name) (start : List Entry) (parcel : Delivery) : Type 0 where
-  pub behind : BULK_PARTS ≤ x.node
-  pub within : x.node ≤ NUMBERS
-  pub begin : AllBegin (first_part x.node) (numbers_in parcel.completion) start
-      (parts_for (numbers_in parcel.completion))
+module _ (board : Board Blueprint) (t : Stepping) where
+  -- The step of a bulk goes on, whose child has completed with this parcel.
+  pub record MayGoOn (parcel : Delivery) (hand : HandSeat) : Type 0 where
+    pub taken : IsTaken board t hand
+    pub child : ℕ
+    pub job : Job
+    pub node_is : node_at board t.name ≡ Some (Bulk child job)
+    pub has : HasParcel board t hand.me parcel
 
--- these are the parts for this row, and their starts
-pub record HasCut (x : Name) (start : List Entry) (whole : List ℤ) (cut : Cut) : Type 0 where
-  pub nodes : cut.nodes.items ≡ range_with_len (first_part x.node) (parts_for whole)
-  pub starts : cut.starts.items ≡ part_starts (first_part x.node) whole start (parts_for whole)
-
-module _ (board : Board Blueprint) (x : Name) where
-  -- where the child saw a request, and the answer is yes, the hand has seen one
-  pub record Looks (saw answer : Bool) (m m' : Seated Item Entry) : Type 0 where
-    pub keeps : KeepsReady board x m m'
-    pub seen : answer ≡ true → saw ≡ true → has_seen board.frame.tree m'.0 x ≡ true
-
-  -- The child of x has completed with a row, and x may begin the row's parts.
-  pub record MayBeginParts (start : List Entry) (parcel : Delivery) (m : Seated Item Entry) :
-      Type 0 where
-    pub has : HasChild board x start parcel m
+  -- It is a row with numbers.
+  pub record MayBegin (parcel : Delivery) (hand : HandSeat) : Type 0 where
+    pub goes_on : MayGoOn parcel hand
     pub some : 1 ≤ length (numbers_in parcel.completion)
-    pub seen : parcel.saw ≡ true → has_seen board.frame.tree m.0 x ≡ true
 
-  -- The hand owes the starts of the first so many of these parts of x, and what they begin with is
-  -- at hand.
-  pub record MayPutFirst (nodes : List ℕ) (left : ℕ) (starts : List (List Entry))
-      (m : Seated Item Entry) : Type 0 where
-    pub start : List Entry
-    pub whole : List ℤ
-    pub count : ℕ
-    pub nodes_is : nodes ≡ range_with_len (first_part x.node) count
-    pub may : MayPut board x start whole count left starts m
+  -- Where the child saw a request, the hand has seen one.
+  pub record MayStart (parcel : Delivery) (row : List Datum) (hand : HandSeat) : Type 0 where
+    pub may : MayBegin parcel hand
+    pub row_is : row ≡ Row (numbers_in parcel.completion) ∷ []
+    pub seen : parcel.saw ≡ true → has_seen board.frame.tree hand.me.0 t.name ≡ true
 
-  -- so it is of all of them
-  abbrev pub MayPutAll : List ℕ → List (List Entry) → Seated Item Entry → Type 0
-  MayPutAll nodes starts m = MayPutFirst nodes (length nodes) starts m
+  -- where the child saw a request, the node looked, and the answer is what it read
+  pub record Looks (saw answer : Bool) (old new : HandSeat) : Type 0 where
+    pub keeps : Keeps board t old new
+    pub looked : saw ≡ true → Looked board t.name answer old.me new.me
+    pub none : saw ≡ false → answer ≡ true
 
-  -- x awaits the parts of the row, or there was no memory for their starts
-  abbrev pub BeginsParts : Completion → Next → Seated Item Entry → Type 0
-  BeginsParts done next m' = AwaitsParts board x done next m'
-      ⊎ CompletesWith board x NoMemory next m'
+  -- It keeps the parcel of its child, and awaits as many of its parts as the row has, none of which
+  -- had begun; each start was put into the part's home.
+  pub record StartsParts (parcel : Delivery) (next : Next) (old new : HandSeat) : Type 0 where
+    pub steps : Steps board t.name next t.from new
+    pub next_is : next ≡ IsAtRest
+    pub read : HandSeat
+    pub reads : Keeps board t old read
+    pub waiting : HandSeat
+    pub awaits : AwaitsMany board t (Some parcel)
+        (range_with_len (first_part t.name.node) (parts_for (numbers_in parcel.completion)))
+        read waiting
+    pub owed : new.me.0.owed ≡ waiting.me.0.owed
+
+  -- It began the parts. Where the child saw a request of which the node's own look reads nothing,
+  -- which doesn't come, it completed with want of memory.
+  pub record BeginsParts (parcel : Delivery) (next : Next) (old new : HandSeat) : Type 0 where
+    pub answer : Bool
+    pub middle : HandSeat
+    pub looks : Looks parcel.saw answer old middle
+    pub starts : answer ≡ true → StartsParts parcel next middle new
+    pub wants : answer ≡ false → Completes board t NoMemory false next middle new

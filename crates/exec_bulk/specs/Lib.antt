@@ -1,11 +1,11 @@
 pub mod Kinds
 pub mod Rows
-pub mod Elements
-pub mod Starts
 pub mod Made
+pub mod Elements
 pub mod Opens
-pub mod Ends
-pub mod Steps
 pub mod Begins
+pub mod Ends
+pub mod Parts
+pub mod Steps
 -- the definitions that the public contracts cite
 pub use Rattle.exec_recv.specs.Nexts

@@ -13,11 +13,11 @@ use Rattle.exec_bulk.specs.declared.joining.Made.TheVariants.{Numbers, Failed, W
 
 -- This is what the job makes of the shares before this one: the numbers, where there was memory for
 -- them, or the error of the first that failed. Nothing is said where a part wants memory.
-abbrev pub IsMade : Made → Job → List ℤ → ℕ → Type 0
-IsMade (Numbers (Some made)) job whole part = front_made job whole part ≡ Ok made.items
-IsMade (Numbers None) job whole part = IsOk (front_made job whole part)
-IsMade (Failed name) job whole part = front_made job whole part ≡ Err name
-IsMade Want job whole part = ⊤
+abbrev pub IsFrontMade : Made → Job → List ℤ → ℕ → Type 0
+IsFrontMade (Numbers (Some made)) job whole part = front_made job whole part ≡ Ok made.items
+IsFrontMade (Numbers None) job whole part = IsOk (front_made job whole part)
+IsFrontMade (Failed name) job whole part = front_made job whole part ≡ Err name
+IsFrontMade Want job whole part = ⊤
 
 -- the completion is what the job makes of the share of this number, where it isn't want of memory
 abbrev pub IsOfShare : Job → List ℤ → ℕ → Completion → Type 0
@@ -28,14 +28,14 @@ IsOfShare job whole part done =
 abbrev pub AddsShare : Made → Completion → Made → Type 0
 AddsShare before done after =
     (job : Job) (whole : List ℤ) (part : ℕ) → part < BULK_PARTS → IsOfShare job whole part done →
-    IsMade before job whole part → IsMade after job whole (part + 1)
+    IsFrontMade before job whole part → IsFrontMade after job whole (part + 1)
 
 -- the next part was added: its parcel, where it is done
 abbrev pub AddsPart : Option Delivery → Made → Made → Type 0
 AddsPart found before after =
     (job : Job) (whole : List ℤ) (part : ℕ) → part < BULK_PARTS →
     IfSome found (λ parcel. IsOfShare job whole part parcel.completion) →
-    IsMade before job whole part → IsMade after job whole (part + 1)
+    IsFrontMade before job whole part → IsFrontMade after job whole (part + 1)
 
 -- and where a part wants memory then, one wanted it before, or this one does, or isn't done
 abbrev pub WantsAfter : Option Delivery → Made → Made → Type 0
@@ -45,11 +45,11 @@ WantsAfter found before after =
 -- this is what these complete with together, of whatever job and row they are
 abbrev pub JoinsTo : Made → Option Completion → Type 0
 JoinsTo made answer =
-    (job : Job) (whole : List ℤ) (part : ℕ) → IsMade made job whole part →
+    (job : Job) (whole : List ℤ) (part : ℕ) → IsFrontMade made job whole part →
     IfSome answer (λ done. done ≡ row_ending (front_made job whole part))
 
 -- and it is there, where it stands in place and no part wants memory
 abbrev pub JoinsInPlace : Made → Option Completion → Type 0
 JoinsInPlace made answer =
-    (job : Job) (whole : List ℤ) (part : ℕ) → IsMade made job whole part → made ≢ Want →
+    (job : Job) (whole : List ℤ) (part : ℕ) → IsFrontMade made job whole part → made ≢ Want →
     CompletesInPlace (row_ending (front_made job whole part)) → IsSome answer

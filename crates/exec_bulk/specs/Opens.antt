@@ -1,44 +1,33 @@
--- How the step of a bulk opens: the homes of the node, of its child and of its parts are emptied.
-use Rattle.std.specs.Prelude.{◌≡◌, ◌≢◌, ℕ, zero, suc, ◌+◌, ◌<◌, ◌≤◌, min, ℤ, true, List, Option, Some, None, IfSome}
-use Rattle.std.specs.Option.{option_map, option_map_or}
-use Rattle.exec_value.specs.declared.outcome.Completion.TheVariants.{NoMemory}
+-- What a bulk that has begun finds in the homes of its child and of its parts.
+use Rattle.std.specs.Prelude.{◌≡◌, ◌≢◌, ℕ, ◌+◌, ◌<◌, ◌≤◌, min, true, List, ℤ, Option, Some, None, is_some}
+use Rattle.std.specs.List.{range_with_len}
 use Rattle.exec_job.specs.declared.job.Job.{Job}
-use Rattle.life_rules.specs.declared.event.Name.{Name}
-use Rattle.node_tree.specs.Tree.{is_child}
+use Rattle.exec_value.specs.declared.outcome.Completion.TheVariants.{NoMemory}
 use Rattle.plan_rules.specs.declared.node.Node.TheVariants.{Bulk}
 use Rattle.plan_shape.specs.Blueprint.{Blueprint}
 use Rattle.plan_shape.specs.declared.limits.TheConstants.{BULK_PARTS}
-use Rattle.table_rules.specs.declared.view.Held.{Held}
 use Rattle.table_steps.specs.Views.{Board}
-use Rattle.table_steps.specs.Claims.{Seated}
-use Rattle.table_steps.specs.Slots.{held_at}
-use Rattle.op_slot.specs.Tends.{put_at}
-use Rattle.home_items.specs.declared.entry.Entry.{Entry}
 use Rattle.home_items.specs.declared.item.Item.{Item}
-use Rattle.home_items.specs.declared.item.Item.TheVariants.{Rest, Done}
-use Rattle.home_items.specs.Bounds.{least_of}
+use Rattle.home_items.specs.declared.item.State.{State}
+use Rattle.home_items.specs.Contents.{Done}
 use Rattle.home_items.specs.Items.{parcel_in}
-use Rattle.home_items.specs.Parcels.{Delivery}
+use Rattle.home_items.specs.Parcels.{Delivery, IsDelivery}
+use Rattle.exec_recv.specs.Seats.{HandSeat}
+use Rattle.exec_recv.specs.Sites.{node_at}
 use Rattle.exec_recv.specs.Steppable.{CanStep}
-use Rattle.start_laws.specs.Holding.{IsFromBelow}
-use Rattle.start_laws.specs.Nodes.{IsStartOf}
-use Rattle.step_parts.specs.Heard.{has_heard}
-use Rattle.step_parts.specs.Midway.{Emptying, Ready, KeepsOthers}
-use Rattle.step_parts.specs.TakenOut.{TakesBelow}
+use Rattle.step_parts.specs.Several.{Empties}
+use Rattle.step_parts.specs.Stepping.{Stepping}
+use Rattle.step_parts.specs.Takes.{IsOpenWith, TakesChild, TakesKept, TakesState}
 use Rattle.exec_bulk.specs.declared.joining.Made.{Made}
 use Rattle.exec_bulk.specs.declared.joining.Made.TheVariants.{Want}
 use Rattle.exec_bulk.specs.declared.opening.Opened.{Opened}
-use Rattle.exec_bulk.specs.Made.{IsMade, AddsPart, WantsAfter}
-use Rattle.exec_bulk.specs.Rows.{numbers_in, parts_for, first_part}
+use Rattle.exec_bulk.specs.Kinds.{IsBulkNode}
+use Rattle.exec_bulk.specs.Made.{AddsPart, IsFrontMade, IsOfShare, WantsAfter}
+use Rattle.exec_bulk.specs.Rows.{first_part, numbers_in, parts_for}
 
--- the homes of the first so many nodes from this one on were emptied
-abbrev pub emptied : ℕ → ℕ → (ℕ → Option Item) → ℕ → Option Item
-emptied first zero kid = kid
-emptied first (suc n) kid = put_at (first + n) None (emptied first n kid)
-
--- what the hand was told that the last await of x fixed
-abbrev pub lot_at : Name → Seated Item Entry → Option (List ℤ)
-lot_at x m = option_map_or (λ (e : Held Entry). e.lot) (held_at m.0 x) None
+-- the parts of this bulk
+abbrev pub names_of_parts : ℕ → List ℕ
+names_of_parts bulk = range_with_len (first_part bulk) BULK_PARTS
 
 -- a parcel lies in this home, and isn't want of memory
 pub record HasDelivered (inside : Option Item) : Type 0 where
@@ -50,67 +39,64 @@ pub record HasDelivered (inside : Option Item) : Type 0 where
 abbrev pub HaveDelivered : ℕ → ℕ → (ℕ → Option Item) → Type 0
 HaveDelivered first n kid = (i : ℕ) → i < n → HasDelivered (kid (first + i))
 
-module _ (board : Board Blueprint) (x : Name) where
-  -- the nodes before x are children of it: its parts
-  abbrev pub HasParts : Type 0
-  HasParts =
-      (part : ℕ) → part < BULK_PARTS →
-      is_child board.frame.tree x.node (first_part x.node + part) ≡ true
+module _ (board : Board Blueprint) (t : Stepping) where
+  -- The step of a bulk of this child has taken it up in this state.
+  pub record HasTakenUp (child : ℕ) (state : State) (hand : HandSeat) : Type 0 where
+    pub before : HandSeat
+    pub can : CanStep board t.name before.me
+    pub takes : TakesState board t.name t state before hand
+    pub job : Job
+    pub node_is : node_at board t.name ≡ Some (Bulk child job)
 
-  -- x has the start of a bulk with this job. Where something lies in a child's home, the last await
-  -- of x fixed this row.
-  pub record HasDrawn (start : List Entry) (job : Job) (whole : List ℤ) (kid : ℕ → Option Item)
-      (m : Seated Item Entry) : Type 0 where
-    pub child : ℕ
-    pub of : IsStartOf start (Bulk child job)
-    pub draws : (n : ℕ) (done : Item) → is_child board.frame.tree x.node n ≡ true →
-        kid n ≡ Some done → lot_at x m ≡ Some whole
+  -- It keeps a parcel of its child.
+  pub record MayOpen (hand : HandSeat) : Type 0 where
+    pub inside : Item
+    pub kid : ℕ → Option Item
+    pub opened : IsOpenWith board t inside kid hand
+    pub kind : IsBulkNode (node_at board t.name)
+    pub keeps : is_some (parcel_in inside) ≡ true
+
+  -- Of a bulk that has begun, and keeps no numbers, nothing lies in the homes of its parts.
+  pub record MayTakeBack (child : ℕ) (hand : HandSeat) : Type 0 where
+    pub inside : Item
+    pub kid : ℕ → Option Item
+    pub opened : IsOpenWith board t inside kid hand
+    pub job : Job
+    pub node_is : node_at board t.name ≡ Some (Bulk child job)
+    pub none : (part : ℕ) → part < BULK_PARTS → kid (first_part t.name.node + part) ≡ None
+
+  -- What the first so many parts completed with is what the job makes of their shares of this row.
+  pub record HasDrawn (job : Job) (whole : List ℤ) (count : ℕ) (hand : HandSeat) : Type 0 where
+    pub few : count ≤ BULK_PARTS
+    pub inside : Item
+    pub kid : ℕ → Option Item
+    pub opened : IsOpenWith board t inside kid hand
+    pub makes : (part : ℕ) (parcel : Delivery) → part < count →
+        kid (first_part t.name.node + part) ≡ Some (Done parcel) → IsDelivery parcel →
+        IsOfShare job whole part parcel.completion
 
   -- the home of the part of this number was emptied, and where the part is one of the first so
   -- many, it was added to those before it
-  pub record TakesPart (part count : ℕ) (before after : Made) (m m' : Seated Item Entry) :
-      Type 0 where
+  pub record TakesPart (part count : ℕ) (before after : Made) (old new : HandSeat) : Type 0 where
     pub answer : Option Delivery
-    pub takes : TakesBelow board x (first_part x.node + part) answer m m'
+    pub takes : TakesChild board t (first_part t.name.node + part) answer old new
     pub adds : part < count → AddsPart answer before after
     pub wants : part < count → WantsAfter answer before after
     pub passes : count ≤ part → after ≡ before
 
   -- The homes of the first n parts were emptied, and those among the first so many were added.
   -- Where they want memory, one of them does, or isn't done.
-  pub record TakesParts (n count : ℕ) (made : Made) (m m' : Seated Item Entry) : Type 0 where
-    pub beside : KeepsOthers board x m m'
-    pub same_held : held_at m'.0 x ≡ held_at m.0 x
-    pub heard : has_heard board x m' ≡ has_heard board x m
-    pub left : (start : List Entry) (least : ℕ) (kid : ℕ → Option Item) →
-        Emptying board x start least kid m →
-        Emptying board x start least (emptied (first_part x.node) n kid) m'
-    pub made_is : (start : List Entry) (least : ℕ) (kid : ℕ → Option Item) (job : Job)
-        (whole : List ℤ) → Emptying board x start least kid m →
-        HasDrawn start job whole kid m → IsMade made job whole (min n count)
-    pub wants : (start : List Entry) (least : ℕ) (kid : ℕ → Option Item) →
-        Emptying board x start least kid m → made ≡ Want →
-        HaveDelivered (first_part x.node) (min n count) kid → ⊥
+  pub record TakesParts (n count : ℕ) (made : Made) (old new : HandSeat) : Type 0 where
+    pub empties : Empties board t (range_with_len (first_part t.name.node) n) old new
+    pub made_is : (job : Job) (whole : List ℤ) → HasDrawn job whole count old →
+        IsFrontMade made job whole (min n count)
+    pub wants : (inside : Item) (kid : ℕ → Option Item) → IsOpenWith board t inside kid old →
+        made ≡ Want → HaveDelivered (first_part t.name.node) (min n count) kid → ⊥
 
-  -- The homes are empty. The child's parcel lay in its home, or is kept. Where a row is kept, this
-  -- is what the job makes of it; and where the parts want memory, one of them does, or isn't done.
-  pub record Opens (child : ℕ) (opened : Opened) (m m' : Seated Item Entry) : Type 0 where
-    pub beside : KeepsOthers board x m m'
-    pub job : Job
-    pub of : IsStartOf opened.env (Bulk child job)
-    pub ready : Ready board x opened.env 0 m'
-    pub below_is : (can : CanStep board x m) → can.kid child ≡ option_map Done opened.below
-    pub kept_is : (can : CanStep board x m) → parcel_in can.item ≡ opened.kept
-    pub begun : IfSome opened.below (λ parcel. Ready board x opened.env 1 m')
-    pub below : IfSome opened.below
-        (λ parcel. IsFromBelow opened.env parcel (has_heard board x m'))
-    pub named : IfSome opened.kept
-        (λ parcel. Ready board x opened.env (least_of (Rest opened.env (Some parcel))) m')
-    pub kept : IfSome opened.kept
-        (λ parcel. IsFromBelow opened.env parcel (has_heard board x m'))
-    pub made : IfSome opened.kept
-        (λ parcel. IsMade opened.made job (numbers_in parcel.completion)
-        (parts_for (numbers_in parcel.completion)))
-    pub wants : (can : CanStep board x m) → can.kid child ≡ None → IfSome opened.kept
-        (λ parcel. opened.made ≡ Want → HaveDelivered (first_part x.node)
-        (parts_for (numbers_in parcel.completion)) can.kid → ⊥)
+  -- This parcel was taken, which the node kept, and the homes of its parts were emptied, which come
+  -- to this.
+  pub record OpensParts (opened : Opened) (old new : HandSeat) : Type 0 where
+    pub middle : HandSeat
+    pub keeps : TakesKept board t (Some opened.kept) old middle
+    pub takes : TakesParts BULK_PARTS (parts_for (numbers_in opened.kept.completion)) opened.made
+        middle new

@@ -1,148 +1,104 @@
--- What the step of a bulk, and that of a part, does ([exec.bulk]).
-use Rattle.std.specs.Prelude.{◌≡◌, ◌≢◌, ◌⊎◌, ⊤, ℕ, ◌≤◌, ℤ, Bool, true, false, List, [], length, Option, Some, None}
-use Rattle.std.specs.List.{range_with_len}
-use Rattle.exec_value.specs.declared.data.Datum.{Datum}
+-- What the step of a bulk does ([exec.bulk]).
+use Rattle.std.specs.Prelude.{◌≡◌, ◌≢◌, ◌⊎◌, ℕ, ◌≤◌, Bool, false, List, ℤ, [], length, Option, Some, None}
+use Rattle.exec_job.specs.declared.job.Job.{Job}
 use Rattle.exec_value.specs.declared.outcome.Completion.{Completion}
 use Rattle.exec_value.specs.declared.outcome.Completion.TheVariants.{NoMemory}
-use Rattle.exec_job.specs.declared.job.Job.{Job}
 use Rattle.life_rules.specs.declared.event.Name.{Name}
-use Rattle.life_rules.specs.declared.words.ControlWord.TheVariants.{Busy}
-use Rattle.node_tree.specs.declared.context.Context.TheVariants.{Pool}
-use Rattle.plan_rules.specs.Bulks.{each_of, row_ending, bulk_of, job_of_bulk, part_ending}
-use Rattle.plan_rules.specs.declared.node.Node.{Node}
-use Rattle.plan_rules.specs.declared.node.Node.TheVariants.{Bulk, Part}
-use Rattle.plan_shape.specs.Blueprint.{Blueprint}
 use Rattle.node_images.specs.Makes.{CompletesInPlace}
-use Rattle.table_steps.specs.Awaits.{AwaitsAt}
-use Rattle.table_steps.specs.Claims.{Seated}
-use Rattle.table_steps.specs.Lefts.{LeavesControl}
-use Rattle.table_steps.specs.Slots.{home_at}
-use Rattle.table_steps.specs.Views.{Board, aim_at}
-use Rattle.home_items.specs.contracts.item.ItemCargo.TheImpl.{ghosts}
-use Rattle.home_items.specs.declared.entry.Entry.{Entry}
+use Rattle.plan_rules.specs.Bulks.{bulk_of, each_of, row_ending}
+use Rattle.plan_rules.specs.declared.node.Node.TheVariants.{Bulk}
+use Rattle.plan_shape.specs.Blueprint.{Blueprint}
+use Rattle.table_steps.specs.Views.{Board}
 use Rattle.home_items.specs.declared.item.Item.{Item}
-use Rattle.home_items.specs.declared.item.Item.TheVariants.{Start, Done, Rest as Kept}
-use Rattle.home_items.specs.Entries.{args_of}
-use Rattle.home_items.specs.Items.{start_in, parcel_in}
+use Rattle.home_items.specs.declared.item.State.{State}
+use Rattle.home_items.specs.declared.item.State.TheVariants.{Start as Begins, Rest as Rests, Kept}
+use Rattle.home_items.specs.Items.{parcel_in}
 use Rattle.home_items.specs.Parcels.{Delivery}
 use Rattle.exec_recv.specs.declared.next.Next.{Next}
-use Rattle.exec_recv.specs.declared.next.Next.TheVariants.{Rest}
-use Rattle.exec_recv.specs.Steppable.{CanStep}
-use Rattle.step_parts.specs.declared.taken.AtHome.{AtHome}
-use Rattle.step_parts.specs.declared.taken.AtHome.TheVariants.{Start as Unbegun, Rest as Rested}
-use Rattle.step_parts.specs.Completes.{CompletesWith}
-use Rattle.step_parts.specs.Leaves.{IsLeftIn}
-use Rattle.step_parts.specs.Starts.{StartsOne}
+use Rattle.exec_recv.specs.Seats.{HandSeat}
+use Rattle.exec_recv.specs.Sites.{node_at}
+use Rattle.step_parts.specs.Completes.{Completes}
+use Rattle.step_parts.specs.Starts.{StartsAgain, StartsChild}
+use Rattle.step_parts.specs.Stepping.{Stepping}
+use Rattle.step_parts.specs.Takes.{IsOpenWith, TakesBack, TakesState}
 use Rattle.exec_bulk.specs.declared.joining.Made.{Made}
 use Rattle.exec_bulk.specs.declared.joining.Made.TheVariants.{Want}
-use Rattle.exec_bulk.specs.Made.{IsMade}
+use Rattle.exec_bulk.specs.Begins.{BeginsParts}
+use Rattle.exec_bulk.specs.Made.{IsFrontMade}
 use Rattle.exec_bulk.specs.Opens.{HaveDelivered}
-use Rattle.exec_bulk.specs.Rows.{numbers_in, parts_for, first_part, IsWithinRow}
+use Rattle.exec_bulk.specs.Rows.{first_part, numbers_in, parts_for}
 
--- the node has begun nothing yet
-abbrev pub IsUnbegun : Item → Type 0
-IsUnbegun (Start start) = ⊤
-IsUnbegun item = ⊥
+module _ (board : Board Blueprint) (t : Stepping) where
+  -- it completed as its child did
+  abbrev pub Passes : Delivery → Next → HandSeat → HandSeat → Type 0
+  Passes parcel next old new = Completes board t parcel.completion parcel.saw next old new
 
-abbrev pub has_begun : AtHome → Bool
-has_begun (Unbegun start) = false
-has_begun (Rested start kept) = true
+  -- Its child has completed with this. Where that is a row with numbers, the row's parts began;
+  -- else it completed with the same.
+  pub record CutsRow (parcel : Delivery) (next : Next) (old new : HandSeat) : Type 0 where
+    pub cuts : 1 ≤ length (numbers_in parcel.completion) →
+        BeginsParts board t parcel next old new
+    pub passes : numbers_in parcel.completion ≡ [] → Passes parcel next old new
 
-module _ (board : Board Blueprint) (x : Name) where
-  -- x keeps the parcel of its child, which completed with this row, and awaits as many of its parts
-  -- as the row has; it owes what it owed then
-  pub record AwaitsParts (done : Completion) (next : Next) (m' : Seated Item Entry) :
-      Type 0 where
-    pub next_is : next ≡ Rest
-    pub start : List Entry
-    pub parcel : Delivery
-    pub done_is : parcel.completion ≡ done
-    pub full : Seated Item Entry
-    pub home : home_at board.frame.layout full x ≡ Some (Some (Kept start (Some parcel)))
-    pub waiting : Seated Item Entry
-    pub awaits : LeavesControl (aim_at board x) (Busy 0) (Busy (parts_for (numbers_in done)))
-        (AwaitsAt ghosts (aim_at board x)
-        (range_with_len (first_part x.node) (parts_for (numbers_in done)))) full waiting
-    pub owed : m'.0.owed ≡ waiting.0.owed
+  -- It keeps no numbers: it went on by what its child completed with, or started it.
+  pub record GoesOnBack (child : ℕ) (next : Next) (old new : HandSeat) : Type 0 where
+    pub answer : Option Delivery
+    pub middle : HandSeat
+    pub takes : TakesBack board t child answer old middle
+    pub cuts : (parcel : Delivery) → answer ≡ Some parcel → CutsRow parcel next middle new
+    pub again : answer ≡ None → StartsAgain board t child next middle new
 
-  -- The child of x has completed with this. Where that is a row with numbers, x awaits as many
-  -- parts as the row has, or there was no memory for their starts; else x completes with the same.
-  pub record CutsRow (done : Completion) (next : Next) (m' : Seated Item Entry) : Type 0 where
-    pub cuts : 1 ≤ length (numbers_in done) →
-        AwaitsParts done next m' ⊎ CompletesWith board x NoMemory next m'
-    pub passes : numbers_in done ≡ [] → CompletesWith board x done next m'
-
-  -- a node that has begun nothing yet is left ready in the pool, with its start alone
-  abbrev pub HopsFirst : Next → Seated Item Entry → Seated Item Entry → Type 0
-  HopsFirst next m m' =
-      (can : CanStep board x m) → IsUnbegun can.item → IsLeftIn board x Pool None next m'
-
-  -- x delivered want of memory: where this is so, there was none for this completion, which doesn't
-  -- stand in place
-  pub record Wants (able : Type 0) (done : Completion) (next : Next) (m' : Seated Item Entry) :
+  -- It completed with want of memory: where this is so, there was none for this completion, which
+  -- doesn't stand in place.
+  pub record Wants (able : Type 0) (done : Completion) (next : Next) (old new : HandSeat) :
       Type 0 where
     pub large : able → CompletesInPlace done → ⊥
-    pub ends : CompletesWith board x NoMemory next m'
+    pub completes : Completes board t NoMemory false next old new
 
-  -- a part with these arguments completes with this; or there was no memory for it, and where the
-  -- part begins within a row, it doesn't stand in place
-  abbrev pub EndsPart : List Datum → Completion → Next → Seated Item Entry → Type 0
-  EndsPart args done next m' =
-      CompletesWith board x done next m' ⊎ Wants (IsWithinRow args) done next m'
+  -- It completed with this; or a part wants memory, or there was none for this.
+  abbrev pub CompletesOr : Type 0 → Completion → Bool → Next → HandSeat → HandSeat → Type 0
+  CompletesOr able done saw next old new =
+      Completes board t done saw next old new ⊎ Wants able done next old new
 
-  -- a part that was in the pool completes with what its bulk's job makes of its share
-  abbrev pub EndsShare : ℕ → Next → Seated Item Entry → Seated Item Entry → Type 0
-  EndsShare bulk next m m' =
-      (can : CanStep board x m) → (IsUnbegun can.item → ⊥) →
-      let args = args_of (start_in can.item) in
-      EndsPart args (part_ending (job_of_bulk board.frame.over.value.nodes bulk) args) next m'
+  -- Whatever job and row these were made of, it completed with what the job makes of the row.
+  abbrev pub EndsAsMade : Made → Bool → Next → HandSeat → HandSeat → Type 0
+  EndsAsMade made saw next old new =
+      (job : Job) (whole : List ℤ) → IsFrontMade made job whole (parts_for whole) →
+      CompletesOr (made ≢ Want) (row_ending (each_of job 0 whole)) saw next old new
 
-  -- when no parcel of the child is there, x starts the child
-  abbrev pub BeginsChild : ℕ → Next → Seated Item Entry → Seated Item Entry → Type 0
-  BeginsChild child next m m' =
-      (can : CanStep board x m) → can.kid child ≡ None → parcel_in can.item ≡ None →
-      StartsOne board x child next m m'
+module _ (board : Board Blueprint) (t : Stepping) (child : ℕ) where
+  -- In the homes of the parts that were begun for these numbers lie completions other than want of
+  -- memory.
+  pub record HaveAllDelivered (numbers : List ℤ) (hand : HandSeat) : Type 0 where
+    pub inside : Item
+    pub kid : ℕ → Option Item
+    pub opened : IsOpenWith board t inside kid hand
+    pub have : HaveDelivered (first_part t.name.node) (parts_for numbers) kid
 
-  -- when the parcel of the child lies in the child's home, x goes on by what the child completed
-  -- with
-  abbrev pub GoesOnByChild : ℕ → Next → Seated Item Entry → Seated Item Entry → Type 0
-  GoesOnByChild child next m m' =
-      (can : CanStep board x m) (parcel : Delivery) → can.kid child ≡ Some (Done parcel) →
-      CutsRow parcel.completion next m'
+  -- It keeps this of its child. Where that is a row with numbers it completed with what its job
+  -- makes of the row; else, which doesn't come, it went on by its child.
+  pub record JoinsParts (next : Next) (old new : HandSeat) : Type 0 where
+    pub kept : Delivery
+    pub kept_is : (inside : Item) (kid : ℕ → Option Item) → IsOpenWith board t inside kid old →
+        parcel_in inside ≡ Some kept
+    pub middle : HandSeat
+    pub ends : (job : Job) → node_at board t.name ≡ Some (Bulk child job) →
+        1 ≤ length (numbers_in kept.completion) →
+        CompletesOr board t (HaveAllDelivered (numbers_in kept.completion) old)
+        (bulk_of job kept.completion) kept.saw next middle new
+    pub goes_on : numbers_in kept.completion ≡ [] → GoesOnBack board t child next middle new
 
-  -- whatever job and row these were made of, x completes with what the job makes of the row; or a
-  -- part wants memory, or there was none for that
-  abbrev pub EndsAsMade : Made → Next → Seated Item Entry → Type 0
-  EndsAsMade made next m' =
-      (job : Job) (whole : List ℤ) → IsMade made job whole (parts_for whole) →
-      CompletesWith board x (row_ending (each_of job 0 whole)) next m'
-      ⊎ Wants (made ≢ Want) (row_ending (each_of job 0 whole)) next m'
-
-  -- when x keeps its child's parcel, with a row with numbers, its parts are done: it completes with
-  -- what the bulk makes of that; or a part wants memory, or there was none for that, which doesn't
-  -- stand in place
-  abbrev pub EndsByParts : ℕ → Job → Next → Seated Item Entry → Seated Item Entry → Type 0
-  EndsByParts child job next m m' =
-      (can : CanStep board x m) (kept : Delivery) → can.kid child ≡ None →
-      parcel_in can.item ≡ Some kept → 1 ≤ length (numbers_in kept.completion) →
-      CompletesWith board x (bulk_of job kept.completion) next m'
-      ⊎ Wants (HaveDelivered (first_part x.node) (parts_for (numbers_in kept.completion)) can.kid)
-      (bulk_of job kept.completion) next m'
-
-  -- a bulk of this child starts it, goes on by what it completed with, and then by its parts
-  pub record StepsBulk (child : ℕ) (job : Job) (next : Next) (m m' : Seated Item Entry) :
-      Type 0 where
-    pub begins : BeginsChild child next m m'
-    pub by_child : GoesOnByChild child next m m'
-    pub by_parts : EndsByParts child job next m m'
-
-  -- a part is left ready in the pool first, and then completes
-  pub record StepsPart (bulk : ℕ) (next : Next) (m m' : Seated Item Entry) : Type 0 where
-    pub hops : HopsFirst next m m'
-    pub ends : EndsShare bulk next m m'
-
-  -- so it is by the kind of the node
-  abbrev pub BulkSteps : Option Node → Next → Seated Item Entry → Seated Item Entry → Type 0
-  BulkSteps (Some (Bulk child job)) next m m' = StepsBulk child job next m m'
-  BulkSteps (Some (Part bulk part)) next m m' = StepsPart bulk next m m'
-  BulkSteps _ next m m' = ⊤
+-- First it starts its child; then it goes on by what the child completed with; and last, where it
+-- keeps that, by its parts.
+pub record StepsBulk (board : Board Blueprint) (x : Name) (next : Next) (old new : HandSeat) :
+    Type 0 where
+  pub child : ℕ
+  pub job : Job
+  pub node_is : node_at board x ≡ Some (Bulk child job)
+  pub taken : Stepping
+  pub state : State
+  pub up : HandSeat
+  pub takes : TakesState board x taken state old up
+  pub starts : state ≡ Begins → StartsChild board taken child next up new
+  pub goes_on : state ≡ Rests → GoesOnBack board taken child next up new
+  pub joins : state ≡ Kept → JoinsParts board taken child next up new

@@ -1,158 +1,89 @@
 //! How a bulk begins its parts ([exec.bulk]).
-ghost use Rattle.std.specs.Prelude.{◌≡◌, ◌≤◌, false, length, IfOk};
-ghost use Rattle.std.specs.Thread.{IsSync};
-ghost use Rattle.node_tree.specs.Tree.{is_root};
-ghost use Rattle.table_steps.specs.Views.{IsHandOf, Stays};
-ghost use Rattle.exec_recv.specs.Nexts.{IsStepped};
-ghost use Rattle.exec_recv.specs.Over.{IsOver};
-ghost use Rattle.home_items.specs.Entries.{plan_of};
-ghost use Rattle.step_parts.specs.Midway.{IsReady};
-ghost use Rattle.exec_bulk.specs.Begins.{MayCut, HasCut, Looks, MayBeginParts, MayPutAll, BeginsParts};
-ghost use Rattle.exec_bulk.specs.Ends.{HasChild, PutsAll};
-ghost use Rattle.exec_bulk.specs.Rows.{numbers_in};
-ghost use Rattle.exec_bulk.specs.Steps.{AwaitsParts};
+ghost use Rattle.step_parts.specs.Takes.{IsTaken};
+ghost use Rattle.exec_bulk.specs.Begins.{MayBegin, MayStart, BeginsParts, StartsParts, Looks};
 
-use crate::rows::{first_part, numbers_of, part_nodes, parts_for};
-use crate::shares::part_envs;
+use crate::reading::read_all_idle;
+use crate::rows::{first_part, numbers_of, part_nodes, parts_for, row_of};
+use exec_value::Data;
+use home_items::Shown;
 use life_rules::Name;
-use many_steps::{await_many, put_start, read_all_idle};
-use op_slot::{Hand, OpTable};
-use plan_rules::NodeId;
-use plan_shape::Plan;
-use std::alloc::{AllocError, Global};
+use op_slot::Hand;
 use std::sync::Wait;
-use step_parts::{Env, Gate, Item, Next, Parcel, deliver_no_memory, hear};
+use step_parts::{
+    Env, Gate, Item, Next, Parcel, Site, Taken, await_many, copy_waiting, hear, put_start,
+    want_memory,
+};
 
-/// The parts that are begun for a row, and what they begin with.
-#[derive(Drop)]
-pub(crate) struct Cut {
-    pub(crate) nodes: Vec<NodeId>,
-    pub(crate) starts: Vec<Env>,
-}
-
-// The parts for the row that the child completed with.
-fn cut_row(
-    alloc: Global,
-    plan: &Plan,
-    env: &Env,
-    name: Name,
-    parcel: &Parcel,
-) -> Result<Cut, AllocError>
-    requires plan { plan.now ≡ plan_of env.now }
-    requires may { MayCut name env.now parcel.now }
-    ensures { IfOk result (HasCut name env.now (numbers_in parcel.now.completion)) }
-{
-    let numbers = numbers_of(parcel.completion());
-    let count = parts_for(numbers);
-    let first = first_part(name.node);
-    let nodes = part_nodes(alloc, first, count)?;
-    let starts = part_envs(alloc, plan, env, first, numbers, count)?;
-    Ok(Cut { nodes, starts })
-}
-
-// Puts the parts' starts into their homes, from the last part to the first.
-fn put_all(
-    table: &OpTable<Item>,
+// Leaves the node awaiting its parts, with the row that they draw, and puts their starts into their
+// homes, from the last part to the first. They share the row.
+#[inline(always)]
+fn start_parts<R: Wait, G>(
+    site: &Site<R, G>,
     hand: &mut Hand<Item>,
-    name: Name,
-    nodes: &[NodeId],
-    starts: Vec<Env>,
-)
-    requires hand { IsHandOf table.now hand.old }
-    requires may { MayPutAll table.now name nodes.now starts.items hand.old.me }
-    ensures stays { Stays table.now hand.old hand.new }
-    ensures puts { PutsAll table.now hand.old.me hand.new.me }
+    taken: Taken,
+    parcel: Parcel,
+    row: Data,
+) -> Next
+    requires may { MayStart site.now taken parcel row hand.old }
+    ensures { StartsParts site.now taken parcel result hand.old hand.new }
 {
-    let mut starts = starts;
-    let mut left = nodes.len();
+    let above = Shown::of(&taken);
+    let number = taken.number();
+    let asked = taken.asked();
+    let name = taken.name();
+    let count = parts_for(numbers_of(parcel.completion()));
+    let first = first_part(name.node);
+    let nodes = part_nodes(first);
+    let children = &nodes[..count as usize];
+    read_all_idle(site, hand, &taken, children);
+    await_many(site, hand, taken, Some(parcel), children);
+    let mut left = count;
     while left > 0 {
         left -= 1;
-        let node = Name {
-            node: nodes[left],
+        let part = Name {
+            node: first + left,
             ..name
         };
-        match starts.pop() {
-            Some(below) => put_start(table, hand, node, below),
-            None => unreachable!(),
-        }
+        let args = copy_waiting(site.rt, site.alloc, &row);
+        let below = Env::below(&above, part.node, args, number, asked);
+        put_start(site, hand, part, below);
     }
-}
-
-// Leaves the node awaiting its parts, with the row that they draw.
-fn start_parts<R: Wait + Sync>(
-    rt: &R,
-    plan: &Plan,
-    table: &OpTable<Item>,
-    hand: &mut Hand<Item>,
-    name: Name,
-    env: Env,
-    parcel: Parcel,
-    parts: Cut,
-) -> Next
-    requires sync { IsSync R.row }
-    requires hand { IsHandOf table.now hand.old }
-    requires over { IsOver table.now plan.now }
-    requires may { MayBeginParts table.now name env parcel hand.old.me }
-    requires cut { HasCut name env (numbers_in parcel.completion) parts }
-    ensures stays { Stays table.now hand.old hand.new }
-    ensures awaits { AwaitsParts table.now name parcel.completion result hand.new.me }
-    ensures stepped { IsStepped table.now name hand.old.me hand.new.me result }
-{
-    let _ = plan;
-    let Cut { nodes, starts } = parts;
-    let children = nodes.as_slice();
-    read_all_idle(rt, table, hand, name, children);
-    await_many(table, hand, name, env, Some(parcel), children);
-    put_all(table, hand, name, children, starts);
     Next::Rest
 }
 
 // Whether the parts' starts may rest on what the child completed with. Where the child saw a
 // request, the node looks at the source that it hears. That the look finds none doesn't come.
-fn may_rest_on(table: &OpTable<Item>, hand: &mut Hand<Item>, name: Name, parcel: &Parcel) -> bool
-    requires hand { IsHandOf table.now hand.old }
-    requires ready { IsReady table.now name hand.old.me }
-    ensures stays { Stays table.now hand.old hand.new }
-    ensures looks { Looks table.now name parcel.now.saw result hand.old.me hand.new.me }
+#[inline(always)]
+fn may_rest_on<R, G>(
+    site: &Site<R, G>,
+    hand: &mut Hand<Item>,
+    taken: &Taken,
+    parcel: &Parcel,
+) -> bool
+    requires taken { IsTaken site.now taken.now hand.old }
+    ensures { Looks site.now taken.now parcel.now.saw result hand.old hand.new }
 {
     if parcel.saw() {
-        return hear(table, hand, name);
+        return hear(site, hand, taken);
     }
     true
 }
 
-/// Goes on once the child has completed with a row: begins its parts. Where there is no memory for
-/// their starts, it begins none, and delivers want of memory.
-pub(crate) fn begin_parts<G: Gate, R: Wait + Sync>(
-    rt: &R,
-    alloc: Global,
-    plan: &Plan,
-    table: &OpTable<Item>,
+/// Goes on once the child has completed with a row: begins its parts, which wants no memory.
+#[inline(always)]
+pub(crate) fn begin_parts<R: Wait, G: Gate>(
+    site: &Site<R, G>,
     hand: &mut Hand<Item>,
-    name: Name,
-    env: Env,
+    taken: Taken,
     parcel: Parcel,
-    gate: &G,
 ) -> Next
-    requires sync { IsSync R.row }
-    requires hand { IsHandOf table.now hand.old }
-    requires over { IsOver table.now plan.now }
-    requires inner { is_root table.now.frame.tree name.node ≡ false }
-    requires has { HasChild table.now name env parcel hand.old.me }
-    requires some { 1 ≤ length (numbers_in parcel.completion) }
-    ensures stays { Stays table.now hand.old hand.new }
-    ensures begins { BeginsParts table.now name parcel.completion result hand.new.me }
-    ensures stepped { IsStepped table.now name hand.old.me hand.new.me result }
+    requires may { MayBegin site.now taken parcel hand.old }
+    ensures { BeginsParts site.now taken parcel result hand.old hand.new }
 {
-    if !may_rest_on(table, hand, name, &parcel) {
+    if !may_rest_on(site, hand, &taken, &parcel) {
         drop(parcel);
-        return deliver_no_memory(rt, plan, table, hand, name, env, gate);
+        return want_memory(site, hand, taken);
     }
-    match cut_row(alloc, plan, &env, name, &parcel) {
-        Ok(parts) => start_parts(rt, plan, table, hand, name, env, parcel, parts),
-        Err(AllocError) => {
-            drop(parcel);
-            deliver_no_memory(rt, plan, table, hand, name, env, gate)
-        }
-    }
+    let row = row_of(site.rt, site.alloc, parcel.completion());
+    start_parts(site, hand, taken, parcel, row)
 }

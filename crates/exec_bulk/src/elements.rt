@@ -1,34 +1,35 @@
 //! What a part makes of its share.
-ghost use Rattle.std.specs.Prelude.{ℕ, ◌≡◌, ◌≢◌, ◌≤◌, [], ◌∷◌, length, pos, IsTrue, IsSome, IfSome, IfNone};
+ghost use Rattle.std.specs.Prelude.{◌≡◌, ◌<◌, ◌≤◌, [], ◌∷◌, length, IsTrue, IsSome, IfSome};
 ghost use Rattle.exec_value.specs.declared.limits.TheConstants.{NUMBERS};
 ghost use Rattle.exec_job.specs.Takes.{is_element};
 ghost use Rattle.exec_job.specs.declared.job.Job.{Job};
 ghost use Rattle.node_images.specs.Makes.{CompletesInPlace};
-ghost use Rattle.plan_rules.specs.Bulks.{part_of};
-ghost use Rattle.exec_bulk.specs.Elements.{MakesEach};
-ghost use Rattle.exec_bulk.specs.Rows.{IsWithinRow};
+ghost use Rattle.plan_shape.specs.declared.limits.TheConstants.{BULK_PARTS};
+ghost use Rattle.home_items.specs.Entries.{row_in};
+ghost use Rattle.exec_bulk.specs.Elements.{share_ending, MakesEach};
 
+use crate::rows::{Share, share_of};
 use exec_job::{Added, Bounded, Divided, Element, Indexed, Job, Multiplied, Negated, Subtracted};
 use exec_value::{Completion, Data, Datum, NUMBERS, Nums};
 use node_images::error_at;
 use std::alloc::{AllocError, Global};
 
-/// What the job makes of the share that a part has as arguments; stopped, where it has none. None
-/// where there is no memory for that, or the share begins where no row goes.
-pub(crate) fn end_share(alloc: Global, job: &Job, args: &Data) -> Option<Completion>
-    requires { IsTrue (is_element job.now) }
-    ensures exact { IfSome result (λ done. done ≡ part_of job.now args.now) }
-    ensures in_place { IsWithinRow args.now → CompletesInPlace (part_of job.now args.now)
-        → IsSome result }
+/// What the job makes of the share of this number of the row that a part carries. None where there
+/// is no memory for that.
+#[inline(always)]
+pub(crate) fn end_share(alloc: Global, job: &Job, row: &Data, part: u32) -> Option<Completion>
+    requires element { IsTrue (is_element job.now) }
+    requires row { row.now ≡ Datum.Row (row_in row.now) ∷ [] }
+    requires part { part < BULK_PARTS }
+    ensures exact { IfSome result (λ done. done ≡ share_ending job.now row.now part) }
+    ensures in_place { CompletesInPlace (share_ending job.now row.now part) → IsSome result }
 {
-    match share_in(args) {
-        Some(share) => {
-            if share.first > NUMBERS as u64 {
-                return None;
-            }
-            make_share(alloc, job, share.first as u32, share.numbers).ok()
+    match row.as_slice() {
+        [Datum::Row(row)] => {
+            let Share { numbers, first } = share_of(row.as_slice(), part);
+            make_share(alloc, job, first, numbers).ok()
         }
-        None => Some(Completion::Stopped),
+        _ => unreachable!(),
     }
 }
 
@@ -126,42 +127,4 @@ fn fail_first<E: Element>(
         }
     }
     Err(AllocError)
-}
-
-/// A part's share.
-#[derive(Drop)]
-pub(crate) struct Share<'a> {
-    pub numbers: &'a [i64],
-    /// The index of the first of them in the whole row.
-    pub first: u64,
-}
-
-/// The share that a part has as arguments. None where they are none; that doesn't come.
-fn share_in(args: &Data) -> Option<Share<'_>>
-    ensures share { IfSome result (λ share. args.now
-        ≡ Datum.Row share.numbers.now ∷ Datum.Int (pos share.first) ∷ []) }
-    ensures few { IfSome result (λ share. length share.numbers.now ≤ NUMBERS) }
-    ensures none { IfNone result ((job : Job) → part_of job args.now ≡ Completion.Stopped) }
-{
-    match args.as_slice() {
-        [Datum::Row(row), Datum::Int(first)] => {
-            let first = index_in(*first)?;
-            Some(Share {
-                numbers: row.as_slice(),
-                first,
-            })
-        }
-        _ => None,
-    }
-}
-
-// The number as an index.
-fn index_in(number: i64) -> Option<u64>
-    ensures index { IfSome result (λ index. number ≡ pos index) }
-    ensures none { IfNone result ((n : ℕ) → number ≢ pos n) }
-{
-    if number < 0 {
-        return None;
-    }
-    Some(number as u64)
 }

@@ -1,11 +1,11 @@
 //! How what the parts of a bulk delivered comes together ([exec.bulk]).
 ghost use Rattle.std.specs.Prelude.{ℤ, List, [], ◌∷◌, ◌≡◌, ◌≢◌};
 ghost use Rattle.exec_job.specs.declared.job.Job.{Job};
-ghost use Rattle.exec_bulk.specs.Made.{IsMade, AddsShare, AddsPart, WantsAfter, JoinsTo, JoinsInPlace};
+ghost use Rattle.exec_bulk.specs.Made.{IsFrontMade, AddsShare, AddsPart, WantsAfter, JoinsTo, JoinsInPlace};
 
 use crate::rows::numbers_at;
 use exec_value::{Completion, Data, Datum, NUMBERS, Nums, Txt};
-use std::alloc::Global;
+use std::alloc::{AllocError, Global};
 use step_parts::Parcel;
 
 /// What the parts so far come to, in the order of the row.
@@ -61,12 +61,15 @@ fn behind(numbers: Option<Vec<i64>>, done: Completion) -> Made
 }
 
 impl Made {
-    /// No part yet.
-    pub(crate) fn none(alloc: Global) -> Made
-        ensures made { (job : Job) (whole : List ℤ) → IsMade result job whole 0 }
+    /// No part yet, of a row of so many numbers.
+    pub(crate) fn none(alloc: Global, room: usize) -> Made
+        ensures made { (job : Job) (whole : List ℤ) → IsFrontMade result job whole 0 }
         ensures able { result ≢ Made.Want }
     {
-        Made::Numbers(Some(Vec::new(alloc)))
+        match Vec::with_capacity(alloc, room) {
+            Ok(numbers) => Made::Numbers(Some(numbers)),
+            Err(AllocError) => Made::Numbers(None),
+        }
     }
 
     /// One part more: its parcel, where it is done. The error of the first that failed stays.

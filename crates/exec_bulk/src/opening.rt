@@ -1,67 +1,44 @@
-//! How the step of a bulk opens: the homes of the node, of its child and of its parts are emptied.
-ghost use Rattle.std.specs.Prelude.{◌≡◌, ◌<◌, ◌≤◌};
-ghost use Rattle.plan_kinds.specs.Runnable.{IsRunnable};
+//! What a bulk whose parts have run finds in their homes.
+ghost use Rattle.std.specs.Prelude.{◌<◌};
 ghost use Rattle.plan_shape.specs.declared.limits.TheConstants.{BULK_PARTS};
-ghost use Rattle.table_steps.specs.Views.{IsHandOf, Stays};
-ghost use Rattle.exec_recv.specs.Over.{IsOver};
-ghost use Rattle.exec_recv.specs.Beginnings.{AllCanStart};
-ghost use Rattle.exec_recv.specs.Steppable.{CanStep};
-ghost use Rattle.home_items.specs.Items.{parcel_in};
-ghost use Rattle.step_parts.specs.TakenOut.{item_at, start_at, IsEmptying};
-ghost use Rattle.exec_bulk.specs.Kinds.{IsBulkOf};
-ghost use Rattle.exec_bulk.specs.Opens.{HasParts, TakesPart, TakesParts, Opens};
+ghost use Rattle.exec_recv.specs.Sites.{node_at};
+ghost use Rattle.step_parts.specs.Takes.{IsOpen};
+ghost use Rattle.exec_bulk.specs.Kinds.{IsBulkNode};
+ghost use Rattle.exec_bulk.specs.Opens.{MayOpen, OpensParts, TakesPart, TakesParts};
+ghost use Rattle.exec_bulk.specs.Rows.{parts_for};
 
 use crate::joining::Made;
-use crate::rows::{first_part, parts_kept};
-use life_rules::Name;
-use op_slot::{Hand, OpTable};
-use plan_rules::NodeId;
-use plan_shape::{BULK_PARTS, Plan};
-use std::alloc::Global;
-use step_parts::{AtHome, Env, Item, Parcel, take_below, take_own};
+use crate::rows::{first_part, numbers_of, parts_for};
+use op_slot::Hand;
+use plan_shape::BULK_PARTS;
+use step_parts::{Item, Parcel, Site, Taken, take_child, take_kept};
 
-/// What a bulk has at hand, once the homes are emptied.
+/// What a bulk whose parts have run has at hand.
 #[derive(Drop)]
 pub(crate) struct Opened {
-    pub(crate) env: Env,
-    /// The child's parcel, where the node kept it while its parts ran.
-    pub(crate) kept: Option<Parcel>,
-    /// The child's parcel, where it lay in the child's home.
-    pub(crate) below: Option<Parcel>,
-    /// What the parts that were begun for the kept row come to.
+    /// The child's parcel, with the row, which the node kept while its parts ran.
+    pub(crate) kept: Parcel,
+    /// What the parts that were begun for the row come to.
     pub(crate) made: Made,
-}
-
-// The node's environment, and the parcel that it keeps.
-fn at_hand(own: AtHome) -> (Env, Option<Parcel>)
-    ensures env { result.0 ≡ start_at own }
-    ensures kept { result.1 ≡ parcel_in (item_at own) }
-{
-    match own {
-        AtHome::Start(env) => (env, None),
-        AtHome::Rest(env, kept) => (env, kept),
-    }
 }
 
 // Takes the parcel of the part of this number out of its home. Where it is one of the first so
 // many, it is added to those before it.
-fn take_part(
-    table: &OpTable<Item>,
+#[inline(always)]
+fn take_part<R, G>(
+    site: &Site<R, G>,
     hand: &mut Hand<Item>,
-    name: Name,
+    taken: &Taken,
     part: u32,
     count: u32,
     made: Made,
 ) -> Made
-    requires hand { IsHandOf table.now hand.old }
-    requires behind { BULK_PARTS ≤ name.node }
     requires part { part < BULK_PARTS }
-    requires parts { HasParts table.now name }
-    requires emptying { IsEmptying table.now name hand.old.me }
-    ensures stays { Stays table.now hand.old hand.new }
-    ensures takes { TakesPart table.now name part count made result hand.old.me hand.new.me }
+    requires kind { IsBulkNode (node_at site.now taken.now.name) }
+    requires opened { IsOpen site.now taken.now hand.old }
+    ensures { TakesPart site.now taken.now part count made result hand.old hand.new }
 {
-    let found = take_below(table, hand, name, first_part(name.node) + part);
+    let found = take_child(site, hand, taken, first_part(taken.name().node) + part);
     if part < count {
         return made.add(found);
     }
@@ -69,61 +46,39 @@ fn take_part(
     made
 }
 
-// Takes the parcels of the parts out of their homes, and adds up the first so many.
-fn take_parts(
-    alloc: Global,
-    table: &OpTable<Item>,
+// Takes the parcels of the parts out of their homes, and adds up those that were begun for the row.
+#[inline(always)]
+fn take_parts<R, G>(
+    site: &Site<R, G>,
     hand: &mut Hand<Item>,
-    name: Name,
-    count: u32,
+    taken: &Taken,
+    numbers: &[i64],
 ) -> Made
-    requires hand { IsHandOf table.now hand.old }
-    requires behind { BULK_PARTS ≤ name.node }
-    requires parts { HasParts table.now name }
-    requires emptying { IsEmptying table.now name hand.old.me }
-    ensures stays { Stays table.now hand.old hand.new }
-    ensures takes { TakesParts table.now name BULK_PARTS count result hand.old.me hand.new.me }
+    requires kind { IsBulkNode (node_at site.now taken.now.name) }
+    requires opened { IsOpen site.now taken.now hand.old }
+    ensures { TakesParts site.now taken.now BULK_PARTS (parts_for numbers.now) result
+        hand.old hand.new }
 {
-    let mut made = Made::none(alloc);
+    let count = parts_for(numbers);
+    let mut made = Made::none(site.alloc, numbers.len());
     for part in 0..BULK_PARTS {
-        made = take_part(table, hand, name, part, count, made);
+        made = take_part(site, hand, taken, part, count, made);
     }
     made
 }
 
-/// Opens the step: takes what lies in the node's own home, and the parcels of its child and its
-/// parts.
+/// Takes what the bulk keeps of its child, and the parcels of its parts.
 ///
-/// Step: one `take_home` for the node, for its child and for each part.
-/// Needs: the step begins here.
-/// Afterwards: the homes are empty.
-pub(crate) fn open_bulk(
-    alloc: Global,
-    plan: &Plan,
-    table: &OpTable<Item>,
-    hand: &mut Hand<Item>,
-    name: Name,
-    child: NodeId,
-) -> Opened
-    requires hand { IsHandOf table.now hand.old }
-    requires over { IsOver table.now plan.now }
-    requires kinds { IsRunnable plan.now }
-    requires node { IsBulkOf plan.now.nodes name.node child }
-    requires can { CanStep table.now name hand.old.me }
-    requires starts { AllCanStart table.now hand.old.me }
-    ensures stays { Stays table.now hand.old hand.new }
-    ensures opens { Opens table.now name child result hand.old.me hand.new.me }
+/// Step: those of `take_kept`, and of `take_child` for each part.
+/// Needs: the bulk keeps a parcel of its child.
+#[inline(always)]
+pub(crate) fn open_parts<R, G>(site: &Site<R, G>, hand: &mut Hand<Item>, taken: &Taken) -> Opened
+    requires may { MayOpen site.now taken.now hand.old }
+    ensures { OpensParts site.now taken.now result hand.old hand.new }
 {
-    let _ = plan;
-    let own = take_own(table, hand, name);
-    let (env, kept) = at_hand(own);
-    env.known();
-    let below = take_below(table, hand, name, child);
-    let made = take_parts(alloc, table, hand, name, parts_kept(&kept));
-    Opened {
-        env,
-        kept,
-        below,
-        made,
-    }
+    let Some(kept) = take_kept(site, hand, taken) else {
+        unreachable!()
+    };
+    let made = take_parts(site, hand, taken, numbers_of(kept.completion()));
+    Opened { kept, made }
 }

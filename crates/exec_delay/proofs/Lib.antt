@@ -1,5 +1,3 @@
-pub mod Places
-pub mod Opened
 pub mod Stopped
 pub mod Begun
 pub mod Withdrawn

@@ -21,8 +21,7 @@ use Rattle.stop_calls.specs.declared.removing.Settled.TheVariants.{NeverRan, Ran
 use Rattle.stop_calls.specs.Removals.{IsLastTry, IsSettled}
 use Rattle.home_items.specs.declared.entry.Entry.{Entry}
 use Rattle.home_items.specs.declared.item.Item.{Item}
-use Rattle.step_parts.specs.Heard.{was_told, has_heard, MaySee}
-use Rattle.exec_delay.specs.Listens.{hears_one}
+use Rattle.step_parts.specs.Heard.{was_told, has_heard, hears_one, MaySee}
 use Rattle.exec_delay.specs.Withdraws.{did_run, Withdraws}
 
 -- a source that is learned is seen

@@ -1,6 +1,4 @@
 pub mod Kinds
-pub mod Opens
-pub mod Listens
 pub mod Withdraws
 pub mod Ends
 pub mod Begins

@@ -14,7 +14,7 @@ use Rattle.stop_calls.specs.declared.removing.Settled.TheVariants.{NeverRan, Ran
 use Rattle.stop_calls.specs.Removals.{IsSettled}
 use Rattle.home_items.specs.declared.entry.Entry.{Entry}
 use Rattle.home_items.specs.declared.item.Item.{Item}
-use Rattle.exec_delay.specs.Listens.{hears_one}
+use Rattle.step_parts.specs.Heard.{hears_one}
 
 -- whether a callback that was removed had run to its end
 abbrev pub did_run : Settled → Bool

@@ -19,12 +19,9 @@
 //! and never within the step that started it.
 #![tactic(auto)]
 
-mod advancing;
 mod beginning;
 mod ending;
-mod listening;
-mod opening;
-mod stopping;
+mod stepping;
 mod withdrawing;
 
-pub use advancing::advance_delay;
+pub use stepping::Delays;

@@ -1,16 +1,13 @@
 //! How a `delay` that goes on removes its callback ([stopcallback.inplace.cons]).
 ghost use Rattle.std.specs.Prelude.{◌≡◌};
-ghost use Rattle.std.specs.Thread.{IsSync};
 ghost use Rattle.table_steps.specs.Callbacks.{is_registered};
-ghost use Rattle.table_steps.specs.Views.{IsHandOf, Stays};
-ghost use Rattle.step_parts.specs.Midway.{IsReady, KeepsReady};
+ghost use Rattle.step_parts.specs.Takes.{IsTaken, Keeps};
 ghost use Rattle.exec_delay.specs.Withdraws.{did_run, Removes, Withdraws};
 
-use exec_recv::Point;
-use life_rules::{CallbackPhase, Name};
-use op_slot::{Hand, OpTable};
+use life_rules::CallbackPhase;
+use op_slot::Hand;
 use std::sync::Wait;
-use step_parts::{Gate, Item};
+use step_parts::{Gate, Item, Point, Site, Taken};
 use stop_calls::{Settled, source_above, withdraw};
 
 // The callback was registered, and wasn't removed.
@@ -31,26 +28,22 @@ fn did_run(settled: Settled) -> bool
 }
 
 // Reads the callback's word, and removes the callback where it is registered.
-fn withdraw_registered<G: Gate, R: Wait + Sync>(
-    rt: &R,
-    table: &OpTable<Item>,
+fn withdraw_registered<R: Wait, G: Gate>(
+    site: &Site<R, G>,
     hand: &mut Hand<Item>,
-    name: Name,
-    gate: &G,
+    taken: &Taken,
 ) -> bool
-    requires sync { IsSync R.row }
-    requires hand { IsHandOf table.now hand.old }
-    requires ready { IsReady table.now name hand.old.me }
-    ensures stays { Stays table.now hand.old hand.new }
-    ensures keeps { KeepsReady table.now name hand.old.me hand.new.me }
-    ensures removes { Removes table.now name result hand.old hand.new }
+    requires taken { IsTaken site.now taken.now hand.old }
+    ensures keeps { Keeps site.now taken.now hand.old hand.new }
+    ensures removes { Removes site.now taken.now.name result hand.old hand.new }
 {
-    let phase = table.phase_of(hand, name);
+    let name = taken.name();
+    let phase = site.table.phase_of(hand, name);
     if !is_registered(phase) {
         return false;
     }
-    gate.pass(rt, Point::Withdraw(name));
-    let settled = withdraw(rt, table, hand, name);
+    site.pass(Point::Withdraw(name));
+    let settled = withdraw(site.rt, site.table, hand, name);
     did_run(settled)
 }
 
@@ -59,24 +52,18 @@ fn withdraw_registered<G: Gate, R: Wait + Sync>(
 ///
 /// Step: where the node hears a source, one load of the callback's word; and where that says that
 /// it is registered, the gate is passed, and then those of `withdraw`.
-/// Needs: the node's home is empty.
 /// Afterwards: where the callback ran, the request is seen. Where it didn't, it never will.
-pub(crate) fn withdraw_callback<G: Gate, R: Wait + Sync>(
-    rt: &R,
-    table: &OpTable<Item>,
+pub(crate) fn withdraw_callback<R: Wait, G: Gate>(
+    site: &Site<R, G>,
     hand: &mut Hand<Item>,
-    name: Name,
-    gate: &G,
+    taken: &Taken,
 ) -> bool
-    requires sync { IsSync R.row }
-    requires hand { IsHandOf table.now hand.old }
-    requires ready { IsReady table.now name hand.old.me }
-    ensures stays { Stays table.now hand.old hand.new }
-    ensures keeps { KeepsReady table.now name hand.old.me hand.new.me }
-    ensures withdraws { Withdraws table.now name result hand.old hand.new }
+    requires taken { IsTaken site.now taken.now hand.old }
+    ensures keeps { Keeps site.now taken.now hand.old hand.new }
+    ensures withdraws { Withdraws site.now taken.now.name result hand.old hand.new }
 {
-    match source_above(table.tree(), name) {
-        Some(_) => withdraw_registered(rt, table, hand, name, gate),
+    match source_above(site.table.tree(), taken.name()) {
+        Some(_) => withdraw_registered(site, hand, taken),
         None => false,
     }
 }

@@ -1,4 +1,5 @@
-pub mod Places
-pub mod Opened
-pub mod Landed
-pub mod Did
+mod Places
+mod Landed
+mod Taken
+mod Stepped
+mod Did

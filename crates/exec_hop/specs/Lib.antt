@@ -1,6 +1,5 @@
 pub mod Kinds
-pub mod Hops
-pub mod Openings
 pub mod Ends
+pub mod Hops
 -- the definitions that the public contracts cite
 pub use Rattle.exec_recv.specs.Nexts

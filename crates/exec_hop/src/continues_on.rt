@@ -1,71 +1,73 @@
 //! The step of a `continues_on` ([exec.continues.on]).
-ghost use Rattle.std.specs.Prelude.{◌≡◌, slice_get, Some};
-ghost use Rattle.std.specs.Thread.{IsSync};
-ghost use Rattle.plan_kinds.specs.Runnable.{IsRunnable};
-ghost use Rattle.table_steps.specs.Views.{IsHandOf, Stays};
-ghost use Rattle.exec_recv.specs.Over.{IsOver};
-ghost use Rattle.exec_recv.specs.Beginnings.{AllCanStart};
-ghost use Rattle.exec_recv.specs.Steppable.{CanStep};
-ghost use Rattle.exec_recv.specs.Nexts.{IsStepped};
-ghost use Rattle.exec_hop.specs.Hops.{HopsAs};
+ghost use Rattle.exec_hop.specs.Ends.{MayGoOn};
+ghost use Rattle.exec_hop.specs.Hops.{Lands};
 
+use crate::ending::{pass_unless_stopped, start_unless_stopped};
 use crate::hopping::hop;
-use crate::opening::{AtHand, open};
-use crate::stopping::{pass_unless_stopped, start_unless_stopped};
+use home_items::State;
 use life_rules::Name;
-use node_tree::Context;
-use op_slot::{Hand, OpTable};
+use op_slot::Hand;
 use plan_rules::{Node, NodeId};
-use plan_shape::Plan;
-use std::alloc::Global;
 use std::sync::Wait;
-use step_parts::{Gate, Item, Next, hear};
+use step_parts::{
+    Gate, Item, Kind, Next, Site, Taken, complete_stopped, hear, start_child, take_back, take_kept,
+    take_up,
+};
 
-/// Steps a `continues_on`: it starts its child, hops when the child has completed, whatever with,
-/// and when it is taken there completes as the child did.
-pub(crate) fn step_continues_on<G: Gate, R: Wait + Sync>(
-    rt: &R,
-    alloc: Global,
-    plan: &Plan,
-    table: &OpTable<Item>,
-    hand: &mut Hand<Item>,
-    name: Name,
-    node: &Node,
-    child: NodeId,
-    on: Context,
-    gate: &G,
-) -> Next
-    requires sync { IsSync R.row }
-    requires hand { IsHandOf table.now hand.old }
-    requires over { IsOver table.now plan.now }
-    requires kinds { IsRunnable plan.now }
-    requires node { slice_get plan.now.nodes name.node ≡ Some node.now }
-    requires is { node.now ≡ Node.ContinuesOn child on }
-    requires can { CanStep table.now name hand.old.me }
-    requires starts { AllCanStart table.now hand.old.me }
-    ensures stays { Stays table.now hand.old hand.new }
-    ensures stepped { IsStepped table.now name hand.old.me hand.new.me result }
-    ensures hops { HopsAs table.now name (Some node.now) result hand.old.me hand.new.me }
-{
-    let AtHand {
-        env,
-        unbegun: _,
-        kept,
-        below,
-    } = open(plan, table, hand, name, node, Some(child));
-    match below {
-        Some(parcel) => {
-            drop(kept);
-            hop(rt, plan, table, hand, name, env, Some(parcel), on, gate)
+/// Each `continues_on`: it starts its child, hops when the child has completed, whatever with, and
+/// when it is taken there completes as the child did.
+pub struct ContinuesOns;
+
+impl Kind for ContinuesOns {
+    ghost use Rattle.exec_hop.specs.Kinds.{IsContinuesOn};
+    ghost use Rattle.exec_hop.specs.Hops.{ContinuesOn};
+
+    ghost is = { IsContinuesOn };
+
+    ghost does = { ContinuesOn };
+
+    /// Step: those of `take_up`, and then those of `start_child`; or those of `leave_at_rest`; or
+    /// a look, and those of `complete`.
+    #[inline(never)]
+    fn step<R: Wait, G: Gate>(site: &Site<R, G>, hand: &mut Hand<Item>, name: Name) -> Next {
+        match site.node(name) {
+            Node::ContinuesOn { child, on } => {
+                let (taken, state) = take_up(site, hand, name);
+                match state {
+                    State::Start => {
+                        if taken.asked() {
+                            return complete_stopped(site, hand, taken, false);
+                        }
+                        start_child(site, hand, taken, *child, false)
+                    }
+                    _ => match take_back(site, hand, &taken, *child) {
+                        Some(parcel) => hop(site, hand, taken, Some(parcel), *on),
+                        None => land(site, hand, taken, *child),
+                    },
+                }
+            }
+            _ => unreachable!(),
         }
-        None => match kept {
-            Some(parcel) => {
-                let saw = hear(table, hand, name);
-                pass_unless_stopped(rt, plan, table, hand, name, env, parcel, saw, gate)
-            }
-            None => {
-                start_unless_stopped(rt, alloc, plan, table, hand, name, env, child, false, gate)
-            }
-        },
+    }
+}
+
+// Goes on where the child hasn't completed since the node rested: completes with what the node kept
+// of it, taken in its context; else the child is started, where it hasn't begun.
+#[inline(always)]
+fn land<R: Wait, G: Gate>(
+    site: &Site<R, G>,
+    hand: &mut Hand<Item>,
+    taken: Taken,
+    child: NodeId,
+) -> Next
+    requires may { MayGoOn site.now taken child hand.old }
+    ensures { Lands site.now taken child result hand.old hand.new }
+{
+    match take_kept(site, hand, &taken) {
+        Some(parcel) => {
+            let saw = hear(site, hand, &taken);
+            pass_unless_stopped(site, hand, taken, parcel, saw)
+        }
+        None => start_unless_stopped(site, hand, taken, child, false),
     }
 }

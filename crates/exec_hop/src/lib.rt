@@ -8,24 +8,24 @@
 //! completes stopped.
 //!
 //!     schedule      Start --> Ready(on) --> Done(no data)
-//!     starts_on     Start --> Ready(on) --start_unbegun_child--> Rest .. its child is done
+//!     starts_on     Start --> Ready(on) --start_again--> Go(child) .. its child is done
 //!                         --> Done(the same)
-//!     continues_on  Start --start_unbegun_child--> Rest .. its child is done
+//!     continues_on  Start --start_child--> Go(child) .. its child is done
 //!                         --> Ready(on), with the child's parcel --> Done(the same)
-//!     unstoppable   Start --start_unbegun_child--> Rest .. its child is done --> Done(the same)
+//!     unstoppable   Start --start_child--> Go(child) .. its child is done --> Done(the same)
 //!
 //! A hop is stopped where a request was made before the operation was started; and where it reads
 //! one when it is taken in its context. The child of an `unstoppable` begins as if none was made.
 #![tactic(auto)]
 
 mod continues_on;
-mod dispatching;
+mod ending;
 mod hopping;
-mod opening;
-mod passing;
 mod schedule;
 mod starts_on;
-mod stopping;
 mod unstoppable;
 
-pub use dispatching::advance_hop;
+pub use continues_on::ContinuesOns;
+pub use schedule::Schedules;
+pub use starts_on::StartsOns;
+pub use unstoppable::Unstoppables;

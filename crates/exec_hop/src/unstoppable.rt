@@ -1,58 +1,39 @@
 //! The step of an `unstoppable` ([exec.unstoppable]).
-ghost use Rattle.std.specs.Prelude.{◌≡◌, slice_get, Some};
-ghost use Rattle.std.specs.Thread.{IsSync};
-ghost use Rattle.plan_kinds.specs.Runnable.{IsRunnable};
-ghost use Rattle.table_steps.specs.Views.{IsHandOf, Stays};
-ghost use Rattle.exec_recv.specs.Over.{IsOver};
-ghost use Rattle.exec_recv.specs.Beginnings.{AllCanStart};
-ghost use Rattle.exec_recv.specs.Steppable.{CanStep};
-ghost use Rattle.exec_recv.specs.Nexts.{IsStepped};
-ghost use Rattle.exec_hop.specs.Hops.{HopsAs};
-
-use crate::opening::{AtHand, open};
-use crate::passing::pass_on;
+use crate::ending::pass_on;
+use home_items::State;
 use life_rules::Name;
-use op_slot::{Hand, OpTable};
-use plan_rules::{Node, NodeId};
-use plan_shape::Plan;
-use std::alloc::Global;
+use op_slot::Hand;
+use plan_rules::Node;
 use std::sync::Wait;
-use step_parts::{Gate, Item, Next, start_unbegun_child};
+use step_parts::{Gate, Item, Kind, Next, Site, start_again, start_child, take_back, take_up};
 
-/// Steps an `unstoppable`: it starts its child as if no request was made, and completes as the
-/// child does.
-pub(crate) fn step_unstoppable<G: Gate, R: Wait + Sync>(
-    rt: &R,
-    alloc: Global,
-    plan: &Plan,
-    table: &OpTable<Item>,
-    hand: &mut Hand<Item>,
-    name: Name,
-    node: &Node,
-    child: NodeId,
-    gate: &G,
-) -> Next
-    requires sync { IsSync R.row }
-    requires hand { IsHandOf table.now hand.old }
-    requires over { IsOver table.now plan.now }
-    requires kinds { IsRunnable plan.now }
-    requires node { slice_get plan.now.nodes name.node ≡ Some node.now }
-    requires is { node.now ≡ Node.Unstoppable child }
-    requires can { CanStep table.now name hand.old.me }
-    requires starts { AllCanStart table.now hand.old.me }
-    ensures stays { Stays table.now hand.old hand.new }
-    ensures stepped { IsStepped table.now name hand.old.me hand.new.me result }
-    ensures hops { HopsAs table.now name (Some node.now) result hand.old.me hand.new.me }
-{
-    let AtHand {
-        env,
-        unbegun: _,
-        kept,
-        below,
-    } = open(plan, table, hand, name, node, Some(child));
-    drop(kept);
-    match below {
-        Some(parcel) => pass_on(rt, plan, table, hand, name, env, parcel, gate),
-        None => { start_unbegun_child(rt, alloc, plan, table, hand, name, env, child, false, gate) }
+/// Each `unstoppable`: it starts its child as if no request was made, and completes as the child
+/// does.
+pub struct Unstoppables;
+
+impl Kind for Unstoppables {
+    ghost use Rattle.exec_hop.specs.Kinds.{IsUnstoppable};
+    ghost use Rattle.exec_hop.specs.Hops.{Shelters};
+
+    ghost is = { IsUnstoppable };
+
+    ghost does = { Shelters };
+
+    /// Step: those of `take_up`, and then those of `start_child`, or of `complete`.
+    #[inline(never)]
+    fn step<R: Wait, G: Gate>(site: &Site<R, G>, hand: &mut Hand<Item>, name: Name) -> Next {
+        match site.node(name) {
+            Node::Unstoppable { child } => {
+                let (taken, state) = take_up(site, hand, name);
+                match state {
+                    State::Start => start_child(site, hand, taken, *child, false),
+                    _ => match take_back(site, hand, &taken, *child) {
+                        Some(parcel) => pass_on(site, hand, taken, parcel),
+                        None => start_again(site, hand, taken, *child, false),
+                    },
+                }
+            }
+            _ => unreachable!(),
+        }
     }
 }

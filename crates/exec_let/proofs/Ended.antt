@@ -6,9 +6,8 @@ use Rattle.exec_value.specs.declared.data.Datum.{Datum}
 use Rattle.exec_value.specs.declared.kinds.Kind.TheVariants.{Int as IntKind}
 use Rattle.exec_value.specs.declared.outcome.Completion.{Completion}
 use Rattle.exec_value.specs.declared.outcome.Completion.TheVariants.{Value, Error, Stopped, NoMemory}
-use Rattle.exec_job.specs.Answer.{Answer}
-use Rattle.exec_job.specs.Apply.{apply_of, ending}
-use Rattle.life_rules.specs.declared.event.Name.{Name}
+use Rattle.exec_job.specs.Answer.{Answer as JobAnswer, ending}
+use Rattle.exec_job.specs.Apply.{apply_of}
 use Rattle.plan_rules.specs.declared.node.Node.{Node}
 use Rattle.plan_rules.specs.declared.node.Node.TheVariants.{LetValue, LetError, LetStopped}
 use Rattle.plan_rules.specs.Images.{applied}
@@ -24,32 +23,39 @@ use Rattle.plan_kinds.proofs.Kept.{kinds-kept}
 use Rattle.plan_kinds.proofs.Plans.{plans-built}
 use Rattle.plan_kinds.specs.Runnable.{IsRunnable}
 use Rattle.table_steps.specs.Views.{Board}
-use Rattle.table_steps.specs.Claims.{Seated}
 use Rattle.node_images.specs.Picks.{picked_body}
 use Rattle.home_items.specs.declared.entry.Entry.{Entry}
-use Rattle.home_items.specs.declared.item.Item.{Item}
-use Rattle.home_items.specs.declared.item.Item.TheVariants.{Rest, Done}
+use Rattle.home_items.specs.Contents.{Rest, Done}
 use Rattle.home_items.specs.Below.{run_below, asked_below}
 use Rattle.home_items.specs.Bounds.{least_of}
 use Rattle.home_items.specs.Entries.{plan_of, asked_of}
 use Rattle.home_items.specs.Fits.{IsChildOf}
-use Rattle.home_items.specs.Parcels.{Delivery, MayDeliver}
+use Rattle.home_items.specs.Parcels.{Delivery, MayDeliver, parcel_with}
 use Rattle.home_items.specs.Starts.{IsStart}
+use Rattle.exec_recv.specs.Seats.{HandSeat}
+use Rattle.exec_recv.specs.Sites.{node_at}
 use Rattle.start_laws.specs.Lets.{channel_of, pick_of}
 use Rattle.start_laws.specs.Nodes.{IsStartOf, image_of, PicksNone, MakesImage, MayHaveSeen}
 use Rattle.start_laws.proofs.Bodies.{bodies-allowed}
 use Rattle.start_laws.proofs.Bounding.{few-begun}
 use Rattle.start_laws.proofs.ImageCases.{images-allowed}
 use Rattle.start_laws.proofs.Pairs.{none-some, below-plain}
-use Rattle.step_parts.specs.Heard.{has_heard, MaySee, TellsRequest}
-use Rattle.step_parts.proofs.Asked.{look-sees}
-use Rattle.step_parts.specs.Midway.{Ready, KeepsReady}
+use Rattle.step_parts.specs.Completes.{MayEnd}
+use Rattle.step_parts.specs.Heard.{has_heard, Looked, MaySee}
+use Rattle.step_parts.specs.Midway.{Ready}
 use Rattle.step_parts.specs.Starts.{RunsBelow, asked_for_child, MayRun}
-use Rattle.step_parts.proofs.Completed.{unheard-before}
-use Rattle.step_parts.proofs.Frames.{emptying-less}
-use Rattle.exec_let.specs.Ends.{ends_with, MayEnd, MayPick}
+use Rattle.step_parts.specs.Stepping.{Stepping}
+use Rattle.step_parts.specs.Takes.{IsTaken, Keeps}
+use Rattle.step_parts.proofs.Asked.{look-sees}
+use Rattle.step_parts.proofs.Ended.{taken-on, ready-on, unheard-before}
+use Rattle.step_parts.proofs.Frames.{ready-less}
+use Rattle.step_parts.proofs.Took.{taken-inner, taken-of}
+use Rattle.exec_let.specs.Ends.{MayGoOn, MayEndAsBody, MayWantFor}
 use Rattle.exec_let.specs.Kinds.{IsLet, let_child, is_small}
-use Rattle.exec_let.specs.Openings.{HasBody}
+use Rattle.exec_let.specs.declared.picking.Picked.{Picked}
+use Rattle.exec_let.specs.declared.picking.Picked.TheVariants.{Answer, Passes}
+use Rattle.exec_let.specs.Picks.{answer_from, picked_for}
+use Rattle.exec_let.proofs.Going.{picks-answer, picks-passes}
 use Rattle.exec_let.proofs.Places.{let-plain, let-awaits, let-runs}
 use Rattle.exec_let.proofs.Reading.{look-hears}
 
@@ -87,75 +93,82 @@ let-sees (LetError x pick xs) is saw = tt
 let-sees (LetStopped x pick xs) is saw = tt
 let-sees node is saw = absurd is
 
-answer-memory : (answer : Answer) → ending answer ≢ NoMemory
+answer-memory : (answer : JobAnswer) → ending answer ≢ NoMemory
 answer-memory (Ok values) e = cc
 answer-memory (Err name) e = cc
 
--- what may be delivered may be completed with
-module _ (board : Board Blueprint) (x : Name) (start : List Entry) (node : Node) (is : IsLet node) (at : IsStartOf start node)
-    (m : Seated Item Entry) (ready : Ready board x start 1 m) (done : Completion) (saw : Bool) (sees : MaySee board x saw m)
-    (small : IsSmall (plan_of start) → done ≢ NoMemory) (may : MayDeliver start saw done) where
-  let-ends : MayEnd board x start done saw m
-  let-ends = record {
-    may = may;
-    completes = record {
-      ready = emptying-less board x start m 1 (least_of (Done (ends_with start done saw))) (λ _. None)
-          (few-begun.one (ends_with start done saw) node at.node_is (let-awaits node is)) ready;
-      saw = sees;
-      small = small;
-    };
-  }
+-- What may be delivered may be completed with.
+module _ (board : Board Blueprint) (t : Stepping) (hand : HandSeat) (taken : IsTaken board t hand) (node : Node)
+    (at : node_at board t.name ≡ Some node) (is : IsLet node) (ready : Ready board t.name t.start 1 hand.me) where
+  let-ends : (done : Completion) (saw : Bool) → MaySee board t.name saw hand.me → (IsSmall (plan_of t.start) → done ≢ NoMemory) →
+      MayDeliver t.start saw done → MayEnd board t done saw hand
+  let-ends done saw sees small may =
+      let of = taken-of board t hand taken node at in
+      record {
+        taken = taken;
+        inner = taken-inner board t hand taken node at;
+        allowed = may;
+        few = ready-less board t.name t.start hand.me 1 (least_of (Done (parcel_with t.start done saw)))
+            (few-begun.one (parcel_with t.start done saw) node of.node_is (let-awaits node is)) ready;
+        sees = sees;
+        small = small;
+      }
 
 -- The child has completed.
-module _ (board : Board Blueprint) (x : Name) (start : List Entry) (node : Node) (parcel : Delivery) (m : Seated Item Entry)
-    (pick : MayPick board x start node parcel m) where
+module _ (board : Board Blueprint) (t : Stepping) (node : Node) (parcel : Delivery) (hand : HandSeat) (may : MayGoOn board t node parcel hand) where
+  of : IsStartOf t.start node
+  of = taken-of board t hand may.taken node may.node_is
+
+  image-allowed : MakesImage node parcel.completion → MayDeliver t.start parcel.saw (image_of node (asked_of t.start) parcel.completion)
+  image-allowed makes =
+      images-allowed t.start node of parcel may.has.from.delivers may.has.from.child makes (let-sees node may.is_let parcel.saw)
+
   -- off the let's channel
-  pub pass-ends : channel_of node parcel.completion ≡ None → (done : Completion) (saw : Bool) → done ≡ parcel.completion → saw ≡ parcel.saw →
-      MayEnd board x start done saw m
-  pass-ends off done saw same same_saw =
-      subst (λ (s : Bool). MayEnd board x start done s m) (sym same_saw)
-      (subst (λ (c : Completion). MayEnd board x start c parcel.saw m) (sym same)
-      (let-ends board x start node pick.is pick.at m pick.has.ready parcel.completion parcel.saw pick.has.from.saw pick.has.from.small
-      (subst (λ (c : Completion). MayDeliver start parcel.saw c) (let-passes node pick.is parcel.completion off (asked_of start))
-      (images-allowed start node pick.at parcel pick.has.from.delivers pick.has.from.child
-      (let-makes node pick.is parcel.completion off) (let-sees node pick.is parcel.saw)))))
+  pass-ends : channel_of node parcel.completion ≡ None → MayEnd board t parcel.completion parcel.saw hand
+  pass-ends off =
+      let-ends board t hand may.taken node may.node_is may.is_let may.has.ready parcel.completion parcel.saw may.has.from.saw may.has.from.small
+      (subst (λ (c : Completion). MayDeliver t.start parcel.saw c) (let-passes node may.is_let parcel.completion off (asked_of t.start))
+      (image-allowed (let-makes node may.is_let parcel.completion off)))
 
   -- on it, and the pick names no body
-  pub answer-ends : (values : List Datum) → channel_of node parcel.completion ≡ Some values → (done : Completion) (saw : Bool) →
-      done ≡ ending (apply_of (pick_of node) values) → picked_body done (bodies_of node) ≡ None → saw ≡ parcel.saw →
-      MayEnd board x start done saw m
-  answer-ends values on done saw same none same_saw =
-      let answer = ending (apply_of (pick_of node) values) in
-      let named : picked_body answer (bodies_of node) ≡ None = ap (λ (c : Completion). picked_body c (bodies_of node)) (sym same) ∙ none in
-      subst (λ (s : Bool). MayEnd board x start done s m) (sym same_saw)
-      (subst (λ (c : Completion). MayEnd board x start c parcel.saw m) (sym same)
-      (let-ends board x start node pick.is pick.at m pick.has.ready answer parcel.saw pick.has.from.saw
+  answer-ends : (values : List Datum) → channel_of node parcel.completion ≡ Some values →
+      picked_body (answer_from node values) (bodies_of node) ≡ None → MayEnd board t (answer_from node values) parcel.saw hand
+  answer-ends values on none =
+      let-ends board t hand may.taken node may.node_is may.is_let may.has.ready (answer_from node values) parcel.saw may.has.from.saw
       (λ small. answer-memory (apply_of (pick_of node) values))
-      (subst (λ (c : Completion). MayDeliver start parcel.saw c) (let-answers node pick.is parcel.completion values on (asked_of start))
-      (images-allowed start node pick.at parcel pick.has.from.delivers pick.has.from.child
-      (let-names_none node pick.is parcel.completion values on named) (let-sees node pick.is parcel.saw)))))
+      (subst (λ (c : Completion). MayDeliver t.start parcel.saw c) (let-answers node may.is_let parcel.completion values on (asked_of t.start))
+      (image-allowed (let-names_none node may.is_let parcel.completion values on none)))
 
-  -- or there is no memory for it
-  pub pick-empty : Ready board x start 0 m
-  pick-empty = emptying-less board x start m 1 0 (λ _. None) (omega arith) pick.has.ready
+  -- by what the pick names
+  module _ (done : Completion) (same : done ≡ parcel.completion) (picked : Picked) (picks : picked ≡ picked_for node (channel_of node done)) where
+    here : picked ≡ picked_for node (channel_of node parcel.completion)
+    here = picks ∙ ap (λ (c : Completion). picked_for node (channel_of node c)) same
+
+    pub answer-may : (answer : Completion) → picked ≡ Answer answer → (saw : Bool) → saw ≡ parcel.saw → MayEnd board t answer saw hand
+    answer-may answer is saw same_saw =
+        let named = picks-answer node (channel_of node parcel.completion) answer (sym here ∙ is) in
+        subst (λ (s : Bool). MayEnd board t answer s hand) (sym same_saw)
+        (subst (λ (c : Completion). MayEnd board t c parcel.saw hand) (sym named.3) (answer-ends named.0 named.1 named.2))
+
+    pub pass-may : picked ≡ Passes → (into : Completion) → into ≡ parcel.completion → (saw : Bool) → saw ≡ parcel.saw → MayEnd board t into saw hand
+    pass-may is into same_done saw same_saw =
+        subst (λ (s : Bool). MayEnd board t into s hand) (sym same_saw)
+        (subst (λ (c : Completion). MayEnd board t c parcel.saw hand) (sym same_done)
+        (pass-ends (picks-passes node (channel_of node parcel.completion) (sym here ∙ is))))
 
 -- A body has completed, and a look was made.
-module _ (board : Board Blueprint) (x : Name) (start : List Entry) (node : Node) (is : IsLet node) (at : IsStartOf start node) (parcel : Delivery)
-    (m m1 : Seated Item Entry) (has : HasBody board x node start m parcel) (keeps : KeepsReady board x m m1) (saw : Bool)
-    (tells : TellsRequest board x saw m1) where
-  ready1 : Ready board x start 1 m1
-  ready1 = keeps.ready start 1 (λ _. None) has.ready
-
-  pub body-ends : (done : Completion) → done ≡ parcel.completion → MayEnd board x start done saw m1
-  body-ends done same =
-      subst (λ (c : Completion). MayEnd board x start c saw m1) (sym same)
-      (let-ends board x start node is at m1 ready1 parcel.completion saw (look-sees board x saw m1 tells) has.done.small
-      (bodies-allowed start node at parcel has.body (has_heard board x m) has.done has.among saw
-      (λ none. unheard-before board x m m1 keeps (look-hears board x start 1 m1 ready1 saw tells none))))
+pub body-ends : (board : Board Blueprint) (t : Stepping) (parcel : Delivery) (old new : HandSeat) → MayEndAsBody board t parcel old →
+    Keeps board t old new → (saw : Bool) → Looked board t.name saw old.me new.me → MayEnd board t parcel.completion saw new
+body-ends board t parcel old new may keeps saw looked =
+    let of = taken-of board t old may.taken may.node may.node_is in
+    let ready = ready-on board t old new keeps 1 may.has.ready in
+    let-ends board t new (taken-on board t old new keeps may.taken) may.node may.node_is may.is_let ready parcel.completion saw
+    (look-sees board t.name saw old.me new.me looked) may.has.done.small
+    (bodies-allowed t.start may.node of parcel may.has.body (has_heard board t.name old.me) may.has.done may.has.among saw
+    (λ none. unheard-before board t.name old.me new.me keeps.ready (look-hears board t.name t.start 1 old.me new.me ready saw looked none)))
 
 -- Nothing has completed: the child may be started.
-module _ (board : Board Blueprint) (x : Name) (node : Node) (is : IsLet node) (start : List Entry) (m : Seated Item Entry)
-    (at : IsStartOf start node) (ready : Ready board x start 0 m) where
+module _ (node : Node) (is : IsLet node) where
   asked-same : (n : Node) → IsLet n → (asked : Bool) → asked_below (Some n) asked ≡ asked
   asked-same (LetValue k pick xs) let_is asked = refl
   asked-same (LetError k pick xs) let_is asked = refl
@@ -171,15 +184,18 @@ module _ (board : Board Blueprint) (x : Name) (node : Node) (is : IsLet node) (s
   child-runs (p ∷ above) of =
       subst (λ o. Contains (run_below o p) (let_child node)) (sym of.node_is) (below-plain node p (let_child node) (let-runs node is))
 
-  pub let-starts : (child : ℕ) (asked : Bool) → child ≡ let_child node → asked ≡ asked_of start → MayRun board x start child asked m
-  let-starts child asked same asked_is =
-      let none : least_of (Rest start None) ≡ 0 = few-begun.idle start node at.node_is (let-plain node is) in
-      record {
-        ready = emptying-less board x start m 0 (least_of (Rest start None)) (λ _. None) (omega (arith, none)) ready;
-        few = omega (arith, none);
-        runs = subst (RunsBelow start) (sym same) (child-runs start at);
-        asked_is = asked_is ∙ child-asked start at;
-      }
+pub let-starts : (board : Board Blueprint) (t : Stepping) (node : Node) (hand : HandSeat) → node_at board t.name ≡ Some node → IsLet node →
+    IsTaken board t hand → MayRun board t (let_child node) (asked_of t.start) hand
+let-starts board t node hand at is taken =
+    let of = taken-of board t hand taken node at in
+    let none : least_of (Rest t.start None) ≡ 0 = few-begun.idle t.start node of.node_is (let-plain node is) in
+    record {
+      taken = taken;
+      few = subst (λ k. Ready board t.name t.start k hand.me) (sym none) taken.ready;
+      least = omega (arith, none);
+      runs = child-runs node is t.start of;
+      asked_is = child-asked node is t.start of;
+    }
 
 -- what a node of a small plan completes with
 small-shape : (shape : Shape) → IsSmallShape shape → (values : List Datum) → HasShape values shape → is_small (Value values) ≡ true
@@ -214,10 +230,20 @@ small-delivers (e ∷ p ∷ above) start of is runnable small saw done may =
           e.args kinds.kinds e.number (seen_state e.asked saw) done allowed)
     ]
 
--- so a let of a small plan whose child's data want memory goes on later
-pub pick-small : (board : Board Blueprint) (x : Name) (start : List Entry) (node : Node) (parcel : Delivery) (m : Seated Item Entry) →
-    MayPick board x start node parcel m → is_small parcel.completion ≡ false → ¬ IsSmall (plan_of start)
-pick-small board x start node parcel m pick large small =
-    both_ways (is_small parcel.completion) large
-    (small-delivers parcel.start start pick.has.from.child pick.has.from.delivers.start pick.at.runnable small parcel.saw parcel.completion
-    pick.has.from.delivers.may)
+-- so a let of a small plan whose child's data want memory goes on later, and another completes with want of memory
+pub want-ends : (board : Board Blueprint) (t : Stepping) (parcel : Delivery) (hand : HandSeat) → MayWantFor board t parcel hand →
+    is_small parcel.completion ≡ false → MayEnd board t NoMemory false hand
+want-ends board t parcel hand want large =
+    let may = want.may in
+    let of = taken-of board t hand may.taken want.node may.node_is in
+    record {
+      taken = may.taken;
+      inner = taken-inner board t hand may.taken want.node may.node_is;
+      allowed = inl refl;
+      few = subst (λ k. Ready board t.name t.start k hand.me) (sym (few-begun.want (parcel_with t.start NoMemory false) refl)) may.taken.ready;
+      sees = λ none. refl;
+      small = λ small.
+          absurd (both_ways (is_small parcel.completion) large
+          (small-delivers parcel.start t.start may.has.from.child may.has.from.delivers.start of.runnable small parcel.saw parcel.completion
+          may.has.from.delivers.may));
+    }

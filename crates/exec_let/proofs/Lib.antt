@@ -5,3 +5,4 @@ pub mod Reading
 pub mod Begun
 pub mod Ended
 pub mod Going
+pub mod Stepped

@@ -1,9 +1,8 @@
 -- Where lets and their children stand, and whose starts they have.
-use Rattle.std.specs.Prelude.{Contains, All, MatchOption, slice_get}
-use Rattle.std.proofs.Common.{◌≡◌, ◌⊎◌, ℕ, ◌<◌, ◌==◌, true, false, List, [], ◌∷◌, length, get_or, Option, Some, inl, inr, refl, sym, ◌∙◌, subst, arith}
-use Rattle.std.proofs.lemmas.Bool.{eqb-true, cases_lt}
+use Rattle.std.specs.Prelude.{Contains, All, is_some, slice_get}
+use Rattle.std.proofs.Common.{◌≡◌, ◌⊎◌, ℕ, ◌<◌, ◌==◌, true, false, List, [], ◌∷◌, length, get_or, Option, Some, None, inl, inr, refl, sym, ◌∙◌, subst, arith}
+use Rattle.std.proofs.lemmas.Bool.{eqb-true}
 use Rattle.std.proofs.lemmas.List.Elements.{Contains-get_or, Contains-append_left, Contains-append_cases}
-use Rattle.std.proofs.lemmas.Option.{slice_get_past}
 use Rattle.common_lemmas.proofs.Bool.{either}
 use Rattle.life_rules.specs.declared.event.Name.{Name}
 use Rattle.node_tree.specs.Tree.{is_child, has_source, is_unstoppable}
@@ -16,25 +15,17 @@ use Rattle.plan_shape.specs.Forest.{IsForest}
 use Rattle.plan_shape.specs.PlanTree.{is_when_all, spawns}
 use Rattle.plan_shape.specs.PlanTree as plan_tree
 use Rattle.plan_kinds.specs.Built.{IsWhole}
-use Rattle.plan_kinds.specs.Runnable.{IsRunnable}
 use Rattle.plan_kinds.specs.Runs.{run_by, bodies_of}
 use Rattle.plan_kinds.specs.TreeLaws.{ShowsNode}
 use Rattle.plan_kinds.proofs.Placing.{no-member, child-no_body, run-named, body-named, named-cases}
 use Rattle.plan_kinds.proofs.Plans.{plans-built}
 use Rattle.table_steps.specs.Views.{Board}
-use Rattle.home_items.specs.Bounds.{least_at_rest}
-use Rattle.home_items.specs.Parcels.{Delivery}
-use Rattle.exec_recv.specs.Over.{IsOver}
+use Rattle.exec_recv.specs.Sites.{IsSite, node_at, plan_at}
 use Rattle.start_laws.specs.Nodes.{plain_children, AwaitsOne}
 use Rattle.start_laws.proofs.Pairs.{sole}
+use Rattle.step_parts.proofs.Emptied.{awaits-not-all}
 use Rattle.step_parts.proofs.Places.{node-shown, source-none}
-use Rattle.exec_let.specs.Kinds.{IsLet, let_child}
-
-pub let-plain : (node : Node) → IsLet node → is_when_all node ≡ false
-let-plain (LetValue x pick xs) is = refl
-let-plain (LetError x pick xs) is = refl
-let-plain (LetStopped x pick xs) is = refl
-let-plain node is = absurd is
+use Rattle.exec_let.specs.Kinds.{IsLet, IsLetNode, let_child}
 
 let-stoppable : (node : Node) → IsLet node → plan_tree.is_unstoppable node ≡ false
 let-stoppable (LetValue x pick xs) is = refl
@@ -54,12 +45,8 @@ let-awaits (LetError x pick xs) is = tt
 let-awaits (LetStopped x pick xs) is = tt
 let-awaits node is = absurd is
 
--- a rest that keeps a parcel has begun a child
-pub let-keeps : (node : Node) → IsLet node → (parcel : Delivery) → least_at_rest (Some node) (Some parcel) ≡ 1
-let-keeps (LetValue x pick xs) is parcel = refl
-let-keeps (LetError x pick xs) is parcel = refl
-let-keeps (LetStopped x pick xs) is parcel = refl
-let-keeps node is parcel = absurd is
+pub let-plain : (node : Node) → IsLet node → is_when_all node ≡ false
+let-plain node is = awaits-not-all node (let-awaits node is)
 
 one-there : (x : ℕ) → Contains (x ∷ []) x
 one-there x = (0, omega arith, refl)
@@ -96,50 +83,35 @@ let-whole nodes (LetStopped x pick xs) is whole = whole
 let-whole nodes node is whole = absurd is
 
 -- the node is a let of the plan
-pub kind-let : (o : Option Node) (node : Node) → o ≡ Some node → MatchOption o ⊥ IsLet → IsLet node
-kind-let o node e kind = subst (λ (q : Option Node). MatchOption q ⊥ IsLet) e kind
+pub let-some : (o : Option Node) → IsLetNode o → is_some o ≡ true
+let-some None kind = absurd kind
+let-some (Some node) kind = refl
 
-pub kind-within : (nodes : List Node) (n : ℕ) → MatchOption (slice_get nodes n) ⊥ IsLet → n < length nodes
-kind-within nodes n kind =
-    elim (cases_lt n (length nodes)) [
-      | inl within ↦ within
-      | inr past ↦ absurd (subst (λ (o : Option Node). MatchOption o ⊥ IsLet) (slice_get_past nodes n past) kind)
-    ]
+pub kind-let : (o : Option Node) (node : Node) → o ≡ Some node → IsLetNode o → IsLet node
+kind-let o node e kind = subst IsLetNode e kind
 
 -- which is none of the bodies
 pub child-apart : (nodes : List Node) → IsForest nodes → (n : ℕ) (node : Node) → IsLet node → slice_get nodes n ≡ Some node →
     Contains (bodies_of node) (let_child node) → ⊥
 child-apart nodes forest n node is at among = child-no_body nodes forest n (let_child node) node at (child-run node is) among
 
--- a let, in the table over its plan
-pub record Letting (board : Board Blueprint) (x : Name) (node : Node) : Type 0 where
-  pub plan : Blueprint
-  pub over : IsOver board plan
-  pub runnable : IsRunnable plan
-  pub stands : slice_get plan.nodes x.node ≡ Some node
-  pub is : IsLet node
-
-pub letting : (board : Board Blueprint) (plan : Blueprint) (x : Name) (node : Node) → IsOver board plan → IsRunnable plan →
-    slice_get plan.nodes x.node ≡ Some node → IsLet node → Letting board x node
-letting board plan x node over runnable stands is =
-    record { plan = plan; over = over; runnable = runnable; stands = stands; is = is }
-
-module _ (board : Board Blueprint) (x : Name) (node : Node) (lets : Letting board x node) where
+-- The let of this name, where the table stands over a plan whose kinds match.
+module _ (board : Board Blueprint) (x : Name) (node : Node) (site : IsSite board) (at : node_at board x ≡ Some node) (is : IsLet node) where
   shown : ShowsNode board.frame.tree x.node node
-  shown = node-shown board lets.plan x node lets.over lets.stands
+  shown = node-shown board (plan_at board) x node site.over at
 
   pub let-source : has_source board.frame.tree x.node ≡ false
-  let-source = source-none board lets.plan x node lets.over lets.stands (let-plain node lets.is)
+  let-source = source-none board (plan_at board) x node site.over at (let-plain node is)
 
   pub stoppable : is_unstoppable board.frame.tree x.node ≡ false
-  stoppable = shown.unstoppable ∙ let-stoppable node lets.is
+  stoppable = shown.unstoppable ∙ let-stoppable node is
 
   -- its children are the one and the bodies
   named-below : (k : ℕ) → Contains (named_by node) k → is_child board.frame.tree x.node k ≡ true
-  named-below k among = (shown.children k).1 (Contains-append_left (named_by node) _ k among, let-spawns node lets.is k)
+  named-below k among = (shown.children k).1 (Contains-append_left (named_by node) _ k among, let-spawns node is k)
 
   pub child-below : is_child board.frame.tree x.node (let_child node) ≡ true
-  child-below = named-below (let_child node) (run-named node (let_child node) (child-run node lets.is))
+  child-below = named-below (let_child node) (run-named node (let_child node) (child-run node is))
 
   pub body-below : (k : ℕ) → Contains (bodies_of node) k → is_child board.frame.tree x.node k ≡ true
   body-below k among = named-below k (body-named node k among)
@@ -149,21 +121,20 @@ module _ (board : Board Blueprint) (x : Name) (node : Node) (lets : Letting boar
 
   pub below-cases : (k : ℕ) → is_child board.frame.tree x.node k ≡ true → (k ≡ let_child node) ⊎ Contains (bodies_of node) k
   below-cases k below =
-      elim (named-cases node k (no-parts node lets.is x.node k ((shown.children k).0 below).0)) [
-        | inl run ↦ inl (run-child node lets.is k run)
+      elim (named-cases node k (no-parts node is x.node k ((shown.children k).0 below).0)) [
+        | inl run ↦ inl (run-child node is k run)
         | inr body ↦ inr body
       ]
 
   -- there is a body
   pub some-bodies : 0 < length (bodies_of node)
-  some-bodies =
-      let-whole lets.plan.nodes node lets.is ((plans-built lets.plan lets.over.is_plan).whole x.node node lets.stands)
+  some-bodies = let-whole (plan_at board).nodes node is ((plans-built (plan_at board) site.over.is_plan).whole x.node node at)
 
   -- the child isn't a body
   pub child-other : (n : ℕ) → Contains (bodies_of node) n → (let_child node == n) ≡ false
   child-other n among =
       either (let_child node == n)
       (λ t.
-      absurd (child-apart lets.plan.nodes lets.over.is_plan.forest x.node node lets.is lets.stands
+      absurd (child-apart (plan_at board).nodes site.over.is_plan.forest x.node node is at
       (subst (Contains (bodies_of node)) (sym (eqb-true (let_child node) n t)) among)))
       (λ f. f)

@@ -14,16 +14,16 @@ use Rattle.table_steps.specs.Views.{Board}
 use Rattle.table_steps.specs.Claims.{Seated}
 use Rattle.home_items.specs.declared.entry.Entry.{Entry}
 use Rattle.home_items.specs.declared.item.Item.{Item}
-use Rattle.step_parts.specs.Heard.{was_told, has_heard, TellsRequest}
+use Rattle.step_parts.specs.Heard.{was_told, has_heard, Looked}
 use Rattle.step_parts.specs.Midway.{Ready}
 
 -- where it reads no request, the hand has heard of none
-pub look-hears : (board : Board Blueprint) (x : Name) (start : List Entry) (least : ℕ) (m : Seated Item Entry) → Ready board x start least m →
-    (answer : Bool) → TellsRequest board x answer m → answer ≡ false → has_heard board x m ≡ false
-look-hears board x start least m ready answer tells unread =
+pub look-hears : (board : Board Blueprint) (x : Name) (start : List Entry) (least : ℕ) (m m' : Seated Item Entry) → Ready board x start least m' →
+    (answer : Bool) → Looked board x answer m m' → answer ≡ false → has_heard board x m' ≡ false
+look-hears board x start least m m' ready answer looked unread =
     known (source_for x (nearest board.frame.tree x.node))
     (λ none.
-    ap (λ (o : Option SourceRef). option_map_or (has_source_ref m.0.seen) o false || was_told x m) none
-    ∙ ap (λ (o : Option (Held Entry)). option_map_or (λ (e : Held Entry). e.told) o false) ready.tends.holds
-    ∙ ready.hears.none none)
-    (λ source some. tells.no unread (ap is_some some))
+    ap (λ (o : Option SourceRef). option_map_or (has_source_ref m'.0.seen) o false || was_told x m') none
+    ∙ ap (λ (o : Option (Held Entry)). option_map_or (λ (e : Held Entry). e.told) o false) ready.is.tends.holds
+    ∙ ready.is.hears.none none)
+    (λ source some. looked.no unread (ap is_some some))

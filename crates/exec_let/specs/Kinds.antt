@@ -1,5 +1,5 @@
 -- The lets, of whichever channel.
-use Rattle.std.specs.Prelude.{⊤, ℕ, Bool, true, false, [], ◌∷◌}
+use Rattle.std.specs.Prelude.{⊤, ℕ, Bool, true, false, [], ◌∷◌, Option, Some, None}
 use Rattle.exec_value.specs.declared.data.Datum.TheVariants.{Int}
 use Rattle.exec_value.specs.declared.outcome.Completion.{Completion}
 use Rattle.exec_value.specs.declared.outcome.Completion.TheVariants.{Value}
@@ -11,6 +11,10 @@ IsLet (LetValue child pick bodies) = ⊤
 IsLet (LetError child pick bodies) = ⊤
 IsLet (LetStopped child pick bodies) = ⊤
 IsLet node = ⊥
+
+abbrev pub IsLetNode : Option Node → Type 0
+IsLetNode None = ⊥
+IsLetNode (Some node) = IsLet node
 
 -- the child that runs with the let's arguments
 abbrev pub let_child : Node → ℕ

@@ -1,117 +1,120 @@
 -- How a let goes on when its child has completed, or a body ([exec.let]).
-use Rattle.std.specs.Prelude.{◌≡◌, ◌⊎◌, ℕ, true, false, List, [], Option, Some, None, IfSome, All, Contains}
-use Rattle.exec_value.specs.Place.{AreInPlace}
+use Rattle.std.specs.Prelude.{◌≡◌, ◌≢◌, ◌⊎◌, ℕ, Bool, true, false, List, Some, None}
 use Rattle.exec_value.specs.declared.data.Datum.{Datum}
-use Rattle.exec_value.specs.declared.outcome.Completion.{Completion}
 use Rattle.exec_value.specs.declared.outcome.Completion.TheVariants.{NoMemory}
+use Rattle.exec_value.specs.Place.{AreInPlace}
 use Rattle.exec_job.specs.Answer.{EndsInPlace}
-use Rattle.exec_job.specs.Apply.{apply_of, ending}
+use Rattle.exec_job.specs.Apply.{apply_of}
 use Rattle.life_rules.specs.declared.event.Name.{Name}
+use Rattle.life_rules.specs.declared.event.Resting.TheVariants.{Loop as InLoop}
 use Rattle.life_rules.specs.Views.{beside}
-use Rattle.node_tree.specs.declared.context.Context.TheVariants.{Loop}
 use Rattle.plan_rules.specs.declared.node.Node.{Node}
 use Rattle.plan_shape.specs.Blueprint.{Blueprint}
-use Rattle.plan_kinds.specs.Runs.{bodies_of}
-use Rattle.table_steps.specs.Views.{Board}
-use Rattle.table_steps.specs.Claims.{Seated}
 use Rattle.table_steps.specs.Readings.{IsBegunAs}
-use Rattle.table_steps.specs.Takes.{resting_in}
-use Rattle.node_images.specs.Picks.{picked_body}
-use Rattle.home_items.specs.declared.entry.Entry.{Entry}
-use Rattle.home_items.specs.declared.item.Item.{Item}
-use Rattle.home_items.specs.declared.item.Item.TheVariants.{Done}
-use Rattle.home_items.specs.Entries.{asked_of, start_below}
+use Rattle.table_steps.specs.Views.{Board}
+use Rattle.home_items.specs.declared.item.State.{State}
+use Rattle.home_items.specs.declared.item.State.TheVariants.{Start as Begins}
+use Rattle.home_items.specs.Entries.{asked_of}
 use Rattle.home_items.specs.Parcels.{Delivery}
 use Rattle.start_laws.specs.Lets.{channel_of, pick_of}
 use Rattle.exec_recv.specs.declared.next.Next.{Next}
-use Rattle.exec_recv.specs.declared.next.Next.TheVariants.{Go, Ready}
-use Rattle.exec_recv.specs.Steppable.{CanStep}
-use Rattle.step_parts.specs.Completes.{CompletesWith}
-use Rattle.step_parts.specs.Leaves.{IsLeftAt, IsLeftIn}
-use Rattle.step_parts.specs.Starts.{IsAwaiting, StartsOne}
-use Rattle.step_parts.specs.TakenOut.{newest_in}
-use Rattle.exec_let.specs.Kinds.{let_child, is_small}
+use Rattle.exec_recv.specs.Seats.{HandSeat}
+use Rattle.exec_recv.specs.Sites.{node_at}
+use Rattle.step_parts.specs.Completes.{Completes}
+use Rattle.step_parts.specs.Heard.{Looked}
+use Rattle.step_parts.specs.Leaves.{LeavesAt}
+use Rattle.step_parts.specs.Starts.{Begins as BeginsWith, StartsAgain, StartsChild}
+use Rattle.step_parts.specs.Stepping.{Stepping}
+use Rattle.step_parts.specs.Takes.{TakesNew, TakesState}
+use Rattle.exec_let.specs.declared.opening.Opened.{Opened}
+use Rattle.exec_let.specs.declared.picking.Picked.{Picked}
+use Rattle.exec_let.specs.declared.picking.Picked.TheVariants.{Answer, Body, Passes}
+use Rattle.exec_let.specs.Kinds.{IsLet, is_small, let_child}
+use Rattle.exec_let.specs.Opens.{Opens}
+use Rattle.exec_let.specs.Picks.{picked_for}
 
-module _ (board : Board Blueprint) (x : Name) (next : Next) (m' : Seated Item Entry) where
-  -- x awaits this body, which began with these data as its arguments, and with which the hand goes
-  -- on
-  pub record Awaits (body : ℕ) (values : List Datum) : Type 0 where
-    pub next_is : next ≡ Go (beside x body)
-    pub start : List Entry
-    pub from : Seated Item Entry
-    pub awaits : IsAwaiting board x start body
-        (start_below body values [] (asked_of start) start) from m'
+module _ (board : Board Blueprint) (t : Stepping) (next : Next) where
+  -- It looked, and read the word of the body that the pick names. Where that said that the body has
+  -- begun, which doesn't come, it was left in the loop with this parcel of its child; else the body
+  -- began with the data of the let's channel.
+  pub record BeginsBody (node : Node) (parcel : Delivery) (body : ℕ) (old new : HandSeat) :
+      Type 0 where
+    pub saw : Bool
+    pub heard : HandSeat
+    pub looked : Looked board t.name saw old.me heard.me
+    pub begun : Bool
+    pub middle : HandSeat
+    pub read : IsBegunAs board.frame (beside t.name body) begun heard.me middle.me
+    pub later : begun ≡ true → LeavesAt board t (Some parcel) InLoop next middle new
+    pub begins : (values : List Datum) → channel_of node parcel.completion ≡ Some values →
+        begun ≡ false → BeginsWith board t body values (asked_of t.start) next middle new
 
-  -- The word of this body was read, and said that the body has begun: x was left ready in the loop,
-  -- with this parcel of its child.
-  pub record FindsBegun (body : ℕ) (parcel : Delivery) : Type 0 where
-    pub next_is : next ≡ Ready Loop
-    pub start : List Entry
-    pub before : Seated Item Entry
-    pub middle : Seated Item Entry
-    pub read : IsBegunAs board.frame (beside x body) true before middle
-    pub left : IsLeftAt board x start (Some parcel) (resting_in Loop) middle m'
+  -- It looked, and completed as the body did, having seen what it read.
+  pub record EndsAsBody (parcel : Delivery) (old new : HandSeat) : Type 0 where
+    pub saw : Bool
+    pub middle : HandSeat
+    pub looked : Looked board t.name saw old.me middle.me
+    pub completes : Completes board t parcel.completion saw next middle new
 
-  -- Where a node of a small plan may complete as the child did, x was left ready in the loop, with
-  -- this parcel of its child; and else it delivered want of memory.
-  pub record Defers (parcel : Delivery) : Type 0 where
-    pub later : is_small parcel.completion ≡ true → IsLeftIn board x Loop (Some parcel) next m'
-    pub now : is_small parcel.completion ≡ false → CompletesWith board x NoMemory next m'
+  -- Where a node of a small plan may complete as the child did, it was left in the loop with this
+  -- parcel of its child; and else it completed with want of memory.
+  pub record Defers (parcel : Delivery) (old new : HandSeat) : Type 0 where
+    pub later : is_small parcel.completion ≡ true →
+        LeavesAt board t (Some parcel) InLoop next old new
+    pub now : is_small parcel.completion ≡ false → Completes board t NoMemory false next old new
 
-  -- There was no memory for these data, or for what the pick answers to them: not both stand in
-  -- place.
-  pub record Wants (node : Node) (values : List Datum) (parcel : Delivery) : Type 0 where
+  -- There was no memory for what the pick answers to these data: not both stand in place.
+  pub record Wants (node : Node) (parcel : Delivery) (old new : HandSeat) : Type 0 where
+    pub values : List Datum
+    pub on : channel_of node parcel.completion ≡ Some values
     pub large : AreInPlace values → EndsInPlace (apply_of (pick_of node) values) → ⊥
-    pub how : Defers parcel
+    pub how : Defers parcel old new
 
-  -- The pick answered this to these data: the body that it names is awaited, unless it was read as
-  -- begun, which doesn't come; and where it names none, x completes with the answer.
-  abbrev pub ByAnswer : Option ℕ → List Datum → Completion → Delivery → Type 0
-  ByAnswer None values answer parcel = CompletesWith board x answer next m'
-  ByAnswer (Some body) values answer parcel = Awaits body values ⊎ FindsBegun body parcel
+  -- by what the pick answered to the data of the let's channel; what is on another passes
+  abbrev pub GoesBy : Node → Delivery → Picked → HandSeat → HandSeat → Type 0
+  GoesBy node parcel (Body body) old new = BeginsBody node parcel body old new
+  GoesBy node parcel (Answer answer) old new = Completes board t answer parcel.saw next old new
+  GoesBy node parcel Passes old new =
+      Completes board t parcel.completion parcel.saw next old new
 
-  -- These are the data of the let's channel in the parcel of the child: they are given to the pick,
-  -- where there is memory for that. What is on another channel passes.
-  abbrev pub ByData : Node → Option (List Datum) → Delivery → Type 0
-  ByData node None parcel = CompletesWith board x parcel.completion next m'
-  ByData node (Some values) parcel =
-      ByAnswer (picked_body (ending (apply_of (pick_of node) values)) (bodies_of node)) values
-      (ending (apply_of (pick_of node) values)) parcel ⊎ Wants node values parcel
+module _ (board : Board Blueprint) (t : Stepping) where
+  abbrev pub GoesOn : Node → Delivery → Next → HandSeat → HandSeat → Type 0
+  GoesOn node parcel next old new =
+      GoesBy board t next node parcel (picked_for node (channel_of node parcel.completion)) old new
+      ⊎ Wants board t next node parcel old new
 
-  abbrev pub GoesOn : Node → Delivery → Type 0
-  GoesOn node parcel = ByData node (channel_of node parcel.completion) parcel
+  -- Of a let that has begun: where a body has completed it completes so; where the child has, it
+  -- goes on by that; and else the child is started.
+  pub record StepsBegun (node : Node) (next : Next) (old new : HandSeat) : Type 0 where
+    pub opened : Opened
+    pub middle : HandSeat
+    pub opens : Opens board t node opened old middle
+    pub body : (parcel : Delivery) → opened.body ≡ Some parcel →
+        EndsAsBody board t next parcel middle new
+    pub child : (parcel : Delivery) → opened.body ≡ None → opened.child ≡ Some parcel →
+        GoesOn node parcel next middle new
+    pub again : opened.body ≡ None → opened.child ≡ None →
+        StartsAgain board t (let_child node) next middle new
 
-module _ (board : Board Blueprint) (x : Name) (m : Seated Item Entry) (node : Node) where
-  -- The child had completed with this parcel, which lay in its home, or was kept; and no body's
-  -- home was full.
-  pub record ChildIsDone (can : CanStep board x m) (parcel : Delivery) : Type 0 where
-    pub done : newest_in (can.kid (let_child node)) can.item ≡ Some parcel
-    pub alone : All (λ n. can.kid n ≡ None) (bodies_of node)
+module _ (board : Board Blueprint) (x : Name) (next : Next) (old new : HandSeat) where
+  -- First the let starts its child.
+  pub record LetsFirst (node : Node) : Type 0 where
+    pub taken : Stepping
+    pub up : HandSeat
+    pub takes : TakesNew board x taken old up
+    pub starts : StartsChild board taken (let_child node) next up new
 
-  -- No parcel of the child was there, and no body's.
-  pub record NoneIsDone (can : CanStep board x m) : Type 0 where
-    pub none : newest_in (can.kid (let_child node)) can.item ≡ None
-    pub alone : All (λ n. can.kid n ≡ None) (bodies_of node)
+  -- Then it goes on by what has completed.
+  pub record LetsOn (node : Node) : Type 0 where
+    pub taken : Stepping
+    pub state : State
+    pub up : HandSeat
+    pub takes : TakesState board x taken state old up
+    pub begun : state ≢ Begins
+    pub goes : StepsBegun board taken node next up new
 
-  -- The home of a body was full with this parcel, and no other body's was.
-  pub record BodyIsDone (can : CanStep board x m) (parcel : Delivery) : Type 0 where
-    pub body : ℕ
-    pub among : Contains (bodies_of node) body
-    pub full : can.kid body ≡ Some (Done parcel)
-    pub alone : (n : ℕ) (item : Item) → Contains (bodies_of node) n → can.kid n ≡ Some item →
-        n ≡ body
-
-  -- First the let starts its child. Where the child has completed it goes on by that, and where a
-  -- body has it completes as the body.
-  pub record LetsAs (next : Next) (m' : Seated Item Entry) : Type 0 where
-    pub begins : (can : CanStep board x m) → NoneIsDone can →
-        StartsOne board x (let_child node) next m m'
-    pub child : (can : CanStep board x m) (parcel : Delivery) → ChildIsDone can parcel →
-        GoesOn board x next m' node parcel
-    pub body : (can : CanStep board x m) (parcel : Delivery) → BodyIsDone can parcel →
-        CompletesWith board x parcel.completion next m'
-
--- the same by the node of a plan
-abbrev pub AsLet : Board Blueprint → Name → Option Node → Next → Seated Item Entry →
-    Seated Item Entry → Type 0
-AsLet board x node next m m' = IfSome node (λ one. LetsAs board x m one next m')
+  pub record StepsLet : Type 0 where
+    pub node : Node
+    pub node_is : node_at board x ≡ Some node
+    pub is_let : IsLet node
+    pub does : LetsFirst node ⊎ LetsOn node

@@ -1,61 +1,46 @@
 //! How a let begins the body that was picked.
-ghost use Rattle.std.specs.Prelude.{◌≡◌, ◌⊎◌, [], false};
-ghost use Rattle.node_tree.specs.Tree.{is_root};
-ghost use Rattle.plan_kinds.specs.Runnable.{IsRunnable};
-ghost use Rattle.table_steps.specs.Views.{IsHandOf, Stays};
-ghost use Rattle.exec_recv.specs.Nexts.{IsStepped};
-ghost use Rattle.exec_recv.specs.Over.{IsOver};
-ghost use Rattle.exec_let.specs.Ends.{MayPick, Picks};
-ghost use Rattle.exec_let.specs.Lets.{Awaits, FindsBegun};
+ghost use Rattle.exec_recv.specs.Sites.{Steps};
+ghost use Rattle.exec_let.specs.Ends.{MayBeginBody};
+ghost use Rattle.exec_let.specs.Lets.{BeginsBody};
 
-use exec_value::Data;
+use crate::channel::take_channel;
 use life_rules::Name;
 use node_tree::Context;
-use op_slot::{Hand, OpTable};
+use op_slot::Hand;
 use plan_rules::{Node, NodeId};
-use plan_shape::Plan;
-use step_parts::{Env, Item, Next, Parcel, await_child, hear, leave_at_rest};
-
-// The row of a start that is no part of a bulk.
-fn no_row<'a>() -> &'a [i64]
-    ensures { result.now ≡ [] }
-{
-    &[]
-}
+use step_parts::{Item, Next, Parcel, Site, Taken, begin, hear, leave_at_rest};
 
 /// Begins the body with the data of the child's completion, and awaits it. A look says whether its
 /// start may rest on a request. That the body has begun before doesn't come; then the let goes on
 /// later, in the loop.
-pub(crate) fn begin_body(
-    plan: &Plan,
-    table: &OpTable<Item>,
+#[inline(always)]
+pub(crate) fn begin_body<R, G>(
+    site: &Site<R, G>,
     hand: &mut Hand<Item>,
-    name: Name,
+    taken: Taken,
     node: &Node,
-    env: Env,
     parcel: Parcel,
     body: NodeId,
-    values: Data,
 ) -> Next
-    requires hand { IsHandOf table.now hand.old }
-    requires over { IsOver table.now plan.now }
-    requires runnable { IsRunnable plan.now }
-    requires inner { is_root table.now.frame.tree name.node ≡ false }
-    requires may { MayPick table.now name env node.now parcel hand.old.me }
-    requires picks { Picks node.now parcel.completion values body }
-    ensures stays { Stays table.now hand.old hand.new }
-    ensures begins { Awaits table.now name result hand.new.me body values
-        ⊎ FindsBegun table.now name result hand.new.me body parcel }
-    ensures stepped { IsStepped table.now name hand.old.me hand.new.me result }
+    requires may { MayBeginBody site.now taken node.now parcel body hand.old }
+    ensures steps { Steps site.now taken.name result taken.from hand.new }
+    ensures begins { BeginsBody site.now taken result node.now parcel body hand.old hand.new }
 {
-    let _ = node;
-    let _heard = hear(table, hand, name);
-    let picked = Name { node: body, ..name };
-    if table.has_begun(hand, picked) {
-        return leave_at_rest(table, hand, name, env, Some(parcel), Context::Loop);
+    let _heard = hear(site, hand, &taken);
+    let picked = Name {
+        node: body,
+        ..taken.name()
+    };
+    if site.table.has_begun(hand, picked) {
+        return leave_at_rest(site, hand, taken, Some(parcel), Context::Loop);
     }
-    drop(parcel);
-    let asked = env.asked();
-    let below = env.below(plan, body, values, no_row(), asked);
-    await_child(table, hand, name, env, body, below)
+    let asked = taken.asked();
+    let mut done = parcel.into_completion();
+    match take_channel(site.alloc, node, &mut done) {
+        Some(values) => {
+            drop(done);
+            begin(site, hand, taken, body, values, asked)
+        }
+        None => unreachable!(),
+    }
 }

@@ -6,10 +6,10 @@
 //! and the body that the pick names for what the child completed with, and no other, begins, with
 //! these data as its arguments, and completes the let as it completes.
 //!
-//!     Start --start_unbegun_child--> Go(child) .. its child is done
+//!     Start --start_child--> Go(child) .. its child is done
 //!           --off the let's channel--> Done(the same)
 //!           --on it, and the pick names no body--> Done(what the pick answers)
-//!           --on it--> await_child of the body --> Go(body) .. the body is done --> Done(the same)
+//!           --on it--> begin of the body --> Go(body) .. the body is done --> Done(the same)
 //!
 //! Before a body begins, and where one is done, the let looks at the source that it hears: a body's
 //! start may rest on a request that the child saw, and then what the body completes with does.
@@ -18,12 +18,11 @@
 #![tactic(auto)]
 
 mod beginning;
-mod bodies;
 mod channel;
-mod completing;
-mod dispatching;
+mod ending;
 mod opening;
 mod parts;
 mod picking;
+mod stepping;
 
-pub use dispatching::advance_let;
+pub use stepping::Lets;

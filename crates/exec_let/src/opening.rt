@@ -1,69 +1,82 @@
-//! How a let's step opens: the homes of the let, of its child and of its bodies are emptied.
-ghost use Rattle.std.specs.Prelude.{◌≡◌, slice_get, Some};
-ghost use Rattle.plan_kinds.specs.Runnable.{IsRunnable};
-ghost use Rattle.table_steps.specs.Views.{IsHandOf, Stays};
-ghost use Rattle.exec_recv.specs.Over.{IsOver};
-ghost use Rattle.exec_recv.specs.Beginnings.{AllCanStart};
-ghost use Rattle.exec_recv.specs.Steppable.{CanStep};
-ghost use Rattle.exec_let.specs.Kinds.{IsLet};
-ghost use Rattle.exec_let.specs.Openings.{Opens};
+//! What a let that has begun finds in the homes of its child and its bodies.
+ghost use Rattle.std.specs.Prelude.{◌≡◌, true, All};
+ghost use Rattle.node_tree.specs.Tree.{is_child};
+ghost use Rattle.step_parts.specs.Takes.{IsOpen};
+ghost use Rattle.exec_let.specs.Opens.{MayOpen, Opens, TakesBodies, first_of};
 
-use crate::bodies::{first_of, take_bodies};
 use crate::parts::{let_bodies, let_child};
-use life_rules::Name;
-use op_slot::{Hand, OpTable};
-use plan_rules::Node;
-use plan_shape::Plan;
-use step_parts::{AtHome, Env, Item, Parcel, take_below, take_own};
+use op_slot::Hand;
+use plan_rules::{Node, NodeId};
+use step_parts::{Item, Parcel, Site, Taken, take_child, take_kept};
 
-/// What a let's step has at hand, once the homes are emptied.
+/// What a let has at hand.
 #[derive(Drop)]
-pub(crate) struct AtHand {
-    pub env: Env,
+pub(crate) struct Opened {
     /// The child's parcel, as it lay in the child's home, or as the let kept it.
-    pub child: Option<Parcel>,
+    pub(crate) child: Option<Parcel>,
     /// The parcel of the body that was begun.
-    pub body: Option<Parcel>,
+    pub(crate) body: Option<Parcel>,
 }
 
-/// Opens the step of a let: its start, and what its child or a body completed with.
-pub(crate) fn open(
-    plan: &Plan,
-    table: &OpTable<Item>,
-    hand: &mut Hand<Item>,
-    name: Name,
-    node: &Node,
-) -> AtHand
-    requires hand { IsHandOf table.now hand.old }
-    requires over { IsOver table.now plan.now }
-    requires kinds { IsRunnable plan.now }
-    requires node { slice_get plan.now.nodes name.node ≡ Some node.now }
-    requires is_let { IsLet node.now }
-    requires can { CanStep table.now name hand.old.me }
-    requires starts { AllCanStart table.now hand.old.me }
-    ensures stays { Stays table.now hand.old hand.new }
-    ensures opens { Opens table.now name node.now result hand.old.me hand.new.me }
+// The one parcel, where there is one, else the other.
+#[inline(always)]
+fn first_of(one: Option<Parcel>, other: Option<Parcel>) -> Option<Parcel>
+    ensures { result ≡ first_of one other }
 {
-    let _ = plan;
-    let own = take_own(table, hand, name);
-    let below = take_below(table, hand, name, let_child(node));
-    let body = take_bodies(table, hand, name, let_bodies(node));
-    match own {
-        AtHome::Start(env) => {
-            env.known();
-            AtHand {
-                env,
-                child: below,
-                body,
-            }
+    match one {
+        Some(parcel) => {
+            drop(other);
+            Some(parcel)
         }
-        AtHome::Rest(env, kept) => {
-            env.known();
-            AtHand {
-                env,
-                child: first_of(below, kept),
-                body,
-            }
+        None => other,
+    }
+}
+
+// Takes what lies in the homes of the bodies: the parcel of one that has completed, or none.
+#[inline(always)]
+fn take_bodies<R, G>(
+    site: &Site<R, G>,
+    hand: &mut Hand<Item>,
+    taken: &Taken,
+    bodies: &[NodeId],
+) -> Option<Parcel>
+    requires children { All (λ n. is_child site.now.frame.tree taken.now.name.node n ≡ true)
+        bodies.now }
+    requires lies { IsOpen site.now taken.now hand.old }
+    ensures { TakesBodies site.now taken.now bodies.now result hand.old hand.new }
+{
+    let mut found = None;
+    for body in bodies {
+        if let Some(parcel) = take_child(site, hand, taken, *body) {
+            found = first_of(found, Some(parcel));
         }
+    }
+    found
+}
+
+/// Takes what the let's child or a body completed with.
+///
+/// Step: those of `take_child` for the child and each body, and of `take_kept`.
+#[inline(always)]
+pub(crate) fn open<R, G>(
+    site: &Site<R, G>,
+    hand: &mut Hand<Item>,
+    taken: &Taken,
+    node: &Node,
+) -> Opened
+    requires may { MayOpen site.now taken.now node.now hand.old }
+    ensures { Opens site.now taken.now node.now result hand.old hand.new }
+{
+    let below = take_child(site, hand, taken, let_child(node));
+    let body = take_bodies(site, hand, taken, let_bodies(node));
+    match below {
+        Some(parcel) => Opened {
+            child: Some(parcel),
+            body,
+        },
+        None => Opened {
+            child: take_kept(site, hand, taken),
+            body,
+        },
     }
 }

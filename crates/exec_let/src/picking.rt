@@ -1,124 +1,88 @@
-//! How a let goes on when its child has completed ([exec.let]).
-ghost use Rattle.std.specs.Prelude.{◌≡◌, false, Some};
-ghost use Rattle.std.specs.Thread.{IsSync};
-ghost use Rattle.node_tree.specs.Tree.{is_root};
-ghost use Rattle.plan_kinds.specs.Runnable.{IsRunnable};
-ghost use Rattle.table_steps.specs.Views.{IsHandOf, Stays};
+//! How a let picks the body for what its child completed with ([exec.let]).
+ghost use Rattle.std.specs.Prelude.{IfOk, IsOk, Some};
 ghost use Rattle.start_laws.specs.Lets.{channel_of};
-ghost use Rattle.exec_recv.specs.Nexts.{IsStepped};
-ghost use Rattle.exec_recv.specs.Over.{IsOver};
-ghost use Rattle.exec_let.specs.Ends.{MayPick};
-ghost use Rattle.exec_let.specs.Lets.{ByData, GoesOn};
+ghost use Rattle.exec_let.specs.Picks.{CanPick, Picks, PicksInPlace};
 
-use crate::beginning::begin_body;
-use crate::channel::copy_channel;
-use crate::completing::{end_wanting, end_with};
 use crate::parts::{let_bodies, let_pick};
-use exec_recv::Point;
-use exec_value::{Completion, Data};
-use life_rules::Name;
+use exec_value::{Completion, Data, Datum};
 use node_images::pick_body;
-use op_slot::{Hand, OpTable};
-use plan_rules::Node;
-use plan_shape::Plan;
+use plan_rules::{Node, NodeId};
 use std::alloc::{AllocError, Global};
-use std::sync::Wait;
-use step_parts::{Env, Gate, Item, Next, Parcel};
+use step_parts::{Gate, Point, Site, Taken};
 
-// The child has these data for the let: the pick, which is applied past the gate, names the body
-// that begins with them; or it answers what the let completes with.
-fn pick<G: Gate, R: Wait + Sync>(
-    rt: &R,
-    alloc: Global,
-    plan: &Plan,
-    table: &OpTable<Item>,
-    hand: &mut Hand<Item>,
-    name: Name,
-    node: &Node,
-    env: Env,
-    parcel: Parcel,
-    values: Data,
-    gate: &G,
-) -> Next
-    requires sync { IsSync R.row }
-    requires hand { IsHandOf table.now hand.old }
-    requires over { IsOver table.now plan.now }
-    requires runnable { IsRunnable plan.now }
-    requires inner { is_root table.now.frame.tree name.node ≡ false }
-    requires may { MayPick table.now name env node.now parcel hand.old.me }
-    requires on { channel_of node.now parcel.completion ≡ Some values }
-    ensures stays { Stays table.now hand.old hand.new }
-    ensures goes { ByData table.now name result hand.new.me node.now (Some values) parcel }
-    ensures stepped { IsStepped table.now name hand.old.me hand.new.me result }
+/// How a let goes on with what its child completed with.
+#[derive(Drop)]
+pub(crate) enum Picked {
+    /// This body begins with it.
+    Body(NodeId),
+    /// The pick names no body: the let completes so.
+    Answer(Completion),
+    /// It is on another channel: the let completes with the same.
+    Passes,
+}
+
+// What the pick names for these data.
+#[inline(always)]
+fn pick_for(alloc: Global, node: &Node, values: &Data) -> Result<Picked, AllocError>
+    requires may { CanPick node.now (Some values.now) }
+    ensures picks { IfOk result (Picks node.now (Some values.now)) }
+    ensures in_place { PicksInPlace node.now (Some values.now) → IsOk result }
 {
-    gate.pass(
-        rt,
-        Point::Job {
-            number: env.number(),
-            node: name.node,
-        },
-    );
     let mut answer = Completion::Stopped;
-    match pick_body(
-        alloc,
-        let_pick(node),
-        &values,
-        let_bodies(node),
-        &mut answer,
-    ) {
-        Ok(Some(body)) => { begin_body(plan, table, hand, name, node, env, parcel, body, values) }
-        Ok(None) => {
-            let saw = parcel.saw();
-            end_with(rt, plan, table, hand, name, env, answer, saw, gate)
+    match pick_body(alloc, let_pick(node), values, let_bodies(node), &mut answer)? {
+        Some(body) => {
+            drop(answer);
+            Ok(Picked::Body(body))
         }
-        Err(AllocError) => end_wanting(rt, plan, table, hand, name, node, env, parcel, gate),
+        None => Ok(Picked::Answer(answer)),
     }
 }
 
-/// Goes on with what the child completed with: where it is on the let's channel a body is picked,
-/// else it passes.
-pub(crate) fn go_on<G: Gate, R: Wait + Sync>(
-    rt: &R,
-    alloc: Global,
-    plan: &Plan,
-    table: &OpTable<Item>,
-    hand: &mut Hand<Item>,
-    name: Name,
+/// What the let's pick, which is applied past the gate, names for the data that the completion has
+/// on the let's channel. Where these data and the answer stand in place, it wants no memory.
+#[inline(always)]
+pub(crate) fn pick<R, G: Gate>(
+    site: &Site<R, G>,
+    taken: &Taken,
     node: &Node,
-    env: Env,
-    parcel: Parcel,
-    gate: &G,
-) -> Next
-    requires sync { IsSync R.row }
-    requires hand { IsHandOf table.now hand.old }
-    requires over { IsOver table.now plan.now }
-    requires runnable { IsRunnable plan.now }
-    requires inner { is_root table.now.frame.tree name.node ≡ false }
-    requires may { MayPick table.now name env node.now parcel hand.old.me }
-    ensures stays { Stays table.now hand.old hand.new }
-    ensures goes { GoesOn table.now name result hand.new.me node.now parcel }
-    ensures stepped { IsStepped table.now name hand.old.me hand.new.me result }
+    done: &Completion,
+) -> Result<Picked, AllocError>
+    requires may { CanPick node.now (channel_of node.now done.now) }
+    ensures picks { IfOk result (Picks node.now (channel_of node.now done.now)) }
+    ensures in_place { PicksInPlace node.now (channel_of node.now done.now) → IsOk result }
 {
-    match copy_channel(alloc, node, parcel.completion()) {
-        Ok(Some(values)) => {
-            pick(
-                rt, alloc, plan, table, hand, name, node, env, parcel, values, gate,
-            )
-        }
-        Ok(None) => {
-            let saw = parcel.saw();
-            end_with(
-                rt,
-                plan,
-                table,
-                hand,
-                name,
-                env,
-                parcel.into_completion(),
-                saw,
-                gate,
-            )
-        }
-        Err(AllocError) => end_wanting(rt, plan, table, hand, name, node, env, parcel, gate),
+    match node {
+        Node::LetValue { .. } => match done {
+            Completion::Value(values) => {
+                pass(site, taken);
+                pick_for(site.alloc, node, values)
+            }
+            _ => Ok(Picked::Passes),
+        },
+        Node::LetError { .. } => match done {
+            Completion::Error(name) => {
+                let values = Data::one(site.alloc, Datum::Text(name.clone()?));
+                pass(site, taken);
+                pick_for(site.alloc, node, &values)
+            }
+            _ => Ok(Picked::Passes),
+        },
+        Node::LetStopped { .. } => match done {
+            Completion::Stopped => {
+                pass(site, taken);
+                pick_for(site.alloc, node, &Data::empty(site.alloc))
+            }
+            _ => Ok(Picked::Passes),
+        },
+        _ => unreachable!(),
     }
+}
+
+// Passes the gate before the job.
+#[inline(always)]
+fn pass<R, G: Gate>(site: &Site<R, G>, taken: &Taken) {
+    site.pass(Point::Job {
+        number: taken.number(),
+        node: taken.name().node,
+    });
 }

@@ -1,19 +1,20 @@
 //! What steps the nodes of a plan, each by its kind.
 ghost use Rattle.std.specs.Prelude.{◌≡◌};
+ghost use Rattle.exec_recv.specs.Sites.{MayStep, Steps};
+ghost use Rattle.node_stepper.specs.Does.{StepsNode};
 
-use crate::choosing::{Advance, advance_at};
-use exec_adapt::advance;
-use exec_ahead::advance_ahead;
-use exec_all::advance_all;
-use exec_bulk::advance_bulk;
-use exec_delay::advance_delay;
-use exec_hop::advance_hop;
-use exec_let::advance_let;
-use exec_recv::{Gate, Item, Next, Point, Stepper};
+use exec_adapt::{Adaptors, Factories, Receivers};
+use exec_ahead::Aheads;
+use exec_all::Alls;
+use exec_bulk::{Bulks, Parts};
+use exec_delay::Delays;
+use exec_hop::{ContinuesOns, Schedules, StartsOns, Unstoppables};
+use exec_let::Lets;
+use exec_recv::{Gate, Item, Kind, Next, Point, Site, Stepper};
 use life_rules::Name;
-use op_slot::{Hand, OpTable};
+use op_slot::Hand;
+use plan_rules::Node;
 use plan_shape::Plan;
-use std::alloc::Global;
 use std::marker::Model;
 use std::sync::Wait;
 
@@ -42,34 +43,54 @@ impl<'a, G: Gate> NodeSteps<'a, G> {
 }
 
 impl<'a, G: Gate> Gate for NodeSteps<'a, G> {
-    fn pass<R: Wait + Sync>(&self, rt: &R, point: Point) {
-        self.gate.pass(rt, point);
+    fn pass(&self, point: Point) {
+        self.gate.pass(point);
     }
 }
 
 impl<'a, G: Gate> Stepper for NodeSteps<'a, G> {
-    ghost use Rattle.node_stepper.specs.Does.{Does};
+    ghost use Rattle.node_stepper.specs.Does.{StepsNode};
 
     ghost plan = { λ plan. plan };
 
-    ghost does = { λ plan board x next m m'. Does plan board x next m m' };
+    ghost does = { StepsNode };
 
-    fn step<R: Wait + Sync>(
-        &self,
-        rt: &R,
-        alloc: Global,
-        table: &OpTable<Item>,
-        hand: &mut Hand<Item>,
-        name: Name,
-    ) -> Next {
-        match advance_at(self.plan, name.node) {
-            Advance::Plain => advance(rt, alloc, self.plan, table, hand, name, self.gate),
-            Advance::Hop => advance_hop(rt, alloc, self.plan, table, hand, name, self.gate),
-            Advance::Let => advance_let(rt, alloc, self.plan, table, hand, name, self.gate),
-            Advance::Join => advance_all(rt, alloc, self.plan, table, hand, name, self.gate),
-            Advance::Row => advance_bulk(rt, alloc, self.plan, table, hand, name, self.gate),
-            Advance::Wait => advance_delay(rt, alloc, self.plan, table, hand, name, self.gate),
-            Advance::Spawn => advance_ahead(self.plan, table, hand, name),
-        }
+    fn nodes(&self) -> &Plan {
+        self.plan
+    }
+
+    fn step<R: Wait>(site: &Site<R, NodeSteps<'a, G>>, hand: &mut Hand<Item>, name: Name) -> Next {
+        step_node(site, hand, name)
+    }
+}
+
+// Steps the node by its kind.
+#[inline(always)]
+fn step_node<R: Wait, G: Gate>(site: &Site<R, G>, hand: &mut Hand<Item>, name: Name) -> Next
+    requires may { MayStep site.now name hand.old }
+    ensures steps { Steps site.now name result hand.old hand.new }
+    ensures does { StepsNode site.now name result hand.old hand.new }
+{
+    if name.node >= site.plan.size() {
+        return Receivers::step(site, hand, name);
+    }
+    match site.node(name) {
+        Node::Input | Node::Just(_) | Node::JustError(_) => Factories::step(site, hand, name),
+        Node::JustStopped | Node::ReadEnv(_) => Factories::step(site, hand, name),
+        Node::Then { .. } | Node::UponError { .. } => Adaptors::step(site, hand, name),
+        Node::UponStopped { .. } => Adaptors::step(site, hand, name),
+        Node::StoppedAsOptional { .. } => Adaptors::step(site, hand, name),
+        Node::StoppedAsError { .. } => Adaptors::step(site, hand, name),
+        Node::Schedule(_) => Schedules::step(site, hand, name),
+        Node::StartsOn { .. } => StartsOns::step(site, hand, name),
+        Node::ContinuesOn { .. } => ContinuesOns::step(site, hand, name),
+        Node::Unstoppable { .. } => Unstoppables::step(site, hand, name),
+        Node::LetValue { .. } | Node::LetError { .. } => Lets::step(site, hand, name),
+        Node::LetStopped { .. } => Lets::step(site, hand, name),
+        Node::WhenAll { .. } => Alls::step(site, hand, name),
+        Node::Bulk { .. } => Bulks::step(site, hand, name),
+        Node::Part { .. } => Parts::step(site, hand, name),
+        Node::Delay(_) => Delays::step(site, hand, name),
+        Node::Ahead { .. } => Aheads::step(site, hand, name),
     }
 }

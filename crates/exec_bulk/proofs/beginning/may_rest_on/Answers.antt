@@ -1,11 +1,20 @@
-use Rattle.std.proofs.Common.{false, sym, ◌∙◌}
+use Rattle.std.proofs.Common.{refl, sym, ◌∙◌}
 use Rattle.std.proofs.lemmas.Bool.{both_ways}
-use Rattle.step_parts.proofs.Frames.{keeps-here}
+use Rattle.step_parts.proofs.Ended.{keeps-same}
 use Rattle.exec_bulk.proofs.beginning.may_rest_on.Goals as goal
 
-pub returns-clause-looks : goal.returns-clause-looks
-returns-clause-looks c =
+pub returns : goal.returns
+returns g c =
     record {
-      keeps = keeps-here c.args.table.now c.args.name c.args.hand.now.me;
-      seen = λ yes saw. absurd (both_ways c.args.parcel.now.saw (sym c.saw.ensures ∙ c.if-saw.false) saw);
+      keeps = keeps-same c.args.site.now c.args.taken.now c.args.hand.now c.requires.taken.stays.hand;
+      looked = λ yes. absurd (both_ways c.args.parcel.now.saw (sym c.saw.ensures ∙ c.if-saw.false) yes);
+      none = λ _. refl;
+    }
+
+pub returns-then-saw : goal.returns-then-saw
+returns-then-saw g c =
+    record {
+      keeps = c.hear.ensures.keeps;
+      looked = λ _. c.hear.ensures.looked;
+      none = λ no. absurd (both_ways c.args.parcel.now.saw no (sym c.saw.ensures ∙ c.if-saw.true));
     }

@@ -1,13 +1,19 @@
-use Rattle.exec_bulk.proofs.Ended.{passed-may, passed-completes}
+use Rattle.std.proofs.Common.{Bool, subst}
+use Rattle.exec_value.specs.declared.outcome.Completion.{Completion}
+use Rattle.step_parts.specs.Completes.{Completes}
+use Rattle.exec_bulk.proofs.Ended.{passed-ends}
 use Rattle.exec_bulk.proofs.ending.pass_on.Goals as goal
 
-pub of-passed-requires : goal.of-passed-requires
-of-passed-requires g c =
-    passed-may c.args.table.now c.args.name c.args.env c.args.parcel c.args.hand.now.me c.requires.has c.requires.none
-    c.into_completion-done.result c.saw-saw.result c.into_completion-done.ensures c.saw-saw.ensures
+pub complete-requires : goal.complete-requires
+complete-requires g c =
+    record {
+      may = passed-ends c.args.site.now c.args.taken c.args.parcel c.args.hand.now c.requires.may c.into_completion-done.result c.saw-saw.result
+          c.into_completion-done.ensures c.saw-saw.ensures;
+    }
 
-pub complete-requires-clause-may : goal.complete-requires-clause-may
-complete-requires-clause-may g c κs within =
-    passed-completes c.args.table.now c.args.name c.args.env c.args.parcel c.args.hand.now.me c.requires.has c.requires.none
-    c.into_completion-done.result c.saw-saw.result c.into_completion-done.ensures c.saw-saw.ensures c.of-passed.result
-    c.of-passed.ensures
+pub returns : goal.returns
+returns g c =
+    subst (λ (s : Bool). Completes c.args.site.now c.args.taken c.args.parcel.completion s c.complete.result c.args.hand.now c.complete.new.hand)
+    c.saw-saw.ensures
+    (subst (λ (d : Completion). Completes c.args.site.now c.args.taken d c.saw-saw.result c.complete.result c.args.hand.now c.complete.new.hand)
+    c.into_completion-done.ensures c.complete.ensures)

@@ -1,46 +1,37 @@
-use Rattle.std.proofs.Common.{inl, inr, refl, ap, subst, ◌∙◌}
+use Rattle.std.proofs.Common.{inl, inr, subst}
 use Rattle.std.specs.Prelude.{IsSome}
-use Rattle.home_items.specs.Parcels.{Delivery}
-use Rattle.step_parts.specs.Wants.{wanting}
-use Rattle.exec_bulk.proofs.Parted.{share-may, share-completes, its-bulk}
-use Rattle.exec_bulk.proofs.Places.{part-large}
+use Rattle.exec_value.specs.declared.outcome.Completion.{Completion}
+use Rattle.step_parts.specs.Completes.{Completes}
+use Rattle.exec_bulk.proofs.Parted.{share-ends, share-wants, part-on, completes-after}
 use Rattle.exec_bulk.proofs.parts.run_part.Goals as goal
 
-pub make_share-requires-clause-bulk : goal.make_share-requires-clause-bulk
-make_share-requires-clause-bulk g c =
-    its-bulk c.args.table.now c.args.plan.now c.args.name c.args.env c.args.bulk c.args.hand.now.me c.requires.has c.requires.over
+pub complete-requires : goal.complete-requires
+complete-requires g c =
+    let made = c.make_share in
+    record {
+      may = share-ends c.args.site.now c.args.taken c.args.bulk c.args.part made.new.hand
+          (part-on c.args.site.now c.args.taken c.args.bulk c.args.part c.args.hand.now made.new.hand made.ensures.keeps c.requires.may) c.in-Some.done
+          c.in-Some.ensures.exact;
+    }
 
-pub of-parcel-requires : goal.of-parcel-requires
-of-parcel-requires g c =
-    share-may c.args.table.now c.args.plan.now c.args.name c.args.env c.args.bulk c.args.hand.now.me c.requires.has c.requires.over
-    c.in-Some.done c.in-Some.ensures.exact
+pub want_memory-requires : goal.want_memory-requires
+want_memory-requires g c =
+    let made = c.make_share in
+    record {
+      may = share-wants c.args.site.now c.args.taken c.args.bulk c.args.part made.new.hand
+          (part-on c.args.site.now c.args.taken c.args.bulk c.args.part c.args.hand.now made.new.hand made.ensures.keeps c.requires.may);
+    }
 
-pub complete-requires-clause-may : goal.complete-requires-clause-may
-complete-requires-clause-may g c κs within =
-    share-completes c.args.table.now c.args.plan.now c.args.name c.args.env c.args.bulk c.args.hand.now.me c.requires.has c.requires.over
-    c.in-Some.done c.in-Some.ensures.exact c.of-parcel.result c.of-parcel.ensures
+pub returns-in-Some : goal.returns-in-Some
+returns-in-Some g c =
+    inl (subst (λ (d : Completion). Completes c.args.site.now c.args.taken d _ c.complete.result c.args.hand.now c.complete.new.hand) c.in-Some.ensures.exact
+    (completes-after c.args.site.now c.args.taken c.in-Some.done _ c.args.hand.now c.make_share.new.hand c.make_share.ensures.keeps c.complete.result
+    c.complete.new.hand c.complete.ensures))
 
-pub deliver_no_memory-requires-clause-large : goal.deliver_no_memory-requires-clause-large
-deliver_no_memory-requires-clause-large g c κs within =
-    part-large c.args.env c.args.bulk c.requires.has.part c.requires.has.of
-
-pub returns-in-Some-clause-ends : goal.returns-in-Some-clause-ends
-returns-in-Some-clause-ends g c =
-    inl (record {
-      from = c.args.hand.now.me;
-      parcel = c.of-parcel.result;
-      done_is = ap (λ (p : Delivery). p.completion) c.of-parcel.ensures ∙ c.in-Some.ensures.exact;
-      completed = c.complete.ensures.completed;
-    })
-
-pub returns-in-None-clause-ends : goal.returns-in-None-clause-ends
-returns-in-None-clause-ends g c =
+pub returns-in-None : goal.returns-in-None
+returns-in-None g c =
     inr (record {
-      large = λ within stands. let some = subst IsSome c.in-None.is (c.make_share.ensures.in_place within stands) in cc;
-      ends = record {
-        from = c.args.hand.now.me;
-        parcel = wanting c.args.env;
-        done_is = refl;
-        completed = c.deliver_no_memory.ensures.completed;
-      };
+      large = λ stands. let some = subst IsSome c.in-None.is (c.make_share.ensures.in_place stands) in cc;
+      completes = completes-after c.args.site.now c.args.taken _ _ c.args.hand.now c.make_share.new.hand c.make_share.ensures.keeps c.want_memory.result
+          c.want_memory.new.hand c.want_memory.ensures;
     })

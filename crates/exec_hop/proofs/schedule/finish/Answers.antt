@@ -1,55 +1,49 @@
-use Rattle.std.proofs.Common.{Bool, ◌||◌, [], ap, ◌∙◌}
-use Rattle.exec_value.specs.declared.outcome.Completion.TheVariants.{Value}
+use Rattle.std.proofs.Common.{◌≡◌, ◌||◌, sym, ap, ◌∙◌, subst}
+use Rattle.exec_value.specs.declared.outcome.Completion.{Completion}
 use Rattle.plan_rules.specs.Settle.{unless_asked}
+use Rattle.exec_value.specs.declared.outcome.Completion.TheVariants.{Value}
+use Rattle.std.specs.Prelude.{[]}
 use Rattle.home_items.specs.Entries.{asked_of}
-use Rattle.exec_recv.proofs.Asiding.{aside-here}
-use Rattle.step_parts.proofs.Frames.{ready-is, stepped-after}
-use Rattle.step_parts.proofs.Asked.{look-sees, looked-within}
-use Rattle.exec_hop.proofs.Did.{schedule-ends}
-use Rattle.exec_hop.proofs.Landed.{has-still, schedule-may, schedule-completes}
+use Rattle.exec_recv.specs.Sites.{node_at}
+use Rattle.step_parts.specs.Completes.{Completes}
+use Rattle.step_parts.proofs.Asked.{look-sees}
+use Rattle.step_parts.proofs.Ended.{taken-on}
+use Rattle.exec_hop.proofs.Landed.{schedule-ends}
+use Rattle.exec_hop.proofs.Taken.{schedule-of}
+use Rattle.exec_hop.proofs.schedule.finish.Goals.{then-asked, else-asked}
 use Rattle.exec_hop.proofs.schedule.finish.Goals as goal
 
-pub hear-saw-requires-clause-ready : goal.hear-saw-requires-clause-ready
-hear-saw-requires-clause-ready g c = ready-is c.args.table.now c.args.name c.args.env c.args.hand.now.me 0 c.requires.has.ready
-
-pub of-parcel-requires : goal.of-parcel-requires
-of-parcel-requires g c =
-    schedule-may c.args.table.now c.args.name c.args.node.now c.args.on c.requires.is c.args.env c.hear-saw.new.hand.me
-    (has-still c.args.table.now c.args.name c.args.env c.args.node.now c.args.hand.now.me c.hear-saw.new.hand.me c.hear-saw.ensures.keeps
-    c.requires.has)
-    c.hear-saw.result (look-sees c.args.table.now c.args.name c.hear-saw.result c.hear-saw.new.hand.me c.hear-saw.ensures.tells)
-    c.put_scheduled.new.done
-    (c.put_scheduled.ensures
-    ∙ ap (λ (found : Bool). unless_asked found (Value []))
-    (c.either-found.ensures ∙ ap (λ (asked : Bool). asked || c.hear-saw.result) c.asked.ensures))
-
-pub complete-requires-clause-may : goal.complete-requires-clause-may
-complete-requires-clause-may g c κs within =
-    schedule-completes c.args.table.now c.args.name c.args.node.now c.args.on c.requires.is c.args.env c.hear-saw.new.hand.me
-    (has-still c.args.table.now c.args.name c.args.env c.args.node.now c.args.hand.now.me c.hear-saw.new.hand.me c.hear-saw.ensures.keeps
-    c.requires.has)
-    c.hear-saw.result (look-sees c.args.table.now c.args.name c.hear-saw.result c.hear-saw.new.hand.me c.hear-saw.ensures.tells)
-    c.put_scheduled.new.done
-    (c.put_scheduled.ensures
-    ∙ ap (λ (found : Bool). unless_asked found (Value []))
-    (c.either-found.ensures ∙ ap (λ (asked : Bool). asked || c.hear-saw.result) c.asked.ensures))
-    c.of-parcel.result c.of-parcel.ensures
-
-pub returns-clause-stepped : goal.returns-clause-stepped
-returns-clause-stepped g c =
-    stepped-after c.args.table.now c.args.name c.args.hand.now.me c.hear-saw.new.hand.me c.complete.new.hand.me
-    c.hear-saw.ensures.keeps.beside c.complete.result c.complete.ensures.stepped
-
-pub returns-clause-ends : goal.returns-clause-ends
-returns-clause-ends g c =
+pub complete-requires : goal.complete-requires
+complete-requires g c =
+    let board = c.args.site.now in
+    let saw = c.hear-saw.result in
+    let kind = schedule-of (node_at board c.args.taken.name) c.requires.may.kind in
+    let stops : c.if-asked.stops ≡ (asked_of c.args.taken.start || saw) =
+    elim c.if-asked.branch [
+      | then-asked w ↦ w.stops-is ∙ w.if-asked.true ∙ ap (λ b. b || saw) (sym w.if-asked.true ∙ c.asked.ensures)
+      | else-asked w ↦ w.stops-is ∙ ap (λ b. b || saw) (sym w.if-asked.false ∙ c.asked.ensures)
+    ] in
     record {
-      saw = c.hear-saw.result;
-      looked = looked-within c.args.table.now c.args.name c.hear-saw.result c.args.hand.now.me c.args.hand.now.me c.hear-saw.new.hand.me
-          c.complete.new.hand.me (aside-here c.args.hand.now.me) c.complete.ensures.stepped.aside c.hear-saw.ensures.looked;
-      does = schedule-ends c.args.table.now c.args.name c.complete.result c.complete.new.hand.me (asked_of c.args.env || c.hear-saw.result)
-          c.args.env c.hear-saw.result c.put_scheduled.new.done
-          (c.put_scheduled.ensures
-          ∙ ap (λ (found : Bool). unless_asked found (Value []))
-          (c.either-found.ensures ∙ ap (λ (asked : Bool). asked || c.hear-saw.result) c.asked.ensures))
-          c.of-parcel.result c.of-parcel.ensures c.hear-saw.new.hand.me c.complete.ensures.completed;
+      may = schedule-ends board c.args.taken c.hear-saw.new.hand
+          (taken-on board c.args.taken c.args.hand.now c.hear-saw.new.hand c.hear-saw.ensures.keeps c.requires.may.taken) kind.0 kind.1 saw
+          (look-sees board c.args.taken.name saw c.args.hand.now.me c.hear-saw.new.hand.me c.hear-saw.ensures.looked) c.put_scheduled.new.done
+          (c.put_scheduled.ensures ∙ ap (λ b. unless_asked b (Value [])) stops);
+    }
+
+pub returns : goal.returns
+returns g c =
+    let board = c.args.site.now in
+    let saw = c.hear-saw.result in
+    let stops : c.if-asked.stops ≡ (asked_of c.args.taken.start || saw) =
+    elim c.if-asked.branch [
+      | then-asked w ↦ w.stops-is ∙ w.if-asked.true ∙ ap (λ b. b || saw) (sym w.if-asked.true ∙ c.asked.ensures)
+      | else-asked w ↦ w.stops-is ∙ ap (λ b. b || saw) (sym w.if-asked.false ∙ c.asked.ensures)
+    ] in
+    record {
+      saw = saw;
+      middle = c.hear-saw.new.hand;
+      looked = c.hear-saw.ensures.looked;
+      completes = subst
+          (λ (d : Completion). Completes board c.args.taken d saw c.complete.result c.hear-saw.new.hand c.complete.new.hand)
+          (c.put_scheduled.ensures ∙ ap (λ b. unless_asked b (Value [])) stops) c.complete.ensures;
     }
