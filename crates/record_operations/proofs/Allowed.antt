@@ -9,8 +9,8 @@ use Rattle.line_rules.specs.PlanTerms.{AllowsRecord}
 use Rattle.line_rules.proofs.PlanLaws.{plan-covers}
 use Rattle.record_loop.specs.Works.{Begun, Work, MayCompleteWork}
 use Rattle.home_items.specs.Entries.{record_start}
-use Rattle.loop_roots.specs.declared.completing.Collected.{Collected}
-use Rattle.loop_roots.specs.Completes.{IsFor}
+use Rattle.node_walks.specs.declared.completing.Collected.{Collected}
+use Rattle.node_walks.specs.Completes.{IsFor}
 use Rattle.record_operations.specs.Runs.{WantsMemory}
 
 -- what is allowed under the requests that an operation saw is allowed under those that were made

@@ -15,9 +15,9 @@ use Rattle.home_items.specs.declared.entry.Entry.{Entry}
 use Rattle.home_items.specs.declared.item.Item.{Item}
 use Rattle.home_items.specs.Entries.{record_start}
 use Rattle.exec_recv.specs.Asides.{Aside, aside_of}
-use Rattle.loop_roots.specs.declared.completing.Collected.{Collected}
+use Rattle.node_walks.specs.declared.completing.Collected.{Collected}
 use Rattle.run_loop.specs.declared.looped.Loop.{Loop as Looped}
-use Rattle.loop_roots.specs.Completes.{IsListed}
+use Rattle.node_walks.specs.Completes.{IsListed}
 use Rattle.run_loop.specs.Collects.{Collects as CollectsBlock}
 use Rattle.run_loop.specs.Loops.{IsReady}
 use Rattle.record_operations.specs.declared.tickets.Operation.{Operation}

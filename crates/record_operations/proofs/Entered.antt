@@ -17,7 +17,7 @@ use Rattle.home_items.specs.declared.item.Item.{Item}
 use Rattle.exec_recv.specs.Asides.{Aside, aside_of}
 use Rattle.run_loop.specs.declared.looped.Loop.{Loop as Looped}
 use Rattle.run_loop.specs.Starts.{StartsIn}
-use Rattle.loop_roots.proofs.Claimed.{missed-grows}
+use Rattle.node_walks.proofs.Claimed.{missed-grows}
 use Rattle.record_operations.specs.declared.tickets.Operation.{Operation}
 use Rattle.record_operations.specs.Calls.{LeavesSame, EntersOperation}
 use Rattle.record_operations.specs.Runs.{root_of}

@@ -7,7 +7,7 @@ use Rattle.table_steps.specs.Views.{Board}
 use Rattle.home_items.specs.declared.entry.Entry.{Entry}
 use Rattle.home_items.specs.declared.item.Item.{Item}
 use Rattle.exec_recv.specs.Asides.{KeepsAside}
-use Rattle.exec_recv.specs.Nexts.{Doing}
+use Rattle.exec_recv.specs.Sites.{Does}
 use Rattle.run_loop.specs.declared.looped.Loop.{Loop as Looped}
 use Rattle.run_loop.specs.Loops.{IsReady, KeepsCounts, deck_of, told}
 use Rattle.run_loop.specs.Turns.{MeetsFirst, MeetsAll, MeetsEach}
@@ -40,7 +40,7 @@ module _ (old between new : Looped) (learns : LearnsMore old between) where
   pub learned-aside : KeepsAside between.hand.me new.hand.me → KeepsAside old.hand.me new.hand.me
   learned-aside aside = subst (λ (m : Seated Item Entry). KeepsAside m new.hand.me) same-me aside
 
-  pub learned-met : (does : Doing) (board : Board Blueprint) → MeetsAll does board between new → MeetsEach does board old new
+  pub learned-met : (does : Does) (board : Board Blueprint) → MeetsAll does board between new → MeetsEach does board old new
   learned-met does board met =
       let names = met.names.list.items in
       record {

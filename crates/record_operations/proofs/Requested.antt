@@ -23,7 +23,7 @@ use Rattle.home_items.specs.declared.item.Item.{Item}
 use Rattle.exec_recv.specs.Actions.{ListsActions}
 use Rattle.exec_recv.specs.Asides.{aside_of}
 use Rattle.exec_recv.proofs.Actions.{lists-here, asked-acts}
-use Rattle.loop_walk.specs.Resting.{IsAtRest}
+use Rattle.node_walks.specs.Resting.{IsAtRest}
 use Rattle.record_operations.specs.Calls.{RequestsStop}
 
 -- each table has a word for it

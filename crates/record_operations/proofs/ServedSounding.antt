@@ -11,7 +11,7 @@ use Rattle.table_steps.specs.Views.{Board}
 use Rattle.home_items.specs.declared.entry.Entry.{Entry}
 use Rattle.home_items.specs.declared.item.Item.{Item}
 use Rattle.exec_recv.specs.Asides.{aside_of}
-use Rattle.loop_roots.specs.Emptied.{WasNotReady}
+use Rattle.node_walks.specs.Emptied.{WasNotReady}
 use Rattle.run_loop.specs.declared.looped.Loop.{Loop as Looped}
 use Rattle.run_loop.specs.declared.names.Names.{Names}
 use Rattle.run_loop.specs.Loops.{HasDelays, IsReady}

@@ -15,7 +15,7 @@ use Rattle.home_items.specs.declared.entry.Entry.{Entry}
 use Rattle.home_items.specs.Entries.{record_start}
 use Rattle.exec_recv.specs.Asides.{Aside, aside_of}
 use Rattle.exec_recv.specs.Over.{IsOver}
-use Rattle.loop_walk.specs.Resting.{IsAtRest}
+use Rattle.node_walks.specs.Resting.{IsAtRest}
 use Rattle.run_loop.specs.declared.looped.Loop.{Loop as Looped}
 use Rattle.run_loop.specs.Loops.{HasDelays, IsReady}
 use Rattle.spawn_future.specs.declared.future.Future.{Future}

@@ -13,7 +13,7 @@ use Rattle.home_items.specs.Entries.{record_start}
 use Rattle.home_items.specs.HasKinds.{HasKinds}
 use Rattle.home_items.specs.Starts.{IsReceiverStart}
 use Rattle.exec_recv.specs.Over.{IsOver}
-use Rattle.loop_roots.specs.Starts.{CanRun}
+use Rattle.node_walks.specs.Starts.{CanRun}
 
 module _ (plan : Blueprint) (is : IsPlan plan) (datum : Datum) (number : ℕ) (asked : Bool) where
   abbrev root : ℕ

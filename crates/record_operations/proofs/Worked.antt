@@ -18,9 +18,9 @@ use Rattle.table_steps.specs.Views.{Board, knows}
 use Rattle.home_items.specs.declared.entry.Entry.{Entry}
 use Rattle.home_items.specs.Entries.{record_start}
 use Rattle.exec_recv.specs.Asides.{Aside, aside_of}
-use Rattle.loop_roots.specs.declared.completing.Collected.{Collected}
+use Rattle.node_walks.specs.declared.completing.Collected.{Collected}
 use Rattle.run_loop.specs.declared.looped.Loop.{Loop as Looped}
-use Rattle.loop_roots.specs.Completes.{IsFor}
+use Rattle.node_walks.specs.Completes.{IsFor}
 use Rattle.record_operations.specs.declared.tickets.Operation.{Operation}
 use Rattle.record_operations.specs.Calls.{with_left, LeavesWith, EntersOperation}
 use Rattle.record_operations.specs.Moves.{KeepsRun, KeepsOperations, LeavesRun}

@@ -5,8 +5,8 @@ use Rattle.plan_shape.specs.Blueprint.{Blueprint}
 use Rattle.record_loop.specs.Works.{CollectsTicket}
 use Rattle.table_steps.specs.Slots.{noted_at}
 use Rattle.table_steps.specs.Views.{knows}
-use Rattle.exec_recv.specs.Nexts.{Doing}
-use Rattle.loop_roots.specs.Emptied.{WasNotReady}
+use Rattle.exec_recv.specs.Sites.{Does}
+use Rattle.node_walks.specs.Emptied.{WasNotReady}
 use Rattle.run_loop.specs.Turns.{MeetsEach}
 use Rattle.record_operations.specs.declared.tickets.Operation.{Operation}
 use Rattle.record_operations.specs.Runs.{Run, WantsMemory, begun_by, root_of, work_of}
@@ -46,13 +46,10 @@ abbrev pub LeavesNone : Run → Run → ℕ → Type 0
 LeavesNone old new ticket =
     (slice_index_or old.operations ticket None ≡ None) ⊎ TicketWasIncomplete old new ticket
 
--- Each node that the loop was told of was taken, in order, and stepped by a stepper of the run's
--- plan, or its word said that it isn't ready.
-pub record MeetsTold {T : Type 0} (plan : T → Blueprint) (does : T → Doing)
-    (old new : Run) : Type 0 where
-  pub stepper : T
-  pub stepped : plan stepper ≡ old.plan
-  pub met : MeetsEach (does stepper) old.board old.looped new.looped
+-- Each node that the loop was told of was taken, in order, and stepped, or its word said that it
+-- isn't ready.
+abbrev pub MeetsTold : Does → Run → Run → Type 0
+MeetsTold does old new = MeetsEach does old.board old.looped new.looped
 
 -- Where the run's plan has an `ahead`, its futures were served.
 abbrev pub ServesAheads : Run → Run → Type 0

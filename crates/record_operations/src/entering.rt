@@ -3,20 +3,47 @@ ghost use Rattle.std.specs.Prelude.{◌≡◌, IfOk, IfErr};
 ghost use Rattle.std.specs.Thread.{IsSync};
 ghost use Rattle.deck_relay.specs.SameDecks.{KeepsDeck};
 ghost use Rattle.plan_kinds.specs.Runnable.{IsRunnable};
-ghost use Rattle.table_steps.specs.Views.{knows};
+ghost use Rattle.table_steps.specs.Views.{IsSameHand, knows};
 ghost use Rattle.table_steps.specs.ScopeEntries.{MayEnter};
 ghost use Rattle.exec_recv.specs.Over.{IsOver};
 ghost use Rattle.run_loop.specs.Loops.{IsReady, KeepsCounts, deck_of};
-ghost use Rattle.loop_roots.specs.Starts.{CanRun};
+ghost use Rattle.node_walks.specs.Starts.{CanRun};
+ghost use Rattle.run_loop.specs.Starts.{StartsIn, FindsNoBlock};
 ghost use Rattle.record_operations.specs.Calls.{LeavesSame, EntersOperation};
 
 use crate::tickets::Operation;
 use count_scope::{associate, disassociate};
-use exec_recv::{Item, Stepper};
-use op_slot::OpTable;
+use exec_recv::{Item, Site, Stepper};
+use op_slot::{Block, OpTable};
 use run_loop::{Env, Loop};
 use std::alloc::Global;
 use std::sync::Wait;
+
+// Starts an operation of this table.
+#[inline(always)]
+fn start<T: Stepper, R: Wait + Sync>(
+    rt: &R,
+    alloc: Global,
+    table: &OpTable<Item>,
+    stepper: &T,
+    looped: &mut Loop,
+    env: Env,
+) -> Result<Block, Env>
+    requires sync { IsSync R.row }
+    requires ready { IsReady table.now looped.old }
+    requires over { IsOver table.now (T.plan stepper.now) }
+    requires kinds { IsRunnable (T.plan stepper.now) }
+    requires start { CanRun table.now env }
+    ensures ready { IsReady table.now looped.new }
+    ensures same { IsSameHand looped.old.hand looped.new.hand }
+    ensures counts { KeepsCounts looped.old looped.new }
+    ensures started { IfOk result (λ b. StartsIn table.now b env looped.old looped.new) }
+    ensures back { IfErr result (λ back. back ≡ env) }
+    ensures none { IfErr result (λ _. FindsNoBlock table.now looped.old looped.new) }
+    ensures deck { KeepsDeck (deck_of looped.old) (deck_of looped.new) }
+{
+    looped.start(&Site::of(rt, alloc, table, stepper), env)
+}
 
 /// Starts an operation with an association of the scope (P3149, `spawn`). The environment comes
 /// back where the scope takes no association, or no block is free.
@@ -46,7 +73,7 @@ pub(crate) fn enter<T: Stepper, R: Wait + Sync>(
     let Ok(association) = associate(table, &mut looped.hand) else {
         return Err(env);
     };
-    match looped.start(rt, alloc, table, stepper, env) {
+    match start(rt, alloc, table, stepper, looped, env) {
         Ok(block) => Ok(Operation { block, association }),
         Err(back) => {
             disassociate(table, &mut looped.hand, association);

@@ -8,6 +8,7 @@ ghost use Rattle.run_loop.specs.Loops.{IsReady, deck_of};
 ghost use Rattle.record_operations.specs.Calls.{LeavesSame};
 ghost use Rattle.record_operations.specs.Ends.{HasJoined};
 
+use crate::rounds::take_all;
 use count_scope::{JoinStart, close, is_joined, start_join};
 use exec_recv::{Item, Stepper};
 use op_slot::OpTable;
@@ -36,7 +37,7 @@ fn wait_joined<T: Stepper, R: Wait + Sync>(
         if is_joined(table, &mut looped.hand) {
             return;
         }
-        let taken = looped.turn(rt, alloc, table, stepper);
+        let taken = take_all(rt, alloc, table, stepper, looped, true);
         looped.give_way(taken);
     }
     unreachable!()

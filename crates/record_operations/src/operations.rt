@@ -45,8 +45,8 @@ impl<'a, T: Stepper, B: OnTable> Operations for TableRun<'a, T, B> {
         self.serve_spawned(rt, alloc);
     }
 
-    fn collect<R: Wait + Sync>(&mut self, rt: &R, ticket: u32) -> Option<Completion> {
-        self.leave(rt, ticket as usize)
+    fn collect<R: Wait + Sync>(&mut self, _rt: &R, ticket: u32) -> Option<Completion> {
+        self.leave(ticket as usize)
     }
 
     fn request<R: Wait + Sync>(&mut self, rt: &R) {

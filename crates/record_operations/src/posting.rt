@@ -5,8 +5,8 @@ ghost use Rattle.deck_relay.specs.SameDecks.{KeepsDeck};
 ghost use Rattle.run_loop.specs.Loops.{deck_of};
 
 use life_rules::Name;
-use loop_walk::Mail;
 use node_tree::Context;
+use node_walks::Mail;
 use run_loop::Loop;
 use std::alloc::Global;
 use std::sync::Wait;

@@ -4,7 +4,7 @@ ghost use Rattle.std.specs.Thread.{IsSync};
 ghost use Rattle.life_rules.specs.StopSteps.{is_counting};
 ghost use Rattle.table_steps.specs.Views.{IsHandOf, Stays, knows};
 ghost use Rattle.exec_recv.specs.Over.{IsOver};
-ghost use Rattle.loop_walk.specs.Resting.{IsAtRest};
+ghost use Rattle.node_walks.specs.Resting.{IsAtRest};
 ghost use Rattle.record_operations.specs.Calls.{RequestsStop};
 
 use count_scope::{Request, request_scope};

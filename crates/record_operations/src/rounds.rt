@@ -9,7 +9,7 @@ ghost use Rattle.run_loop.specs.Turns.{MeetsAll, MeetsEach};
 ghost use Rattle.record_operations.specs.Owns.{KeepsBoth, KeepsPost};
 ghost use Rattle.record_operations.specs.Drained.{LearnsMore};
 
-use exec_recv::{Item, Stepper};
+use exec_recv::{Item, Site, Stepper};
 use loop_queue::LoopPost;
 use op_slot::OpTable;
 use run_loop::Loop;
@@ -30,9 +30,9 @@ fn drain<R: Wait>(rt: &R, looped: &mut Loop, post: &mut Option<LoopPost>)
     }
 }
 
-// Takes the nodes of the names that the loop was told of, and where it is to look at each node it
-// does so where it took none.
-fn take_all<T: Stepper, R: Wait + Sync>(
+/// Takes the nodes of the names that the loop was told of, and where it is to look at each node it
+/// does so where it took none.
+pub(crate) fn take_all<T: Stepper, R: Wait + Sync>(
     rt: &R,
     alloc: Global,
     table: &OpTable<Item>,
@@ -47,13 +47,14 @@ fn take_all<T: Stepper, R: Wait + Sync>(
     ensures ready { IsReady table.now looped.new }
     ensures counts { KeepsCounts looped.old looped.new }
     ensures aside { KeepsAside looped.old.hand.me looped.new.hand.me }
-    ensures met { MeetsAll (T.does stepper.now) table.now looped.old looped.new }
+    ensures met { MeetsAll T.does table.now looped.old looped.new }
     ensures deck { KeepsDeck (deck_of looped.old) (deck_of looped.new) }
 {
+    let site = Site::of(rt, alloc, table, stepper);
     if looks {
-        looped.turn(rt, alloc, table, stepper)
+        looped.turn(&site)
     } else {
-        looped.poll(rt, alloc, table, stepper)
+        looped.poll(&site)
     }
 }
 
@@ -76,7 +77,7 @@ pub(crate) fn go_once<T: Stepper, R: Wait + Sync>(
     ensures ready { IsReady table.now looped.new }
     ensures counts { KeepsCounts looped.old looped.new }
     ensures aside { KeepsAside looped.old.hand.me looped.new.hand.me }
-    ensures met { MeetsEach (T.does stepper.now) table.now looped.old looped.new }
+    ensures met { MeetsEach T.does table.now looped.old looped.new }
     ensures both { KeepsBoth (deck_of looped.old) post.old (deck_of looped.new) post.new }
 {
     drain(rt, looped, post);

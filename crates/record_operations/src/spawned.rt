@@ -10,9 +10,8 @@ ghost use Rattle.record_operations.specs.Spawned.{ServesFutures, ServesSpawned};
 
 use crate::posting::Posted;
 use crate::running::{OnTable, TableRun};
-use exec_recv::{Item, Stepper};
+use exec_recv::{Item, Site, Stepper};
 use op_slot::{Hand, OpTable};
-use plan_shape::Plan;
 use spawn_future::Futures;
 use std::alloc::Global;
 use std::sync::Wait;
@@ -21,7 +20,6 @@ use std::sync::Wait;
 fn serve<T: Stepper, R: Wait + Sync>(
     rt: &R,
     alloc: Global,
-    plan: &Plan,
     table: &OpTable<Item>,
     hand: &mut Hand<Item>,
     stepper: &T,
@@ -30,15 +28,15 @@ fn serve<T: Stepper, R: Wait + Sync>(
 )
     requires sync { IsSync R.row }
     requires keeping { IsKeeping table.now futures.old hand.old }
-    requires over { IsOver table.now plan.now }
-    requires plan { plan.now ≡ T.plan stepper.now }
-    requires kinds { IsRunnable plan.now }
+    requires over { IsOver table.now (T.plan stepper.now) }
+    requires kinds { IsRunnable (T.plan stepper.now) }
     ensures keeping { IsKeeping table.now futures.new hand.new }
     ensures serves { ServesSpawned table.now futures.old futures.new hand.old.me hand.new.me }
-    ensures turned { ServesFutures table.now plan.now futures.old futures.new hand.old hand.new }
+    ensures turned { ServesFutures table.now (T.plan stepper.now) futures.old futures.new
+        hand.old hand.new }
 {
-    let _served = futures.turn(rt, alloc, plan, table, hand, stepper, posted);
-    let _ended = futures.sweep(rt, table, hand, stepper);
+    let _served = futures.turn(&Site::of(rt, alloc, table, stepper), hand, posted);
+    let _ended = futures.sweep(table, hand, stepper);
 }
 
 impl<'a, T: Stepper, B: OnTable> TableRun<'a, T, B> {
@@ -55,7 +53,6 @@ impl<'a, T: Stepper, B: OnTable> TableRun<'a, T, B> {
         serve(
             rt,
             alloc,
-            self.plan,
             self.table,
             &mut self.looped.hand,
             self.stepper,

@@ -19,7 +19,7 @@ impl<'a, T: Stepper, B: OnTable> TableRun<'a, T, B> {
     pub(crate) fn go_round<R: Wait + Sync>(&mut self, rt: &R, alloc: Global)
         requires sync { IsSync R.row }
         ensures keeps { KeepsRun self.old self.new }
-        ensures met { MeetsTold T.plan T.does self.old self.new }
+        ensures met { MeetsTold T.does self.old self.new }
     {
         let looks = self.pause.begin(rt, &self.looped);
         let taken = go_once(
@@ -37,15 +37,14 @@ impl<'a, T: Stepper, B: OnTable> TableRun<'a, T, B> {
     /// What the operation of a ticket completed with, where it has one that is complete. None only
     /// where the word of its root that was read didn't say that it is ready in the loop. Its block
     /// is given back, and then its association is left: an association lasts as long as its work.
-    pub(crate) fn leave<R: Wait + Sync>(&mut self, rt: &R, ticket: usize) -> Option<Completion>
-        requires sync { IsSync R.row }
+    pub(crate) fn leave(&mut self, ticket: usize) -> Option<Completion>
         requires within { ticket < length self.old.operations }
         ensures leaves { MatchOption result (KeepsRun self.old self.new)
             (LeavesRun self.old self.new ticket) }
         ensures none { IfNone result (LeavesNone self.old self.new ticket) }
     {
         let block = block_of(&self.operations, ticket)?;
-        let Some(collected) = self.looped.collect(rt, self.table, block, self.stepper) else {
+        let Some(collected) = self.looped.collect(self.table, block, self.stepper) else {
             self.pause.wait_on();
             return None;
         };
@@ -74,7 +73,7 @@ impl<'a, T: Stepper, B: OnTable> TableRun<'a, T, B> {
             if self.has_free(ticket) {
                 return;
             }
-            let _completion = self.leave(rt, ticket);
+            let _completion = self.leave(ticket);
             self.go_round(rt, alloc);
             self.serve_spawned(rt, alloc);
         }

@@ -20,11 +20,11 @@ use Rattle.table_steps.specs.Takes.{rest_word}
 use Rattle.home_items.specs.declared.entry.Entry.{Entry}
 use Rattle.home_items.specs.declared.item.Item.{Item}
 use Rattle.exec_recv.specs.Asides.{KeepsAside}
-use Rattle.loop_walk.specs.Resting.{IsAtRest}
-use Rattle.loop_serve.specs.Since.{OnlyLooks}
-use Rattle.loop_serve.specs.Serving.{TakesWord}
+use Rattle.node_walks.specs.Resting.{IsAtRest}
+use Rattle.node_walks.specs.Since.{OnlyLooks}
+use Rattle.node_walks.specs.Serving.{TakesWord}
 use Rattle.exec_recv.proofs.Since.{moved-before, moved-after, since-before, since-after}
-use Rattle.loop_serve.proofs.Read.{looked-rests, looked-only, looked-since}
+use Rattle.node_walks.proofs.Read.{looked-rests, looked-only, looked-since}
 use Rattle.run_loop.specs.declared.delay_node.DelayNode.{DelayNode}
 use Rattle.run_loop.specs.DelayNodes.{IsDelayNode, nodes_of, place_of, name_at}
 use Rattle.run_loop.specs.Delayed.{SaysParked, word_at, IsSeenNow, WasTried, WasDue, Becomes, IsLookedAt, LooksAtDelay, WasTakenOut}

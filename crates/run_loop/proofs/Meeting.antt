@@ -11,14 +11,14 @@ use Rattle.table_steps.specs.Claims.{Seated}
 use Rattle.home_items.specs.declared.entry.Entry.{Entry}
 use Rattle.home_items.specs.declared.item.Item.{Item}
 use Rattle.exec_recv.specs.Asides.{KeepsAside}
-use Rattle.exec_recv.specs.Nexts.{Doing}
+use Rattle.exec_recv.specs.Sites.{Does}
 use Rattle.exec_recv.proofs.Asiding.{aside-on}
 use Rattle.run_loop.specs.declared.looped.Loop.{Loop as Looped}
 use Rattle.run_loop.specs.Longer.{AreMoreNames}
 use Rattle.run_loop.specs.Serves.{MayHelp, ServesOne}
 use Rattle.run_loop.specs.Turns.{Meets, MeetsFirst, MeetsAll, TakesNamed, AreAllLeft}
 
-module _ (does : Doing) (board : Board Blueprint) (helps : Bool) where
+module _ (does : Does) (board : Board Blueprint) (helps : Bool) where
   -- one name more
   pub met-more : (names : List Name) (count : ℕ) (name : Name) (m between m' : Seated Item Entry) → slice_get names count ≡ Some name →
       MeetsFirst does board helps names count m between → Meets does board helps name between m' →
@@ -35,7 +35,7 @@ module _ (does : Doing) (board : Board Blueprint) (helps : Bool) where
   named-one name m m' one = record { name = name; from = one.from; may_be = one.may_be; serves = one.serves }
 
 -- and something else after them
-pub met-later : (does : Doing) (board : Board Blueprint) (old between new : Looped) → MeetsAll does board old between →
+pub met-later : (does : Does) (board : Board Blueprint) (old between new : Looped) → MeetsAll does board old between →
     KeepsAside between.hand.me new.hand.me → MeetsAll does board old new
 met-later does board old between new met next =
     record {

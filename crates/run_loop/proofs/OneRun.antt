@@ -16,17 +16,17 @@ use Rattle.table_steps.specs.Slots.{noted_at}
 use Rattle.home_items.specs.declared.entry.Entry.{Entry}
 use Rattle.home_items.specs.declared.item.Item.{Item}
 use Rattle.exec_recv.specs.Asides.{Aside, aside_of, KeepsAside}
-use Rattle.loop_roots.specs.declared.completing.Collected.{Collected}
+use Rattle.node_walks.specs.declared.completing.Collected.{Collected}
 use Rattle.run_loop.specs.declared.looped.Loop.{Loop as Looped}
-use Rattle.loop_roots.specs.Completes.{IsFor, IsListed}
+use Rattle.node_walks.specs.Completes.{IsFor, IsListed}
 use Rattle.run_loop.specs.Collects.{Collects}
-use Rattle.loop_roots.specs.Emptied.{with_released}
-use Rattle.loop_roots.specs.Leaves.{LeavesAside}
+use Rattle.node_walks.specs.Emptied.{with_released}
+use Rattle.node_walks.specs.Leaves.{LeavesAside}
 use Rattle.run_loop.specs.Loops.{KeepsCounts, Raises}
-use Rattle.loop_roots.specs.Starts.{CanRun, with_started}
+use Rattle.node_walks.specs.Starts.{CanRun, with_started}
 use Rattle.run_loop.specs.Starts.{StartsIn}
 use Rattle.run_loop.specs.Waits.{IsCollected, HasRun, with_block_used}
-use Rattle.loop_roots.proofs.Growing.{aside-leaves, leaves-then}
+use Rattle.node_walks.proofs.Growing.{aside-leaves, leaves-then}
 
 abbrev at_noted : Rooted Entry → Name
 at_noted e = e.name

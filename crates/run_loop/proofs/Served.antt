@@ -9,10 +9,10 @@ use Rattle.table_steps.specs.Views.{Board}
 use Rattle.table_steps.specs.Claims.{Seated}
 use Rattle.home_items.specs.declared.entry.Entry.{Entry}
 use Rattle.home_items.specs.declared.item.Item.{Item}
-use Rattle.exec_recv.specs.Nexts.{Doing}
-use Rattle.loop_serve.specs.Since.{OnlyLooks}
-use Rattle.loop_serve.specs.Serving.{OnlyServes}
-use Rattle.loop_serve.proofs.Read.{looks-here, looks-on}
+use Rattle.exec_recv.specs.Sites.{Does}
+use Rattle.node_walks.specs.Since.{OnlyLooks}
+use Rattle.node_walks.specs.Serving.{OnlyServes}
+use Rattle.node_walks.proofs.Read.{looks-here, looks-on}
 use Rattle.run_loop.specs.Serves.{Taking, ServesOne, Serves, ServesMore}
 
 -- a place where none was taken
@@ -20,7 +20,7 @@ pub none-taken : (answer : Option Name) (A : Type 0) → is_some answer ≡ fals
 none-taken (Some name) A none fact = absurd (both_ways true none refl)
 none-taken None A none fact = fact
 
-module _ (does : Doing) (board : Board Blueprint) (may : Taking) where
+module _ (does : Does) (board : Board Blueprint) (may : Taking) where
   -- one that a place of the table had
   pub one-taken : (from : Resting) (answer : Option Name) (m m' : Seated Item Entry) → ((name : Name) → may from name) →
       is_some answer ≡ true → IfSome answer (λ name. OnlyServes does board from name m m') → ServesOne does board may m m'
@@ -90,7 +90,7 @@ module _ (does : Doing) (board : Board Blueprint) (may : Taking) where
   more-first more m between m' first next = more-on 0 0 more m between m' first next
 
 -- what may be taken by one rule may be by a wider one
-module _ (does : Doing) (board : Board Blueprint) (may wider : Taking) (is : (from : Resting) (name : Name) → may from name → wider from name) where
+module _ (does : Does) (board : Board Blueprint) (may wider : Taking) (is : (from : Resting) (name : Name) → may from name → wider from name) where
   serves-by : (count : ℕ) (m m' : Seated Item Entry) → Serves does board may count m m' → Serves does board wider count m m'
   serves-by zero m m' serves = serves
   serves-by (suc count) m m' serves =

@@ -16,7 +16,7 @@ use Rattle.table_steps.specs.Takes.{rest_word}
 use Rattle.home_items.specs.declared.entry.Entry.{Entry}
 use Rattle.home_items.specs.declared.item.Item.{Item}
 use Rattle.exec_recv.specs.Asides.{KeepsAside}
-use Rattle.loop_serve.specs.Serving.{IsUnready}
+use Rattle.node_walks.specs.Serving.{IsUnready}
 use Rattle.exec_recv.proofs.Since.{since-before, since-after}
 use Rattle.run_loop.specs.Turns.{WasPassed, ArePassed, ArePassedBelow, TakesNothing, IsInner, WasLeft, IsLeft, AreLeft}
 

@@ -14,9 +14,9 @@ use Rattle.table_steps.specs.Views.{Board}
 use Rattle.table_steps.specs.Claims.{Seated, logged}
 use Rattle.home_items.specs.declared.entry.Entry.{Entry}
 use Rattle.home_items.specs.declared.item.Item.{Item}
-use Rattle.exec_recv.specs.Nexts.{Doing}
+use Rattle.exec_recv.specs.Sites.{Does}
 use Rattle.exec_recv.specs.Since.{HasReadSince}
-use Rattle.loop_serve.specs.Serving.{WasMissed}
+use Rattle.node_walks.specs.Serving.{WasMissed}
 use Rattle.run_loop.specs.declared.delay_node.DelayNode.{DelayNode}
 use Rattle.run_loop.specs.declared.looped.Loop.{Loop as Looped}
 use Rattle.run_loop.specs.DelayNodes.{nodes_of, place_of, name_at}
@@ -134,7 +134,7 @@ MayTakeIn board old new =
 
 -- So many nodes were taken and stepped, one after the other, each of which might be. Nothing else
 -- was done, but looks. The number counts up to 2 ^ 32 - 1.
-abbrev pub TakesSoMany : Doing → Board Blueprint → ℕ → Looped → Looped → Type 0
+abbrev pub TakesSoMany : Does → Board Blueprint → ℕ → Looped → Looped → Type 0
 TakesSoMany does board count old new =
     ServesMore does board (MayTakeIn board old new) 0 count old.hand.me new.hand.me
 

@@ -11,10 +11,10 @@ pub mod Waits
 -- the definitions that the public contracts cite
 pub use Rattle.table_steps.specs.Views
 pub use Rattle.exec_recv.specs.Over
-pub use Rattle.loop_walk.specs.Resting
-pub use Rattle.loop_roots.specs.Starts as RootStarts
-pub use Rattle.loop_roots.specs.Completes
-pub use Rattle.loop_serve.specs.Serving
+pub use Rattle.node_walks.specs.Resting
+pub use Rattle.node_walks.specs.Starts as RootStarts
+pub use Rattle.node_walks.specs.Completes
+pub use Rattle.node_walks.specs.Serving
 pub use Rattle.deck_relay.specs.SameDecks
 pub use Rattle.loop_queue.specs.Posts
 pub use Rattle.loop_queue.specs.Moves

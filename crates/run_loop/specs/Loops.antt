@@ -6,13 +6,13 @@ use Rattle.atomic_table.specs.declared.shared.Seat.{Seat}
 use Rattle.deck_relay.specs.declared.deck.Deck.{Deck}
 use Rattle.timer_wheel.specs.Delays.{DelayList, places, delay_at}
 use Rattle.plan_shape.specs.Blueprint.{Blueprint}
-use Rattle.loop_roots.specs.declared.completing.Collected.{Collected}
+use Rattle.node_walks.specs.declared.completing.Collected.{Collected}
 use Rattle.run_tally.specs.Gathered.{Gathered, gathered}
 use Rattle.table_rules.specs.declared.view.View.{View}
 use Rattle.table_steps.specs.Views.{Board, IsHandOf, knows}
 use Rattle.home_items.specs.declared.entry.Entry.{Entry}
 use Rattle.home_items.specs.declared.item.Item.{Item}
-use Rattle.loop_walk.specs.Resting.{IsAtRest}
+use Rattle.node_walks.specs.Resting.{IsAtRest}
 use Rattle.run_loop.specs.declared.looped.Loop.{Loop as Looped}
 use Rattle.run_loop.specs.declared.delay_node.DelayNode.{DelayNode}
 use Rattle.run_loop.specs.DelayNodes.{AreDelaysOf, nodes_of, place_count}

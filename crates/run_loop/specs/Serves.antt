@@ -8,9 +8,9 @@ use Rattle.table_steps.specs.Views.{Board}
 use Rattle.table_steps.specs.Claims.{Seated}
 use Rattle.home_items.specs.declared.entry.Entry.{Entry}
 use Rattle.home_items.specs.declared.item.Item.{Item}
-use Rattle.exec_recv.specs.Nexts.{Doing}
-use Rattle.loop_serve.specs.Since.{OnlyLooks}
-use Rattle.loop_serve.specs.Serving.{OnlyServes}
+use Rattle.exec_recv.specs.Sites.{Does}
+use Rattle.node_walks.specs.Since.{OnlyLooks}
+use Rattle.node_walks.specs.Serving.{OnlyServes}
 
 -- Which nodes may be taken, and where they rest.
 abbrev pub Taking : Type 1
@@ -25,7 +25,7 @@ IsOpen helps rest.Parked = ⊥
 abbrev pub MayHelp : Bool → Taking
 MayHelp helps = λ from name. IsOpen helps from
 
-module _ (does : Doing) (board : Board Blueprint) (may : Taking) where
+module _ (does : Does) (board : Board Blueprint) (may : Taking) where
   -- A node that may be taken was, where it rested, and stepped. Nothing else was done, but looks
   -- before that.
   pub record ServesOne (m m' : Seated Item Entry) : Type 0 where

@@ -4,8 +4,8 @@ use Rattle.plan_shape.specs.Blueprint.{Blueprint}
 use Rattle.table_steps.specs.declared.block.Block.{Block}
 use Rattle.table_steps.specs.Views.{Board}
 use Rattle.home_items.specs.declared.entry.Entry.{Entry}
-use Rattle.exec_recv.specs.Nexts.{Doing}
-use Rattle.loop_roots.specs.Starts.{BeginsRoot, GoesOnWith, MissesEach}
+use Rattle.exec_recv.specs.Sites.{Does}
+use Rattle.node_walks.specs.Starts.{BeginsRoot, GoesOnWith, MissesEach}
 use Rattle.run_loop.specs.declared.looped.Loop.{Loop as Looped}
 
 -- An operation was started in this block: its hand has noted the start of the root, and had noted
@@ -18,5 +18,5 @@ abbrev pub FindsNoBlock : Board Blueprint → Looped → Looped → Type 0
 FindsNoBlock board old new = MissesEach board old.next old.hand new.hand
 
 -- The start was placed in the block, whose root the hand began and stepped; and it went on.
-abbrev pub WentOn : Doing → Board Blueprint → Block → List Entry → Looped → Looped → Type 0
+abbrev pub WentOn : Does → Board Blueprint → Block → List Entry → Looped → Looped → Type 0
 WentOn does board b start old new = GoesOnWith does board b start old.hand.me new.hand.me

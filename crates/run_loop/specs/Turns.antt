@@ -12,10 +12,10 @@ use Rattle.table_steps.specs.Steps.{control_index}
 use Rattle.home_items.specs.declared.entry.Entry.{Entry}
 use Rattle.home_items.specs.declared.item.Item.{Item}
 use Rattle.exec_recv.specs.Asides.{KeepsAside}
-use Rattle.exec_recv.specs.Nexts.{Doing}
+use Rattle.exec_recv.specs.Sites.{Does}
 use Rattle.exec_recv.specs.Since.{HasMovedSince}
-use Rattle.loop_serve.specs.Since.{OnlyLooks}
-use Rattle.loop_serve.specs.Serving.{OnlyServes, TakesWord, WasMissed, WasUnready}
+use Rattle.node_walks.specs.Since.{OnlyLooks}
+use Rattle.node_walks.specs.Serving.{OnlyServes, TakesWord, WasMissed, WasUnready}
 use Rattle.run_loop.specs.declared.looped.Loop.{Loop as Looped}
 use Rattle.run_loop.specs.declared.names.Names.{Names}
 use Rattle.run_loop.specs.Fetches.{FetchesWhere}
@@ -86,7 +86,7 @@ module _ (board : Board Blueprint) (m m' : Seated Item Entry) where
   abbrev pub AreAllLeft : Bool → List Name → Type 0
   AreAllLeft helps names = AreLeft helps names (length names)
 
-module _ (does : Doing) (board : Board Blueprint) (helps : Bool) where
+module _ (does : Does) (board : Board Blueprint) (helps : Bool) where
   -- The named node was taken where it rested in the loop, or where the loop helps in the pool, and
   -- stepped. Nothing else was done, but looks before that.
   pub record TakesNamed (name : Name) (m m' : Seated Item Entry) : Type 0 where
@@ -120,20 +120,20 @@ module _ (does : Doing) (board : Board Blueprint) (helps : Bool) where
       MeetsAfter names count (λ between. MeetsFirst names count m between) m'
 
 -- All of these names were met so by the loop, before all else that it did.
-pub record MeetsList (does : Doing) (board : Board Blueprint) (names : List Name)
+pub record MeetsList (does : Does) (board : Board Blueprint) (names : List Name)
     (old new : Looped) : Type 0 where
   pub last : Seated Item Entry
   pub each : MeetsFirst does board old.helps names (length names) old.hand.me last
   pub after : KeepsAside last new.hand.me
 
 -- The names that the loop was told of were, and others after them.
-pub record MeetsEach (does : Doing) (board : Board Blueprint) (old new : Looped) : Type 0 where
+pub record MeetsEach (does : Does) (board : Board Blueprint) (old new : Looped) : Type 0 where
   pub names : List Name
   pub longer : AreMoreNames (told old) names
   pub meets : MeetsList does board names old new
 
 -- The names that the loop was told of were, and after them those that it took of its hand's deck.
-pub record MeetsAll (does : Doing) (board : Board Blueprint) (old new : Looped) : Type 0 where
+pub record MeetsAll (does : Does) (board : Board Blueprint) (old new : Looped) : Type 0 where
   pub names : Names
   pub fetches : FetchesWhere old.helps old.names names
   pub longer : AreMoreNames (told old) names.list.items

@@ -8,13 +8,13 @@ use Rattle.table_steps.specs.Claims.{root_name}
 use Rattle.table_steps.specs.Slots.{noted_at}
 use Rattle.home_items.specs.declared.entry.Entry.{Entry}
 use Rattle.exec_recv.specs.Asides.{Aside, aside_of}
-use Rattle.loop_roots.specs.declared.completing.Collected.{Collected}
+use Rattle.node_walks.specs.declared.completing.Collected.{Collected}
 use Rattle.run_loop.specs.declared.looped.Loop.{Loop as Looped}
 use Rattle.run_loop.specs.declared.waiting.Waited.{Waited}
 use Rattle.run_loop.specs.declared.waiting.Waited.TheVariants.{Completed, NoBlock}
-use Rattle.loop_roots.specs.Completes.{IsFor}
-use Rattle.loop_roots.specs.Emptied.{with_released}
-use Rattle.loop_roots.specs.Leaves.{LeavesAside}
+use Rattle.node_walks.specs.Completes.{IsFor}
+use Rattle.node_walks.specs.Emptied.{with_released}
+use Rattle.node_walks.specs.Leaves.{LeavesAside}
 use Rattle.run_loop.specs.Loops.{KeepsCounts, Raises}
 use Rattle.run_loop.specs.Starts.{FindsNoBlock}
 

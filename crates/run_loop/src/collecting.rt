@@ -1,18 +1,16 @@
 //! How an operation is collected.
 ghost use Rattle.std.specs.Prelude.{IfSome, IfNone};
-ghost use Rattle.std.specs.Thread.{IsSync};
 ghost use Rattle.table_steps.specs.Views.{IsSameHand};
 ghost use Rattle.deck_relay.specs.SameDecks.{KeepsDeck};
 ghost use Rattle.exec_recv.specs.Over.{IsOver};
 ghost use Rattle.run_loop.specs.Loops.{IsReady, deck_of};
-ghost use Rattle.loop_roots.specs.Completes.{IsListed};
+ghost use Rattle.node_walks.specs.Completes.{IsListed};
 ghost use Rattle.run_loop.specs.Collects.{Collects, CollectsNothing};
 
 use crate::looped::Loop;
 use exec_recv::{Gate, Item};
-use loop_roots::{Collected, Ended, end_root};
+use node_walks::{Collected, Ended, end_root};
 use op_slot::{Block, OpTable};
-use std::sync::Wait;
 
 impl Loop {
     /// Collects the operation in this block, and gives the block back. None only where the word of
@@ -26,14 +24,12 @@ impl Loop {
     /// of memory, or allowed for that start, and is of its number. It stands in the tally, as an
     /// operation of this table and of its plan.
     #[inline(always)]
-    pub fn collect<G: Gate, R: Wait + Sync>(
+    pub fn collect<G: Gate>(
         &mut self,
-        rt: &R,
         table: &OpTable<Item>,
         block: Block,
         gate: &G,
     ) -> Option<Collected>
-        requires sync { IsSync R.row }
         requires ready { IsReady table.now self.old }
         requires over { IsOver table.now table.now.frame.over.value }
         requires listed { IsListed table.now block self.old.hand.me }
@@ -43,7 +39,7 @@ impl Loop {
         ensures collected { IfSome result (Collects table.now block self.old self.new) }
         ensures deck { KeepsDeck (deck_of self.old) (deck_of self.new) }
     {
-        let Ended { env, collected } = end_root(rt, table, &mut self.hand, block, gate)?;
+        let Ended { env, collected } = end_root(table, &mut self.hand, block, gate)?;
         self.tally.raise(&env, table, &collected);
         drop(env);
         self.next = block.index;

@@ -3,12 +3,12 @@ ghost use Rattle.std.specs.Prelude.{◌≡◌, ◌<◌, ◌≤◌, length};
 ghost use Rattle.std.specs.Thread.{IsSync};
 ghost use Rattle.deck_relay.specs.SameDecks.{KeepsDeck};
 ghost use Rattle.timer_wheel.specs.Delays.{places};
-ghost use Rattle.plan_kinds.specs.Runnable.{IsRunnable};
 ghost use Rattle.table_steps.specs.Views.{IsHandOf, Stays, knows};
 ghost use Rattle.exec_recv.specs.Asides.{KeepsAside};
 ghost use Rattle.exec_recv.specs.Over.{IsOver};
-ghost use Rattle.loop_walk.specs.Resting.{IsAtRest};
-ghost use Rattle.loop_serve.specs.Since.{OnlyLooks};
+ghost use Rattle.exec_recv.specs.Sites.{IsSite};
+ghost use Rattle.node_walks.specs.Resting.{IsAtRest};
+ghost use Rattle.node_walks.specs.Since.{OnlyLooks};
 ghost use Rattle.run_loop.specs.Delayed.{WasTriedAt, LooksAtDelay, LooksThrough, LooksBelow, TakesDue, PassesTurn};
 ghost use Rattle.run_loop.specs.Delayed.{MayTakeDelay, MayTakeDue, MayTakeOf};
 ghost use Rattle.run_loop.specs.DelayNodes.{IsDelayNode, AreDelaysOf, nodes_of, place_of, place_count};
@@ -17,11 +17,10 @@ ghost use Rattle.run_loop.specs.Serves.{ServesMore};
 use crate::delay_node::DelayNode;
 use crate::names::Names;
 use crate::serving::one_more;
-use exec_recv::{Item, Stepper};
+use exec_recv::{Item, Site, Stepper};
 use life_rules::{Name, Resting};
-use loop_serve::serve;
+use node_walks::serve;
 use op_slot::{Hand, OpTable};
-use std::alloc::Global;
 use std::sync::Wait;
 use timer_wheel::{Delays, DueDelay};
 
@@ -114,49 +113,36 @@ fn look_round(
 
 // Takes a delay that was due, where it is of a block of the table, and parked still. It counts it.
 fn try_due<T: Stepper, R: Wait + Sync>(
-    rt: &R,
-    alloc: Global,
-    table: &OpTable<Item>,
+    site: &Site<R, T>,
     hand: &mut Hand<Item>,
-    stepper: &T,
     names: &mut Names,
     due: DueDelay,
     taken: u32,
 ) -> u32
     requires sync { IsSync R.row }
-    requires hand { IsHandOf table.now hand.old }
-    requires over { IsOver table.now (T.plan stepper.now) }
-    requires kinds { IsRunnable (T.plan stepper.now) }
+    requires hand { IsHandOf site.now hand.old }
+    requires site { IsSite site.now }
     requires first { (knows hand.old).number ≡ 0 }
     requires rests { IsAtRest (knows hand.old) }
-    ensures stays { Stays table.now hand.old hand.new }
+    ensures stays { Stays site.now hand.old hand.new }
     ensures rests { IsAtRest (knows hand.new) }
     ensures aside { KeepsAside hand.old.me hand.new.me }
-    ensures served { ServesMore (T.does stepper.now) table.now
-        (MayTakeDelay table.now due.place due.generation) taken result hand.old.me hand.new.me }
+    ensures served { ServesMore T.does site.now
+        (MayTakeDelay site.now due.place due.generation) taken result hand.old.me hand.new.me }
     ensures more { taken ≤ result }
-    ensures tried { WasTriedAt table.now hand.old.me hand.new.me result due.place due.generation }
+    ensures tried { WasTriedAt site.now hand.old.me hand.new.me result due.place due.generation }
     ensures deck { KeepsDeck names.old.deck names.new.deck }
 {
-    let nodes = table.tree().size();
+    let nodes = site.table.tree().size();
     let name = Name {
         block: due.place / nodes,
         generation: due.generation,
         node: due.place % nodes,
     };
-    if name.block >= table.blocks() {
+    if name.block >= site.table.blocks() {
         return taken;
     }
-    if serve(
-        rt,
-        alloc,
-        table,
-        hand,
-        stepper,
-        names,
-        name,
-        Resting::Parked,
-    ) {
+    if serve(site, hand, names, name, Resting::Parked) {
         return one_more(taken);
     }
     taken
@@ -165,33 +151,29 @@ fn try_due<T: Stepper, R: Wait + Sync>(
 // Takes the delays that are due out of the list, and goes on with each that is parked still. It
 // counts what it takes.
 fn take_due<T: Stepper, R: Wait + Sync>(
-    rt: &R,
-    alloc: Global,
-    table: &OpTable<Item>,
+    site: &Site<R, T>,
     hand: &mut Hand<Item>,
-    stepper: &T,
     names: &mut Names,
     delays: &mut Delays,
     taken: u32,
 ) -> u32
     requires sync { IsSync R.row }
-    requires hand { IsHandOf table.now hand.old }
-    requires over { IsOver table.now (T.plan stepper.now) }
-    requires kinds { IsRunnable (T.plan stepper.now) }
+    requires hand { IsHandOf site.now hand.old }
+    requires site { IsSite site.now }
     requires first { (knows hand.old).number ≡ 0 }
     requires rests { IsAtRest (knows hand.old) }
-    ensures stays { Stays table.now hand.old hand.new }
+    ensures stays { Stays site.now hand.old hand.new }
     ensures rests { IsAtRest (knows hand.new) }
     ensures aside { KeepsAside hand.old.me hand.new.me }
-    ensures served { ServesMore (T.does stepper.now) table.now
-        (MayTakeOf table.now delays.old) taken result hand.old.me hand.new.me }
+    ensures served { ServesMore T.does site.now
+        (MayTakeOf site.now delays.old) taken result hand.old.me hand.new.me }
     ensures more { taken ≤ result }
-    ensures due { TakesDue table.now result hand.old.me hand.new.me delays.old delays.new }
+    ensures due { TakesDue site.now result hand.old.me hand.new.me delays.old delays.new }
     ensures deck { KeepsDeck names.old.deck names.new.deck }
 {
     let mut taken = taken;
     'out: while let Some(out) = delays.due() {
-        taken = try_due(rt, alloc, table, hand, stepper, names, out, taken);
+        taken = try_due(site, hand, names, out, taken);
     }
     taken
 }
@@ -199,36 +181,32 @@ fn take_due<T: Stepper, R: Wait + Sync>(
 /// One turn of the delays: goes on to the next turn of the list, looks at the plan's delays in each
 /// block, and takes those that are due, as far as they are parked still. It counts what it takes.
 pub fn serve_delays<T: Stepper, R: Wait + Sync>(
-    rt: &R,
-    alloc: Global,
-    table: &OpTable<Item>,
+    site: &Site<R, T>,
     hand: &mut Hand<Item>,
-    stepper: &T,
     names: &mut Names,
     delays: &mut Delays,
     nodes: &[DelayNode],
     taken: u32,
 ) -> u32
     requires sync { IsSync R.row }
-    requires hand { IsHandOf table.now hand.old }
-    requires over { IsOver table.now (T.plan stepper.now) }
-    requires kinds { IsRunnable (T.plan stepper.now) }
+    requires hand { IsHandOf site.now hand.old }
+    requires site { IsSite site.now }
     requires first { (knows hand.old).number ≡ 0 }
     requires rests { IsAtRest (knows hand.old) }
-    requires places { place_count table.now ≤ places delays.old }
-    requires nodes { AreDelaysOf (nodes_of table.now) nodes.now }
-    ensures stays { Stays table.now hand.old hand.new }
+    requires places { place_count site.now ≤ places delays.old }
+    requires nodes { AreDelaysOf (nodes_of site.now) nodes.now }
+    ensures stays { Stays site.now hand.old hand.new }
     ensures rests { IsAtRest (knows hand.new) }
     ensures aside { KeepsAside hand.old.me hand.new.me }
-    ensures served { ServesMore (T.does stepper.now) table.now
-        (MayTakeDue table.now hand.old.me hand.new.me delays.new.turn delays.old)
+    ensures served { ServesMore T.does site.now
+        (MayTakeDue site.now hand.old.me hand.new.me delays.new.turn delays.old)
         taken result hand.old.me hand.new.me }
     ensures more { taken ≤ result }
     ensures places { places delays.new ≡ places delays.old }
-    ensures turn { PassesTurn table.now hand.old.me hand.new.me result delays.old delays.new }
+    ensures turn { PassesTurn site.now hand.old.me hand.new.me result delays.old delays.new }
     ensures deck { KeepsDeck names.old.deck names.new.deck }
 {
     delays.next_turn();
-    look_round(table, hand, delays, nodes);
-    take_due(rt, alloc, table, hand, stepper, names, delays, taken)
+    look_round(site.table, hand, delays, nodes);
+    take_due(site, hand, names, delays, taken)
 }

@@ -1,7 +1,7 @@
 //! A loop of operations on one hand of a running table over a plan: hand 0, which starts
 //! operations, takes what is ready in the loop, and collects what they completed with.
 //!
-//! It stands on loop_roots, which starts and ends an operation, on loop_serve, by which it serves a
+//! It stands on node_walks, which starts and ends an operation, on node_walks, by which it serves a
 //! node, and on timer_wheel, which lists the delays that it saw parked. It keeps one promise: what
 //! is collected is want of memory, or is allowed for the start with which its operation began, and
 //! it saw a stop request only where the scope's request stands.
@@ -47,9 +47,9 @@ mod turning;
 mod waiting;
 
 pub use deck_relay::Deck;
-pub use exec_recv::{Env, Gate, Item, Stepper};
+pub use exec_recv::{Env, Gate, Item, Site, Stepper};
 pub use loop_queue::{Drained, LoopPost};
-pub use loop_roots::{Block, Collected};
 pub use looped::Loop;
+pub use node_walks::{Block, Collected};
 pub use tally::Tally;
 pub use waiting::Waited;

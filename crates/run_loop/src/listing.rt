@@ -1,7 +1,6 @@
 //! What a loop lists when it is opened: the plan's delays, and how many places the table has.
 ghost use Rattle.std.specs.Prelude.{◌≡◌, ◌≤◌, IfOk};
 ghost use Rattle.timer_wheel.specs.declared.limits.TheConstants.{MOST_PLACES};
-ghost use Rattle.exec_recv.specs.Over.{IsOver};
 ghost use Rattle.run_loop.specs.DelayNodes.{AreDelaysOf, place_count};
 
 use crate::delay_node::DelayNode;

@@ -1,6 +1,5 @@
 //! The names of nodes that a loop was told of.
 ghost use Rattle.std.specs.Prelude.{◌≡◌, ◌≤◌, ◌∷◌, [], ◌++◌, ◌⊎◌, true, false, IfOk, IfErr, IfSome, IfNone, None, vec_capacity, vec_len};
-ghost use Rattle.std.specs.Thread.{IsSync};
 ghost use Rattle.deck_relay.specs.Decks.{IsSameDeck};
 ghost use Rattle.deck_relay.specs.SameDecks.{KeepsDeck};
 ghost use Rattle.run_loop.specs.Fetches.{FetchesNone, FetchesOne, FetchesWhere, FindsNoneOf, HearsName, IsNameListed, IsPushed, IsShared, TakesOf};
@@ -8,8 +7,8 @@ ghost use Rattle.run_loop.specs.Longer.{AreMoreNames};
 
 use deck_relay::Deck;
 use life_rules::Name;
-use loop_walk::Mail;
 use node_tree::Context;
+use node_walks::Mail;
 use std::alloc::{AllocError, Global};
 use std::sync::Wait;
 

@@ -1,21 +1,19 @@
 //! How a node that is ready in a block is taken, and gone on with.
 ghost use Rattle.std.specs.Prelude.{◌≡◌, ◌+◌, ◌-◌, ◌^◌, ◌<◌, ◌≤◌, min};
 ghost use Rattle.std.specs.Thread.{IsSync};
-ghost use Rattle.plan_kinds.specs.Runnable.{IsRunnable};
 ghost use Rattle.table_steps.specs.Views.{IsHandOf, Stays, knows};
 ghost use Rattle.deck_relay.specs.SameDecks.{KeepsDeck};
 ghost use Rattle.exec_recv.specs.Asides.{KeepsAside};
-ghost use Rattle.exec_recv.specs.Over.{IsOver};
-ghost use Rattle.loop_walk.specs.Resting.{IsAtRest};
+ghost use Rattle.exec_recv.specs.Sites.{IsSite};
+ghost use Rattle.node_walks.specs.Resting.{IsAtRest};
 ghost use Rattle.run_loop.specs.Serves.{MayHelp, ServesMore};
 ghost use Rattle.run_loop.specs.Turns.{CountsNode};
 
 use crate::names::Names;
-use exec_recv::{Item, Stepper};
-use loop_serve::serve_place;
+use exec_recv::{Item, Site, Stepper};
 use node_tree::Context;
-use op_slot::{Hand, OpTable};
-use std::alloc::Global;
+use node_walks::serve_place;
+use op_slot::Hand;
 use std::sync::Wait;
 
 /// One more, as far as it can be counted.
@@ -29,11 +27,8 @@ pub fn one_more(count: u32) -> u32
 /// Takes the node of the block, where it is ready in the loop, or where the loop helps in the pool,
 /// and counts it.
 pub fn take_node<T: Stepper, R: Wait + Sync>(
-    rt: &R,
-    alloc: Global,
-    table: &OpTable<Item>,
+    site: &Site<R, T>,
     hand: &mut Hand<Item>,
-    stepper: &T,
     names: &mut Names,
     helps: bool,
     block: u32,
@@ -41,52 +36,27 @@ pub fn take_node<T: Stepper, R: Wait + Sync>(
     taken: u32,
 ) -> u32
     requires sync { IsSync R.row }
-    requires hand { IsHandOf table.now hand.old }
-    requires over { IsOver table.now (T.plan stepper.now) }
-    requires kinds { IsRunnable (T.plan stepper.now) }
-    requires block { block < table.now.frame.layout.blocks }
-    requires node { node < table.now.frame.layout.nodes }
+    requires hand { IsHandOf site.now hand.old }
+    requires site { IsSite site.now }
+    requires block { block < site.now.frame.layout.blocks }
+    requires node { node < site.now.frame.layout.nodes }
     requires first { (knows hand.old).number ≡ 0 }
     requires rests { IsAtRest (knows hand.old) }
-    ensures stays { Stays table.now hand.old hand.new }
+    ensures stays { Stays site.now hand.old hand.new }
     ensures rests { IsAtRest (knows hand.new) }
     ensures aside { KeepsAside hand.old.me hand.new.me }
-    ensures served { ServesMore (T.does stepper.now) table.now (MayHelp helps) taken result
+    ensures served { ServesMore T.does site.now (MayHelp helps) taken result
         hand.old.me hand.new.me }
-    ensures none { CountsNode table.now hand.old.me hand.new.me helps block node taken result }
+    ensures none { CountsNode site.now hand.old.me hand.new.me helps block node taken result }
     ensures deck { KeepsDeck names.old.deck names.new.deck }
 {
-    if serve_place(
-        rt,
-        alloc,
-        table,
-        hand,
-        stepper,
-        names,
-        block,
-        node,
-        Context::Loop,
-    )
-    .is_some()
-    {
+    if serve_place(site, hand, names, block, node, Context::Loop).is_some() {
         return one_more(taken);
     }
     if !helps {
         return taken;
     }
-    if serve_place(
-        rt,
-        alloc,
-        table,
-        hand,
-        stepper,
-        names,
-        block,
-        node,
-        Context::Pool,
-    )
-    .is_some()
-    {
+    if serve_place(site, hand, names, block, node, Context::Pool).is_some() {
         return one_more(taken);
     }
     taken

@@ -1,19 +1,17 @@
 //! How an operation is started.
 ghost use Rattle.std.specs.Prelude.{◌≡◌, IfOk, IfErr};
 ghost use Rattle.std.specs.Thread.{IsSync};
-ghost use Rattle.plan_kinds.specs.Runnable.{IsRunnable};
 ghost use Rattle.table_steps.specs.Views.{IsSameHand};
 ghost use Rattle.deck_relay.specs.SameDecks.{KeepsDeck};
-ghost use Rattle.exec_recv.specs.Over.{IsOver};
 ghost use Rattle.run_loop.specs.Loops.{IsReady, KeepsCounts, KeepsDelays, deck_of};
-ghost use Rattle.loop_roots.specs.Starts.{CanRun};
+ghost use Rattle.node_walks.specs.Starts.{CanRun};
 ghost use Rattle.run_loop.specs.Starts.{StartsIn, WentOn, FindsNoBlock};
+ghost use Rattle.exec_recv.specs.Sites.{IsSite};
 
 use crate::looped::Loop;
-use exec_recv::{Env, Item, Stepper};
-use loop_roots::begin_root;
-use op_slot::{Block, OpTable};
-use std::alloc::Global;
+use exec_recv::{Env, Site, Stepper};
+use node_walks::begin_root;
+use op_slot::Block;
 use std::sync::Wait;
 
 impl Loop {
@@ -31,37 +29,24 @@ impl Loop {
     #[inline(always)]
     pub fn start<T: Stepper, R: Wait + Sync>(
         &mut self,
-        rt: &R,
-        alloc: Global,
-        table: &OpTable<Item>,
-        stepper: &T,
+        site: &Site<R, T>,
         env: Env,
     ) -> Result<Block, Env>
         requires sync { IsSync R.row }
-        requires ready { IsReady table.now self.old }
-        requires over { IsOver table.now (T.plan stepper.now) }
-        requires kinds { IsRunnable (T.plan stepper.now) }
-        requires start { CanRun table.now env }
-        ensures ready { IsReady table.now self.new }
+        requires ready { IsReady site.now self.old }
+        requires site { IsSite site.now }
+        requires start { CanRun site.now env }
+        ensures ready { IsReady site.now self.new }
         ensures same { IsSameHand self.old.hand self.new.hand }
         ensures counts { KeepsCounts self.old self.new }
         ensures delays { KeepsDelays self.old self.new }
-        ensures started { IfOk result (λ b. StartsIn table.now b env self.old self.new) }
+        ensures started { IfOk result (λ b. StartsIn site.now b env self.old self.new) }
         ensures first { IfOk result
-            (λ b. WentOn (T.does stepper.now) table.now b env self.old self.new) }
+            (λ b. WentOn T.does site.now b env self.old self.new) }
         ensures back { IfErr result (λ back. back ≡ env) }
-        ensures none { IfErr result (λ _. FindsNoBlock table.now self.old self.new) }
+        ensures none { IfErr result (λ _. FindsNoBlock site.now self.old self.new) }
         ensures deck { KeepsDeck (deck_of self.old) (deck_of self.new) }
     {
-        begin_root(
-            rt,
-            alloc,
-            table,
-            &mut self.hand,
-            self.next,
-            stepper,
-            env,
-            &mut self.names,
-        )
+        begin_root(site, &mut self.hand, self.next, env, &mut self.names)
     }
 }

@@ -5,7 +5,7 @@ ghost use Rattle.run_tally.specs.Gathered.{capped, values_in, errors_in, stopped
 ghost use Rattle.run_loop.specs.Loops.{gathered_of};
 
 use exec_recv::{Env, Item};
-use loop_roots::Collected;
+use node_walks::Collected;
 use op_slot::OpTable;
 use run_tally::{Counts, Placed};
 use std::marker::Model;

@@ -1,13 +1,13 @@
 //! A turn of the loop.
 ghost use Rattle.std.specs.Prelude.{◌≡◌, true, false, length};
 ghost use Rattle.std.specs.Thread.{IsSync};
-ghost use Rattle.plan_kinds.specs.Runnable.{IsRunnable};
 ghost use Rattle.table_steps.specs.Views.{IsHandOf, IsSameHand, Stays, knows};
 ghost use Rattle.deck_relay.specs.SameDecks.{KeepsDeck};
 ghost use Rattle.exec_recv.specs.Asides.{KeepsAside};
 ghost use Rattle.exec_recv.specs.Over.{IsOver};
-ghost use Rattle.loop_walk.specs.Resting.{IsAtRest};
-ghost use Rattle.loop_serve.specs.Since.{OnlyLooks};
+ghost use Rattle.exec_recv.specs.Sites.{IsSite};
+ghost use Rattle.node_walks.specs.Resting.{IsAtRest};
+ghost use Rattle.node_walks.specs.Since.{OnlyLooks};
 ghost use Rattle.run_loop.specs.Delayed.{HasTurned, TakesSoMany};
 ghost use Rattle.run_loop.specs.Loops.{IsReady, KeepsCounts, KeepsDelays, deck_of};
 ghost use Rattle.run_loop.specs.Serves.{MayHelp, ServesMore};
@@ -18,11 +18,10 @@ use crate::looped::Loop;
 use crate::names::Names;
 use crate::scanning::scan_blocks;
 use crate::serving::one_more;
-use exec_recv::{Item, Stepper};
+use exec_recv::{Item, Site, Stepper};
 use life_rules::{Name, Resting};
-use loop_serve::serve;
+use node_walks::serve;
 use op_slot::{Hand, OpTable};
-use std::alloc::Global;
 use std::mem;
 use std::sync::Wait;
 
@@ -39,72 +38,64 @@ fn is_inner(table: &OpTable<Item>, name: Name) -> bool
 // Takes the node of a name that the loop was told of, where it is ready. A root is left for
 // `collect`, and a name of no place is no hint.
 fn serve_name<T: Stepper, R: Wait + Sync>(
-    rt: &R,
-    alloc: Global,
-    table: &OpTable<Item>,
+    site: &Site<R, T>,
     hand: &mut Hand<Item>,
-    stepper: &T,
     names: &mut Names,
     helps: bool,
     name: Name,
 ) -> bool
     requires sync { IsSync R.row }
-    requires hand { IsHandOf table.now hand.old }
-    requires over { IsOver table.now (T.plan stepper.now) }
-    requires kinds { IsRunnable (T.plan stepper.now) }
+    requires hand { IsHandOf site.now hand.old }
+    requires site { IsSite site.now }
     requires first { (knows hand.old).number ≡ 0 }
     requires rests { IsAtRest (knows hand.old) }
-    ensures stays { Stays table.now hand.old hand.new }
+    ensures stays { Stays site.now hand.old hand.new }
     ensures rests { IsAtRest (knows hand.new) }
     ensures aside { KeepsAside hand.old.me hand.new.me }
     ensures served { result ≡ true →
-        TakesNamed (T.does stepper.now) table.now helps name hand.old.me hand.new.me }
-    ensures left { result ≡ false → IsLeft table.now hand.old.me hand.new.me helps name }
+        TakesNamed T.does site.now helps name hand.old.me hand.new.me }
+    ensures left { result ≡ false → IsLeft site.now hand.old.me hand.new.me helps name }
     ensures looks { result ≡ false → OnlyLooks hand.old.me hand.new.me }
     ensures deck { KeepsDeck names.old.deck names.new.deck }
 {
-    if !is_inner(table, name) {
+    if !is_inner(site.table, name) {
         return false;
     }
-    if serve(rt, alloc, table, hand, stepper, names, name, Resting::Loop) {
+    if serve(site, hand, names, name, Resting::Loop) {
         return true;
     }
     if !helps {
         return false;
     }
-    serve(rt, alloc, table, hand, stepper, names, name, Resting::Pool)
+    serve(site, hand, names, name, Resting::Pool)
 }
 
 // Takes the nodes of these names, from the front.
 fn serve_each<T: Stepper, R: Wait + Sync>(
-    rt: &R,
-    alloc: Global,
-    table: &OpTable<Item>,
+    site: &Site<R, T>,
     hand: &mut Hand<Item>,
-    stepper: &T,
     names: &mut Names,
     helps: bool,
     told: &[Name],
 ) -> u32
     requires sync { IsSync R.row }
-    requires hand { IsHandOf table.now hand.old }
-    requires over { IsOver table.now (T.plan stepper.now) }
-    requires kinds { IsRunnable (T.plan stepper.now) }
+    requires hand { IsHandOf site.now hand.old }
+    requires site { IsSite site.now }
     requires first { (knows hand.old).number ≡ 0 }
     requires rests { IsAtRest (knows hand.old) }
-    ensures stays { Stays table.now hand.old hand.new }
+    ensures stays { Stays site.now hand.old hand.new }
     ensures rests { IsAtRest (knows hand.new) }
     ensures aside { KeepsAside hand.old.me hand.new.me }
-    ensures served { ServesMore (T.does stepper.now) table.now (MayHelp helps) 0 result
+    ensures served { ServesMore T.does site.now (MayHelp helps) 0 result
         hand.old.me hand.new.me }
-    ensures met { MeetsFirst (T.does stepper.now) table.now helps told.now (length told.now)
+    ensures met { MeetsFirst T.does site.now helps told.now (length told.now)
         hand.old.me hand.new.me }
-    ensures none { result ≡ 0 → AreAllLeft table.now hand.old.me hand.new.me helps told.now }
+    ensures none { result ≡ 0 → AreAllLeft site.now hand.old.me hand.new.me helps told.now }
     ensures deck { KeepsDeck names.old.deck names.new.deck }
 {
     let mut taken = 0;
     for name in told {
-        if serve_name(rt, alloc, table, hand, stepper, names, helps, *name) {
+        if serve_name(site, hand, names, helps, *name) {
             taken = one_more(taken);
         }
     }
@@ -114,36 +105,26 @@ fn serve_each<T: Stepper, R: Wait + Sync>(
 impl Loop {
     // Takes the nodes of the names that it was told of, and goes on with each. Where it helps the
     // pool, names of its deck come after them.
-    fn poll_names<T: Stepper, R: Wait + Sync>(
-        &mut self,
-        rt: &R,
-        alloc: Global,
-        table: &OpTable<Item>,
-        stepper: &T,
-    ) -> u32
+    fn poll_names<T: Stepper, R: Wait + Sync>(&mut self, site: &Site<R, T>) -> u32
         requires sync { IsSync R.row }
-        requires ready { IsReady table.now self.old }
-        requires over { IsOver table.now (T.plan stepper.now) }
-        requires kinds { IsRunnable (T.plan stepper.now) }
-        ensures ready { IsReady table.now self.new }
+        requires ready { IsReady site.now self.old }
+        requires site { IsSite site.now }
+        ensures ready { IsReady site.now self.new }
         ensures same { IsSameHand self.old.hand self.new.hand }
         ensures counts { KeepsCounts self.old self.new }
         ensures delays { KeepsDelays self.old self.new }
         ensures aside { KeepsAside self.old.hand.me self.new.hand.me }
-        ensures served { ServesMore (T.does stepper.now) table.now (MayHelp self.old.helps) 0 result
+        ensures served { ServesMore T.does site.now (MayHelp self.old.helps) 0 result
             self.old.hand.me self.new.hand.me }
-        ensures met { MeetsAll (T.does stepper.now) table.now self.old self.new }
-        ensures none { result ≡ 0 → MissesAll table.now self.old self.new }
+        ensures met { MeetsAll T.does site.now self.old self.new }
+        ensures none { result ≡ 0 → MissesAll site.now self.old self.new }
         ensures deck { KeepsDeck (deck_of self.old) (deck_of self.new) }
     {
-        self.names.fetch(rt, self.helps);
+        self.names.fetch(site.rt, self.helps);
         mem::swap(&mut self.names.list, &mut self.served);
         let taken = serve_each(
-            rt,
-            alloc,
-            table,
+            site,
             &mut self.hand,
-            stepper,
             &mut self.names,
             self.helps,
             &self.served,
@@ -173,34 +154,24 @@ impl Loop {
     /// nodes.
     /// Needs: the loop is ready. The table is over the stepper's plan, whose kinds match.
     /// Afterwards: the loop is ready. Its operations are as before.
-    pub fn poll<T: Stepper, R: Wait + Sync>(
-        &mut self,
-        rt: &R,
-        alloc: Global,
-        table: &OpTable<Item>,
-        stepper: &T,
-    ) -> u32
+    pub fn poll<T: Stepper, R: Wait + Sync>(&mut self, site: &Site<R, T>) -> u32
         requires sync { IsSync R.row }
-        requires ready { IsReady table.now self.old }
-        requires over { IsOver table.now (T.plan stepper.now) }
-        requires kinds { IsRunnable (T.plan stepper.now) }
-        ensures ready { IsReady table.now self.new }
+        requires ready { IsReady site.now self.old }
+        requires site { IsSite site.now }
+        ensures ready { IsReady site.now self.new }
         ensures same { IsSameHand self.old.hand self.new.hand }
         ensures counts { KeepsCounts self.old self.new }
         ensures aside { KeepsAside self.old.hand.me self.new.hand.me }
-        ensures served { TakesSoMany (T.does stepper.now) table.now result self.old self.new }
-        ensures met { MeetsAll (T.does stepper.now) table.now self.old self.new }
-        ensures turn { HasTurned table.now result self.old self.new }
-        ensures none { result ≡ 0 → MissesAll table.now self.old self.new }
+        ensures served { TakesSoMany T.does site.now result self.old self.new }
+        ensures met { MeetsAll T.does site.now self.old self.new }
+        ensures turn { HasTurned site.now result self.old self.new }
+        ensures none { result ≡ 0 → MissesAll site.now self.old self.new }
         ensures deck { KeepsDeck (deck_of self.old) (deck_of self.new) }
     {
-        let taken = self.poll_names(rt, alloc, table, stepper);
+        let taken = self.poll_names(site);
         serve_delays(
-            rt,
-            alloc,
-            table,
+            site,
             &mut self.hand,
-            stepper,
             &mut self.names,
             &mut self.delays,
             &self.delay_nodes,
@@ -218,39 +189,24 @@ impl Loop {
     /// that it is ready, those of `take`; and those of the steps of its nodes.
     /// Needs: the loop is ready. The table is over the stepper's plan, whose kinds match.
     /// Afterwards: the loop is ready. Its operations are as before.
-    pub fn turn<T: Stepper, R: Wait + Sync>(
-        &mut self,
-        rt: &R,
-        alloc: Global,
-        table: &OpTable<Item>,
-        stepper: &T,
-    ) -> u32
+    pub fn turn<T: Stepper, R: Wait + Sync>(&mut self, site: &Site<R, T>) -> u32
         requires sync { IsSync R.row }
-        requires ready { IsReady table.now self.old }
-        requires over { IsOver table.now (T.plan stepper.now) }
-        requires kinds { IsRunnable (T.plan stepper.now) }
-        ensures ready { IsReady table.now self.new }
+        requires ready { IsReady site.now self.old }
+        requires site { IsSite site.now }
+        ensures ready { IsReady site.now self.new }
         ensures same { IsSameHand self.old.hand self.new.hand }
         ensures counts { KeepsCounts self.old self.new }
         ensures aside { KeepsAside self.old.hand.me self.new.hand.me }
-        ensures served { TakesSoMany (T.does stepper.now) table.now result self.old self.new }
-        ensures met { MeetsAll (T.does stepper.now) table.now self.old self.new }
-        ensures turn { HasTurned table.now result self.old self.new }
-        ensures none { result ≡ 0 → FindsNothing table.now self.old self.new }
+        ensures served { TakesSoMany T.does site.now result self.old self.new }
+        ensures met { MeetsAll T.does site.now self.old self.new }
+        ensures turn { HasTurned site.now result self.old self.new }
+        ensures none { result ≡ 0 → FindsNothing site.now self.old self.new }
         ensures deck { KeepsDeck (deck_of self.old) (deck_of self.new) }
     {
-        let taken = self.poll(rt, alloc, table, stepper);
+        let taken = self.poll(site);
         if taken > 0 {
             return taken;
         }
-        scan_blocks(
-            rt,
-            alloc,
-            table,
-            &mut self.hand,
-            stepper,
-            &mut self.names,
-            self.helps,
-        )
+        scan_blocks(site, &mut self.hand, &mut self.names, self.helps)
     }
 }

@@ -1,20 +1,18 @@
 //! How one operation is run and waited for ([exec.sync.wait]).
 ghost use Rattle.std.specs.Prelude.{◌≡◌};
 ghost use Rattle.std.specs.Thread.{IsSync};
-ghost use Rattle.plan_kinds.specs.Runnable.{IsRunnable};
 ghost use Rattle.table_steps.specs.Views.{IsSameHand};
 ghost use Rattle.deck_relay.specs.SameDecks.{KeepsDeck};
-ghost use Rattle.exec_recv.specs.Over.{IsOver};
 ghost use Rattle.run_loop.specs.Loops.{IsReady, deck_of};
-ghost use Rattle.loop_roots.specs.Starts.{CanRun};
-ghost use Rattle.loop_roots.specs.Completes.{IsListed};
+ghost use Rattle.node_walks.specs.Starts.{CanRun};
+ghost use Rattle.node_walks.specs.Completes.{IsListed};
 ghost use Rattle.run_loop.specs.Waits.{IsCollected, Waits};
+ghost use Rattle.exec_recv.specs.Sites.{IsSite};
 
 use crate::looped::Loop;
-use exec_recv::{Env, Item, Stepper};
-use loop_roots::Collected;
-use op_slot::{Block, OpTable};
-use std::alloc::Global;
+use exec_recv::{Env, Site, Stepper};
+use node_walks::Collected;
+use op_slot::Block;
 use std::sync::Wait;
 
 /// What waiting for one operation came to.
@@ -30,27 +28,23 @@ impl Loop {
     // Turns until the operation in the block can be collected.
     fn turn_until<T: Stepper, R: Wait + Sync>(
         &mut self,
-        rt: &R,
-        alloc: Global,
-        table: &OpTable<Item>,
-        stepper: &T,
+        site: &Site<R, T>,
         block: Block,
     ) -> Collected
         requires sync { IsSync R.row }
-        requires ready { IsReady table.now self.old }
-        requires over { IsOver table.now (T.plan stepper.now) }
-        requires kinds { IsRunnable (T.plan stepper.now) }
-        requires listed { IsListed table.now block self.old.hand.me }
-        ensures ready { IsReady table.now self.new }
+        requires ready { IsReady site.now self.old }
+        requires site { IsSite site.now }
+        requires listed { IsListed site.now block self.old.hand.me }
+        ensures ready { IsReady site.now self.new }
         ensures same { IsSameHand self.old.hand self.new.hand }
-        ensures collected { IsCollected table.now block self.old self.new result }
+        ensures collected { IsCollected site.now block self.old self.new result }
         ensures deck { KeepsDeck (deck_of self.old) (deck_of self.new) }
     {
-        for _ in rt.forever() {
-            if let Some(collected) = self.collect(rt, table, block, stepper) {
+        for _ in site.rt.forever() {
+            if let Some(collected) = self.collect(site.table, block, site.gate) {
                 return collected;
             }
-            let taken = self.turn(rt, alloc, table, stepper);
+            let taken = self.turn(site);
             self.give_way(taken);
         }
         unreachable!()
@@ -66,26 +60,18 @@ impl Loop {
     /// with is want of memory, or allowed for the start that the environment shows, and is of its
     /// number; it saw a stop request only where the scope's stood. It stands in the tally, as an
     /// operation of this table and of its plan.
-    pub fn sync_wait<T: Stepper, R: Wait + Sync>(
-        &mut self,
-        rt: &R,
-        alloc: Global,
-        table: &OpTable<Item>,
-        stepper: &T,
-        env: Env,
-    ) -> Waited
+    pub fn sync_wait<T: Stepper, R: Wait + Sync>(&mut self, site: &Site<R, T>, env: Env) -> Waited
         requires sync { IsSync R.row }
-        requires ready { IsReady table.now self.old }
-        requires over { IsOver table.now (T.plan stepper.now) }
-        requires kinds { IsRunnable (T.plan stepper.now) }
-        requires start { CanRun table.now env }
-        ensures ready { IsReady table.now self.new }
+        requires ready { IsReady site.now self.old }
+        requires site { IsSite site.now }
+        requires start { CanRun site.now env }
+        ensures ready { IsReady site.now self.new }
         ensures same { IsSameHand self.old.hand self.new.hand }
-        ensures waits { Waits table.now env self.old self.new result }
+        ensures waits { Waits site.now env self.old self.new result }
         ensures deck { KeepsDeck (deck_of self.old) (deck_of self.new) }
     {
-        match self.start(rt, alloc, table, stepper, env) {
-            Ok(block) => Waited::Completed(self.turn_until(rt, alloc, table, stepper, block)),
+        match self.start(site, env) {
+            Ok(block) => Waited::Completed(self.turn_until(site, block)),
             Err(env) => Waited::NoBlock(env),
         }
     }

@@ -2,7 +2,7 @@
 ghost use Rattle.std.specs.Thread.{IsSync};
 ghost use Rattle.run_workers.specs.Crews.{CanServe, GivesBack};
 
-use exec_recv::{Item, Stepper};
+use exec_recv::{Item, Site, Stepper};
 use op_slot::{Hand, OpTable};
 use pool_backends::{Backend, Order};
 use std::alloc::Global;
@@ -42,15 +42,16 @@ pub(crate) fn serve<T: Stepper, R: Wait + Sync>(
     requires serve { CanServe table.now (T.plan stepper.now) hand }
     ensures { GivesBack table.now hand desk result.0 result.1 }
 {
+    let site = Site::of(rt, alloc, table, stepper);
     match desk {
         None => {
             let mut worker = Worker::new(hand, backend, order);
-            worker.serve(rt, alloc, table, stepper);
+            worker.serve(&site);
             (worker.into_hand(), None)
         }
         Some(Desk { deck, post }) => {
             let mut worker = Worker::with_deck(hand, backend, order, deck, post);
-            worker.serve(rt, alloc, table, stepper);
+            worker.serve(&site);
             let (hand, deck, post) = worker.into_parts();
             (hand, Some(Desk { deck, post }))
         }

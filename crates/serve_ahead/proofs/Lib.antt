@@ -1,3 +1,4 @@
 pub mod AtHand
-pub mod Spawning
 pub mod Both
+pub mod Spawning
+pub mod Found

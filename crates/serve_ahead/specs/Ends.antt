@@ -1,47 +1,63 @@
 -- How an `ahead` goes on from what a hand has of it.
-use Rattle.std.specs.Prelude.{◌⊎◌, List, Option}
+use Rattle.std.specs.Prelude.{◌⊎◌, ℕ, Bool}
 use Rattle.exec_value.specs.declared.outcome.Completion.{Completion}
 use Rattle.exec_value.specs.declared.outcome.Completion.TheVariants.{NoMemory}
 use Rattle.life_rules.specs.declared.event.Resting.TheVariants.{Parked}
 use Rattle.plan_rules.specs.Settle.{ahead_of}
 use Rattle.plan_shape.specs.Blueprint.{Blueprint}
-use Rattle.table_steps.specs.Views.{Board}
-use Rattle.table_steps.specs.Claims.{Seated}
-use Rattle.home_items.specs.declared.entry.Entry.{Entry}
-use Rattle.home_items.specs.declared.item.Item.{Item}
+use Rattle.table_steps.specs.Views.{Board, Stays}
 use Rattle.home_items.specs.Parcels.{Delivery}
 use Rattle.exec_recv.specs.declared.next.Next.{Next}
 use Rattle.exec_recv.specs.Asides.{KeepsAside}
-use Rattle.step_parts.specs.Completes.{CompletesWith}
-use Rattle.step_parts.specs.Leaves.{IsLeftAt}
-use Rattle.step_parts.specs.Starts.{ReadsAndStarts}
-use Rattle.loop_roots.specs.declared.completing.Ended.{Ended}
-use Rattle.serve_ahead.specs.declared.taking.AheadAt.{AheadAt}
+use Rattle.exec_recv.specs.Seats.{HandSeat}
+use Rattle.step_parts.specs.Completes.{Completes}
+use Rattle.step_parts.specs.Heard.{Looked}
+use Rattle.step_parts.specs.Leaves.{LeavesAt}
+use Rattle.step_parts.specs.Starts.{StartsAgain}
+use Rattle.step_parts.specs.Stepping.{Stepping}
+use Rattle.step_parts.specs.Takes.{Keeps}
+use Rattle.node_walks.specs.declared.completing.Ended.{Ended}
+use Rattle.node_walks.specs.Resting.{IsAtRest}
+use Rattle.serve_ahead.specs.declared.taking.Served.{Served}
 
-module _ (board : Board Blueprint) (at : AheadAt) where
-  -- It was left parked, with its start and what its second child completed with, where it has; and
-  -- the hand went on.
-  pub record IsPutBack (start : List Entry) (kept : Option Delivery) (m m' : Seated Item Entry) :
-      Type 0 where
-    pub left : Seated Item Entry
-    pub parked : IsLeftAt board at.name start kept Parked m left
-    pub after : KeepsAside left m'
+-- The hand is at rest. All else that its view says is as before, but for requests that it has seen
+-- and the list of its steps.
+pub record RestsAfter (board : Board Blueprint) (old new : HandSeat) : Type 0 where
+  pub stays : Stays board old new
+  pub rests : IsAtRest new.me.0
+  pub aside : KeepsAside old.me new.me
 
+-- It was left parked, with what its second child completed with, where it has; and the hand went
+-- on.
+pub record PutsBack (board : Board Blueprint) (served : Served) (old new : HandSeat) : Type 0 where
+  pub next : Next
+  pub left : HandSeat
+  pub parks : LeavesAt board served.taken served.second Parked next old left
+  pub after : KeepsAside left.me new.me
+
+module _ (board : Board Blueprint) (t : Stepping) where
   -- Its second child was started where that hadn't begun, and the hand went on.
-  pub record BeginsSecond (start : List Entry) (m m' : Seated Item Entry) : Type 0 where
+  pub record BeginsSecond (second : ℕ) (old new : HandSeat) : Type 0 where
     pub next : Next
-    pub begun : Seated Item Entry
-    pub reads : ReadsAndStarts board at.name start at.second next m begun
-    pub after : KeepsAside begun m'
+    pub begun : HandSeat
+    pub starts : StartsAgain board t second next old begun
+    pub after : KeepsAside begun.me new.me
 
   -- It completed with this, and the hand went on.
-  pub record IsDone (done : Completion) (m' : Seated Item Entry) : Type 0 where
+  pub record Serves (done : Completion) (old new : HandSeat) : Type 0 where
+    pub saw : Bool
     pub next : Next
-    pub completed : Seated Item Entry
-    pub completes : CompletesWith board at.name done next completed
-    pub after : KeepsAside completed m'
+    pub completed : HandSeat
+    pub completes : Completes board t done saw next old completed
+    pub after : KeepsAside completed.me new.me
 
-  -- It completed with what both came to; or with want of memory.
-  abbrev pub Joins : Delivery → Ended → Seated Item Entry → Type 0
-  Joins parcel ended m' =
-      IsDone (ahead_of ended.collected.completion parcel.completion) m' ⊎ IsDone NoMemory m'
+  -- It looked whether a request was made, and then at its arguments; and it completed with what
+  -- both came to, or with want of memory.
+  pub record Joins (parcel : Delivery) (ended : Ended) (old new : HandSeat) : Type 0 where
+    pub heard : Bool
+    pub looked : HandSeat
+    pub looks : Looked board t.name heard old.me looked.me
+    pub middle : HandSeat
+    pub keeps : Keeps board t looked middle
+    pub how : Serves (ahead_of ended.collected.completion parcel.completion) middle new
+        ⊎ Serves NoMemory middle new

@@ -4,4 +4,4 @@ pub mod Ends
 -- the definitions that the public contracts cite
 pub use Rattle.table_steps.specs.Views
 pub use Rattle.exec_recv.specs.Over
-pub use Rattle.loop_walk.specs.Resting
+pub use Rattle.node_walks.specs.Resting

@@ -1,59 +1,61 @@
 -- What a hand has of an `ahead` that it took where that was parked.
-use Rattle.std.specs.Prelude.{◌≡◌, List, Option, Some, IfSome, slice_get}
+use Rattle.std.specs.Prelude.{◌≡◌, ℕ, Option, Some, None, IfSome}
+use Rattle.life_rules.specs.declared.event.Name.{Name}
 use Rattle.life_rules.specs.declared.event.Resting.TheVariants.{Parked}
 use Rattle.plan_rules.specs.declared.node.Node.TheVariants.{Ahead}
 use Rattle.plan_shape.specs.Blueprint.{Blueprint}
-use Rattle.table_steps.specs.Views.{Board}
-use Rattle.table_steps.specs.Claims.{Seated}
 use Rattle.table_steps.specs.Steps.{control_index}
+use Rattle.table_steps.specs.Views.{Board, Stays}
+use Rattle.table_steps.specs.Claims.{Seated}
 use Rattle.home_items.specs.declared.entry.Entry.{Entry}
 use Rattle.home_items.specs.declared.item.Item.{Item}
+use Rattle.home_items.specs.Contents.{Done}
+use Rattle.home_items.specs.Items.{parcel_in}
 use Rattle.home_items.specs.Parcels.{Delivery}
 use Rattle.exec_recv.specs.Asides.{KeepsAside}
+use Rattle.exec_recv.specs.Seats.{HandSeat}
+use Rattle.exec_recv.specs.Sites.{node_at}
 use Rattle.exec_recv.specs.Steppable.{CanStep}
-use Rattle.start_laws.specs.Nodes.{IsStartOf}
-use Rattle.step_parts.specs.Midway.{Ready, KeepsOthers}
-use Rattle.step_parts.specs.TakenOut.{newest_in}
-use Rattle.exec_ahead.specs.Openings.{HasParcel}
-use Rattle.loop_walk.specs.Resting.{IsAtRest, CanGoOn}
+use Rattle.step_parts.specs.Stepping.{Stepping}
+use Rattle.step_parts.specs.Takes.{HasParcel, IsTaken}
+use Rattle.node_walks.specs.Resting.{IsAtRest, CanGoOn}
 use Rattle.exec_recv.specs.Since.{HasMovedSince}
-use Rattle.loop_serve.specs.Since.{OnlyLooks}
-use Rattle.loop_serve.specs.Serving.{TakesWord, WasMissed}
+use Rattle.node_walks.specs.Since.{OnlyLooks}
+use Rattle.node_walks.specs.Serving.{TakesWord, WasMissed}
 use Rattle.serve_ahead.specs.declared.taking.AheadAt.{AheadAt}
-use Rattle.serve_ahead.specs.declared.taking.TakenUp.{TakenUp}
+use Rattle.serve_ahead.specs.declared.taking.Served.{Served}
 
 -- The plan has this `ahead`, with these children.
-abbrev pub IsAheadIn : Blueprint → AheadAt → Type 0
-IsAheadIn plan at = slice_get plan.nodes at.name.node ≡ Some (Ahead at.first at.second)
+abbrev pub IsAheadIn : Board Blueprint → AheadAt → Type 0
+IsAheadIn board at = node_at board at.name ≡ Some (Ahead at.first at.second)
+
+-- With this the second child of x has completed: it lay in the child's home, or else in that of x.
+pub record FindsSecond (board : Board Blueprint) (x : Name) (second : ℕ) (found : Option Delivery)
+    (m : Seated Item Entry) : Type 0 where
+  pub keeps : (can : CanStep board x m) → can.kid second ≡ None → parcel_in can.item ≡ found
+  pub back : (can : CanStep board x m) (parcel : Delivery) → can.kid second ≡ Some (Done parcel) →
+      found ≡ Some parcel
+
+-- The hand has taken up the `ahead`, with which it could go on, and emptied the home of its second
+-- child. It has this parcel of that child, or none, and nothing besides.
+pub record HasAtHand (board : Board Blueprint) (at : AheadAt) (t : Stepping)
+    (second : Option Delivery) (hand : HandSeat) : Type 0 where
+  pub name_is : t.name ≡ at.name
+  pub ahead : IsAheadIn board at
+  pub could : CanGoOn board t.name t.from.me
+  pub taken : IsTaken board t hand
+  pub parcel : IfSome second (HasParcel board t hand.me)
 
 module _ (board : Board Blueprint) (at : AheadAt) where
-  -- With this its second child has completed: it lay in the child's home, or else in the node's.
-  abbrev pub FindsSecond : Option Delivery → Seated Item Entry → Type 0
-  FindsSecond kept m =
-      (can : CanStep board at.name m) → newest_in (can.kid at.second) can.item ≡ kept
-
-  -- The hand has emptied the homes of the `ahead` and of its second child: it has the start, and
-  -- with it a parcel of that child, or none.
-  pub record OpensAhead (start : List Entry) (kept : Option Delivery) (m m' : Seated Item Entry) :
-      Type 0 where
-    pub beside : KeepsOthers board at.name m m'
-    pub of : IsStartOf start (Ahead at.first at.second)
-    pub ready : Ready board at.name start 0 m'
-    pub parcel : IfSome kept (HasParcel board at.name start m')
-
-  -- So it did when it could go on with the `ahead`, and it has nothing besides.
-  pub record HasAtHand (start : List Entry) (kept : Option Delivery) (m : Seated Item Entry) :
-      Type 0 where
-    pub before : Seated Item Entry
-    pub can : CanGoOn board at.name before
-    pub opens : OpensAhead start kept before m
-
   -- It took the `ahead` by a step on its word, which said that it is parked.
-  pub record TakesAhead (m m' : Seated Item Entry) (taken : TakenUp) : Type 0 where
-    pub has : HasAtHand taken.env taken.second m'
-    pub finds : FindsSecond taken.second has.before
-    pub aside : KeepsAside m m'
-    pub moved : HasMovedSince (control_index board at.name) (TakesWord Parked at.name) m m'
+  pub record TakesAhead (old new : HandSeat) (served : Served) : Type 0 where
+    pub has : HasAtHand board at served.taken served.second new
+    pub finds : FindsSecond board at.name at.second served.second served.taken.from.me
+    pub stays : Stays board old served.taken.from
+    pub before : KeepsAside old.me served.taken.from.me
+    pub aside : KeepsAside old.me new.me
+    pub moved : HasMovedSince (control_index board at.name) (TakesWord Parked at.name)
+        old.me new.me
 
   -- Its word was read, and didn't say so, and no word was moved.
   pub record MissesAhead (m m' : Seated Item Entry) : Type 0 where

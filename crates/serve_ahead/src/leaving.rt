@@ -1,87 +1,60 @@
 //! How an `ahead` that is at hand goes on later.
-ghost use Rattle.std.specs.Prelude.{◌≡◌, None};
+ghost use Rattle.std.specs.Prelude.{None};
 ghost use Rattle.std.specs.Thread.{IsSync};
-ghost use Rattle.plan_kinds.specs.Runnable.{IsRunnable};
-ghost use Rattle.table_steps.specs.Views.{IsHandOf, Stays, knows};
-ghost use Rattle.exec_recv.specs.Asides.{KeepsAside};
-ghost use Rattle.exec_recv.specs.Over.{IsOver};
-ghost use Rattle.loop_walk.specs.Resting.{IsAtRest};
 ghost use Rattle.serve_ahead.specs.Takes.{HasAtHand};
-ghost use Rattle.serve_ahead.specs.Ends.{IsPutBack, BeginsSecond};
+ghost use Rattle.serve_ahead.specs.Ends.{PutsBack, BeginsSecond, RestsAfter};
 
-use crate::taking::{AheadAt, TakenUp};
-use exec_recv::{Env, Item, Stepper};
-use loop_walk::{Mail, go_after};
-use op_slot::{Hand, OpTable};
-use plan_shape::Plan;
-use std::alloc::Global;
+use crate::taking::{AheadAt, Served};
+use exec_recv::{Item, Site, Stepper};
+use node_walks::{Mail, go_after};
+use op_slot::Hand;
 use std::sync::Wait;
-use step_parts::{leave_parked, start_unbegun_child};
+use step_parts::{Taken, leave_parked, start_again};
 
 /// Parks the `ahead` again, with what the hand has of it.
 ///
 /// Step: those of `leave_parked`, and of `go_after`.
-/// Needs: the table is over the stepper's plan, whose kinds match. The hand has the `ahead` at
-/// hand, and nothing besides. Afterwards: the hand is at rest. All else that its view says is as
-/// before, but for requests that it has seen and the list of its steps.
+/// Needs: the hand has the `ahead` at hand, and nothing besides.
+/// Afterwards: the hand is at rest. All else that its view says is as it was when the hand took up
+/// the `ahead`, but for requests that it has seen and the list of its steps.
 pub fn put_back<T: Stepper, M: Mail, R: Wait + Sync>(
-    rt: &R,
-    alloc: Global,
-    table: &OpTable<Item>,
+    site: &Site<R, T>,
     hand: &mut Hand<Item>,
-    stepper: &T,
     at: AheadAt,
-    taken: TakenUp,
+    served: Served,
     mail: &mut M,
 )
     requires sync { IsSync R.row }
-    requires hand { IsHandOf table.now hand.old }
-    requires over { IsOver table.now (T.plan stepper.now) }
-    requires kinds { IsRunnable (T.plan stepper.now) }
-    requires has { HasAtHand table.now at taken.env taken.second hand.old.me }
-    ensures stays { Stays table.now hand.old hand.new }
-    ensures rests { IsAtRest (knows hand.new) }
-    ensures aside { KeepsAside hand.old.me hand.new.me }
+    requires has { HasAtHand site.now at served.taken served.second hand.old }
+    ensures back { PutsBack site.now served hand.old hand.new }
     ensures mail { M.keeps mail.old mail.new }
-    ensures back { IsPutBack table.now at taken.env taken.second hand.old.me hand.new.me }
+    ensures rests { RestsAfter site.now served.taken.from hand.new }
 {
-    let TakenUp { env, second } = taken;
-    let next = leave_parked(table, hand, at.name, env, second);
-    go_after(rt, alloc, table, hand, stepper, at.name, next, mail);
+    let Served { taken, second } = served;
+    let next = leave_parked(site, hand, taken, second);
+    go_after(site, hand, at.name, next, mail);
 }
 
 /// Starts the second child of the `ahead`, with the arguments of the `ahead`. Where it has begun,
 /// which doesn't come, the `ahead` goes on later; where there is no memory for it, the `ahead`
 /// completes so.
 ///
-/// Step: those of `start_unbegun_child`, and of `go_after`.
+/// Step: those of `start_again`, and of `go_after`.
 /// Needs, Afterwards: as `put_back`.
 pub fn begin_second<T: Stepper, M: Mail, R: Wait + Sync>(
-    rt: &R,
-    alloc: Global,
-    plan: &Plan,
-    table: &OpTable<Item>,
+    site: &Site<R, T>,
     hand: &mut Hand<Item>,
-    stepper: &T,
     at: AheadAt,
-    env: Env,
+    taken: Taken,
     mail: &mut M,
 )
     requires sync { IsSync R.row }
-    requires hand { IsHandOf table.now hand.old }
-    requires over { IsOver table.now (T.plan stepper.now) }
-    requires plan { plan.now ≡ T.plan stepper.now }
-    requires kinds { IsRunnable (T.plan stepper.now) }
-    requires has { HasAtHand table.now at env None hand.old.me }
-    ensures stays { Stays table.now hand.old hand.new }
-    ensures rests { IsAtRest (knows hand.new) }
-    ensures aside { KeepsAside hand.old.me hand.new.me }
+    requires has { HasAtHand site.now at taken None hand.old }
+    ensures begins { BeginsSecond site.now taken at.second hand.old hand.new }
     ensures mail { M.keeps mail.old mail.new }
-    ensures begins { BeginsSecond table.now at env hand.old.me hand.new.me }
+    ensures rests { RestsAfter site.now taken.from hand.new }
 {
-    let asked = env.asked();
-    let next = start_unbegun_child(
-        rt, alloc, plan, table, hand, at.name, env, at.second, asked, stepper,
-    );
-    go_after(rt, alloc, table, hand, stepper, at.name, next, mail);
+    let asked = taken.asked();
+    let next = start_again(site, hand, taken, at.second, asked);
+    go_after(site, hand, at.name, next, mail);
 }

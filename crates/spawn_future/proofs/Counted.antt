@@ -20,7 +20,7 @@ use Rattle.home_items.specs.declared.entry.Entry.{Entry}
 use Rattle.home_items.specs.declared.item.Item.{Item}
 use Rattle.exec_recv.specs.Asides.{Aside, aside_of, KeepsAside}
 use Rattle.exec_recv.proofs.Asiding.{aside-here}
-use Rattle.loop_roots.specs.declared.completing.Ended.{Ended}
+use Rattle.node_walks.specs.declared.completing.Ended.{Ended}
 use Rattle.spawn_future.specs.declared.future.Future.{Future}
 use Rattle.spawn_future.specs.Counts.{beside_blocks, IsOfNoFuture, notes_of, futures_of, KeepsNotes, BeginsAndEnds}
 use Rattle.spawn_future.specs.Keeping.{root_of, AreKept, Enters, Ends}

@@ -16,14 +16,14 @@ use Rattle.op_slot.proofs.Searching.{missed-from_same}
 use Rattle.home_items.specs.declared.entry.Entry.{Entry}
 use Rattle.home_items.specs.declared.item.Item.{Item}
 use Rattle.exec_recv.specs.Asides.{Aside, aside_of}
-use Rattle.loop_roots.specs.Emptied.{with_released}
-use Rattle.loop_roots.specs.Leaves.{LeavesAside}
-use Rattle.loop_roots.specs.Starts.{BeginsRoot, with_started}
-use Rattle.loop_roots.proofs.Claimed.{missed-grows}
-use Rattle.loop_roots.proofs.Growing.{grows-on, leaves-grows, leaves-with}
-use Rattle.loop_roots.specs.Completes.{EndsRoot}
+use Rattle.node_walks.specs.Emptied.{with_released}
+use Rattle.node_walks.specs.Leaves.{LeavesAside}
+use Rattle.node_walks.specs.Starts.{BeginsRoot, with_started}
+use Rattle.node_walks.proofs.Claimed.{missed-grows}
+use Rattle.node_walks.proofs.Growing.{grows-on, leaves-grows, leaves-with}
+use Rattle.node_walks.specs.Completes.{EndsRoot}
 use Rattle.spawn_future.specs.Keeping.{block_root, Enters, Ends}
-use Rattle.loop_roots.specs.declared.completing.Ended.{Ended}
+use Rattle.node_walks.specs.declared.completing.Ended.{Ended}
 use Rattle.spawn_future.proofs.Moved.{Moves, moved-leaves}
 
 abbrev with_made : ℕ → Aside → Aside

@@ -19,9 +19,9 @@ use Rattle.home_items.specs.declared.entry.Entry.{Entry}
 use Rattle.home_items.specs.declared.item.Item.{Item}
 use Rattle.home_items.specs.Starts.{IsReceiverStart}
 use Rattle.exec_recv.specs.Asides.{Aside, aside_of}
-use Rattle.loop_walk.specs.Resting.{IsAtRest}
-use Rattle.loop_roots.specs.Completes.{IsListed}
-use Rattle.loop_roots.specs.Leaves.{LeavesAside}
+use Rattle.node_walks.specs.Resting.{IsAtRest}
+use Rattle.node_walks.specs.Completes.{IsListed}
+use Rattle.node_walks.specs.Leaves.{LeavesAside}
 use Rattle.spawn_future.specs.declared.future.Future.{Future}
 use Rattle.spawn_future.specs.Keeping.{block_root, root_of, AreKept, IsKeeping, with_ended, Enters}
 use Rattle.spawn_future.specs.Slots.{Has, HasBlock}

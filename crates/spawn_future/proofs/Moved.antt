@@ -17,8 +17,8 @@ use Rattle.table_steps.specs.ScopeEntries.{MayEnter}
 use Rattle.home_items.specs.declared.entry.Entry.{Entry}
 use Rattle.home_items.specs.declared.item.Item.{Item}
 use Rattle.exec_recv.specs.Asides.{aside_of}
-use Rattle.loop_walk.specs.Resting.{IsAtRest}
-use Rattle.loop_roots.specs.Leaves.{LeavesAside}
+use Rattle.node_walks.specs.Resting.{IsAtRest}
+use Rattle.node_walks.specs.Leaves.{LeavesAside}
 
 -- the hand has so many associations now, and made these steps
 pub record Moves (made : ℕ) (m m' : Seated Item Entry) : Type 0 where

@@ -5,7 +5,6 @@ use Rattle.std.specs.Prelude.{◌⊎◌, Option, Some, None}
 use Rattle.atomic_table.specs.declared.shared.Seat.{Seat}
 use Rattle.life_rules.specs.declared.event.Name.{Name}
 use Rattle.plan_shape.specs.Blueprint.{Blueprint}
-use Rattle.plan_kinds.specs.TreeLaws.{IsSpawned}
 use Rattle.table_rules.specs.declared.view.View.{View}
 use Rattle.table_steps.specs.declared.block.Block.{Block}
 use Rattle.table_steps.specs.Claims.{Seated}
@@ -13,14 +12,18 @@ use Rattle.table_steps.specs.Views.{Board, IsHandOf}
 use Rattle.home_items.specs.declared.entry.Entry.{Entry}
 use Rattle.home_items.specs.declared.item.Item.{Item}
 use Rattle.exec_recv.specs.Asides.{Aside, aside_of, KeepsAside}
-use Rattle.exec_recv.proofs.Asiding.{aside-here}
-use Rattle.loop_walk.specs.Resting.{IsAtRest}
-use Rattle.loop_roots.specs.declared.completing.Ended.{Ended}
-use Rattle.loop_roots.specs.Completes.{IsListed, MayCollect}
-use Rattle.loop_roots.specs.Leaves.{LeavesAside}
+use Rattle.exec_recv.specs.Seats.{HandSeat}
+use Rattle.exec_recv.proofs.Asiding.{aside-here, aside-on}
+use Rattle.op_slot.proofs.Staying.{stays-on}
+use Rattle.node_walks.specs.Resting.{IsAtRest}
+use Rattle.node_walks.specs.declared.completing.Ended.{Ended}
+use Rattle.node_walks.specs.Completes.{IsListed, MayCollect}
+use Rattle.node_walks.specs.Leaves.{LeavesAside}
 use Rattle.serve_ahead.specs.declared.taking.AheadAt.{AheadAt}
+use Rattle.serve_ahead.specs.declared.taking.Served.{Served}
+use Rattle.serve_ahead.specs.Ends.{RestsAfter}
 use Rattle.serve_ahead.specs.Spawned.{IsOperation}
-use Rattle.serve_ahead.specs.Takes.{IsAheadIn}
+use Rattle.serve_ahead.specs.Takes.{TakesAhead}
 use Rattle.spawn_future.specs.declared.future.Future.{Future}
 use Rattle.spawn_future.specs.declared.spawning.SpawnFault.{SpawnFault}
 use Rattle.spawn_future.specs.declared.spawning.SpawnFault.TheVariants.{Full, Scope, NoBlock}
@@ -40,10 +43,6 @@ aside-leaves m m' keeps = record { is = keeps.same; fresh = keeps.fresh; grown =
 
 pub leaves-aside : (m m' : Seated Item Entry) → LeavesAside (aside_of m.0) m m' → KeepsAside m m'
 leaves-aside m m' leaves = record { same = leaves.is; fresh = leaves.fresh; grown = leaves.grown; sees = leaves.sees }
-
--- the first child of an `ahead` is spawned
-pub first-spawned : (plan : Blueprint) (at : AheadAt) → IsAheadIn plan at → IsSpawned plan.nodes at.first
-first-spawned plan at node = record { ahead = at.name.node; second = at.second; node = node }
 
 module _ (board : Board Blueprint) (slots : List (Option Future)) (old new : Seat (Option Item) (View Item Entry)) where
   -- a hand at rest, before and after calls that leave the rest
@@ -69,6 +68,20 @@ module _ (board : Board Blueprint) (slots : List (Option Future)) (old new : Sea
     settled = ap (λ (a : Aside). a.making + a.refused) keeps.same ∙ holds.settled;
     keeps = kept-same board slots old.me new.me holds.keeps keeps.same;
   }
+
+-- an `ahead` was taken, and then the hand went on until it was at rest
+module _ (board : Board Blueprint) (at : AheadAt) (served : Served) (old held : HandSeat) where
+  pub took-rests : (new : HandSeat) → TakesAhead board at old held served → RestsAfter board served.taken.from new → RestsAfter board old new
+  took-rests new took after =
+      record {
+        stays = stays-on board old served.taken.from new took.stays after.stays;
+        rests = after.rests;
+        aside = aside-on old.me served.taken.from.me new.me took.before after.aside;
+      }
+
+pub taken-keeping : (board : Board Blueprint) (slots : List (Option Future)) (at : AheadAt) (served : Served) (old held : HandSeat) →
+    IsKeeping board slots old → TakesAhead board at old held served → KeepsAtHand board slots served.taken.from
+taken-keeping board slots at served old held keeping took = keeping-holds board slots old served.taken.from keeping took.stays.hand took.before
 
 -- an operation that was ended is one over the table's plan
 pub ended-operation : (board : Board Blueprint) (slots : List (Option Future)) (t : ℕ) (b : Block) (m m' : Seated Item Entry) (ended : Ended) →

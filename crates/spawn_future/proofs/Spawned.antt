@@ -15,16 +15,16 @@ use Rattle.home_items.specs.declared.entry.Entry.{Entry}
 use Rattle.home_items.specs.declared.item.Item.{Item}
 use Rattle.home_items.specs.Starts.{IsReceiverStart}
 use Rattle.exec_recv.specs.Asides.{Aside, aside_of}
-use Rattle.loop_walk.specs.Resting.{IsAtRest}
-use Rattle.loop_roots.specs.declared.completing.Ended.{Ended}
-use Rattle.loop_roots.specs.Emptied.{WasNotReady}
-use Rattle.loop_roots.specs.Leaves.{LeavesAside}
-use Rattle.loop_roots.proofs.Unready.{unready-leaves}
+use Rattle.node_walks.specs.Resting.{IsAtRest}
+use Rattle.node_walks.specs.declared.completing.Ended.{Ended}
+use Rattle.node_walks.specs.Emptied.{WasNotReady}
+use Rattle.node_walks.specs.Leaves.{LeavesAside}
+use Rattle.node_walks.proofs.Unready.{unready-leaves}
 use Rattle.spawn_future.specs.declared.future.Future.{Future}
 use Rattle.spawn_future.specs.declared.slots.Found.{Found}
 use Rattle.spawn_future.specs.declared.spawning.SpawnFault.{SpawnFault}
 use Rattle.spawn_future.specs.declared.spawning.SpawnFault.TheVariants.{Full, Scope, NoBlock}
-use Rattle.loop_roots.specs.Completes.{EndsRoot}
+use Rattle.node_walks.specs.Completes.{EndsRoot}
 use Rattle.spawn_future.specs.Keeping.{AreKept, IsKeeping, KeepsOn, Enters, Ends}
 use Rattle.spawn_future.specs.Polls.{Abandons}
 use Rattle.spawn_future.specs.Slots.{Has, HasBlock, HasRoom, IsFoundAt, IsMarkedAt, is_waited, AreSlots}

@@ -22,7 +22,7 @@ use Rattle.table_steps.specs.Claims.{Seated}
 use Rattle.home_items.specs.declared.entry.Entry.{Entry}
 use Rattle.home_items.specs.declared.item.Item.{Item}
 use Rattle.exec_recv.specs.Asides.{Aside, aside_of}
-use Rattle.loop_roots.specs.declared.completing.Ended.{Ended}
+use Rattle.node_walks.specs.declared.completing.Ended.{Ended}
 use Rattle.exec_recv.specs.Since.{HasReadSince}
 use Rattle.spawn_future.specs.declared.future.Future.{Future}
 use Rattle.spawn_future.specs.Keeping.{block_root, root_of, AreKept}

@@ -24,16 +24,17 @@ use Rattle.home_items.specs.declared.entry.Entry.{Entry}
 use Rattle.home_items.specs.declared.item.Item.{Item}
 use Rattle.exec_recv.specs.Asides.{KeepsAside}
 use Rattle.exec_recv.specs.Over.{IsOver}
+use Rattle.exec_recv.specs.Sites.{plan_at}
 use Rattle.exec_recv.specs.Since.{HasReadSince}
-use Rattle.loop_serve.specs.Since.{OnlyLooks}
+use Rattle.node_walks.specs.Since.{OnlyLooks}
 use Rattle.exec_recv.proofs.Since.{since-after, since-before}
-use Rattle.loop_serve.proofs.Read.{looked-aside, looked-only, looked-since, looks-here, looks-on}
+use Rattle.node_walks.proofs.Read.{looked-aside, looked-only, looked-since, looks-here, looks-on}
 use Rattle.serve_ahead.specs.declared.taking.AheadAt.{AheadAt}
 use Rattle.serve_ahead.specs.Takes.{IsAheadIn}
 use Rattle.spawn_future.specs.declared.future.Future.{Future}
 use Rattle.spawn_future.specs.Counts.{BeginsAndEnds}
 use Rattle.spawn_future.specs.Serves.{ServesAhead}
-use Rattle.spawn_future.specs.Turns.{WasUnparked, IsUnparked, AreUnparked, PassesPlace, ServesEach, ServesPlace, Turns}
+use Rattle.spawn_future.specs.Turns.{HasAhead, IsAheadOf, WasUnparked, IsUnparked, AreUnparked, PassesPlace, ServesEach, ServesPlace, Turns}
 use Rattle.spawn_future.proofs.Counted.{counts-same, counts-on}
 
 no-name : {A : Type 0} (e : A) → None ≡ Some e → ⊥
@@ -46,14 +47,17 @@ pub same-node : (a b : Node) → Some a ≡ Some b → a ≡ b
 same-node a b e = cc
 
 -- an `ahead` of the plan has a place in each block
-pub node-within : (board : Board Blueprint) (top plan : Blueprint) (node first second : ℕ) → IsOver board top → plan ≡ top →
-    slice_get plan.nodes node ≡ Some (Ahead first second) → node < board.frame.layout.nodes
-node-within board top plan node first second over is at =
+pub node-within : (board : Board Blueprint) (node : ℕ) → IsOver board (plan_at board) → HasAhead (plan_at board) node → node < board.frame.layout.nodes
+node-within board node over has =
+    let top = plan_at board in
     let size : length board.frame.tree ≡ length top.nodes + 1 = ap length over.tree ∙ (trees-show top over.is_plan).size in
-    let within = slice_get_within plan.nodes node (Ahead first second) at in
-    let same = ap (λ (p : Blueprint). length p.nodes) is in
+    let within = slice_get_within top.nodes node (Ahead has.first has.second) has.is in
     let nodes = over.nodes in
-    omega (arith, size, within, same, nodes)
+    omega (arith, size, within, nodes)
+
+-- where it stands it is an `ahead` of the table's plan
+pub ahead-in : (board : Board Blueprint) (name : Name) (at : AheadAt) → IsAheadOf (plan_at board) name at → IsAheadIn board at
+ahead-in board name at is = ap (λ (x : Name). slice_get (plan_at board).nodes x.node) is.name_is ∙ is.is
 
 -- a look at a place
 module _ (board : Board Blueprint) (block node : ℕ) (answer : Option Name) (old new : Seat (Option Item) (View Item Entry))
@@ -84,11 +88,8 @@ module _ (board : Board Blueprint) (block node : ℕ) (answer : Option Name) (ol
   parked-place name some in_blocks in_nodes =
       subst (λ (x : Name). IsPlaceIn board x) (parked-name name some) (record { block = in_blocks; node = in_nodes })
 
-  pub parked-ahead : (plan : Blueprint) (first second : ℕ) (name : Name) → answer ≡ Some name →
-      slice_get plan.nodes node ≡ Some (Ahead first second) →
-      IsAheadIn plan (record { name = name; first = first; second = second })
-  parked-ahead plan first second name some stands =
-      ap (slice_get plan.nodes) (sym (ap (λ (x : Name). x.node) (parked-name name some))) ∙ stands
+  pub parked-ahead : (plan : Blueprint) (name : Name) → answer ≡ Some name → HasAhead plan node → HasAhead plan name.node
+  parked-ahead plan name some has = subst (λ n. HasAhead plan n) (ap (λ (x : Name). x.node) (parked-name name some)) has
 
 module _ (board : Board Blueprint) (plan : Blueprint) where
   -- what was served is so still, seen from earlier

@@ -11,12 +11,12 @@ use Rattle.table_steps.specs.Claims.{Seated, root_name, IsUnnoted}
 use Rattle.home_items.specs.declared.entry.Entry.{Entry}
 use Rattle.home_items.specs.declared.item.Item.{Item}
 use Rattle.exec_recv.specs.Asides.{Aside, aside_of}
-use Rattle.loop_walk.specs.Resting.{IsAtRest}
-use Rattle.loop_roots.specs.declared.completing.Ended.{Ended}
-use Rattle.loop_roots.specs.Completes.{CompletesNoted, IsListed}
-use Rattle.loop_roots.specs.Emptied.{with_released}
-use Rattle.loop_roots.specs.Leaves.{LeavesAside}
-use Rattle.loop_roots.specs.Starts.{with_started}
+use Rattle.node_walks.specs.Resting.{IsAtRest}
+use Rattle.node_walks.specs.declared.completing.Ended.{Ended}
+use Rattle.node_walks.specs.Completes.{CompletesNoted, IsListed}
+use Rattle.node_walks.specs.Emptied.{with_released}
+use Rattle.node_walks.specs.Leaves.{LeavesAside}
+use Rattle.node_walks.specs.Starts.{with_started}
 use Rattle.spawn_future.specs.declared.future.Future.{Future}
 use Rattle.spawn_future.specs.Slots.{Has, kept_in}
 

@@ -10,4 +10,4 @@ pub mod Turns
 -- the definitions that the public contracts cite
 pub use Rattle.table_steps.specs.Views
 pub use Rattle.exec_recv.specs.Over
-pub use Rattle.loop_roots.specs.Starts
+pub use Rattle.node_walks.specs.Starts

@@ -8,8 +8,8 @@ use Rattle.table_steps.specs.Views.{Board}
 use Rattle.table_steps.specs.Claims.{Seated}
 use Rattle.home_items.specs.declared.entry.Entry.{Entry}
 use Rattle.home_items.specs.declared.item.Item.{Item}
-use Rattle.loop_roots.specs.declared.completing.Ended.{Ended}
-use Rattle.loop_roots.specs.Emptied.{WasNotReady}
+use Rattle.node_walks.specs.declared.completing.Ended.{Ended}
+use Rattle.node_walks.specs.Emptied.{WasNotReady}
 use Rattle.spawn_future.specs.declared.future.Future.{Future}
 use Rattle.spawn_future.specs.declared.polling.Polled.{Polled}
 use Rattle.spawn_future.specs.declared.polling.Polled.TheVariants.{Ready, Waiting, Unknown}

@@ -12,8 +12,8 @@ use Rattle.table_steps.specs.Views.{Board, knows}
 use Rattle.home_items.specs.declared.entry.Entry.{Entry}
 use Rattle.home_items.specs.declared.item.Item.{Item}
 use Rattle.exec_recv.specs.Asides.{aside_of}
-use Rattle.loop_roots.specs.Leaves.{LeavesAside}
-use Rattle.loop_roots.specs.Starts.{MissesEach}
+use Rattle.node_walks.specs.Leaves.{LeavesAside}
+use Rattle.node_walks.specs.Starts.{MissesEach}
 use Rattle.spawn_future.specs.declared.future.Future.{Future}
 use Rattle.spawn_future.specs.declared.spawning.SpawnFault.{SpawnFault}
 use Rattle.spawn_future.specs.declared.spawning.SpawnFault.TheVariants.{Full, Scope, NoBlock}

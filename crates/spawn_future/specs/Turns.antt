@@ -1,6 +1,7 @@
 -- What a turn does with the `ahead` nodes that are parked.
 use Rattle.std.specs.Prelude.{◌≡◌, ℕ, ◌<◌, false, List, [], ◌∷◌, length, Option, Some, slice_get}
 use Rattle.atomic_table.specs.declared.shared.Seat.{Seat}
+use Rattle.life_rules.specs.declared.event.Name.{Name}
 use Rattle.life_rules.specs.Words.{is_parked}
 use Rattle.plan_rules.specs.declared.node.Node.TheVariants.{Ahead}
 use Rattle.plan_shape.specs.Blueprint.{Blueprint}
@@ -12,12 +13,23 @@ use Rattle.table_steps.specs.Claims.{Seated}
 use Rattle.home_items.specs.declared.entry.Entry.{Entry}
 use Rattle.home_items.specs.declared.item.Item.{Item}
 use Rattle.exec_recv.specs.Since.{HasReadSince}
-use Rattle.loop_serve.specs.Since.{OnlyLooks}
+use Rattle.node_walks.specs.Since.{OnlyLooks}
 use Rattle.serve_ahead.specs.declared.taking.AheadAt.{AheadAt}
 use Rattle.serve_ahead.specs.Takes.{IsAheadIn}
 use Rattle.spawn_future.specs.declared.future.Future.{Future}
 use Rattle.spawn_future.specs.Counts.{BeginsAndEnds}
 use Rattle.spawn_future.specs.Serves.{ServesAhead}
+
+-- The node is an `ahead`.
+pub record HasAhead (plan : Blueprint) (node : ℕ) : Type 0 where
+  pub first : ℕ
+  pub second : ℕ
+  pub is : slice_get plan.nodes node ≡ Some (Ahead first second)
+
+-- This is where the `ahead` of the name stands, with its children.
+pub record IsAheadOf (plan : Blueprint) (name : Name) (at : AheadAt) : Type 0 where
+  pub name_is : at.name ≡ name
+  pub is : slice_get plan.nodes name.node ≡ Some (Ahead at.first at.second)
 
 -- The word of the block's node was read, and didn't say that it is parked.
 abbrev pub WasUnparked : Board Blueprint → ℕ → ℕ → Seated Item Entry → Seated Item Entry → Type 0
@@ -55,7 +67,7 @@ module _ (board : Board Blueprint) (plan : Blueprint) where
   pub record ServesNext (at : AheadAt)
       (Then : List (Option Future) → Seat (Option Item) (View Item Entry) → Type 0)
       (old : List (Option Future)) (hand : Seat (Option Item) (View Item Entry)) : Type 0 where
-    pub ahead : IsAheadIn plan at
+    pub ahead : IsAheadIn board at
     pub found : Seat (Option Item) (View Item Entry)
     pub looks : OnlyLooks hand.me found.me
     pub slots : List (Option Future)

@@ -2,7 +2,7 @@
 //! an owner ahead of their results, each with an association of the scope, and polls or abandons
 //! later. The owners are the `ahead` nodes of operations, which `turn` serves.
 //!
-//! It stands on count_scope for the associations, on loop_roots, which starts and ends an
+//! It stands on count_scope for the associations, on node_walks, which starts and ends an
 //! operation, and on serve_ahead, which takes an `ahead` and goes on with it. It keeps one promise:
 //! each future that is kept has an association of its own and a block of its own, whose root's
 //! start the hand has noted, until `poll`, `sweep` or `turn` ends it. Then its block is given back,
@@ -40,7 +40,7 @@ mod turning;
 pub use exec_recv::{Env, Gate, Item, Stepper};
 pub use futures::Futures;
 pub use limits::MOST_FUTURES;
-pub use loop_walk::Mail;
+pub use node_walks::Mail;
 pub use op_slot::{Hand, OpTable};
 pub use polling::Polled;
 pub use spawning::SpawnFault;

@@ -1,6 +1,5 @@
 //! How a future is polled, and ended.
 ghost use Rattle.std.specs.Prelude.{◌≡◌, ◌<◌, length, IfSome, IfNone};
-ghost use Rattle.std.specs.Thread.{IsSync};
 ghost use Rattle.table_steps.specs.Views.{IsSameHand};
 ghost use Rattle.exec_recv.specs.Over.{IsOver};
 ghost use Rattle.spawn_future.specs.Keeping.{IsKeeping};
@@ -13,9 +12,8 @@ use count_scope::disassociate;
 use exec_recv::{Gate, Item};
 use exec_value::Completion;
 use life_rules::Name;
-use loop_roots::{Collected, Ended, end_root};
+use node_walks::{Collected, Ended, end_root};
 use op_slot::{Block, Hand, OpTable};
-use std::sync::Wait;
 
 /// What an owner learns of its future.
 #[derive(Drop)]
@@ -32,16 +30,14 @@ impl Futures {
     /// What the slot's future, which is in this block, completed with. Its block is given back, and
     /// then its association is left: an association lasts as long as its work. None only where the
     /// word of its root that was read didn't say that it is ready in the loop.
-    pub(crate) fn end<G: Gate, R: Wait + Sync>(
+    pub(crate) fn end<G: Gate>(
         &mut self,
-        rt: &R,
         table: &OpTable<Item>,
         hand: &mut Hand<Item>,
         slot: usize,
         block: Block,
         gate: &G,
     ) -> Option<Ended>
-        requires sync { IsSync R.row }
         requires keeping { IsKeeping table.now self.old hand.old }
         requires over { IsOver table.now table.now.frame.over.value }
         requires within { slot < length self.old }
@@ -53,7 +49,7 @@ impl Futures {
         ensures ended { IfSome result
             (EndsSlotAt table.now slot block self.old self.new hand.old.me hand.new.me) }
     {
-        let ended = end_root(rt, table, hand, block, gate)?;
+        let ended = end_root(table, hand, block, gate)?;
         let future = take(&mut self.slots, slot);
         self.kept -= 1;
         disassociate(table, hand, future.into_association());
@@ -72,15 +68,13 @@ impl Futures {
     /// that the noted start of the root names, under that start: where the request stood before the
     /// start, where one was seen, or where there was none. Where it saw one, the hand made the
     /// scope's request. Its block was given back, and then its association was left.
-    pub fn poll<G: Gate, R: Wait + Sync>(
+    pub fn poll<G: Gate>(
         &mut self,
-        rt: &R,
         table: &OpTable<Item>,
         hand: &mut Hand<Item>,
         owner: Name,
         gate: &G,
     ) -> Polled
-        requires sync { IsSync R.row }
         requires keeping { IsKeeping table.now self.old hand.old }
         requires over { IsOver table.now table.now.frame.over.value }
         ensures keeping { IsKeeping table.now self.new hand.new }
@@ -90,7 +84,7 @@ impl Futures {
         let Some(found) = self.waited(owner) else {
             return Polled::Unknown;
         };
-        match self.end(rt, table, hand, found.slot, found.block, gate) {
+        match self.end(table, hand, found.slot, found.block, gate) {
             Some(ended) => {
                 let Ended { env, collected } = ended;
                 drop(env);

@@ -2,9 +2,8 @@
 ghost use Rattle.std.specs.Bool.{OnTrue, OnFalse};
 ghost use Rattle.std.specs.Prelude.{◌≡◌, Some, None};
 ghost use Rattle.std.specs.Thread.{IsSync};
-ghost use Rattle.plan_kinds.specs.Runnable.{IsRunnable};
 ghost use Rattle.table_steps.specs.Views.{IsPlaceIn, Stays};
-ghost use Rattle.exec_recv.specs.Over.{IsOver};
+ghost use Rattle.exec_recv.specs.Sites.{IsSite};
 ghost use Rattle.serve_ahead.specs.Takes.{HasAtHand, IsAheadIn, MissesAhead};
 ghost use Rattle.spawn_future.specs.Counts.{BeginsAndEnds};
 ghost use Rattle.spawn_future.specs.Keeping.{IsKeeping, KeepsAtHand};
@@ -14,14 +13,14 @@ ghost use Rattle.spawn_future.specs.Slots.{IsFoundAt, WaitsNowhere};
 use crate::again::{begin_again, join_again};
 use crate::futures::Futures;
 use crate::slots::Found;
-use exec_recv::{Env, Item, Parcel, Stepper};
-use loop_walk::Mail;
-use op_slot::{Hand, OpTable};
-use plan_shape::Plan;
+use exec_recv::{Item, Parcel, Stepper};
+use node_walks::Mail;
+use op_slot::Hand;
 use serve_ahead::{
-    AheadAt, TakenUp, begin_second, fail_ahead, first_env, give_up, is_value, put_back, take_ahead,
+    AheadAt, Served, Site, Taken, begin_second, fail_ahead, first_env, give_up, is_value, put_back,
+    take_ahead,
 };
-use std::alloc::{AllocError, Global};
+use std::alloc::AllocError;
 use std::sync::Wait;
 
 impl Futures {
@@ -29,41 +28,31 @@ impl Futures {
     // can't be spawned, the `ahead` is parked again.
     fn spawn_first<T: Stepper, M: Mail, R: Wait + Sync>(
         &mut self,
-        rt: &R,
-        alloc: Global,
-        plan: &Plan,
-        table: &OpTable<Item>,
+        site: &Site<R, T>,
         hand: &mut Hand<Item>,
-        stepper: &T,
         at: AheadAt,
-        env: Env,
+        taken: Taken,
         mail: &mut M,
     )
         requires sync { IsSync R.row }
-        requires keeping { KeepsAtHand table.now self.old hand.old }
-        requires over { IsOver table.now (T.plan stepper.now) }
-        requires plan { plan.now ≡ T.plan stepper.now }
-        requires kinds { IsRunnable (T.plan stepper.now) }
-        requires node { IsAheadIn plan.now at }
-        requires has { HasAtHand table.now at env None hand.old.me }
+        requires keeping { KeepsAtHand site.now self.old taken.from }
+        requires has { HasAtHand site.now at taken None hand.old }
         requires unowned { WaitsNowhere at.name self.old }
-        ensures keeping { IsKeeping table.now self.new hand.new }
-        ensures stays { Stays table.now hand.old hand.new }
+        ensures keeping { IsKeeping site.now self.new hand.new }
+        ensures stays { Stays site.now taken.from hand.new }
         ensures mail { M.keeps mail.old mail.new }
-        ensures leaves { BeginsAndEnds table.now self.old self.new hand.old.me hand.new.me }
-        ensures starts { SpawnsOrPutsOff table.now at env self.old self.new hand.old hand.new }
+        ensures leaves { BeginsAndEnds site.now self.old self.new taken.from.me hand.new.me }
+        ensures starts { SpawnsOrPutsOff site.now at taken self.old self.new hand.old hand.new }
     {
-        let spawned = first_env(alloc, plan, &env, at.first);
-        let back = TakenUp { env, second: None };
-        put_back(rt, alloc, table, hand, stepper, at, back, mail);
+        let spawned = first_env(site, hand, at, &taken);
+        let second = None;
+        put_back(site, hand, at, Served { taken, second }, mail);
         let start = match spawned {
             Ok(start) => start,
             Err(AllocError) => return,
         };
-        match self.spawn(
-            rt, alloc, table, hand, stepper, at.name, at.first, start, mail,
-        ) {
-            Ok(()) => begin_again(rt, alloc, plan, table, hand, stepper, at, mail),
+        match self.spawn(site, hand, at.name, at.first, start, mail) {
+            Ok(()) => begin_again(site, hand, at, mail),
             Err(fault) => drop(fault),
         }
     }
@@ -71,35 +60,27 @@ impl Futures {
     // Starts the second child of the `ahead` at hand, once its first is spawned.
     fn begin<T: Stepper, M: Mail, R: Wait + Sync>(
         &mut self,
-        rt: &R,
-        alloc: Global,
-        plan: &Plan,
-        table: &OpTable<Item>,
+        site: &Site<R, T>,
         hand: &mut Hand<Item>,
-        stepper: &T,
         at: AheadAt,
-        env: Env,
+        taken: Taken,
         mail: &mut M,
     )
         requires sync { IsSync R.row }
-        requires keeping { KeepsAtHand table.now self.old hand.old }
-        requires over { IsOver table.now (T.plan stepper.now) }
-        requires plan { plan.now ≡ T.plan stepper.now }
-        requires kinds { IsRunnable (T.plan stepper.now) }
-        requires node { IsAheadIn plan.now at }
-        requires has { HasAtHand table.now at env None hand.old.me }
-        ensures keeping { IsKeeping table.now self.new hand.new }
-        ensures stays { Stays table.now hand.old hand.new }
+        requires keeping { KeepsAtHand site.now self.old taken.from }
+        requires has { HasAtHand site.now at taken None hand.old }
+        ensures keeping { IsKeeping site.now self.new hand.new }
+        ensures stays { Stays site.now taken.from hand.new }
         ensures mail { M.keeps mail.old mail.new }
-        ensures leaves { BeginsAndEnds table.now self.old self.new hand.old.me hand.new.me }
-        ensures starts { StartsBoth table.now at env self.old self.new hand.old hand.new }
+        ensures leaves { BeginsAndEnds site.now self.old self.new taken.from.me hand.new.me }
+        ensures starts { StartsBoth site.now at taken self.old self.new hand.old hand.new }
     {
         match self.waited(at.name) {
             Some(found) => {
                 let _ = found;
-                begin_second(rt, alloc, plan, table, hand, stepper, at, env, mail);
+                begin_second(site, hand, at, taken, mail);
             }
-            None => self.spawn_first(rt, alloc, plan, table, hand, stepper, at, env, mail),
+            None => self.spawn_first(site, hand, at, taken, mail),
         }
     }
 
@@ -107,34 +88,26 @@ impl Futures {
     // child's operation came to; or parks it again, where that isn't complete.
     fn finish_both<T: Stepper, M: Mail, R: Wait + Sync>(
         &mut self,
-        rt: &R,
-        alloc: Global,
-        plan: &Plan,
-        table: &OpTable<Item>,
+        site: &Site<R, T>,
         hand: &mut Hand<Item>,
-        stepper: &T,
         at: AheadAt,
-        taken: TakenUp,
+        served: Served,
         found: Found,
         mail: &mut M,
     )
         requires sync { IsSync R.row }
-        requires keeping { KeepsAtHand table.now self.old hand.old }
-        requires over { IsOver table.now (T.plan stepper.now) }
-        requires plan { plan.now ≡ T.plan stepper.now }
-        requires kinds { IsRunnable (T.plan stepper.now) }
-        requires node { IsAheadIn plan.now at }
-        requires has { HasAtHand table.now at taken.env taken.second hand.old.me }
+        requires keeping { KeepsAtHand site.now self.old served.taken.from }
+        requires has { HasAtHand site.now at served.taken served.second hand.old }
         requires found { IsFoundAt at.name self.old found }
-        ensures keeping { IsKeeping table.now self.new hand.new }
-        ensures stays { Stays table.now hand.old hand.new }
+        ensures keeping { IsKeeping site.now self.new hand.new }
+        ensures stays { Stays site.now served.taken.from hand.new }
         ensures mail { M.keeps mail.old mail.new }
-        ensures leaves { BeginsAndEnds table.now self.old self.new hand.old.me hand.new.me }
-        ensures ends { AwaitsOrJoins table.now at taken self.old self.new hand.old hand.new }
+        ensures leaves { BeginsAndEnds site.now self.old self.new served.taken.from.me hand.new.me }
+        ensures ends { AwaitsOrJoins site.now at served self.old self.new hand.old hand.new }
     {
-        put_back(rt, alloc, table, hand, stepper, at, taken, mail);
-        match self.end(rt, table, hand, found.slot, found.block, stepper) {
-            Some(ended) => join_again(rt, alloc, plan, table, hand, stepper, at, ended, mail),
+        put_back(site, hand, at, served, mail);
+        match self.end(site.table, hand, found.slot, found.block, site.gate) {
+            Some(ended) => join_again(site, hand, at, ended, mail),
             None => {}
         }
     }
@@ -143,46 +116,36 @@ impl Futures {
     // where its first child's operation isn't complete.
     fn finish<T: Stepper, M: Mail, R: Wait + Sync>(
         &mut self,
-        rt: &R,
-        alloc: Global,
-        plan: &Plan,
-        table: &OpTable<Item>,
+        site: &Site<R, T>,
         hand: &mut Hand<Item>,
-        stepper: &T,
         at: AheadAt,
-        env: Env,
+        taken: Taken,
         parcel: Parcel,
         mail: &mut M,
     )
         requires sync { IsSync R.row }
-        requires keeping { KeepsAtHand table.now self.old hand.old }
-        requires over { IsOver table.now (T.plan stepper.now) }
-        requires plan { plan.now ≡ T.plan stepper.now }
-        requires kinds { IsRunnable (T.plan stepper.now) }
-        requires node { IsAheadIn plan.now at }
-        requires has { HasAtHand table.now at env (Some parcel) hand.old.me }
-        ensures keeping { IsKeeping table.now self.new hand.new }
-        ensures stays { Stays table.now hand.old hand.new }
+        requires keeping { KeepsAtHand site.now self.old taken.from }
+        requires has { HasAtHand site.now at taken (Some parcel) hand.old }
+        ensures keeping { IsKeeping site.now self.new hand.new }
+        ensures stays { Stays site.now taken.from hand.new }
         ensures mail { M.keeps mail.old mail.new }
-        ensures leaves { BeginsAndEnds table.now self.old self.new hand.old.me hand.new.me }
-        ensures ends { EndsBoth table.now at env self.old self.new hand.old hand.new parcel }
+        ensures leaves { BeginsAndEnds site.now self.old self.new taken.from.me hand.new.me }
+        ensures ends { EndsBoth site.now at taken self.old self.new hand.old hand.new parcel }
     {
         if !is_value(&parcel) {
             self.abandon(at.name);
-            fail_ahead(rt, alloc, plan, table, hand, stepper, at, env, parcel, mail);
+            fail_ahead(site, hand, at, taken, parcel, mail);
             return;
         }
         match self.waited(at.name) {
             Some(found) => {
                 let second = Some(parcel);
-                let taken = TakenUp { env, second };
-                self.finish_both(
-                    rt, alloc, plan, table, hand, stepper, at, taken, found, mail,
-                );
+                let served = Served { taken, second };
+                self.finish_both(site, hand, at, served, found, mail);
             }
             None => {
                 drop(parcel);
-                give_up(rt, alloc, plan, table, hand, stepper, at, env, mail);
+                give_up(site, hand, at, taken, mail);
             }
         }
     }
@@ -191,40 +154,32 @@ impl Futures {
     /// so; and then the call moved no word.
     pub(crate) fn serve<T: Stepper, M: Mail, R: Wait + Sync>(
         &mut self,
-        rt: &R,
-        alloc: Global,
-        plan: &Plan,
-        table: &OpTable<Item>,
+        site: &Site<R, T>,
         hand: &mut Hand<Item>,
-        stepper: &T,
         at: AheadAt,
         mail: &mut M,
     ) -> bool
         requires sync { IsSync R.row }
-        requires keeping { IsKeeping table.now self.old hand.old }
-        requires over { IsOver table.now (T.plan stepper.now) }
-        requires plan { plan.now ≡ T.plan stepper.now }
-        requires kinds { IsRunnable (T.plan stepper.now) }
-        requires node { IsAheadIn plan.now at }
-        requires place { IsPlaceIn table.now at.name }
-        ensures keeping { IsKeeping table.now self.new hand.new }
-        ensures stays { Stays table.now hand.old hand.new }
+        requires keeping { IsKeeping site.now self.old hand.old }
+        requires site { IsSite site.now }
+        requires node { IsAheadIn site.now at }
+        requires place { IsPlaceIn site.now at.name }
+        ensures keeping { IsKeeping site.now self.new hand.new }
+        ensures stays { Stays site.now hand.old hand.new }
         ensures mail { M.keeps mail.old mail.new }
-        ensures leaves { BeginsAndEnds table.now self.old self.new hand.old.me hand.new.me }
+        ensures leaves { BeginsAndEnds site.now self.old self.new hand.old.me hand.new.me }
         ensures served { OnTrue result
-            (ServesAhead table.now at self.old self.new hand.old hand.new) }
+            (ServesAhead site.now at self.old self.new hand.old hand.new) }
         ensures slots { OnFalse result (self.new ≡ self.old) }
-        ensures missed { OnFalse result (MissesAhead table.now at hand.old.me hand.new.me) }
+        ensures missed { OnFalse result (MissesAhead site.now at hand.old.me hand.new.me) }
     {
-        match take_ahead(rt, plan, table, hand, at, stepper) {
+        match take_ahead(site, hand, at) {
             None => false,
-            Some(taken) => {
-                let TakenUp { env, second } = taken;
+            Some(served) => {
+                let Served { taken, second } = served;
                 match second {
-                    None => self.begin(rt, alloc, plan, table, hand, stepper, at, env, mail),
-                    Some(parcel) => self.finish(
-                        rt, alloc, plan, table, hand, stepper, at, env, parcel, mail,
-                    ),
+                    None => self.begin(site, hand, at, taken, mail),
+                    Some(parcel) => self.finish(site, hand, at, taken, parcel, mail),
                 }
                 true
             }

@@ -1,11 +1,10 @@
 //! How a future is spawned.
 ghost use Rattle.std.specs.Prelude.{◌≡◌, Some, IfOk, IfErr};
 ghost use Rattle.std.specs.Thread.{IsSync};
-ghost use Rattle.plan_kinds.specs.Runnable.{IsRunnable};
 ghost use Rattle.table_steps.specs.Views.{IsSameHand};
-ghost use Rattle.exec_recv.specs.Over.{IsOver};
+ghost use Rattle.exec_recv.specs.Sites.{IsSite};
 ghost use Rattle.home_items.specs.Entries.{child_of};
-ghost use Rattle.loop_roots.specs.Starts.{CanRun};
+ghost use Rattle.node_walks.specs.Starts.{CanRun};
 ghost use Rattle.spawn_future.specs.Keeping.{IsKeeping};
 ghost use Rattle.spawn_future.specs.Slots.{WaitsNowhere};
 ghost use Rattle.spawn_future.specs.Spawns.{Spawns, Refuses};
@@ -14,12 +13,11 @@ use crate::entering::{Entered, enter};
 use crate::future::Future;
 use crate::futures::Futures;
 use crate::slots::put;
-use exec_recv::{Env, Item, Stepper};
+use exec_recv::{Env, Item, Site, Stepper};
 use life_rules::{Name, Refused};
-use loop_walk::Mail;
-use op_slot::{Hand, OpTable};
+use node_walks::Mail;
+use op_slot::Hand;
 use plan_rules::NodeId;
-use std::alloc::Global;
 use std::sync::Wait;
 
 /// Why nothing was spawned, in the order in which the causes count. The environment comes back.
@@ -42,45 +40,40 @@ impl Futures {
     ///
     /// Step: those of `associate`, `claim_from`, `put_home` and `begin`, and those of the steps of
     /// its nodes; where no block was free, that of `disassociate`.
-    /// Needs: hand 0 keeps these futures, and is at rest. The table is over the stepper's plan,
-    /// whose kinds match. The environment shows a start of the receiver node of that plan that
-    /// names the child, with arguments of its kinds. The owner waits for no future.
-    /// Afterwards: the same of the hand. The owner waits for the future, whose operation began with
-    /// that start. The hand has noted the start, and one association more; it had noted none of
-    /// this root before.
+    /// Needs: hand 0 keeps these futures, and is at rest. The environment shows a start of the
+    /// receiver node of that plan that names the child, with arguments of its kinds. The owner
+    /// waits for no future. Afterwards: the same of the hand. The owner waits for the future, whose
+    /// operation began with that start. The hand has noted the start, and one association more; it
+    /// had noted none of this root before.
     pub fn spawn<T: Stepper, M: Mail, R: Wait + Sync>(
         &mut self,
-        rt: &R,
-        alloc: Global,
-        table: &OpTable<Item>,
+        site: &Site<R, T>,
         hand: &mut Hand<Item>,
-        stepper: &T,
         owner: Name,
         first: NodeId,
         env: Env,
         mail: &mut M,
     ) -> Result<(), SpawnFault>
         requires sync { IsSync R.row }
-        requires keeping { IsKeeping table.now self.old hand.old }
-        requires over { IsOver table.now (T.plan stepper.now) }
-        requires kinds { IsRunnable (T.plan stepper.now) }
-        requires start { CanRun table.now env }
+        requires keeping { IsKeeping site.now self.old hand.old }
+        requires site { IsSite site.now }
+        requires start { CanRun site.now env }
         requires names { child_of env ≡ Some first }
         requires unowned { WaitsNowhere owner self.old }
-        ensures keeping { IsKeeping table.now self.new hand.new }
+        ensures keeping { IsKeeping site.now self.new hand.new }
         ensures same { IsSameHand hand.old hand.new }
         ensures spawned { IfOk result
-            (λ _. Spawns table.now owner env self.old self.new hand.old hand.new) }
+            (λ _. Spawns site.now owner env self.old self.new hand.old hand.new) }
         ensures slots { IfErr result (λ _. self.new ≡ self.old) }
         ensures mail { M.keeps mail.old mail.new }
-        ensures refused { IfErr result (Refuses table.now env self.old hand.old hand.new) }
+        ensures refused { IfErr result (Refuses site.now env self.old hand.old hand.new) }
     {
         let _ = first;
         let slot = match self.free() {
             Some(slot) => slot,
             None => return Err(SpawnFault::Full(env)),
         };
-        match enter(rt, alloc, table, hand, stepper, env, mail) {
+        match enter(site, hand, env, mail) {
             Ok(Entered { block, association }) => {
                 let future = Future {
                     owner,

@@ -1,7 +1,6 @@
 //! How abandoned futures are ended.
 ghost use Rattle.std.specs.Bool.{OnTrue, OnFalse};
 ghost use Rattle.std.specs.Prelude.{◌≡◌, ◌<◌, ◌≤◌, length, None, slice_index_or};
-ghost use Rattle.std.specs.Thread.{IsSync};
 ghost use Rattle.table_steps.specs.Views.{IsSameHand};
 ghost use Rattle.exec_recv.specs.Over.{IsOver};
 ghost use Rattle.spawn_future.specs.declared.limits.TheConstants.{MOST_FUTURES};
@@ -13,7 +12,6 @@ use crate::futures::Futures;
 use crate::slots::abandoned_in;
 use exec_recv::{Gate, Item};
 use op_slot::{Block, Hand, OpTable};
-use std::sync::Wait;
 
 impl Futures {
     // The block of a slot's future, where that is abandoned.
@@ -33,15 +31,13 @@ impl Futures {
     }
 
     // Ends the slot's future, where that is abandoned and complete.
-    fn sweep_slot<G: Gate, R: Wait + Sync>(
+    fn sweep_slot<G: Gate>(
         &mut self,
-        rt: &R,
         table: &OpTable<Item>,
         hand: &mut Hand<Item>,
         slot: usize,
         gate: &G,
     ) -> bool
-        requires sync { IsSync R.row }
         requires keeping { IsKeeping table.now self.old hand.old }
         requires over { IsOver table.now table.now.frame.over.value }
         requires within { slot < length self.old }
@@ -55,7 +51,7 @@ impl Futures {
         let Some(block) = self.abandoned_at(slot) else {
             return false;
         };
-        match self.end(rt, table, hand, slot, block, gate) {
+        match self.end(table, hand, slot, block, gate) {
             Some(ended) => {
                 drop(ended);
                 true
@@ -73,14 +69,7 @@ impl Futures {
     /// Afterwards: the same of the hand. Futures that aren't abandoned are kept. For each that was
     /// ended the block was given back, and then the association left. Notes of all other blocks are
     /// as they were.
-    pub fn sweep<G: Gate, R: Wait + Sync>(
-        &mut self,
-        rt: &R,
-        table: &OpTable<Item>,
-        hand: &mut Hand<Item>,
-        gate: &G,
-    ) -> u32
-        requires sync { IsSync R.row }
+    pub fn sweep<G: Gate>(&mut self, table: &OpTable<Item>, hand: &mut Hand<Item>, gate: &G) -> u32
         requires keeping { IsKeeping table.now self.old hand.old }
         requires over { IsOver table.now table.now.frame.over.value }
         ensures keeping { IsKeeping table.now self.new hand.new }
@@ -89,7 +78,7 @@ impl Futures {
     {
         let mut ended = 0;
         for slot in 0..self.most() {
-            if self.sweep_slot(rt, table, hand, slot, gate) {
+            if self.sweep_slot(table, hand, slot, gate) {
                 ended += 1;
             }
         }

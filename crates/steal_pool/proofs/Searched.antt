@@ -17,13 +17,13 @@ use Rattle.count_scope.specs.Looks.{Reads}
 use Rattle.home_items.specs.declared.entry.Entry.{Entry}
 use Rattle.home_items.specs.declared.item.Item.{Item}
 use Rattle.exec_recv.specs.Asides.{KeepsAside}
-use Rattle.exec_recv.specs.Nexts.{Doing}
+use Rattle.exec_recv.specs.Sites.{Does}
 use Rattle.exec_recv.proofs.Asiding.{aside-here, aside-on}
-use Rattle.loop_serve.specs.Since.{OnlyLooks}
-use Rattle.loop_serve.specs.Serving.{IsUnready, ServesNode, WasUnready}
+use Rattle.node_walks.specs.Since.{OnlyLooks}
+use Rattle.node_walks.specs.Serving.{IsUnready, ServesNode, WasUnready}
 use Rattle.exec_recv.proofs.Since.{since-before, since-after}
-use Rattle.loop_serve.proofs.Read.{looked-only, looked-since, looks-on}
-use Rattle.loop_serve.proofs.Took.{serves-before}
+use Rattle.node_walks.proofs.Read.{looked-only, looked-since, looks-on}
+use Rattle.node_walks.proofs.Took.{serves-before}
 use Rattle.steal_pool.specs.declared.working.Worked.{Worked}
 use Rattle.steal_pool.specs.declared.working.Worked.TheVariants.{Took, Idle}
 use Rattle.steal_pool.specs.Works.{AreIdle, AreIdleBelow, FindsNode, IsIdle, FindsNone, SaysJoined, HasEnded, Works}
@@ -70,7 +70,7 @@ module _ (board : Board Blueprint) (m between m' : Seated Item Entry) where
       ]
 
   -- what one look answered, after another
-  pub served-before : (does : Doing) (answer : Option Name) → KeepsAside m between →
+  pub served-before : (does : Does) (answer : Option Name) → KeepsAside m between →
       IfSome answer (λ name. ServesNode does board rest.Pool name between m') → IfSome answer (λ name. ServesNode does board rest.Pool name m m')
   served-before does (Some name) aside one = serves-before does board rest.Pool name m between m' aside one
   served-before does None aside one = tt
@@ -86,7 +86,7 @@ module _ (board : Board Blueprint) (m between m' : Seated Item Entry) where
   looks-before None first next = looks-on m between m' first next
 
   -- what a worker did, after looks
-  pub works-before : (does : Doing) (worked : Worked) → OnlyLooks m between → Works does board worked between m' → Works does board worked m m'
+  pub works-before : (does : Does) (worked : Worked) → OnlyLooks m between → Works does board worked between m' → Works does board worked m m'
   works-before does (Took name) looks one = serves-before does board rest.Pool name m between m' looks.aside one
   works-before does Idle looks none = record { idle = idle-before looks.aside none.idle; looks = looks-on m between m' looks none.looks }
 

@@ -5,6 +5,6 @@ pub mod Rounds
 pub use Rattle.table_steps.specs.Views
 pub use Rattle.exec_recv.specs.Asides
 pub use Rattle.exec_recv.specs.Over
-pub use Rattle.loop_serve.specs.Serving
+pub use Rattle.node_walks.specs.Serving
 pub use Rattle.deck_relay.specs.Decks
 pub use Rattle.loop_queue.specs.Posts

@@ -13,11 +13,11 @@ use Rattle.table_steps.specs.Claims.{Seated}
 use Rattle.home_items.specs.declared.entry.Entry.{Entry}
 use Rattle.home_items.specs.declared.item.Item.{Item}
 use Rattle.exec_recv.specs.Asides.{KeepsAside}
-use Rattle.exec_recv.specs.Nexts.{Doing}
-use Rattle.loop_walk.specs.Resting.{IsAtRest}
+use Rattle.exec_recv.specs.Sites.{Does}
+use Rattle.node_walks.specs.Resting.{IsAtRest}
 use Rattle.exec_recv.specs.Since.{HasReadSince}
-use Rattle.loop_serve.specs.Since.{OnlyLooks}
-use Rattle.loop_serve.specs.Serving.{ServesNode, WasUnready}
+use Rattle.node_walks.specs.Since.{OnlyLooks}
+use Rattle.node_walks.specs.Serving.{ServesNode, WasUnready}
 use Rattle.steal_pool.specs.declared.working.Worked.{Worked}
 use Rattle.steal_pool.specs.declared.working.Worked.TheVariants.{Took, Idle}
 
@@ -63,12 +63,12 @@ pub record FindsNone (board : Board Blueprint) (m m' : Seated Item Entry) : Type
   pub looks : OnlyLooks m m'
 
 -- The node was taken and stepped; or no node was ready.
-abbrev pub Works : Doing → Board Blueprint → Worked → Seated Item Entry → Seated Item Entry → Type 0
+abbrev pub Works : Does → Board Blueprint → Worked → Seated Item Entry → Seated Item Entry → Type 0
 Works does board (Took name) m m' = ServesNode does board rest.Pool name m m'
 Works does board Idle m m' = FindsNone board m m'
 
 -- So the hand did.
-abbrev pub WorksOn : Doing → Board Blueprint → Worked → Seat (Option Item) (View Item Entry)
+abbrev pub WorksOn : Does → Board Blueprint → Worked → Seat (Option Item) (View Item Entry)
     → Seat (Option Item) (View Item Entry) → Type 0
 WorksOn does board worked old new = Works does board worked old.me new.me
 

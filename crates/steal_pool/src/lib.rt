@@ -1,7 +1,7 @@
 //! Workers of the pool: each takes nodes that are ready in the pool, on a hand of its own, and goes
 //! on with what it takes.
 //!
-//! It stands on loop_serve, by which a hand serves a node, on pool_backends and deck_relay, which
+//! It stands on node_walks, by which a hand serves a node, on pool_backends and deck_relay, which
 //! keep names for it, on loop_queue, by which it tells the loop what is ready there, and on
 //! count_scope, whose scope tells it when to stop. It keeps one promise: it says that it took a
 //! node only where its hand took it and the stepper stepped it, that it is idle only where it read

@@ -6,8 +6,8 @@ ghost use Rattle.steal_pool.specs.Desks.{KeepsDesk};
 use crate::desk::Desk;
 use crate::resting::Rest;
 use life_rules::Name;
-use loop_walk::Mail;
 use node_tree::Context;
+use node_walks::Mail;
 use pool_backends::Backend;
 use std::sync::Wait;
 

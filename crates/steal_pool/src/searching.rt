@@ -2,33 +2,28 @@
 ghost use Rattle.std.specs.Prelude.{◌≡◌, ◌<◌, false, IfSome, IfNone};
 ghost use Rattle.std.specs.Thread.{IsSync};
 ghost use Rattle.life_rules.specs.declared.event.Resting.TheVariants.{Pool};
-ghost use Rattle.plan_kinds.specs.Runnable.{IsRunnable};
 ghost use Rattle.table_steps.specs.Views.{IsHandOf, Stays, knows};
 ghost use Rattle.exec_recv.specs.Asides.{KeepsAside};
-ghost use Rattle.exec_recv.specs.Over.{IsOver};
-ghost use Rattle.loop_walk.specs.Resting.{IsAtRest};
-ghost use Rattle.loop_serve.specs.Since.{OnlyLooks};
-ghost use Rattle.loop_serve.specs.Serving.{ServesNode};
+ghost use Rattle.exec_recv.specs.Sites.{IsSite};
+ghost use Rattle.node_walks.specs.Resting.{IsAtRest};
+ghost use Rattle.node_walks.specs.Since.{OnlyLooks};
+ghost use Rattle.node_walks.specs.Serving.{ServesNode};
 ghost use Rattle.steal_pool.specs.Desks.{KeepsDesk};
 ghost use Rattle.steal_pool.specs.Works.{FindsNode, FindsBlock, FindsAny};
 
 use crate::offers::Offers;
-use exec_recv::{Item, Stepper};
+use exec_recv::{Item, Site, Stepper};
 use life_rules::Name;
-use loop_serve::serve_place;
 use node_tree::Context;
-use op_slot::{Hand, OpTable};
-use std::alloc::Global;
+use node_walks::serve_place;
+use op_slot::Hand;
 use std::sync::Wait;
 
 // Looks at the node of the block. Where it is ready in the pool, its name is submitted, or the node
 // is taken at once: where names aren't to be submitted, or it was handed back.
 fn look_at<T: Stepper, R: Wait + Sync>(
-    rt: &R,
-    alloc: Global,
-    table: &OpTable<Item>,
+    site: &Site<R, T>,
     hand: &mut Hand<Item>,
-    stepper: &T,
     offers: &mut Offers,
     submits: bool,
     found: &mut bool,
@@ -36,42 +31,31 @@ fn look_at<T: Stepper, R: Wait + Sync>(
     node: u32,
 ) -> Option<Name>
     requires sync { IsSync R.row }
-    requires hand { IsHandOf table.now hand.old }
-    requires over { IsOver table.now (T.plan stepper.now) }
-    requires kinds { IsRunnable (T.plan stepper.now) }
-    requires block { block < table.now.frame.layout.blocks }
-    requires node { node < table.now.frame.layout.nodes }
+    requires hand { IsHandOf site.now hand.old }
+    requires site { IsSite site.now }
+    requires block { block < site.now.frame.layout.blocks }
+    requires node { node < site.now.frame.layout.nodes }
     requires rests { IsAtRest (knows hand.old) }
-    ensures stays { Stays table.now hand.old hand.new }
+    ensures stays { Stays site.now hand.old hand.new }
     ensures rests { IsAtRest (knows hand.new) }
     ensures aside { KeepsAside hand.old.me hand.new.me }
     ensures served { IfSome result (λ name.
-        ServesNode (T.does stepper.now) table.now Pool name hand.old.me hand.new.me) }
+        ServesNode T.does site.now Pool name hand.old.me hand.new.me) }
     ensures none { IfNone result
-        (FindsNode table.now hand.old.me hand.new.me block node found.old found.new) }
+        (FindsNode site.now hand.old.me hand.new.me block node found.old found.new) }
     ensures looks { IfNone result (OnlyLooks hand.old.me hand.new.me) }
     ensures still { submits ≡ false → found.new ≡ found.old }
     ensures desk { KeepsDesk offers.old.desk offers.new.desk }
 {
-    match table.ready_at(hand, block, node, Context::Pool) {
+    match site.table.ready_at(hand, block, node, Context::Pool) {
         None => None,
         Some(name) => {
-            if offers.submit_where(rt, submits, name) {
+            if offers.submit_where(site.rt, submits, name) {
                 *found = true;
                 return None;
             }
-            offers.get_up(rt);
-            serve_place(
-                rt,
-                alloc,
-                table,
-                hand,
-                stepper,
-                offers,
-                block,
-                node,
-                Context::Pool,
-            )
+            offers.get_up(site.rt);
+            serve_place(site, hand, offers, block, node, Context::Pool)
         }
     }
 }
@@ -79,38 +63,32 @@ fn look_at<T: Stepper, R: Wait + Sync>(
 // Looks at the nodes of the block, until it took one. The root has the greatest number: it is never
 // ready in the pool.
 fn search_block<T: Stepper, R: Wait + Sync>(
-    rt: &R,
-    alloc: Global,
-    table: &OpTable<Item>,
+    site: &Site<R, T>,
     hand: &mut Hand<Item>,
-    stepper: &T,
     offers: &mut Offers,
     submits: bool,
     found: &mut bool,
     block: u32,
 ) -> Option<Name>
     requires sync { IsSync R.row }
-    requires hand { IsHandOf table.now hand.old }
-    requires over { IsOver table.now (T.plan stepper.now) }
-    requires kinds { IsRunnable (T.plan stepper.now) }
-    requires block { block < table.now.frame.layout.blocks }
+    requires hand { IsHandOf site.now hand.old }
+    requires site { IsSite site.now }
+    requires block { block < site.now.frame.layout.blocks }
     requires rests { IsAtRest (knows hand.old) }
-    ensures stays { Stays table.now hand.old hand.new }
+    ensures stays { Stays site.now hand.old hand.new }
     ensures rests { IsAtRest (knows hand.new) }
     ensures aside { KeepsAside hand.old.me hand.new.me }
     ensures served { IfSome result (λ name.
-        ServesNode (T.does stepper.now) table.now Pool name hand.old.me hand.new.me) }
+        ServesNode T.does site.now Pool name hand.old.me hand.new.me) }
     ensures none { IfNone result
-        (FindsBlock table.now hand.old.me hand.new.me block found.old found.new) }
+        (FindsBlock site.now hand.old.me hand.new.me block found.old found.new) }
     ensures looks { IfNone result (OnlyLooks hand.old.me hand.new.me) }
     ensures still { submits ≡ false → found.new ≡ found.old }
     ensures desk { KeepsDesk offers.old.desk offers.new.desk }
 {
-    let size = table.tree().size();
+    let size = site.table.tree().size();
     for node in 0..size - 1 {
-        match look_at(
-            rt, alloc, table, hand, stepper, offers, submits, found, block, node,
-        ) {
+        match look_at(site, hand, offers, submits, found, block, node) {
             Some(name) => return Some(name),
             None => {}
         }
@@ -121,35 +99,29 @@ fn search_block<T: Stepper, R: Wait + Sync>(
 /// Looks at each node of the table but the roots, until it took one. It submits the names of those
 /// that are ready in the pool, where they are to be submitted, and says so.
 pub fn search<T: Stepper, R: Wait + Sync>(
-    rt: &R,
-    alloc: Global,
-    table: &OpTable<Item>,
+    site: &Site<R, T>,
     hand: &mut Hand<Item>,
-    stepper: &T,
     offers: &mut Offers,
     submits: bool,
     found: &mut bool,
 ) -> Option<Name>
     requires sync { IsSync R.row }
-    requires hand { IsHandOf table.now hand.old }
-    requires over { IsOver table.now (T.plan stepper.now) }
-    requires kinds { IsRunnable (T.plan stepper.now) }
+    requires hand { IsHandOf site.now hand.old }
+    requires site { IsSite site.now }
     requires rests { IsAtRest (knows hand.old) }
-    ensures stays { Stays table.now hand.old hand.new }
+    ensures stays { Stays site.now hand.old hand.new }
     ensures rests { IsAtRest (knows hand.new) }
     ensures aside { KeepsAside hand.old.me hand.new.me }
     ensures served { IfSome result (λ name.
-        ServesNode (T.does stepper.now) table.now Pool name hand.old.me hand.new.me) }
+        ServesNode T.does site.now Pool name hand.old.me hand.new.me) }
     ensures none { IfNone result
-        (FindsAny table.now hand.old.me hand.new.me found.old found.new) }
+        (FindsAny site.now hand.old.me hand.new.me found.old found.new) }
     ensures looks { IfNone result (OnlyLooks hand.old.me hand.new.me) }
     ensures still { submits ≡ false → found.new ≡ found.old }
     ensures desk { KeepsDesk offers.old.desk offers.new.desk }
 {
-    for block in 0..table.blocks() {
-        match search_block(
-            rt, alloc, table, hand, stepper, offers, submits, found, block,
-        ) {
+    for block in 0..site.table.blocks() {
+        match search_block(site, hand, offers, submits, found, block) {
             Some(name) => return Some(name),
             None => {}
         }

@@ -1,10 +1,9 @@
 //! How a worker works until its scope is joined.
 ghost use Rattle.std.specs.Prelude.{◌≡◌, true};
 ghost use Rattle.std.specs.Thread.{IsSync};
-ghost use Rattle.plan_kinds.specs.Runnable.{IsRunnable};
 ghost use Rattle.table_steps.specs.Views.{IsSameHand};
 ghost use Rattle.exec_recv.specs.Asides.{KeepsAside};
-ghost use Rattle.exec_recv.specs.Over.{IsOver};
+ghost use Rattle.exec_recv.specs.Sites.{IsSite};
 ghost use Rattle.steal_pool.specs.Desks.{KeepsDesk};
 ghost use Rattle.steal_pool.specs.Rounds.{Comes};
 ghost use Rattle.steal_pool.specs.Works.{IsReady, HasEnded};
@@ -13,9 +12,7 @@ use crate::taking::take_next;
 use crate::worker::Worker;
 use crate::working::{Worked, places_of};
 use count_scope::is_joined;
-use exec_recv::{Item, Stepper};
-use op_slot::OpTable;
-use std::alloc::Global;
+use exec_recv::{Site, Stepper};
 use std::sync::Wait;
 
 /// What one round of a worker came to.
@@ -31,27 +28,20 @@ pub(crate) enum Round {
 
 impl Worker {
     // Works once, and where it found nothing looks at the scope.
-    fn work_or_end<T: Stepper, R: Wait + Sync>(
-        &mut self,
-        rt: &R,
-        alloc: Global,
-        table: &OpTable<Item>,
-        stepper: &T,
-    ) -> Round
+    fn work_or_end<T: Stepper, R: Wait + Sync>(&mut self, site: &Site<R, T>) -> Round
         requires sync { IsSync R.row }
-        requires ready { IsReady table.now self.old.hand }
-        requires over { IsOver table.now (T.plan stepper.now) }
-        requires kinds { IsRunnable (T.plan stepper.now) }
-        ensures ready { IsReady table.now self.new.hand }
+        requires ready { IsReady site.now self.old.hand }
+        requires site { IsSite site.now }
+        ensures ready { IsReady site.now self.new.hand }
         ensures same { IsSameHand self.old.hand self.new.hand }
         ensures aside { KeepsAside self.old.hand.me self.new.hand.me }
-        ensures ended { Comes table.now result self.old.hand.me self.new.hand.me }
+        ensures ended { Comes site.now result self.old.hand.me self.new.hand.me }
         ensures desk { KeepsDesk self.old.offers.desk self.new.offers.desk }
     {
-        match self.work_once(rt, alloc, table, stepper) {
+        match self.work_once(site) {
             Worked::Took(_) => Round::Took,
             Worked::Idle => {
-                if is_joined(table, &mut self.hand) {
+                if is_joined(site.table, &mut self.hand) {
                     Round::Ended
                 } else {
                     Round::Idle
@@ -61,36 +51,21 @@ impl Worker {
     }
 
     // One round: by names alone, or one by which it may end.
-    fn go_round<T: Stepper, R: Wait + Sync>(
-        &mut self,
-        rt: &R,
-        alloc: Global,
-        table: &OpTable<Item>,
-        stepper: &T,
-    ) -> Round
+    fn go_round<T: Stepper, R: Wait + Sync>(&mut self, site: &Site<R, T>) -> Round
         requires sync { IsSync R.row }
-        requires ready { IsReady table.now self.old.hand }
-        requires over { IsOver table.now (T.plan stepper.now) }
-        requires kinds { IsRunnable (T.plan stepper.now) }
-        ensures ready { IsReady table.now self.new.hand }
+        requires ready { IsReady site.now self.old.hand }
+        requires site { IsSite site.now }
+        ensures ready { IsReady site.now self.new.hand }
         ensures same { IsSameHand self.old.hand self.new.hand }
         ensures aside { KeepsAside self.old.hand.me self.new.hand.me }
-        ensures ended { Comes table.now result self.old.hand.me self.new.hand.me }
+        ensures ended { Comes site.now result self.old.hand.me self.new.hand.me }
         ensures desk { KeepsDesk self.old.offers.desk self.new.offers.desk }
     {
         if self.offers.looks_at_all() {
-            return self.work_or_end(rt, alloc, table, stepper);
+            return self.work_or_end(site);
         }
-        let mut asks = places_of(table);
-        match take_next(
-            rt,
-            alloc,
-            table,
-            &mut self.hand,
-            stepper,
-            &mut self.offers,
-            &mut asks,
-        ) {
+        let mut asks = places_of(site.table);
+        match take_next(site, &mut self.hand, &mut self.offers, &mut asks) {
             Some(_) => Round::Took,
             None => {
                 self.offers.doubt(asks);
@@ -100,27 +75,20 @@ impl Worker {
     }
 
     // Goes one round, and where it found nothing waits. True only where the scope is joined.
-    fn has_ended<T: Stepper, R: Wait + Sync>(
-        &mut self,
-        rt: &R,
-        alloc: Global,
-        table: &OpTable<Item>,
-        stepper: &T,
-    ) -> bool
+    fn has_ended<T: Stepper, R: Wait + Sync>(&mut self, site: &Site<R, T>) -> bool
         requires sync { IsSync R.row }
-        requires ready { IsReady table.now self.old.hand }
-        requires over { IsOver table.now (T.plan stepper.now) }
-        requires kinds { IsRunnable (T.plan stepper.now) }
-        ensures ready { IsReady table.now self.new.hand }
+        requires ready { IsReady site.now self.old.hand }
+        requires site { IsSite site.now }
+        ensures ready { IsReady site.now self.new.hand }
         ensures same { IsSameHand self.old.hand self.new.hand }
         ensures aside { KeepsAside self.old.hand.me self.new.hand.me }
-        ensures ended { result ≡ true → HasEnded table.now self.old.hand.me self.new.hand.me }
+        ensures ended { result ≡ true → HasEnded site.now self.old.hand.me self.new.hand.me }
         ensures desk { KeepsDesk self.old.offers.desk self.new.offers.desk }
     {
-        match self.go_round(rt, alloc, table, stepper) {
+        match self.go_round(site) {
             Round::Took => false,
             Round::Idle => {
-                self.offers.wait(rt);
+                self.offers.wait(site.rt);
                 false
             }
             Round::Ended => {
@@ -138,25 +106,18 @@ impl Worker {
     ///
     /// Step: those of `work_once`, and of `is_joined`.
     /// Needs, Afterwards: as `work_once`.
-    pub fn serve<T: Stepper, R: Wait + Sync>(
-        &mut self,
-        rt: &R,
-        alloc: Global,
-        table: &OpTable<Item>,
-        stepper: &T,
-    )
+    pub fn serve<T: Stepper, R: Wait + Sync>(&mut self, site: &Site<R, T>)
         requires sync { IsSync R.row }
-        requires ready { IsReady table.now self.old.hand }
-        requires over { IsOver table.now (T.plan stepper.now) }
-        requires kinds { IsRunnable (T.plan stepper.now) }
-        ensures ready { IsReady table.now self.new.hand }
+        requires ready { IsReady site.now self.old.hand }
+        requires site { IsSite site.now }
+        ensures ready { IsReady site.now self.new.hand }
         ensures same { IsSameHand self.old.hand self.new.hand }
         ensures aside { KeepsAside self.old.hand.me self.new.hand.me }
-        ensures ended { HasEnded table.now self.old.hand.me self.new.hand.me }
+        ensures ended { HasEnded site.now self.old.hand.me self.new.hand.me }
         ensures desk { KeepsDesk self.old.offers.desk self.new.offers.desk }
     {
-        for _ in rt.forever() {
-            if self.has_ended(rt, alloc, table, stepper) {
+        for _ in site.rt.forever() {
+            if self.has_ended(site) {
                 return;
             }
         }

@@ -2,21 +2,19 @@
 ghost use Rattle.std.specs.Prelude.{◌≡◌, ◌+◌, ◌≤◌, true, false, IfSome, IfNone};
 ghost use Rattle.std.specs.Thread.{IsSync};
 ghost use Rattle.life_rules.specs.declared.event.Resting.TheVariants.{Pool};
-ghost use Rattle.plan_kinds.specs.Runnable.{IsRunnable};
 ghost use Rattle.table_steps.specs.Views.{IsHandOf, IsPlaceIn, Stays, knows};
 ghost use Rattle.exec_recv.specs.Asides.{KeepsAside};
-ghost use Rattle.exec_recv.specs.Over.{IsOver};
-ghost use Rattle.loop_walk.specs.Resting.{IsAtRest};
-ghost use Rattle.loop_serve.specs.Since.{OnlyLooks};
-ghost use Rattle.loop_serve.specs.Serving.{ServesNode};
+ghost use Rattle.exec_recv.specs.Sites.{IsSite};
+ghost use Rattle.node_walks.specs.Resting.{IsAtRest};
+ghost use Rattle.node_walks.specs.Since.{OnlyLooks};
+ghost use Rattle.node_walks.specs.Serving.{ServesNode};
 ghost use Rattle.steal_pool.specs.Desks.{KeepsDesk};
 
 use crate::offers::Offers;
-use exec_recv::{Item, Stepper};
+use exec_recv::{Item, Site, Stepper};
 use life_rules::{Name, Resting};
-use loop_serve::serve;
+use node_walks::serve;
 use op_slot::{Hand, OpTable};
-use std::alloc::Global;
 use std::sync::Wait;
 
 // The name is of a place of the table.
@@ -28,31 +26,27 @@ fn is_place(table: &OpTable<Item>, name: Name) -> bool
 
 // Serves the node of a name that was handed out. A name of no place is no hint.
 fn serve_name<T: Stepper, R: Wait + Sync>(
-    rt: &R,
-    alloc: Global,
-    table: &OpTable<Item>,
+    site: &Site<R, T>,
     hand: &mut Hand<Item>,
-    stepper: &T,
     offers: &mut Offers,
     name: Name,
 ) -> bool
     requires sync { IsSync R.row }
-    requires hand { IsHandOf table.now hand.old }
-    requires over { IsOver table.now (T.plan stepper.now) }
-    requires kinds { IsRunnable (T.plan stepper.now) }
+    requires hand { IsHandOf site.now hand.old }
+    requires site { IsSite site.now }
     requires rests { IsAtRest (knows hand.old) }
-    ensures stays { Stays table.now hand.old hand.new }
+    ensures stays { Stays site.now hand.old hand.new }
     ensures rests { IsAtRest (knows hand.new) }
     ensures aside { KeepsAside hand.old.me hand.new.me }
     ensures served { result ≡ true →
-        ServesNode (T.does stepper.now) table.now Pool name hand.old.me hand.new.me }
+        ServesNode T.does site.now Pool name hand.old.me hand.new.me }
     ensures looks { result ≡ false → OnlyLooks hand.old.me hand.new.me }
     ensures desk { KeepsDesk offers.old.desk offers.new.desk }
 {
-    if !is_place(table, name) {
+    if !is_place(site.table, name) {
         return false;
     }
-    serve(rt, alloc, table, hand, stepper, offers, name, Resting::Pool)
+    serve(site, hand, offers, name, Resting::Pool)
 }
 
 // The next name, where the call may ask for one more. Each that is asked for is one fewer.
@@ -73,31 +67,27 @@ fn ask<R: Wait>(rt: &R, offers: &mut Offers, asks: &mut u32) -> Option<Name>
 /// call may ask for one more: a backend that never ends its answers doesn't hold the call. Before
 /// it goes on with a node it searches no more.
 pub fn take_next<T: Stepper, R: Wait + Sync>(
-    rt: &R,
-    alloc: Global,
-    table: &OpTable<Item>,
+    site: &Site<R, T>,
     hand: &mut Hand<Item>,
-    stepper: &T,
     offers: &mut Offers,
     asks: &mut u32,
 ) -> Option<Name>
     requires sync { IsSync R.row }
-    requires hand { IsHandOf table.now hand.old }
-    requires over { IsOver table.now (T.plan stepper.now) }
-    requires kinds { IsRunnable (T.plan stepper.now) }
+    requires hand { IsHandOf site.now hand.old }
+    requires site { IsSite site.now }
     requires rests { IsAtRest (knows hand.old) }
-    ensures stays { Stays table.now hand.old hand.new }
+    ensures stays { Stays site.now hand.old hand.new }
     ensures rests { IsAtRest (knows hand.new) }
     ensures aside { KeepsAside hand.old.me hand.new.me }
     ensures most { asks.new ≤ asks.old }
     ensures served { IfSome result (λ name.
-        ServesNode (T.does stepper.now) table.now Pool name hand.old.me hand.new.me) }
+        ServesNode T.does site.now Pool name hand.old.me hand.new.me) }
     ensures looks { IfNone result (OnlyLooks hand.old.me hand.new.me) }
     ensures desk { KeepsDesk offers.old.desk offers.new.desk }
 {
-    'asked: while let Some(name) = ask(rt, offers, asks) {
-        offers.get_up(rt);
-        if serve_name(rt, alloc, table, hand, stepper, offers, name) {
+    'asked: while let Some(name) = ask(site.rt, offers, asks) {
+        offers.get_up(site.rt);
+        if serve_name(site, hand, offers, name) {
             return Some(name);
         }
     }

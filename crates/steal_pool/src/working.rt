@@ -1,11 +1,10 @@
 //! How a worker works.
 ghost use Rattle.std.specs.Prelude.{◌≡◌, ◌≤◌};
 ghost use Rattle.std.specs.Thread.{IsSync};
-ghost use Rattle.plan_kinds.specs.Runnable.{IsRunnable};
 ghost use Rattle.table_steps.specs.Views.{IsHandOf, IsSameHand, Stays, knows};
 ghost use Rattle.exec_recv.specs.Asides.{KeepsAside};
-ghost use Rattle.exec_recv.specs.Over.{IsOver};
-ghost use Rattle.loop_walk.specs.Resting.{IsAtRest};
+ghost use Rattle.exec_recv.specs.Sites.{IsSite};
+ghost use Rattle.node_walks.specs.Resting.{IsAtRest};
 ghost use Rattle.steal_pool.specs.Desks.{KeepsDesk};
 ghost use Rattle.steal_pool.specs.Works.{IsReady, WorksOn};
 
@@ -13,10 +12,9 @@ use crate::offers::Offers;
 use crate::searching::search;
 use crate::taking::take_next;
 use crate::worker::Worker;
-use exec_recv::{Item, Stepper};
+use exec_recv::{Item, Site, Stepper};
 use life_rules::Name;
 use op_slot::{Hand, OpTable};
-use std::alloc::Global;
 use std::sync::Wait;
 
 /// What a worker did.
@@ -35,26 +33,22 @@ pub fn places_of(table: &OpTable<Item>) -> u32 {
 
 // Takes the first node that is ready in the pool, whatever the backend does.
 fn take_any<T: Stepper, R: Wait + Sync>(
-    rt: &R,
-    alloc: Global,
-    table: &OpTable<Item>,
+    site: &Site<R, T>,
     hand: &mut Hand<Item>,
-    stepper: &T,
     offers: &mut Offers,
 ) -> Worked
     requires sync { IsSync R.row }
-    requires hand { IsHandOf table.now hand.old }
-    requires over { IsOver table.now (T.plan stepper.now) }
-    requires kinds { IsRunnable (T.plan stepper.now) }
+    requires hand { IsHandOf site.now hand.old }
+    requires site { IsSite site.now }
     requires rests { IsAtRest (knows hand.old) }
-    ensures stays { Stays table.now hand.old hand.new }
+    ensures stays { Stays site.now hand.old hand.new }
     ensures rests { IsAtRest (knows hand.new) }
     ensures aside { KeepsAside hand.old.me hand.new.me }
-    ensures works { WorksOn (T.does stepper.now) table.now result hand.old hand.new }
+    ensures works { WorksOn T.does site.now result hand.old hand.new }
     ensures desk { KeepsDesk offers.old.desk offers.new.desk }
 {
     let mut found = false;
-    match search(rt, alloc, table, hand, stepper, offers, false, &mut found) {
+    match search(site, hand, offers, false, &mut found) {
         Some(name) => Worked::Took(name),
         None => Worked::Idle,
     }
@@ -63,39 +57,35 @@ fn take_any<T: Stepper, R: Wait + Sync>(
 // Submits the names of nodes that are ready in the pool, and takes one of them: by the names of the
 // backend, as many as the call may still ask for, and where it gives none by a further look.
 fn seek<T: Stepper, R: Wait + Sync>(
-    rt: &R,
-    alloc: Global,
-    table: &OpTable<Item>,
+    site: &Site<R, T>,
     hand: &mut Hand<Item>,
-    stepper: &T,
     offers: &mut Offers,
     asks: &mut u32,
 ) -> Worked
     requires sync { IsSync R.row }
-    requires hand { IsHandOf table.now hand.old }
-    requires over { IsOver table.now (T.plan stepper.now) }
-    requires kinds { IsRunnable (T.plan stepper.now) }
+    requires hand { IsHandOf site.now hand.old }
+    requires site { IsSite site.now }
     requires rests { IsAtRest (knows hand.old) }
-    ensures stays { Stays table.now hand.old hand.new }
+    ensures stays { Stays site.now hand.old hand.new }
     ensures rests { IsAtRest (knows hand.new) }
     ensures aside { KeepsAside hand.old.me hand.new.me }
     ensures most { asks.new ≤ asks.old }
-    ensures works { WorksOn (T.does stepper.now) table.now result hand.old hand.new }
+    ensures works { WorksOn T.does site.now result hand.old hand.new }
     ensures desk { KeepsDesk offers.old.desk offers.new.desk }
 {
     let mut found = false;
-    match search(rt, alloc, table, hand, stepper, offers, true, &mut found) {
+    match search(site, hand, offers, true, &mut found) {
         Some(name) => return Worked::Took(name),
         None => {}
     }
     if !found {
         return Worked::Idle;
     }
-    match take_next(rt, alloc, table, hand, stepper, offers, asks) {
+    match take_next(site, hand, offers, asks) {
         Some(name) => return Worked::Took(name),
         None => {}
     }
-    take_any(rt, alloc, table, hand, stepper, offers)
+    take_any(site, hand, offers)
 }
 
 impl Worker {
@@ -112,44 +102,21 @@ impl Worker {
     /// whose kinds match.
     /// Afterwards: so it is still. All else that its view says is as before, but for requests that
     /// it has seen and the list of its steps. The worker's desk is the same.
-    pub fn work_once<T: Stepper, R: Wait + Sync>(
-        &mut self,
-        rt: &R,
-        alloc: Global,
-        table: &OpTable<Item>,
-        stepper: &T,
-    ) -> Worked
+    pub fn work_once<T: Stepper, R: Wait + Sync>(&mut self, site: &Site<R, T>) -> Worked
         requires sync { IsSync R.row }
-        requires ready { IsReady table.now self.old.hand }
-        requires over { IsOver table.now (T.plan stepper.now) }
-        requires kinds { IsRunnable (T.plan stepper.now) }
-        ensures ready { IsReady table.now self.new.hand }
+        requires ready { IsReady site.now self.old.hand }
+        requires site { IsSite site.now }
+        ensures ready { IsReady site.now self.new.hand }
         ensures same { IsSameHand self.old.hand self.new.hand }
         ensures aside { KeepsAside self.old.hand.me self.new.hand.me }
-        ensures works { WorksOn (T.does stepper.now) table.now result self.old.hand self.new.hand }
+        ensures works { WorksOn T.does site.now result self.old.hand self.new.hand }
         ensures desk { KeepsDesk self.old.offers.desk self.new.offers.desk }
     {
-        let mut asks = places_of(table);
-        match take_next(
-            rt,
-            alloc,
-            table,
-            &mut self.hand,
-            stepper,
-            &mut self.offers,
-            &mut asks,
-        ) {
+        let mut asks = places_of(site.table);
+        match take_next(site, &mut self.hand, &mut self.offers, &mut asks) {
             Some(name) => return Worked::Took(name),
             None => {}
         }
-        seek(
-            rt,
-            alloc,
-            table,
-            &mut self.hand,
-            stepper,
-            &mut self.offers,
-            &mut asks,
-        )
+        seek(site, &mut self.hand, &mut self.offers, &mut asks)
     }
 }

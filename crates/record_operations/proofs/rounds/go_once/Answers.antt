@@ -17,7 +17,7 @@ returns-clause-aside g c =
 
 pub returns-clause-met : goal.returns-clause-met
 returns-clause-met g c =
-    learned-met c.args.looped.now c.drain.new.looped c.take_all.new.looped c.drain.ensures.learns (g.T.Stepper.does c.args.stepper.now)
+    learned-met c.args.looped.now c.drain.new.looped c.take_all.new.looped c.drain.ensures.learns g.T.Stepper.does
     c.args.table.now c.take_all.ensures.met
 
 pub returns-clause-both : goal.returns-clause-both

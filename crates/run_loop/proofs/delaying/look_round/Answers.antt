@@ -1,6 +1,6 @@
 use Rattle.std.proofs.Common.{eqb-true, sym, ◌∙◌}
 use Rattle.op_slot.proofs.Staying.{stays-here, stays-on}
-use Rattle.loop_serve.proofs.Read.{looks-here, looks-on}
+use Rattle.node_walks.proofs.Read.{looks-here, looks-on}
 use Rattle.run_loop.proofs.Looking.{below-none, below-empty, below-more}
 use Rattle.run_loop.proofs.delaying.look_round.Goals as goal
 

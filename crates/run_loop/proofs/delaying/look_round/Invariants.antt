@@ -1,6 +1,6 @@
 use Rattle.table_steps.specs.Views.{Stays}
-use Rattle.loop_walk.specs.Resting.{IsAtRest}
-use Rattle.loop_serve.specs.Since.{OnlyLooks}
+use Rattle.node_walks.specs.Resting.{IsAtRest}
+use Rattle.node_walks.specs.Since.{OnlyLooks}
 use Rattle.run_loop.specs.Delayed.{LooksBelow}
 use Rattle.run_loop.proofs.delaying.look_round.Given as goal
 

@@ -1,7 +1,6 @@
-use Rattle.std.proofs.Common.{sym, ap, ◌∙◌, subst, arith}
+use Rattle.std.proofs.Common.{ap, ◌∙◌, subst, arith}
 use Rattle.op_slot.proofs.Staying.{stays-on}
 use Rattle.exec_recv.specs.Asides.{Aside}
-use Rattle.exec_recv.specs.Over.{IsOver}
 use Rattle.exec_recv.proofs.Asiding.{aside-on}
 use Rattle.timer_wheel.specs.Delays.{DelayList}
 use Rattle.run_loop.specs.Delayed.{LooksBelow, MayTakeDue, MayTakeOf}
@@ -10,14 +9,14 @@ use Rattle.run_loop.proofs.Served.{more-none, more-on, more-by}
 use Rattle.run_loop.proofs.delaying.serve_delays.Goals as goal
 
 pub look_round-requires-clause-over : goal.look_round-requires-clause-over
-look_round-requires-clause-over g c = subst (IsOver c.args.table.now) (sym c.requires.over.over) c.requires.over
+look_round-requires-clause-over g c = rw (← c.site.view_is) at c.requires.site.over
 
 pub take_due-requires-clause-first : goal.take_due-requires-clause-first
 take_due-requires-clause-first g c κs within = ap (λ (a : Aside). a.number) c.look_round.ensures.only.aside.same ∙ c.requires.first
 
 pub returns-clause-stays : goal.returns-clause-stays
 returns-clause-stays g c =
-    stays-on c.args.table.now c.args.hand.now c.look_round.new.hand c.take_due.new.hand c.look_round.ensures.stays c.take_due.ensures.stays
+    stays-on c.args.site.now c.args.hand.now c.look_round.new.hand c.take_due.new.hand (rw c.site.view_is at c.look_round.ensures.stays) c.take_due.ensures.stays
 
 pub returns-clause-aside : goal.returns-clause-aside
 returns-clause-aside g c =
@@ -25,8 +24,8 @@ returns-clause-aside g c =
 
 pub returns-clause-served : goal.returns-clause-served
 returns-clause-served g c =
-    let does = g.T.Stepper.does c.args.stepper.now in
-    let board = c.args.table.now in
+    let does = g.T.Stepper.does in
+    let board = c.args.site.now in
     let old = c.args.hand.now.me in
     let between = c.look_round.new.hand.me in
     let new = c.take_due.new.hand.me in
@@ -36,17 +35,17 @@ returns-clause-served g c =
     (more-by does board (MayTakeOf board c.look_round.new.delays) may
     (due-now board c.args.nodes.now old between new c.args.delays.now c.look_round.new.delays c.take_due.new.delays.turn
     (subst (λ (d : DelayList). LooksBelow board c.args.nodes.now board.frame.layout.blocks old between d c.look_round.new.delays)
-    c.next_turn.ensures c.look_round.ensures.looks)
+    c.next_turn.ensures (rw c.site.view_is at c.look_round.ensures.looks))
     c.take_due.ensures.due.takes.turn c.take_due.ensures.aside)
     c.args.taken c.take_due.result between new c.take_due.ensures.served)
 
 pub returns-clause-turn : goal.returns-clause-turn
 returns-clause-turn g c =
-    let board = c.args.table.now in
+    let board = c.args.site.now in
     let old = c.args.hand.now.me in
     let between = c.look_round.new.hand.me in
     let new = c.take_due.new.hand.me in
-    passes board (subst (IsOver board) (sym c.requires.over.over) c.requires.over) c.args.nodes.now c.requires.nodes c.take_due.result old
+    passes board c.requires.site.over c.args.nodes.now c.requires.nodes c.take_due.result old
     between new c.args.delays.now c.look_round.new.delays c.take_due.new.delays
     (subst (λ (d : DelayList). LooksBelow board c.args.nodes.now board.frame.layout.blocks old between d c.look_round.new.delays)
-    c.next_turn.ensures c.look_round.ensures.looks) c.take_due.ensures.due c.look_round.ensures.only.aside c.take_due.ensures.aside
+    c.next_turn.ensures (rw c.site.view_is at c.look_round.ensures.looks)) c.take_due.ensures.due c.look_round.ensures.only.aside c.take_due.ensures.aside

@@ -2,7 +2,7 @@ use Rattle.std.proofs.Common.{arith}
 use Rattle.op_slot.proofs.Staying.{stays-here, stays-on}
 use Rattle.exec_recv.proofs.Asiding.{aside-here, aside-on}
 use Rattle.deck_relay.specs.SameDecks.{keeps-here, keeps-on}
-use Rattle.loop_serve.proofs.Read.{looks-here}
+use Rattle.node_walks.proofs.Read.{looks-here}
 use Rattle.run_loop.specs.Delayed.{MayTakeDelay, MayTakeOf}
 use Rattle.run_loop.proofs.Due.{delay-of, takes-none, takes-more}
 use Rattle.run_loop.proofs.Served.{more-none, more-on, more-by}
@@ -11,20 +11,20 @@ use Rattle.run_loop.proofs.delaying.take_due.Goals as goal
 pub out-init : goal.out-init
 out-init g c =
     record {
-      stays = stays-here c.args.table.now c.args.hand.now c.requires.hand;
+      stays = stays-here c.args.site.now c.args.hand.now c.requires.hand;
       rests = c.requires.rests;
       aside = aside-here c.args.hand.now.me;
-      served = more-none (g.T.Stepper.does c.args.stepper.now) c.args.table.now (MayTakeOf c.args.table.now c.args.delays.now) c.args.taken
+      served = more-none g.T.Stepper.does c.args.site.now (MayTakeOf c.args.site.now c.args.delays.now) c.args.taken
           c.args.hand.now.me c.args.hand.now.me (omega arith) (looks-here c.args.hand.now.me);
       more = omega arith;
-      takes = takes-none c.args.table.now c.args.taken c.args.hand.now.me c.args.delays.now;
+      takes = takes-none c.args.site.now c.args.taken c.args.hand.now.me c.args.delays.now;
       deck = keeps-here c.args.names.now.deck;
     }
 
 pub out-preserved : goal.out-preserved
 out-preserved g c =
-    let does = g.T.Stepper.does c.args.stepper.now in
-    let board = c.args.table.now in
+    let does = g.T.Stepper.does in
+    let board = c.args.site.now in
     let before = c.out.invariant in
     let old = c.args.hand.now in
     let between = c.out.hand in

@@ -3,19 +3,19 @@ use Rattle.table_steps.specs.Views.{Stays}
 use Rattle.deck_relay.specs.SameDecks.{KeepsDeck}
 use Rattle.exec_recv.specs.Asides.{KeepsAside}
 use Rattle.timer_wheel.specs.Delays.{count_of}
-use Rattle.loop_walk.specs.Resting.{IsAtRest}
+use Rattle.node_walks.specs.Resting.{IsAtRest}
 use Rattle.run_loop.specs.Delayed.{MayTakeOf, TakesOut}
 use Rattle.run_loop.specs.Serves.{ServesMore}
 use Rattle.run_loop.proofs.delaying.take_due.Given as goal
 
 abbrev pub invariant-out : goal.invariant-out
 invariant-out g l = record {
-  stays : Stays l.table l.fn.hand l.hand;
+  stays : Stays l.site l.fn.hand l.hand;
   rests : IsAtRest l.hand.me.0;
   aside : KeepsAside l.fn.hand.me l.hand.me;
-  served : ServesMore (g.T.Stepper.does l.stepper) l.table (MayTakeOf l.table l.fn.delays) l.fn.taken l.taken l.fn.hand.me l.hand.me;
+  served : ServesMore g.T.Stepper.does l.site (MayTakeOf l.site l.fn.delays) l.fn.taken l.taken l.fn.hand.me l.hand.me;
   more : l.fn.taken ≤ l.taken;
-  takes : TakesOut l.table l.taken l.fn.hand.me l.hand.me l.fn.delays l.delays;
+  takes : TakesOut l.site l.taken l.fn.hand.me l.hand.me l.fn.delays l.delays;
   deck : KeepsDeck l.fn.names.deck l.names.deck;
 }
 

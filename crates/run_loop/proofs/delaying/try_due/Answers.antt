@@ -1,8 +1,8 @@
 use Rattle.std.proofs.Common.{inl, inr, length, arith, refl, ap}
 use Rattle.life_rules.specs.declared.event.Resting.TheVariants as rest
-use Rattle.loop_serve.proofs.Took.{first-serves}
+use Rattle.node_walks.proofs.Took.{first-serves}
 use Rattle.deck_relay.specs.SameDecks.{keeps-here}
-use Rattle.loop_serve.proofs.Read.{looks-here}
+use Rattle.node_walks.proofs.Read.{looks-here}
 use Rattle.run_loop.specs.Delayed.{MayTakeDelay}
 use Rattle.run_loop.proofs.Due.{name-as, tried-as}
 use Rattle.run_loop.proofs.Served.{more-none, more-one}
@@ -14,42 +14,42 @@ serve-requires-clause-serves g c κs within = first-serves rest.Parked c.args.ha
 pub returns-then-serve-clause-served : goal.returns-then-serve-clause-served
 returns-then-serve-clause-served g c =
     let size = c.size-nodes.ensures.size in
-    let tree = ap length c.tree.ensures.tree in
-    let nodes = c.requires.over.nodes in
-    more-one (g.T.Stepper.does c.args.stepper.now) c.args.table.now (MayTakeDelay c.args.table.now c.args.due.place c.args.due.generation)
+    let tree = rw c.site.view_is at (ap length c.tree.ensures.tree) in
+    let nodes = c.requires.site.over.nodes in
+    more-one g.T.Stepper.does c.args.site.now (MayTakeDelay c.args.site.now c.args.due.place c.args.due.generation)
     c.args.taken c.one_more.result c.args.hand.now.me c.serve.new.hand.me c.one_more.ensures.one
     (record {
       name = _;
       from = rest.Parked;
-      may_be = (refl, name-as c.args.table.now c.args.due.place c.args.due.generation c.size-nodes.result (omega (arith, size, tree, nodes)));
+      may_be = (refl, name-as c.args.site.now c.args.due.place c.args.due.generation c.size-nodes.result (omega (arith, size, tree, nodes)));
       serves = c.serve.ensures.only c.if-serve.true;
     })
 
 pub returns-then-serve-clause-tried : goal.returns-then-serve-clause-tried
 returns-then-serve-clause-tried g c within =
     let size = c.size-nodes.ensures.size in
-    let tree = ap length c.tree.ensures.tree in
-    let nodes = c.requires.over.nodes in
-    tried-as c.args.table.now c.args.hand.now.me c.serve.new.hand.me c.one_more.result c.args.due.place c.args.due.generation
+    let tree = rw c.site.view_is at (ap length c.tree.ensures.tree) in
+    let nodes = c.requires.site.over.nodes in
+    tried-as c.args.site.now c.args.hand.now.me c.serve.new.hand.me c.one_more.result c.args.due.place c.args.due.generation
     c.size-nodes.result (omega (arith, size, tree, nodes))
     (inr (c.one_more.ensures.some, (c.serve.ensures.served c.if-serve.true).taken))
 
 pub returns-clause-served : goal.returns-clause-served
 returns-clause-served g c =
-    more-none (g.T.Stepper.does c.args.stepper.now) c.args.table.now (MayTakeDelay c.args.table.now c.args.due.place c.args.due.generation)
+    more-none g.T.Stepper.does c.args.site.now (MayTakeDelay c.args.site.now c.args.due.place c.args.due.generation)
     c.args.taken c.args.hand.now.me c.serve.new.hand.me (omega arith) (c.serve.ensures.looks c.if-serve.false)
 
 pub returns-then-name-blocks-clause-served : goal.returns-then-name-blocks-clause-served
 returns-then-name-blocks-clause-served g c =
-    more-none (g.T.Stepper.does c.args.stepper.now) c.args.table.now (MayTakeDelay c.args.table.now c.args.due.place c.args.due.generation)
+    more-none g.T.Stepper.does c.args.site.now (MayTakeDelay c.args.site.now c.args.due.place c.args.due.generation)
     c.args.taken c.args.hand.now.me c.args.hand.now.me (omega arith) (looks-here c.args.hand.now.me)
 
 pub returns-clause-tried : goal.returns-clause-tried
 returns-clause-tried g c within =
     let size = c.size-nodes.ensures.size in
-    let tree = ap length c.tree.ensures.tree in
-    let nodes = c.requires.over.nodes in
-    tried-as c.args.table.now c.args.hand.now.me c.serve.new.hand.me c.args.taken c.args.due.place c.args.due.generation c.size-nodes.result
+    let tree = rw c.site.view_is at (ap length c.tree.ensures.tree) in
+    let nodes = c.requires.site.over.nodes in
+    tried-as c.args.site.now c.args.hand.now.me c.serve.new.hand.me c.args.taken c.args.due.place c.args.due.generation c.size-nodes.result
     (omega (arith, size, tree, nodes)) (inl (c.serve.ensures.missed c.if-serve.false))
 
 pub returns-then-name-blocks-clause-deck : goal.returns-then-name-blocks-clause-deck

@@ -3,7 +3,7 @@ use Rattle.op_slot.proofs.Staying.{stays-here, stays-on}
 use Rattle.exec_recv.specs.Asides.{Aside}
 use Rattle.exec_recv.proofs.Asiding.{aside-here, aside-on}
 use Rattle.deck_relay.specs.SameDecks.{keeps-here, keeps-on}
-use Rattle.loop_serve.proofs.Read.{looks-here}
+use Rattle.node_walks.proofs.Read.{looks-here}
 use Rattle.run_loop.specs.Serves.{MayHelp}
 use Rattle.run_loop.proofs.Served.{more-none, more-on}
 use Rattle.run_loop.proofs.Turned.{passed-more}
@@ -12,10 +12,10 @@ use Rattle.run_loop.proofs.scanning.scan_block.Goals as goal
 pub loop-node-init : goal.loop-node-init
 loop-node-init g c =
     record {
-      stays = stays-here c.args.table.now c.args.hand.now c.requires.hand;
+      stays = stays-here c.args.site.now c.args.hand.now c.requires.hand;
       rests = c.requires.rests;
       aside = aside-here c.args.hand.now.me;
-      served = more-none (g.T.Stepper.does c.args.stepper.now) c.args.table.now (MayHelp c.args.helps) c.args.taken c.args.hand.now.me
+      served = more-none g.T.Stepper.does c.args.site.now (MayHelp c.args.helps) c.args.taken c.args.hand.now.me
           c.args.hand.now.me (omega arith) (looks-here c.args.hand.now.me);
       none = λ zero. (zero, λ node below inner. absurd (omega (arith, below)));
       deck = keeps-here c.args.names.now.deck;
@@ -26,7 +26,7 @@ take_node-taken-requires-clause-first g c κs within = ap (λ (a : Aside). a.num
 
 pub loop-node-preserved : goal.loop-node-preserved
 loop-node-preserved g c =
-    let board = c.args.table.now in
+    let board = c.args.site.now in
     let before = c.loop-node.invariant in
     let old = c.args.hand.now in
     let between = c.loop-node.hand in
@@ -35,7 +35,7 @@ loop-node-preserved g c =
       stays = stays-on board old between new before.stays c.take_node-taken.ensures.stays;
       rests = c.take_node-taken.ensures.rests;
       aside = aside-on old.me between.me new.me before.aside c.take_node-taken.ensures.aside;
-      served = more-on (g.T.Stepper.does c.args.stepper.now) board (MayHelp c.args.helps) c.args.taken c.loop-node.taken
+      served = more-on g.T.Stepper.does board (MayHelp c.args.helps) c.args.taken c.loop-node.taken
           c.take_node-taken.result old.me between.me new.me before.served c.take_node-taken.ensures.served;
       none = λ zero.
           let here = c.take_node-taken.ensures.none zero in

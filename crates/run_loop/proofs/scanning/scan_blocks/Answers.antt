@@ -2,7 +2,7 @@ use Rattle.std.proofs.Common.{arith, ap, ◌∙◌}
 use Rattle.op_slot.proofs.Staying.{stays-here, stays-on}
 use Rattle.exec_recv.specs.Asides.{Aside}
 use Rattle.exec_recv.proofs.Asiding.{aside-here, aside-on}
-use Rattle.loop_serve.proofs.Read.{looks-here}
+use Rattle.node_walks.proofs.Read.{looks-here}
 use Rattle.deck_relay.specs.SameDecks.{keeps-here, keeps-on}
 use Rattle.run_loop.specs.Serves.{MayHelp}
 use Rattle.run_loop.proofs.Served.{more-none, more-on}
@@ -12,10 +12,10 @@ use Rattle.run_loop.proofs.scanning.scan_blocks.Goals as goal
 pub loop-block-init : goal.loop-block-init
 loop-block-init g c =
     record {
-      stays = stays-here c.args.table.now c.args.hand.now c.requires.hand;
+      stays = stays-here c.args.site.now c.args.hand.now c.requires.hand;
       rests = c.requires.rests;
       aside = aside-here c.args.hand.now.me;
-      served = more-none (g.T.Stepper.does c.args.stepper.now) c.args.table.now (MayHelp c.args.helps) 0 c.args.hand.now.me
+      served = more-none g.T.Stepper.does c.args.site.now (MayHelp c.args.helps) 0 c.args.hand.now.me
           c.args.hand.now.me (omega arith) (looks-here c.args.hand.now.me);
       none = λ zero block below. absurd (omega (arith, below));
       deck = keeps-here c.args.names.now.deck;
@@ -26,7 +26,7 @@ scan_block-taken-requires-clause-first g c κs within = ap (λ (a : Aside). a.nu
 
 pub loop-block-preserved : goal.loop-block-preserved
 loop-block-preserved g c =
-    let board = c.args.table.now in
+    let board = c.args.site.now in
     let before = c.loop-block.invariant in
     let old = c.args.hand.now in
     let between = c.loop-block.hand in
@@ -35,7 +35,7 @@ loop-block-preserved g c =
       stays = stays-on board old between new before.stays c.scan_block-taken.ensures.stays;
       rests = c.scan_block-taken.ensures.rests;
       aside = aside-on old.me between.me new.me before.aside c.scan_block-taken.ensures.aside;
-      served = more-on (g.T.Stepper.does c.args.stepper.now) board (MayHelp c.args.helps) 0 c.loop-block.taken c.scan_block-taken.result
+      served = more-on g.T.Stepper.does board (MayHelp c.args.helps) 0 c.loop-block.taken c.scan_block-taken.result
           old.me between.me new.me before.served c.scan_block-taken.ensures.served;
       none = λ zero.
           let here = c.scan_block-taken.ensures.none zero in

@@ -5,11 +5,11 @@ use Rattle.node_tree.specs.declared.context.Context.TheVariants.{Loop, Pool}
 use Rattle.table_words.specs.Layouts.{OfControl, index}
 use Rattle.op_slot.proofs.Staying.{stays-on}
 use Rattle.exec_recv.proofs.Asiding.{aside-on}
-use Rattle.loop_serve.specs.Since.{OnlyLooks}
-use Rattle.loop_serve.specs.Serving.{IsUnready, WasUnready}
+use Rattle.node_walks.specs.Since.{OnlyLooks}
+use Rattle.node_walks.specs.Serving.{IsUnready, WasUnready}
 use Rattle.exec_recv.proofs.Since.{since-before, since-after}
-use Rattle.loop_serve.proofs.Read.{looks-on}
-use Rattle.loop_serve.proofs.Took.{first-serves}
+use Rattle.node_walks.proofs.Read.{looks-on}
+use Rattle.node_walks.proofs.Took.{first-serves}
 use Rattle.deck_relay.specs.SameDecks.{keeps-on}
 use Rattle.run_loop.specs.Serves.{MayHelp}
 use Rattle.run_loop.proofs.Served.{none-taken, one-taken, more-none, more-one, more-on}
@@ -20,8 +20,8 @@ serve_place-requires-clause-serves g c κs within = first-serves rest.Loop c.arg
 
 pub returns-then-is_some : goal.returns-then-is_some
 returns-then-is_some g c =
-    let does = g.T.Stepper.does c.args.stepper.now in
-    let board = c.args.table.now in
+    let does = g.T.Stepper.does in
+    let board = c.args.site.now in
     let old = c.args.hand.now in
     let new = c.serve_place.new.hand in
     let some = c.one_more.ensures.some in
@@ -38,8 +38,8 @@ returns-then-is_some g c =
 
 pub returns-then-not-helps : goal.returns-then-not-helps
 returns-then-not-helps g c =
-    let does = g.T.Stepper.does c.args.stepper.now in
-    let board = c.args.table.now in
+    let does = g.T.Stepper.does in
+    let board = c.args.site.now in
     let old = c.args.hand.now in
     let new = c.serve_place.new.hand in
     record {
@@ -61,8 +61,8 @@ returns-then-not-helps g c =
 
 pub returns-then-is_some-2 : goal.returns-then-is_some-2
 returns-then-is_some-2 g c =
-    let does = g.T.Stepper.does c.args.stepper.now in
-    let board = c.args.table.now in
+    let does = g.T.Stepper.does in
+    let board = c.args.site.now in
     let old = c.args.hand.now in
     let between = c.serve_place.new.hand in
     let new = c.serve_place-2.new.hand in
@@ -86,7 +86,7 @@ returns-then-is_some-2 g c =
 
 pub returns : goal.returns
 returns g c =
-    let board = c.args.table.now in
+    let board = c.args.site.now in
     let i = index board.frame.layout (OfControl c.args.block c.args.node) in
     let old = c.args.hand.now in
     let between = c.serve_place.new.hand in
@@ -97,7 +97,7 @@ returns g c =
       rests = c.serve_place-2.ensures.rests;
       aside = aside;
       deck = keeps-on c.args.names.now.deck c.serve_place.new.mail.deck c.serve_place-2.new.mail.deck c.serve_place.ensures.mail c.serve_place-2.ensures.mail;
-      served = more-none (g.T.Stepper.does c.args.stepper.now) board (MayHelp c.args.helps) c.args.taken old.me new.me (omega arith)
+      served = more-none g.T.Stepper.does board (MayHelp c.args.helps) c.args.taken old.me new.me (omega arith)
           (looks-on old.me between.me new.me
           (none-taken c.serve_place.result (OnlyLooks old.me between.me) (sym c.is_some.ensures ∙ c.if-is_some.false)
           c.serve_place.ensures.looks)

@@ -3,7 +3,7 @@ use Rattle.std.proofs.lemmas.Option.{slice_get-get_or}
 use Rattle.op_slot.proofs.Staying.{stays-here, stays-on}
 use Rattle.exec_recv.specs.Asides.{Aside}
 use Rattle.exec_recv.proofs.Asiding.{aside-here, aside-on}
-use Rattle.loop_serve.proofs.Read.{looks-here}
+use Rattle.node_walks.proofs.Read.{looks-here}
 use Rattle.deck_relay.specs.SameDecks.{keeps-here, keeps-on}
 use Rattle.run_loop.specs.Serves.{MayHelp, ServesMore}
 use Rattle.run_loop.specs.Turns.{AreLeft, MeetsFirst}
@@ -16,10 +16,10 @@ use Rattle.run_loop.proofs.turning.serve_each.Goals.{then-serve_name, else-serve
 pub loop-name-init : goal.loop-name-init
 loop-name-init g c =
     record {
-      stays = stays-here c.args.table.now c.args.hand.now c.requires.hand;
+      stays = stays-here c.args.site.now c.args.hand.now c.requires.hand;
       rests = c.requires.rests;
       aside = aside-here c.args.hand.now.me;
-      served = more-none (g.T.Stepper.does c.args.stepper.now) c.args.table.now (MayHelp c.args.helps) 0 c.args.hand.now.me
+      served = more-none g.T.Stepper.does c.args.site.now (MayHelp c.args.helps) 0 c.args.hand.now.me
           c.args.hand.now.me (omega arith) (looks-here c.args.hand.now.me);
       within = omega arith;
       met = refl;
@@ -32,9 +32,9 @@ serve_name-requires-clause-first g c κs within = ap (λ (a : Aside). a.number) 
 
 pub loop-name-preserved : goal.loop-name-preserved
 loop-name-preserved g c =
-    let does = g.T.Stepper.does c.args.stepper.now in
+    let does = g.T.Stepper.does in
     let may = MayHelp c.args.helps in
-    let board = c.args.table.now in
+    let board = c.args.site.now in
     let before = c.loop-name.invariant in
     let old = c.args.hand.now in
     let between = c.loop-name.hand in
@@ -88,5 +88,5 @@ returns-clause-met g c =
     let all : c.loop-name.name-index ≡ length c.args.told.now = omega (arith, past, within) in
     subst
     (λ n.
-    MeetsFirst (g.T.Stepper.does c.args.stepper.now) c.args.table.now c.args.helps c.args.told.now n c.args.hand.now.me c.loop-name.hand.me)
+    MeetsFirst g.T.Stepper.does c.args.site.now c.args.helps c.args.told.now n c.args.hand.now.me c.loop-name.hand.me)
     all c.loop-name.invariant.met

@@ -1,23 +1,21 @@
-use Rattle.std.proofs.Common.{sym, subst}
 use Rattle.std.specs.Prelude.{◌≢◌}
 use Rattle.std.proofs.lemmas.Bool.{both_ways}
 use Rattle.life_rules.specs.declared.event.Resting.TheVariants as rest
 use Rattle.table_steps.specs.Steps.{control_index}
 use Rattle.table_steps.specs.Takes.{rest_word}
 use Rattle.op_slot.proofs.Staying.{stays-here, stays-on}
-use Rattle.exec_recv.specs.Over.{IsOver}
 use Rattle.exec_recv.proofs.Asiding.{aside-here, aside-on}
 use Rattle.exec_recv.proofs.Since.{since-before, since-after}
-use Rattle.loop_serve.proofs.Read.{looks-here, looks-on}
-use Rattle.loop_serve.proofs.Took.{first-serves, only-before}
+use Rattle.node_walks.proofs.Read.{looks-here, looks-on}
+use Rattle.node_walks.proofs.Took.{first-serves, only-before}
 use Rattle.deck_relay.specs.SameDecks.{keeps-here, keeps-on}
 use Rattle.run_loop.proofs.turning.serve_name.Goals as goal
 
 pub is_inner-requires : goal.is_inner-requires
-is_inner-requires g c = record { over = subst (IsOver c.args.table.now) (sym c.requires.over.over) c.requires.over }
+is_inner-requires g c = record { over = rw (← c.site.view_is) at c.requires.site.over }
 
 pub returns-then-not-is_inner-clause-stays : goal.returns-then-not-is_inner-clause-stays
-returns-then-not-is_inner-clause-stays g c = stays-here c.args.table.now c.args.hand.now c.requires.hand
+returns-then-not-is_inner-clause-stays g c = stays-here c.args.site.now c.args.hand.now c.requires.hand
 
 pub returns-then-not-is_inner-clause-aside : goal.returns-then-not-is_inner-clause-aside
 returns-then-not-is_inner-clause-aside g c = aside-here c.args.hand.now.me
@@ -27,14 +25,14 @@ serve-requires-clause-serves g c κs within = first-serves rest.Loop c.args.hand
 
 pub returns-clause-stays : goal.returns-clause-stays
 returns-clause-stays g c =
-    stays-on c.args.table.now c.args.hand.now c.serve.new.hand c.serve-2.new.hand c.serve.ensures.stays c.serve-2.ensures.stays
+    stays-on c.args.site.now c.args.hand.now c.serve.new.hand c.serve-2.new.hand c.serve.ensures.stays c.serve-2.ensures.stays
 
 pub returns-clause-aside : goal.returns-clause-aside
 returns-clause-aside g c =
     aside-on c.args.hand.now.me c.serve.new.hand.me c.serve-2.new.hand.me c.serve.ensures.aside c.serve-2.ensures.aside
 
 pub returns-then-not-is_inner-clause-left : goal.returns-then-not-is_inner-clause-left
-returns-then-not-is_inner-clause-left g c left inner = absurd (c.is_inner.ensures.no c.if-not-is_inner.true inner)
+returns-then-not-is_inner-clause-left g c left inner = absurd (c.is_inner.ensures.no c.if-not-is_inner.true (rw (← c.site.view_is) at inner))
 
 pub returns-then-not-helps-clause-left : goal.returns-then-not-helps-clause-left
 returns-then-not-helps-clause-left g c left inner =
@@ -45,7 +43,7 @@ returns-then-not-helps-clause-left g c left inner =
 
 pub returns-clause-left : goal.returns-clause-left
 returns-clause-left g c left inner =
-    let board = c.args.table.now in
+    let board = c.args.site.now in
     let x = c.args.name in
     let i = control_index board x in
     let old = c.args.hand.now.me in
@@ -73,7 +71,7 @@ returns-clause-served g c served =
     record {
       from = rest.Pool;
       may_be = c.if-not-helps.false;
-      serves = only-before (g.T.Stepper.does c.args.stepper.now) c.args.table.now rest.Pool c.args.name c.args.hand.now.me c.serve.new.hand.me
+      serves = only-before g.T.Stepper.does c.args.site.now rest.Pool c.args.name c.args.hand.now.me c.serve.new.hand.me
           c.serve-2.new.hand.me (c.serve.ensures.looks c.if-serve.false) (c.serve-2.ensures.only served);
     }
 

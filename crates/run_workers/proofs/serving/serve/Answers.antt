@@ -2,9 +2,20 @@ use Rattle.std.proofs.Common.{refl, sym, ap, ◌∙◌, subst}
 use Rattle.std.specs.Prelude.{Some, None}
 use Rattle.run_workers.specs.Crews.{HasServed, IsSpare}
 use Rattle.table_steps.specs.Views.{knows}
-use Rattle.run_workers.proofs.Hands.{TheHand, has-served, claimed-still}
+use Rattle.exec_recv.proofs.Sites.{over-site}
+use Rattle.run_workers.proofs.Hands.{TheHand, has-served, claimed-still, spare-ready}
 use Rattle.run_workers.proofs.Kept.{kept-both, kept-some}
 use Rattle.run_workers.proofs.serving.serve.Goals as goal
+
+pub of-site-requires : goal.of-site-requires
+of-site-requires g c = record { over = c.requires.serve.over }
+
+pub serve-requires-clause-ready : goal.serve-requires-clause-ready
+serve-requires-clause-ready g c κs within =
+    rw c.of-site.ensures (spare-ready c.args.table.now c.new-worker.result.hand (subst (IsSpare c.args.table.now) (sym c.new-worker.ensures.hand) c.requires.serve.spare))
+
+pub serve-requires-clause-site : goal.serve-requires-clause-site
+serve-requires-clause-site g c κs within = rw c.of-site.ensures (over-site c.args.table.now _ c.requires.serve.over c.requires.serve.kinds)
 
 pub returns-in-None : goal.returns-in-None
 returns-in-None g c =
@@ -13,7 +24,7 @@ returns-in-None g c =
     let spare : IsSpare board worker.hand = subst (λ (h : TheHand). IsSpare board h) (sym c.new-worker.ensures.hand) c.requires.serve.spare in
     record {
       served = subst (λ (h : TheHand). HasServed board h) (sym c.into_hand.ensures)
-          (has-served board worker.hand c.serve.new.self.hand spare c.serve.ensures.ready c.serve.ensures.aside c.serve.ensures.ended);
+          (has-served board worker.hand c.serve.new.self.hand spare (rw c.of-site.ensures at c.serve.ensures.ready) c.serve.ensures.aside (rw c.of-site.ensures at c.serve.ensures.ended));
       claimed =
           ap (λ (h : TheHand). (knows h).claimed) c.into_hand.ensures
           ∙ claimed-still worker.hand c.serve.new.self.hand c.serve.ensures.aside
@@ -34,7 +45,7 @@ returns-in-Some g c =
     let spare : IsSpare board worker.hand = subst (λ (h : TheHand). IsSpare board h) (sym c.with_deck-worker.ensures.hand) c.requires.serve.spare in
     record {
       served = subst (λ (h : TheHand). HasServed board h) (sym c.into_parts-hand.ensures.hand)
-          (has-served board worker.hand c.serve-in-Some.new.self.hand spare c.serve-in-Some.ensures.ready c.serve-in-Some.ensures.aside c.serve-in-Some.ensures.ended);
+          (has-served board worker.hand c.serve-in-Some.new.self.hand spare (rw c.of-site.ensures at c.serve-in-Some.ensures.ready) c.serve-in-Some.ensures.aside (rw c.of-site.ensures at c.serve-in-Some.ensures.ended));
       claimed =
           ap (λ (h : TheHand). (knows h).claimed) c.into_parts-hand.ensures.hand
           ∙ claimed-still worker.hand c.serve-in-Some.new.self.hand c.serve-in-Some.ensures.aside

@@ -1,97 +1,87 @@
-use Rattle.std.proofs.Common.{None, Some, inl, inr, refl, sym, ap, ◌∙◌, subst}
-use Rattle.op_slot.proofs.Staying.{stays-on}
-use Rattle.exec_recv.specs.Over.{IsOver}
-use Rattle.exec_recv.proofs.Asiding.{aside-on}
-use Rattle.serve_ahead.proofs.AtHand.{is-ready, inner, has-still, has-stepped, has-bare, may-complete}
-use Rattle.serve_ahead.proofs.Both.{joined-sees}
+use Rattle.std.proofs.Common.{Bool, Some, None, inl, inr, refl, sym, ap, ◌∙◌, subst}
+use Rattle.exec_value.specs.declared.outcome.Completion.{Completion}
+use Rattle.step_parts.specs.Completes.{Completes}
+use Rattle.serve_ahead.proofs.AtHand.{of, has-stepped, has-still, has-bare, may-end, rests-since}
+use Rattle.serve_ahead.proofs.Both.{plan-same, room-there-is, joined-allowed, joined-sees}
 use Rattle.serve_ahead.proofs.joining.join_both.Goals as goal
 
-pub hear-heard-requires-clause-ready : goal.hear-heard-requires-clause-ready
-hear-heard-requires-clause-ready g c =
-    is-ready c.args.table.now c.args.at c.args.env (Some c.args.parcel) c.args.hand.now.me c.requires.has
+pub may_join-requires-clause-taken : goal.may_join-requires-clause-taken
+may_join-requires-clause-taken g c =
+    (has-still c.args.site.now c.args.at c.args.taken (Some c.args.parcel) c.args.hand.now c.requires.has c.hear-heard.new.hand
+    c.hear-heard.ensures.keeps).taken
 
-pub joined-requires : goal.joined-requires
-joined-requires g c =
-    let opens = c.requires.has.opens in
-    record {
-      may = record {
-        of = opens.of;
-        delivers = opens.parcel.from.delivers;
-        child = opens.parcel.from.child;
-        receiver = c.requires.ended.receiver;
-        plan = c.requires.ended.key ∙ sym opens.ready.key;
-        may = c.requires.ended.may;
-      };
-    }
+pub may_join-requires-clause-of : goal.may_join-requires-clause-of
+may_join-requires-clause-of g c =
+    of c.args.site.now c.args.at c.args.taken (Some c.args.parcel) c.args.hand.now c.requires.has
 
-pub complete-next-requires-clause-over : goal.complete-next-requires-clause-over
-complete-next-requires-clause-over g c κs within = subst (IsOver c.args.table.now) (sym c.requires.plan) c.requires.over
-
-pub complete-next-requires-clause-inner : goal.complete-next-requires-clause-inner
-complete-next-requires-clause-inner g c κs within =
-    inner c.args.table.now c.args.at c.args.env (Some c.args.parcel) c.args.hand.now.me c.requires.has (g.T.Stepper.plan c.args.stepper.now)
-    c.requires.over
-
-pub complete-next-requires-clause-may : goal.complete-next-requires-clause-may
-complete-next-requires-clause-may g c κs within =
-    let board = c.args.table.now in
-    let m = c.hear-heard.new.hand.me in
-    let has = has-still board c.args.at c.args.env (Some c.args.parcel) c.args.hand.now.me c.requires.has m c.hear-heard.ensures.keeps in
-    let joined = c.in-Some.ensures in
-    may-complete board c.args.at c.args.env c.args.parcel m has c.in-Some.own joined.start_is
-    (joined-sees board c.args.at c.args.env c.args.parcel c.in-Some.own c.args.ended c.hear-heard.result m has c.hear-heard.ensures.tells joined)
-
-pub go_after-requires-clause-after : goal.go_after-requires-clause-after
-go_after-requires-clause-after g c κs within =
-    let board = c.args.table.now in
-    let m = c.hear-heard.new.hand.me in
-    let has = has-still board c.args.at c.args.env (Some c.args.parcel) c.args.hand.now.me c.requires.has m c.hear-heard.ensures.keeps in
-    has-stepped board c.args.at c.args.env (Some c.args.parcel) m has c.complete-next.new.hand.me c.complete-next.result
-    c.complete-next.ensures.stepped
+pub may_join-requires-clause-plan : goal.may_join-requires-clause-plan
+may_join-requires-clause-plan g c =
+    plan-same c.args.site.now c.args.at c.args.taken c.args.parcel c.args.hand.now c.requires.has c.args.ended c.requires.ended
 
 pub give_up-requires-clause-has : goal.give_up-requires-clause-has
 give_up-requires-clause-has g c κs within =
-    let board = c.args.table.now in
-    let m = c.hear-heard.new.hand.me in
-    has-bare board c.args.at c.args.env c.args.parcel m
-    (has-still board c.args.at c.args.env (Some c.args.parcel) c.args.hand.now.me c.requires.has m c.hear-heard.ensures.keeps)
+    let board = c.args.site.now in
+    let heard = c.hear-heard.new.hand in
+    let has = has-still board c.args.at c.args.taken (Some c.args.parcel) c.args.hand.now c.requires.has heard c.hear-heard.ensures.keeps in
+    has-bare board c.args.at c.args.taken c.args.parcel c.may_join.new.hand
+    (has-still board c.args.at c.args.taken (Some c.args.parcel) heard has c.may_join.new.hand c.may_join.ensures.keeps)
 
-pub returns-in-Some-clause-stays : goal.returns-in-Some-clause-stays
-returns-in-Some-clause-stays g c =
-    let board = c.args.table.now in
-    let old = c.args.hand.now in
-    stays-on board old c.complete-next.new.hand c.go_after.new.hand
-    (stays-on board old c.hear-heard.new.hand c.complete-next.new.hand c.hear-heard.ensures.stays c.complete-next.ensures.stays)
-    c.go_after.ensures.stays
+pub put_together-requires : goal.put_together-requires
+put_together-requires g c =
+    room-there-is c.args.site.now c.args.at c.args.taken c.args.parcel c.args.hand.now c.requires.has c.args.ended c.requires.ended
+    (c.may_join.ensures.same c.if-not-may_join.false)
 
-pub returns-in-Some-clause-aside : goal.returns-in-Some-clause-aside
-returns-in-Some-clause-aside g c =
-    let m = c.args.hand.now.me in
-    aside-on m c.complete-next.new.hand.me c.go_after.new.hand.me
-    (aside-on m c.hear-heard.new.hand.me c.complete-next.new.hand.me c.hear-heard.ensures.keeps.beside.aside
-    c.complete-next.ensures.stepped.aside) c.go_after.ensures.aside
+pub complete-next-requires : goal.complete-next-requires
+complete-next-requires g c =
+    let board = c.args.site.now in
+    let at = c.args.at in
+    let t = c.args.taken in
+    let parcel = c.args.parcel in
+    let ended = c.args.ended in
+    let heard = c.hear-heard.new.hand in
+    let middle = c.may_join.new.hand in
+    let has = has-still board at t (Some parcel) heard
+    (has-still board at t (Some parcel) c.args.hand.now c.requires.has heard c.hear-heard.ensures.keeps) middle c.may_join.ensures.keeps in
+    record {
+      may = may-end board at t parcel middle has c.in-Some.joined.done c.in-Some.joined.saw
+          (joined-allowed board at t parcel c.args.hand.now c.requires.has ended c.requires.ended (c.may_join.ensures.same c.if-not-may_join.false) _
+          c.in-Some.ensures)
+          (joined-sees board at t parcel middle has ended c.requires.ended _ c.in-Some.ensures c.hear-heard.result c.args.hand.now heard
+          c.hear-heard.ensures.looked c.may_join.ensures.keeps.ready (c.may_join.ensures.heard c.if-not-may_join.false));
+    }
+
+pub give_up-requires-in-None-clause-has : goal.give_up-requires-in-None-clause-has
+give_up-requires-in-None-clause-has g c κs within =
+    let board = c.args.site.now in
+    let heard = c.hear-heard.new.hand in
+    let has = has-still board c.args.at c.args.taken (Some c.args.parcel) c.args.hand.now c.requires.has heard c.hear-heard.ensures.keeps in
+    has-bare board c.args.at c.args.taken c.args.parcel c.may_join.new.hand
+    (has-still board c.args.at c.args.taken (Some c.args.parcel) heard has c.may_join.new.hand c.may_join.ensures.keeps)
+
+pub go_after-requires-clause-after : goal.go_after-requires-clause-after
+go_after-requires-clause-after g c κs within =
+    has-stepped c.args.site.now c.args.at c.args.taken (Some c.args.parcel) c.args.hand.now c.requires.has c.complete-next.new.hand
+    c.complete-next.result c.complete-next.ensures.steps
 
 pub returns-in-Some-clause-joins : goal.returns-in-Some-clause-joins
-returns-in-Some-clause-joins g c = inl (record {
-  next = c.complete-next.result;
-  completed = c.complete-next.new.hand.me;
-  completes = record {
-    from = c.hear-heard.new.hand.me;
-    parcel = c.in-Some.own;
-    done_is = c.in-Some.ensures.done_is;
-    completed = c.complete-next.ensures.completed;
-  };
-  after = c.go_after.ensures.aside;
-})
+returns-in-Some-clause-joins g c = record {
+  heard = c.hear-heard.result;
+  looked = c.hear-heard.new.hand;
+  looks = c.hear-heard.ensures.looked;
+  middle = c.may_join.new.hand;
+  keeps = c.may_join.ensures.keeps;
+  how = inl (record {
+    saw = c.in-Some.joined.saw;
+    next = c.complete-next.result;
+    completed = c.complete-next.new.hand;
+    completes =
+        subst (λ (done : Completion). Completes c.args.site.now c.args.taken done c.in-Some.joined.saw c.complete-next.result c.may_join.new.hand c.complete-next.new.hand)
+        c.in-Some.ensures.done_is c.complete-next.ensures;
+    after = c.go_after.ensures.aside;
+  });
+}
 
-pub returns-in-None-clause-stays : goal.returns-in-None-clause-stays
-returns-in-None-clause-stays g c =
-    stays-on c.args.table.now c.args.hand.now c.hear-heard.new.hand c.give_up.new.hand c.hear-heard.ensures.stays c.give_up.ensures.stays
-
-pub returns-in-None-clause-aside : goal.returns-in-None-clause-aside
-returns-in-None-clause-aside g c =
-    aside-on c.args.hand.now.me c.hear-heard.new.hand.me c.give_up.new.hand.me c.hear-heard.ensures.keeps.beside.aside
-    c.give_up.ensures.aside
-
-pub returns-in-None-clause-joins : goal.returns-in-None-clause-joins
-returns-in-None-clause-joins g c = inr c.give_up.ensures.done
+pub returns-in-Some-clause-rests : goal.returns-in-Some-clause-rests
+returns-in-Some-clause-rests g c =
+    rests-since c.args.site.now c.args.taken c.complete-next.result c.complete-next.new.hand c.complete-next.ensures.steps c.go_after.new.hand
+    c.go_after.ensures.stays c.go_after.ensures.rests c.go_after.ensures.aside

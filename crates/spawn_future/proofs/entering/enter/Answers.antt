@@ -1,4 +1,7 @@
-use Rattle.std.proofs.Common.{refl}
+use Rattle.std.proofs.Common.{refl, sym, subst}
+use Rattle.plan_shape.specs.Blueprint.{Blueprint}
+use Rattle.table_steps.specs.Views.{Board}
+use Rattle.node_walks.specs.Starts.{MissesEach}
 use Rattle.spawn_future.proofs.Entered.{entered, missed-has, missed-back}
 use Rattle.spawn_future.proofs.Moved.{associated-moves, refused-moves, left-moves, moved-rests, moved-leaves}
 use Rattle.spawn_future.proofs.entering.enter.Goals as goal
@@ -6,42 +9,45 @@ use Rattle.spawn_future.proofs.entering.enter.Goals as goal
 pub begin_root-requires-clause-rests : goal.begin_root-requires-clause-rests
 begin_root-requires-clause-rests g c κs within =
     let old = c.args.hand.now.me in
-    let made = associated-moves old c.associate.new.hand.me c.args.table.now.frame.most c.in-Ok.association c.in-Ok.ensures.associated in
+    let made = associated-moves old c.associate.new.hand.me c.site.inside.table.now.frame.most c.in-Ok.association c.in-Ok.ensures.associated in
     moved-rests _ old c.associate.new.hand.me made c.requires.rests
 
 pub returns-in-Err-clause-rests : goal.returns-in-Err-clause-rests
 returns-in-Err-clause-rests g c =
     let old = c.args.hand.now.me in
-    let moved = refused-moves old c.associate.new.hand.me c.args.table.now.frame.most c.in-Err.cause c.in-Err.ensures.associated in
+    let moved = refused-moves old c.associate.new.hand.me c.site.inside.table.now.frame.most c.in-Err.cause c.in-Err.ensures.associated in
     moved-rests _ old c.associate.new.hand.me moved c.requires.rests
 
 pub returns-in-Err-clause-out : goal.returns-in-Err-clause-out
 returns-in-Err-clause-out g c =
     let old = c.args.hand.now.me in
-    let moved = refused-moves old c.associate.new.hand.me c.args.table.now.frame.most c.in-Err.cause c.in-Err.ensures.associated in
-    record {
+    let moved = refused-moves old c.associate.new.hand.me c.site.inside.table.now.frame.most c.in-Err.cause c.in-Err.ensures.associated in
+    rw (← c.site.view_is)
+    (record {
       back_is = refl;
       because = record {
         refused = c.in-Err.ensures.associated;
         same = moved-leaves _ old c.associate.new.hand.me moved;
       };
-    }
+    })
 
 pub disassociate-requires-clause-has : goal.disassociate-requires-clause-has
 disassociate-requires-clause-has g c κs =
-    let board = c.args.table.now in
+    let board = c.site.inside.table.now in
     let old = c.args.hand.now.me in
     let made = associated-moves old c.associate.new.hand.me board.frame.most c.in-Ok.association c.in-Ok.ensures.associated in
-    missed-has board board.frame.layout.blocks old c.associate.new.hand c.begin_root.new.hand made c.in-Err-begin_root.ensures.none
-    c.requires.settled
+    let none = subst (λ (b : Board Blueprint). MissesEach b 0 c.associate.new.hand c.begin_root.new.hand) (sym c.site.view_is)
+    c.in-Err-begin_root.ensures.none in
+    missed-has board board.frame.layout.blocks old c.associate.new.hand c.begin_root.new.hand made none c.requires.settled
 
 pub returns-in-Ok-begin_root-clause-entered : goal.returns-in-Ok-begin_root-clause-entered
 returns-in-Ok-begin_root-clause-entered g c =
-    let board = c.args.table.now in
+    let board = c.site.inside.table.now in
     let old = c.args.hand.now.me in
     let made = associated-moves old c.associate.new.hand.me board.frame.most c.in-Ok.association c.in-Ok.ensures.associated in
-    entered board c.in-Ok-begin_root.block c.args.env old c.associate.new.hand.me c.begin_root.new.hand.me made
-    c.in-Ok-begin_root.ensures.begun
+    rw (← c.site.view_is)
+    (entered board c.in-Ok-begin_root.block c.args.env old c.associate.new.hand.me c.begin_root.new.hand.me made
+    (rw (← c.site.view_is) at c.in-Ok-begin_root.ensures.begun))
 
 pub returns-in-Err-begin_root-clause-rests : goal.returns-in-Err-begin_root-clause-rests
 returns-in-Err-begin_root-clause-rests g c =
@@ -50,20 +56,22 @@ returns-in-Err-begin_root-clause-rests g c =
 
 pub returns-in-Err-begin_root-clause-out : goal.returns-in-Err-begin_root-clause-out
 returns-in-Err-begin_root-clause-out g c =
-    let board = c.args.table.now in
+    let board = c.site.inside.table.now in
     let old = c.args.hand.now.me in
     let made = associated-moves old c.associate.new.hand.me board.frame.most c.in-Ok.association c.in-Ok.ensures.associated in
+    let none = subst (λ (b : Board Blueprint). MissesEach b 0 c.associate.new.hand c.begin_root.new.hand) (sym c.site.view_is)
+    c.in-Err-begin_root.ensures.none in
     let left = left-moves c.begin_root.new.hand.me c.disassociate.new.hand.me c.disassociate.ensures.left in
-    record {
+    rw (← c.site.view_is)
+    (record {
       back_is = c.in-Err-begin_root.ensures.back;
       because = record {
         association = c.in-Ok.association;
         entered = c.associate.new.hand;
         made = c.in-Ok.ensures.associated;
         searched = c.begin_root.new.hand;
-        missed = c.in-Err-begin_root.ensures.none;
+        missed = none;
         left = c.disassociate.ensures.left;
-        same = missed-back board board.frame.layout.blocks old c.associate.new.hand c.begin_root.new.hand made
-            c.in-Err-begin_root.ensures.none c.disassociate.new.hand.me left;
+        same = missed-back board board.frame.layout.blocks old c.associate.new.hand c.begin_root.new.hand made none c.disassociate.new.hand.me left;
       };
-    }
+    })

@@ -4,20 +4,20 @@ use Rattle.node_tree.specs.declared.context.Context.TheVariants.{Pool}
 use Rattle.table_words.specs.Layouts.{OfControl, index}
 use Rattle.op_slot.proofs.Staying.{stays-on}
 use Rattle.exec_recv.proofs.Asiding.{aside-on}
-use Rattle.loop_serve.proofs.Read.{looked-rests, looked-aside, looked-only, read-unready}
+use Rattle.node_walks.proofs.Read.{looked-rests, looked-aside, looked-only, read-unready}
 use Rattle.steal_pool.specs.Desks.{desk-here, desk-on}
 use Rattle.steal_pool.proofs.Searched.{finds-before, looks-before, served-before}
 use Rattle.steal_pool.proofs.searching.look_at.Goals as goal
 
 pub returns-in-None : goal.returns-in-None
 returns-in-None g c =
-    let board = c.args.table.now in
+    let board = c.args.site.now in
     let i = index board.frame.layout (OfControl c.args.block c.args.node) in
     let old = c.args.hand.now in
     let new = c.ready_at.new.hand in
-    let read = c.ready_at.ensures.read in
+    let read = rw c.site.view_is at c.ready_at.ensures.read in
     record {
-      stays = c.ready_at.ensures.stays;
+      stays = rw c.site.view_is at c.ready_at.ensures.stays;
       rests = looked-rests i read.word old.me new.me read.me_is c.requires.rests;
       aside = looked-aside i read.word old.me new.me read.me_is;
       served = tt;
@@ -29,12 +29,12 @@ returns-in-None g c =
 
 pub returns-then-submit_where : goal.returns-then-submit_where
 returns-then-submit_where g c =
-    let i = index c.args.table.now.frame.layout (OfControl c.args.block c.args.node) in
+    let i = index c.args.site.now.frame.layout (OfControl c.args.block c.args.node) in
     let old = c.args.hand.now in
     let new = c.ready_at.new.hand in
-    let read = c.ready_at.ensures.read in
+    let read = rw c.site.view_is at c.ready_at.ensures.read in
     record {
-      stays = c.ready_at.ensures.stays;
+      stays = rw c.site.view_is at c.ready_at.ensures.stays;
       rests = looked-rests i read.word old.me new.me read.me_is c.requires.rests;
       aside = looked-aside i read.word old.me new.me read.me_is;
       served = tt;
@@ -46,21 +46,21 @@ returns-then-submit_where g c =
 
 pub serve_place-requires-clause-rests : goal.serve_place-requires-clause-rests
 serve_place-requires-clause-rests g c κs within =
-    let read = c.ready_at.ensures.read in
-    looked-rests (index c.args.table.now.frame.layout (OfControl c.args.block c.args.node)) read.word c.args.hand.now.me c.ready_at.new.hand.me
+    let read = rw c.site.view_is at c.ready_at.ensures.read in
+    looked-rests (index c.args.site.now.frame.layout (OfControl c.args.block c.args.node)) read.word c.args.hand.now.me c.ready_at.new.hand.me
     read.me_is c.requires.rests
 
 pub returns-else-submit_where : goal.returns-else-submit_where
 returns-else-submit_where g c =
-    let board = c.args.table.now in
-    let does = g.T.Stepper.does c.args.stepper.now in
+    let board = c.args.site.now in
+    let does = g.T.Stepper.does in
     let old = c.args.hand.now in
     let between = c.ready_at.new.hand in
     let new = c.serve_place.new.hand in
-    let read = c.ready_at.ensures.read in
+    let read = rw c.site.view_is at c.ready_at.ensures.read in
     let looked = looked-only (index board.frame.layout (OfControl c.args.block c.args.node)) read.word old.me between.me read.me_is in
     record {
-      stays = stays-on board old between new c.ready_at.ensures.stays c.serve_place.ensures.stays;
+      stays = stays-on board old between new (rw c.site.view_is at c.ready_at.ensures.stays) c.serve_place.ensures.stays;
       rests = c.serve_place.ensures.rests;
       aside = aside-on old.me between.me new.me looked.aside c.serve_place.ensures.aside;
       served = served-before board old.me between.me new.me does c.serve_place.result looked.aside c.serve_place.ensures.served;

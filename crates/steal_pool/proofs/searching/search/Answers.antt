@@ -2,8 +2,8 @@ use Rattle.std.proofs.Common.{arith, refl, ◌∙◌}
 use Rattle.life_rules.specs.declared.event.Resting.TheVariants.{Pool}
 use Rattle.op_slot.proofs.Staying.{stays-here, stays-on}
 use Rattle.exec_recv.proofs.Asiding.{aside-on}
-use Rattle.loop_serve.proofs.Read.{looks-here, looks-on}
-use Rattle.loop_serve.proofs.Took.{serves-before}
+use Rattle.node_walks.proofs.Read.{looks-here, looks-on}
+use Rattle.node_walks.proofs.Took.{serves-before}
 use Rattle.steal_pool.specs.Desks.{desk-here, desk-on}
 use Rattle.steal_pool.proofs.Searched.{blocks-more}
 use Rattle.steal_pool.proofs.searching.search.Goals as goal
@@ -11,7 +11,7 @@ use Rattle.steal_pool.proofs.searching.search.Goals as goal
 pub loop-block-init : goal.loop-block-init
 loop-block-init g c =
     record {
-      stays = stays-here c.args.table.now c.args.hand.now c.requires.hand;
+      stays = stays-here c.args.site.now c.args.hand.now c.requires.hand;
       rests = c.requires.rests;
       looks = looks-here c.args.hand.now.me;
       none = λ not. (not, λ block below. absurd (omega (arith, below)));
@@ -21,7 +21,7 @@ loop-block-init g c =
 
 pub loop-block-preserved : goal.loop-block-preserved
 loop-block-preserved g c =
-    let board = c.args.table.now in
+    let board = c.args.site.now in
     let before = c.loop-block.invariant in
     let old = c.args.hand.now in
     let between = c.loop-block.hand in
@@ -42,7 +42,7 @@ loop-block-preserved g c =
 
 pub returns-in-Some : goal.returns-in-Some
 returns-in-Some g c =
-    let board = c.args.table.now in
+    let board = c.args.site.now in
     let before = c.loop-block.invariant in
     let old = c.args.hand.now in
     let between = c.loop-block.hand in
@@ -51,7 +51,7 @@ returns-in-Some g c =
       stays = stays-on board old between new before.stays c.search_block.ensures.stays;
       rests = c.search_block.ensures.rests;
       aside = aside-on old.me between.me new.me before.looks.aside c.search_block.ensures.aside;
-      served = serves-before (g.T.Stepper.does c.args.stepper.now) board Pool c.in-Some.name old.me between.me new.me before.looks.aside
+      served = serves-before g.T.Stepper.does board Pool c.in-Some.name old.me between.me new.me before.looks.aside
           c.in-Some.ensures.served;
       none = tt;
       looks = tt;
@@ -62,7 +62,7 @@ returns-in-Some g c =
 pub returns : goal.returns
 returns g c =
     let last = c.loop-block.invariant in
-    let end = c.blocks-block-end.ensures.blocks in
+    let end = rw c.site.view_is at c.blocks-block-end.ensures.blocks in
     let past = c.loop-block-test.false in
     record {
       stays = last.stays;

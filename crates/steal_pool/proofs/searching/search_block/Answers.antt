@@ -2,8 +2,8 @@ use Rattle.std.proofs.Common.{◌≡◌, length, arith, refl, ap, ◌∙◌}
 use Rattle.life_rules.specs.declared.event.Resting.TheVariants.{Pool}
 use Rattle.op_slot.proofs.Staying.{stays-here, stays-on}
 use Rattle.exec_recv.proofs.Asiding.{aside-on}
-use Rattle.loop_serve.proofs.Read.{looks-here, looks-on}
-use Rattle.loop_serve.proofs.Took.{serves-before}
+use Rattle.node_walks.proofs.Read.{looks-here, looks-on}
+use Rattle.node_walks.proofs.Took.{serves-before}
 use Rattle.steal_pool.specs.Desks.{desk-here, desk-on}
 use Rattle.steal_pool.proofs.Searched.{nodes-more, nodes-all}
 use Rattle.steal_pool.proofs.searching.search_block.Goals as goal
@@ -11,7 +11,7 @@ use Rattle.steal_pool.proofs.searching.search_block.Goals as goal
 pub loop-node-init : goal.loop-node-init
 loop-node-init g c =
     record {
-      stays = stays-here c.args.table.now c.args.hand.now c.requires.hand;
+      stays = stays-here c.args.site.now c.args.hand.now c.requires.hand;
       rests = c.requires.rests;
       looks = looks-here c.args.hand.now.me;
       none = λ not. (not, λ node below inner. absurd (omega (arith, below)));
@@ -21,7 +21,7 @@ loop-node-init g c =
 
 pub loop-node-preserved : goal.loop-node-preserved
 loop-node-preserved g c =
-    let board = c.args.table.now in
+    let board = c.args.site.now in
     let before = c.loop-node.invariant in
     let old = c.args.hand.now in
     let between = c.loop-node.hand in
@@ -42,7 +42,7 @@ loop-node-preserved g c =
 
 pub returns-in-Some : goal.returns-in-Some
 returns-in-Some g c =
-    let board = c.args.table.now in
+    let board = c.args.site.now in
     let before = c.loop-node.invariant in
     let old = c.args.hand.now in
     let between = c.loop-node.hand in
@@ -51,7 +51,7 @@ returns-in-Some g c =
       stays = stays-on board old between new before.stays c.look_at.ensures.stays;
       rests = c.look_at.ensures.rests;
       aside = aside-on old.me between.me new.me before.looks.aside c.look_at.ensures.aside;
-      served = serves-before (g.T.Stepper.does c.args.stepper.now) board Pool c.in-Some.name old.me between.me new.me before.looks.aside
+      served = serves-before g.T.Stepper.does board Pool c.in-Some.name old.me between.me new.me before.looks.aside
           c.in-Some.ensures.served;
       none = tt;
       looks = tt;
@@ -61,9 +61,9 @@ returns-in-Some g c =
 
 pub returns : goal.returns
 returns g c =
-    let board = c.args.table.now in
+    let board = c.args.site.now in
     let last = c.loop-node.invariant in
-    let size : c.size-size.result ≡ length board.frame.tree = c.size-size.ensures.size ∙ ap length c.tree.ensures.tree in
+    let size : c.size-size.result ≡ length board.frame.tree = rw c.site.view_is at (c.size-size.ensures.size ∙ ap length c.tree.ensures.tree) in
     let past = c.loop-node-test.false in
     record {
       stays = last.stays;

@@ -2,14 +2,14 @@ use Rattle.std.proofs.Common.{false, refl}
 use Rattle.std.proofs.lemmas.Bool.{both_ways}
 use Rattle.op_slot.proofs.Staying.{stays-here}
 use Rattle.exec_recv.proofs.Asiding.{aside-here}
-use Rattle.loop_serve.proofs.Read.{looks-here}
+use Rattle.node_walks.proofs.Read.{looks-here}
 use Rattle.steal_pool.specs.Desks.{desk-here}
 use Rattle.steal_pool.proofs.taking.serve_name.Goals as goal
 
 pub returns-then-not-is_place : goal.returns-then-not-is_place
 returns-then-not-is_place g c =
     record {
-      stays = stays-here c.args.table.now c.args.hand.now c.requires.hand;
+      stays = stays-here c.args.site.now c.args.hand.now c.requires.hand;
       rests = c.requires.rests;
       aside = aside-here c.args.hand.now.me;
       served = λ is. absurd (both_ways false refl is);

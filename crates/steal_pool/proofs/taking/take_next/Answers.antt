@@ -2,15 +2,15 @@ use Rattle.std.proofs.Common.{arith}
 use Rattle.life_rules.specs.declared.event.Resting.TheVariants.{Pool}
 use Rattle.op_slot.proofs.Staying.{stays-here, stays-on}
 use Rattle.exec_recv.proofs.Asiding.{aside-on}
-use Rattle.loop_serve.proofs.Read.{looks-here, looks-on}
-use Rattle.loop_serve.proofs.Took.{serves-before}
+use Rattle.node_walks.proofs.Read.{looks-here, looks-on}
+use Rattle.node_walks.proofs.Took.{serves-before}
 use Rattle.steal_pool.specs.Desks.{desk-here, desk-on}
 use Rattle.steal_pool.proofs.taking.take_next.Goals as goal
 
 pub asked-init : goal.asked-init
 asked-init g c =
     record {
-      stays = stays-here c.args.table.now c.args.hand.now c.requires.hand;
+      stays = stays-here c.args.site.now c.args.hand.now c.requires.hand;
       rests = c.requires.rests;
       looks = looks-here c.args.hand.now.me;
       most = omega arith;
@@ -26,7 +26,7 @@ asked-preserved g c =
     let most = before.most in
     let fewer = c.ask.ensures.most in
     record {
-      stays = stays-on c.args.table.now old between new before.stays c.serve_name.ensures.stays;
+      stays = stays-on c.args.site.now old between new before.stays c.serve_name.ensures.stays;
       rests = c.serve_name.ensures.rests;
       looks = looks-on old.me between.me new.me before.looks (c.serve_name.ensures.looks c.if-serve_name.false);
       most = omega (arith, most, fewer);
@@ -37,7 +37,7 @@ asked-preserved g c =
 
 pub returns-then-serve_name : goal.returns-then-serve_name
 returns-then-serve_name g c =
-    let board = c.args.table.now in
+    let board = c.args.site.now in
     let before = c.asked.invariant in
     let old = c.args.hand.now in
     let between = c.asked.hand in
@@ -49,7 +49,7 @@ returns-then-serve_name g c =
       rests = c.serve_name.ensures.rests;
       aside = aside-on old.me between.me new.me before.looks.aside c.serve_name.ensures.aside;
       most = omega (arith, most, fewer);
-      served = serves-before (g.T.Stepper.does c.args.stepper.now) board Pool c.in-Some.name old.me between.me new.me before.looks.aside
+      served = serves-before g.T.Stepper.does board Pool c.in-Some.name old.me between.me new.me before.looks.aside
           (c.serve_name.ensures.served c.if-serve_name.true);
       looks = tt;
       desk = desk-on c.args.offers.now.desk c.asked.offers.desk c.serve_name.new.offers.desk before.desk

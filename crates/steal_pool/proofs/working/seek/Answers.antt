@@ -2,8 +2,8 @@ use Rattle.std.proofs.Common.{arith}
 use Rattle.life_rules.specs.declared.event.Resting.TheVariants.{Pool}
 use Rattle.op_slot.proofs.Staying.{stays-on}
 use Rattle.exec_recv.proofs.Asiding.{aside-on}
-use Rattle.loop_serve.proofs.Read.{looks-on}
-use Rattle.loop_serve.proofs.Took.{serves-before}
+use Rattle.node_walks.proofs.Read.{looks-on}
+use Rattle.node_walks.proofs.Took.{serves-before}
 use Rattle.steal_pool.specs.Desks.{desk-on}
 use Rattle.steal_pool.proofs.Searched.{works-before}
 use Rattle.steal_pool.proofs.working.seek.Goals as goal
@@ -32,7 +32,7 @@ returns-then-not-found g c =
 
 pub returns-in-Some-take_next : goal.returns-in-Some-take_next
 returns-in-Some-take_next g c =
-    let board = c.args.table.now in
+    let board = c.args.site.now in
     let old = c.args.hand.now in
     let between = c.search.new.hand in
     let new = c.take_next.new.hand in
@@ -41,14 +41,14 @@ returns-in-Some-take_next g c =
       rests = c.take_next.ensures.rests;
       aside = aside-on old.me between.me new.me c.search.ensures.aside c.take_next.ensures.aside;
       most = c.take_next.ensures.most;
-      works = serves-before (g.T.Stepper.does c.args.stepper.now) board Pool c.in-Some-take_next.name old.me between.me new.me
+      works = serves-before g.T.Stepper.does board Pool c.in-Some-take_next.name old.me between.me new.me
           c.search.ensures.aside c.in-Some-take_next.ensures.served;
       desk = desk-on c.args.offers.now.desk c.search.new.offers.desk c.take_next.new.offers.desk c.search.ensures.desk c.take_next.ensures.desk;
     }
 
 pub returns : goal.returns
 returns g c =
-    let board = c.args.table.now in
+    let board = c.args.site.now in
     let old = c.args.hand.now in
     let between = c.take_next.new.hand in
     let new = c.take_any.new.hand in
@@ -59,7 +59,7 @@ returns g c =
       rests = c.take_any.ensures.rests;
       aside = aside-on old.me between.me new.me looks.aside c.take_any.ensures.aside;
       most = c.take_next.ensures.most;
-      works = works-before board old.me between.me new.me (g.T.Stepper.does c.args.stepper.now) c.take_any.result looks
+      works = works-before board old.me between.me new.me g.T.Stepper.does c.take_any.result looks
           c.take_any.ensures.works;
       desk = desk-on c.args.offers.now.desk c.take_next.new.offers.desk c.take_any.new.offers.desk
           (desk-on c.args.offers.now.desk c.search.new.offers.desk c.take_next.new.offers.desk c.search.ensures.desk c.take_next.ensures.desk)

@@ -2,7 +2,7 @@ use Rattle.std.proofs.Common.{◌≡◌, ◌+◌, ◌%◌, length, sym, ap, ◌�
 use Rattle.std.specs.Prelude.{Some}
 use Rattle.std.proofs.lemmas.List.{length-set}
 use Rattle.exec_value.specs.Kinds.{HasKind}
-use Rattle.loop_roots.specs.Starts.{CanRun}
+use Rattle.node_walks.specs.Starts.{CanRun}
 use Rattle.run_loop.specs.Loops.{deck_of}
 use Rattle.record_loop.specs.Works.{BeginsTicket}
 use Rattle.record_operations.specs.Runs.{Run, run_of, work_of}

@@ -1,4 +1,4 @@
-use Rattle.std.proofs.Common.{ap, ◌∙◌, subst}
+use Rattle.std.proofs.Common.{subst}
 use Rattle.run_loop.specs.Loops.{deck_of}
 use Rattle.run_loop.specs.Turns.{MeetsEach}
 use Rattle.record_operations.specs.Runs.{Run, run_of}
@@ -23,10 +23,5 @@ invariant_of-self g c =
 
 pub returns-clause-met : goal.returns-clause-met
 returns-clause-met g c =
-    let stepper = c.self.inside.stepper.now in
-    record {
-      stepper = stepper;
-      stepped = c.self.invariant.sound.table.stepped_is ∙ ap (λ (r : Run). r.plan) c.self.view_is;
-      met = subst (λ (r : Run). MeetsEach (g.T.Stepper.does stepper) r.board r.looped c.go_once-taken.new.looped) c.self.view_is
-          c.go_once-taken.ensures.met;
-    }
+    subst (λ (r : Run). MeetsEach g.T.Stepper.does r.board r.looped c.go_once-taken.new.looped) c.self.view_is
+    c.go_once-taken.ensures.met

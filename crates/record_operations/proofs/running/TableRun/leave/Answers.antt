@@ -10,7 +10,7 @@ use Rattle.record_operations.proofs.ServedSounding.{looked-same}
 use Rattle.record_operations.proofs.running.TableRun.leave.Goals as goal
 
 pub collect-requires-clause-listed : goal.collect-requires-clause-listed
-collect-requires-clause-listed g c κs within =
+collect-requires-clause-listed g c =
     let inside = c.self.inside in
     let run = run_of inside.table.now inside.plan.now inside.looped inside.operations.items inside.requested inside.futures in
     let lent : c.deref.result.now ≡ inside.operations.items = cc in

@@ -1,6 +1,9 @@
 use Rattle.std.proofs.Common.{◌≡◌, true, sym, ap, ◌∙◌, subst}
 use Rattle.std.proofs.lemmas.Bool.{both_ways}
+use Rattle.exec_recv.specs.Over.{IsOver}
 use Rattle.line_rules.specs.PlanTerms.{has_ahead}
+use Rattle.plan_kinds.specs.Runnable.{IsRunnable}
+use Rattle.plan_shape.specs.Blueprint.{Blueprint}
 use Rattle.record_operations.specs.Moves.{KeepsOperations, ServesAheads}
 use Rattle.record_operations.specs.Runs.{Run, run_of}
 use Rattle.run_loop.specs.Loops.{deck_of}
@@ -13,6 +16,16 @@ serve-requires-clause-keeping g c κs within =
     let inside = c.self.inside in
     sound-keeping g.B.OnTable.is g.B.OnTable.claimed (run_of inside.table.now inside.plan.now inside.looped inside.operations.items inside.requested inside.futures)
     (g.T.Stepper.plan inside.stepper.now) inside.next c.self.invariant.sound
+
+pub serve-requires-clause-over : goal.serve-requires-clause-over
+serve-requires-clause-over g c κs within =
+    let table = c.self.invariant.sound.table in
+    subst (λ (p : Blueprint). IsOver c.self.inside.table.now p) (sym table.stepped_is) table.over
+
+pub serve-requires-clause-kinds : goal.serve-requires-clause-kinds
+serve-requires-clause-kinds g c κs within =
+    let table = c.self.invariant.sound.table in
+    subst (λ (p : Blueprint). IsRunnable p) (sym table.stepped_is) table.kinds
 
 pub invariant_of-self : goal.invariant_of-self
 invariant_of-self g c =
@@ -37,7 +50,8 @@ returns g c =
           (told-keeps g.B.OnTable.is g.B.OnTable.claimed run (g.T.Stepper.plan inside.stepper.now) inside.next c.self.invariant.sound c.serve.new.hand c.tell.new.looped.names
           c.tell.new.looped c.tell.ensures.rest c.serve.new.futures c.serve.ensures.serves);
       serves = subst (λ (r : Run). ServesAheads r (record run { looped = c.tell.new.looped; futures = c.serve.new.futures })) c.self.view_is
-          (told-serves run c.serve.new.hand c.tell.new.looped.names c.tell.new.looped c.tell.ensures.rest c.serve.new.futures c.serve.ensures.turned);
+          (told-serves run c.serve.new.hand c.tell.new.looped.names c.tell.new.looped c.tell.ensures.rest c.serve.new.futures
+          (rw c.self.invariant.sound.table.stepped_is at c.serve.ensures.turned));
     }
 
 pub returns-then-not-self-clause-serves : goal.returns-then-not-self-clause-serves

@@ -1,7 +1,7 @@
 use Rattle.std.proofs.Common.{arith, refl, ap, ◌∙◌, ◌∷◌}
 use Rattle.plan_shape.specs.Blueprint.{Blueprint}
 use Rattle.exec_recv.specs.Asides.{Aside}
-use Rattle.loop_roots.proofs.Unready.{unready-leaves}
+use Rattle.node_walks.proofs.Unready.{unready-leaves}
 use Rattle.deck_relay.specs.SameDecks.{keeps-here}
 use Rattle.run_loop.specs.Loops.{deck_of, gathered_of}
 use Rattle.run_loop.proofs.looped.Loop.collect.Goals as goal

@@ -32,8 +32,8 @@ returns-clause-aside g c =
 
 pub returns-clause-served : goal.returns-clause-served
 returns-clause-served g c =
-    let does = g.T.Stepper.does c.args.stepper.now in
-    let board = c.args.table.now in
+    let does = g.T.Stepper.does in
+    let board = c.args.site.now in
     let old = c.args.self.now in
     let between = c.poll_names-taken.new.self in
     let new = c.serve_delays.new.hand.me in
@@ -51,7 +51,7 @@ returns-clause-served g c =
 
 pub returns-clause-met : goal.returns-clause-met
 returns-clause-met g c =
-    met-later (g.T.Stepper.does c.args.stepper.now) c.args.table.now c.args.self.now c.poll_names-taken.new.self
+    met-later g.T.Stepper.does c.args.site.now c.args.self.now c.poll_names-taken.new.self
     (record c.poll_names-taken.new.self {
       hand = c.serve_delays.new.hand;
       names = c.serve_delays.new.names;
@@ -63,12 +63,12 @@ pub returns-clause-none : goal.returns-clause-none
 returns-clause-none g c zero =
     let old = c.args.self.now in
     let more = c.serve_delays.ensures.more in
-    left-later c.args.table.now old.helps old.hand.me c.poll_names-taken.new.self.hand.me c.serve_delays.new.hand.me (told old)
+    left-later c.args.site.now old.helps old.hand.me c.poll_names-taken.new.self.hand.me c.serve_delays.new.hand.me (told old)
     (c.poll_names-taken.ensures.none (omega (arith, more, zero))) c.serve_delays.ensures.aside
 
 pub returns-clause-turn : goal.returns-clause-turn
 returns-clause-turn g c =
-    let board = c.args.table.now in
+    let board = c.args.site.now in
     let old = c.args.self.now in
     let between = c.poll_names-taken.new.self in
     let new = c.serve_delays.new.hand.me in

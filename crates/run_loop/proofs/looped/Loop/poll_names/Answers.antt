@@ -10,14 +10,14 @@ pub returns-clause-none : goal.returns-clause-none
 returns-clause-none g c zero =
     let old = c.args.self.now in
     let new = c.serve_each-taken.new.hand in
-    left-fewer c.args.table.now old.helps old.hand.me new.me (told old) c.fetch.new.self.list.items c.fetch.ensures.more
-    (subst (AreAllLeft c.args.table.now old.hand.me new.me old.helps)
+    left-fewer c.args.site.now old.helps old.hand.me new.me (told old) c.fetch.new.self.list.items c.fetch.ensures.more
+    (subst (AreAllLeft c.args.site.now old.hand.me new.me old.helps)
     (c.deref.ensures.value ∙ ap (λ list. list.items) c.swap.ensures.y_after) (c.serve_each-taken.ensures.none zero))
 
 pub returns-clause-met : goal.returns-clause-met
 returns-clause-met g c =
-    let does = g.T.Stepper.does c.args.stepper.now in
-    let board = c.args.table.now in
+    let does = g.T.Stepper.does in
+    let board = c.args.site.now in
     let old = c.args.self.now in
     let new = c.serve_each-taken.new.hand in
     record {

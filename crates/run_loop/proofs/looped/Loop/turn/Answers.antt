@@ -18,7 +18,7 @@ returns-clause-aside g c =
 
 pub returns-clause-none : goal.returns-clause-none
 returns-clause-none g c zero =
-    let board = c.args.table.now in
+    let board = c.args.site.now in
     let old = c.args.self.now in
     let between = c.poll-taken.new.self in
     let new = c.scan_blocks.new.hand in
@@ -27,8 +27,8 @@ returns-clause-none g c zero =
 
 pub returns-clause-served : goal.returns-clause-served
 returns-clause-served g c =
-    let does = g.T.Stepper.does c.args.stepper.now in
-    let board = c.args.table.now in
+    let does = g.T.Stepper.does in
+    let board = c.args.site.now in
     let old = c.args.self.now in
     let between = c.poll-taken.new.self in
     let new = c.scan_blocks.new.hand.me in
@@ -52,14 +52,14 @@ returns-clause-served g c =
 
 pub returns-clause-met : goal.returns-clause-met
 returns-clause-met g c =
-    met-later (g.T.Stepper.does c.args.stepper.now) c.args.table.now c.args.self.now c.poll-taken.new.self
+    met-later g.T.Stepper.does c.args.site.now c.args.self.now c.poll-taken.new.self
     (record c.poll-taken.new.self { hand = c.scan_blocks.new.hand; names = c.scan_blocks.new.names }) c.poll-taken.ensures.met
     c.scan_blocks.ensures.aside
 
 pub returns-clause-turn : goal.returns-clause-turn
 returns-clause-turn g c =
     let none = c.if-taken-gt0.false in
-    passes-after c.args.table.now c.poll-taken.result c.scan_blocks.result c.args.self.now.hand.me c.poll-taken.new.self.hand.me
+    passes-after c.args.site.now c.poll-taken.result c.scan_blocks.result c.args.self.now.hand.me c.poll-taken.new.self.hand.me
     c.scan_blocks.new.hand.me c.args.self.now.delays c.poll-taken.new.self.delays (omega (arith, none)) c.poll-taken.ensures.turn
     c.scan_blocks.ensures.aside
 

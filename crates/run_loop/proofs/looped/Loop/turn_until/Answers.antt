@@ -3,7 +3,7 @@ use Rattle.exec_recv.proofs.Asiding.{aside-here, aside-on}
 use Rattle.deck_relay.specs.SameDecks.{keeps-here, keeps-on}
 use Rattle.run_loop.specs.declared.looped.Loop.{Loop as Looped}
 use Rattle.run_loop.specs.Loops.{deck_of}
-use Rattle.loop_serve.proofs.Read.{looked-aside}
+use Rattle.node_walks.proofs.Read.{looked-aside}
 use Rattle.run_loop.proofs.OneRun.{listed-still, collected-later}
 use Rattle.run_loop.proofs.looped.Loop.turn_until.Goals as goal
 
@@ -20,8 +20,9 @@ loop-init g c =
     }
 
 pub collect-requires-clause-listed : goal.collect-requires-clause-listed
-collect-requires-clause-listed g c κs within =
-    listed-still c.args.table.now c.args.block c.args.self.now.hand.me c.loop.self.hand.me c.loop.invariant.aside c.requires.listed
+collect-requires-clause-listed g c =
+    rw (← c.site.view_is)
+    at (listed-still c.args.site.now c.args.block c.args.self.now.hand.me c.loop.self.hand.me c.loop.invariant.aside c.requires.listed)
 
 pub loop-preserved : goal.loop-preserved
 loop-preserved g c =
@@ -49,8 +50,8 @@ loop-preserved g c =
 
 pub returns-in-Some-collect-clause-collected : goal.returns-in-Some-collect-clause-collected
 returns-in-Some-collect-clause-collected g c =
-    collected-later c.args.table.now c.args.block c.args.self.now c.loop.self c.collect.new.self c.in-Some-collect.collected
-    c.loop.invariant.aside c.loop.invariant.counts c.in-Some-collect.ensures.collected
+    collected-later c.args.site.now c.args.block c.args.self.now c.loop.self c.collect.new.self c.in-Some-collect.collected
+    c.loop.invariant.aside c.loop.invariant.counts (rw c.site.view_is at c.in-Some-collect.ensures.collected)
 
 pub returns-in-Some-collect-clause-deck : goal.returns-in-Some-collect-clause-deck
 returns-in-Some-collect-clause-deck g c =

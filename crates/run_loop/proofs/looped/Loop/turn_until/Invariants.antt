@@ -8,7 +8,7 @@ abbrev pub invariant-loop : goal.invariant-loop
 invariant-loop g l = record {
   next : (goal.iterator-loop g).can_next l.iterator';
   finite : (goal.iterator-loop g).is_finite l.iterator';
-  ready : IsReady l.table l.self;
+  ready : IsReady l.site l.self;
   same : IsSameHand l.fn.self.hand l.self.hand;
   aside : KeepsAside l.fn.self.hand.me l.self.hand.me;
   counts : KeepsCounts l.fn.self l.self;

@@ -4,22 +4,19 @@ use Rattle.spawn_future.proofs.Served.{holds-keeping}
 use Rattle.spawn_future.proofs.Slotted.{found-waits}
 use Rattle.spawn_future.proofs.futures.Futures.begin.Goals as goal
 
-pub begin_second-requires-clause-hand : goal.begin_second-requires-clause-hand
-begin_second-requires-clause-hand g c κs within = c.requires.keeping.hand_of
-
 pub returns-in-Some : goal.returns-in-Some
 returns-in-Some g c =
-    let board = c.args.table.now in
+    let board = c.args.site.now in
     let slots = c.args.self.now in
-    let old = c.args.hand.now in
+    let from = c.args.taken.from in
     let new = c.begin_second.new.hand in
     let did = c.begin_second.ensures in
     let waits = found-waits c.args.at.name slots c.in-Some.found c.in-Some.ensures.found in
     record {
-      keeping = holds-keeping board slots old new c.requires.keeping did.stays.hand did.rests did.aside;
-      stays = did.stays;
+      keeping = holds-keeping board slots from new c.requires.keeping did.rests.stays.hand did.rests.rests did.rests.aside;
+      stays = did.rests.stays;
       mail = did.mail;
-      leaves = counts-same board slots old.me new.me did.aside;
+      leaves = counts-same board slots from.me new.me did.rests.aside;
       starts = inl (record {
         slot = c.in-Some.found.slot;
         future = waits.0;

@@ -10,7 +10,7 @@ use Rattle.spawn_future.proofs.Spawned.{ended-has, ended-keeping, incomplete-kee
 use Rattle.spawn_future.proofs.futures.Futures.end.Goals as goal
 
 pub end_root-requires-clause-listed : goal.end_root-requires-clause-listed
-end_root-requires-clause-listed g c κs within =
+end_root-requires-clause-listed g c =
     block-listed c.args.table.now c.args.self.now c.args.slot c.args.block c.args.hand.now.me c.requires.keeping.keeps c.requires.has
 
 pub take-future-requires-clause-within : goal.take-future-requires-clause-within

@@ -1,47 +1,40 @@
 use Rattle.std.proofs.Common.{Some, inl, inr, refl, sym, ◌∙◌}
 use Rattle.serve_ahead.proofs.AtHand.{has-bare}
-use Rattle.spawn_future.specs.Polls.{Abandons, AbandonsNone}
 use Rattle.spawn_future.proofs.Counted.{counts-same, counts-on}
 use Rattle.spawn_future.proofs.Served.{holds-keeping, abandons-either, either-kept, either-counts}
 use Rattle.spawn_future.proofs.futures.Futures.finish.Goals as goal
 
-pub fail_ahead-requires-clause-hand : goal.fail_ahead-requires-clause-hand
-fail_ahead-requires-clause-hand g c κs within = c.requires.keeping.hand_of
-
 pub fail_ahead-requires-clause-fails : goal.fail_ahead-requires-clause-fails
 fail_ahead-requires-clause-fails g c κs within = sym c.is_value.ensures ∙ c.if-not-is_value.true
 
-pub give_up-requires-clause-hand : goal.give_up-requires-clause-hand
-give_up-requires-clause-hand g c κs within = c.requires.keeping.hand_of
-
 pub give_up-requires-clause-has : goal.give_up-requires-clause-has
 give_up-requires-clause-has g c κs within =
-    has-bare c.args.table.now c.args.at c.args.env c.args.parcel c.args.hand.now.me c.requires.has
+    has-bare c.args.site.now c.args.at c.args.taken c.args.parcel c.args.hand.now c.requires.has
 
 pub returns-then-not-is_value : goal.returns-then-not-is_value
 returns-then-not-is_value g c =
-    let board = c.args.table.now in
+    let board = c.args.site.now in
     let slots = c.args.self.now in
     let later = c.abandon.new.self in
-    let old = c.args.hand.now in
+    let from = c.args.taken.from in
     let new = c.fail_ahead.new.hand in
     let did = c.fail_ahead.ensures in
     let holds = c.requires.keeping in
     let abandons = abandons-either c.args.at.name slots later c.abandon.result c.abandon.ensures.abandoned c.abandon.ensures.unknown in
     record {
-      keeping = holds-keeping board later old new
+      keeping = holds-keeping board later from new
           (record {
             hand_of = holds.hand_of;
             first = holds.first;
             settled = holds.settled;
-            keeps = either-kept board c.args.at.name slots later old.me abandons holds.keeps;
+            keeps = either-kept board c.args.at.name slots later from.me abandons holds.keeps;
           })
-          did.stays.hand did.rests did.aside;
-      stays = did.stays;
+          did.rests.stays.hand did.rests.rests did.rests.aside;
+      stays = did.rests.stays;
       mail = did.mail;
-      leaves = counts-on board slots later later old.me old.me new.me (either-counts board c.args.at.name slots later old.me abandons)
-          (counts-same board later old.me new.me did.aside);
-      ends = inl (record { fails = sym c.is_value.ensures ∙ c.if-not-is_value.true; abandons = abandons; done = did.done });
+      leaves = counts-on board slots later later from.me from.me new.me (either-counts board c.args.at.name slots later from.me abandons)
+          (counts-same board later from.me new.me did.rests.aside);
+      ends = inl (record { fails = sym c.is_value.ensures ∙ c.if-not-is_value.true; abandons = abandons; done = did.serves });
     }
 
 pub returns-in-Some : goal.returns-in-Some
@@ -57,20 +50,20 @@ returns-in-Some g c =
 
 pub returns-in-None : goal.returns-in-None
 returns-in-None g c =
-    let board = c.args.table.now in
+    let board = c.args.site.now in
     let slots = c.args.self.now in
-    let old = c.args.hand.now in
+    let from = c.args.taken.from in
     let new = c.give_up.new.hand in
     let did = c.give_up.ensures in
     record {
-      keeping = holds-keeping board slots old new c.requires.keeping did.stays.hand did.rests did.aside;
-      stays = did.stays;
+      keeping = holds-keeping board slots from new c.requires.keeping did.rests.stays.hand did.rests.rests did.rests.aside;
+      stays = did.rests.stays;
       mail = did.mail;
-      leaves = counts-same board slots old.me new.me did.aside;
+      leaves = counts-same board slots from.me new.me did.rests.aside;
       ends = inr (inl (record {
         value = sym c.is_value.ensures ∙ c.if-not-is_value.false;
         nowhere = c.in-None.ensures.none;
         slots = refl;
-        done = did.done;
+        done = did.serves;
       }));
     }

@@ -5,7 +5,7 @@ use Rattle.spawn_future.proofs.Slotted.{found-block, found-waits}
 use Rattle.spawn_future.proofs.futures.Futures.poll.Goals as goal
 
 pub end-requires-clause-has : goal.end-requires-clause-has
-end-requires-clause-has g c κs within = found-block c.args.owner c.args.self.now c.in-Some.found c.in-Some.ensures.found
+end-requires-clause-has g c = found-block c.args.owner c.args.self.now c.in-Some.found c.in-Some.ensures.found
 
 pub returns-in-Some-end-clause-polled : goal.returns-in-Some-end-clause-polled
 returns-in-Some-end-clause-polled g c =

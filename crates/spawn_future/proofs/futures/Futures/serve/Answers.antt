@@ -1,54 +1,44 @@
 use Rattle.std.proofs.Common.{None, Some, inl, inr, refl, sym, subst}
 use Rattle.std.specs.Prelude.{Option}
 use Rattle.life_rules.specs.declared.event.Resting.TheVariants.{Parked}
-use Rattle.plan_kinds.specs.Runnable.{IsRunnable}
 use Rattle.op_slot.proofs.Staying.{stays-on}
 use Rattle.home_items.specs.Parcels.{Delivery}
-use Rattle.exec_recv.specs.Over.{IsOver}
-use Rattle.loop_serve.proofs.Took.{first-serves}
+use Rattle.node_walks.proofs.Took.{first-serves}
 use Rattle.serve_ahead.specs.Takes.{HasAtHand}
 use Rattle.spawn_future.proofs.Counted.{counts-same, counts-on}
-use Rattle.spawn_future.proofs.Served.{keeping-on, keeping-holds}
+use Rattle.spawn_future.proofs.Served.{keeping-on, taken-keeping}
 use Rattle.spawn_future.proofs.futures.Futures.serve.Goals as goal
 
 pub take_ahead-requires-clause-hand : goal.take_ahead-requires-clause-hand
-take_ahead-requires-clause-hand g c κs within = c.requires.keeping.hand_of
-
-pub take_ahead-requires-clause-over : goal.take_ahead-requires-clause-over
-take_ahead-requires-clause-over g c κs within = subst (IsOver c.args.table.now) (sym c.requires.plan) c.requires.over
-
-pub take_ahead-requires-clause-kinds : goal.take_ahead-requires-clause-kinds
-take_ahead-requires-clause-kinds g c κs within = subst IsRunnable (sym c.requires.plan) c.requires.kinds
+take_ahead-requires-clause-hand g c = c.requires.keeping.hand_of
 
 pub take_ahead-requires-clause-serves : goal.take_ahead-requires-clause-serves
-take_ahead-requires-clause-serves g c κs within = first-serves Parked c.args.hand.now.me.0 c.requires.keeping.first
+take_ahead-requires-clause-serves g c = first-serves Parked c.args.hand.now.me.0 c.requires.keeping.first
 
 pub take_ahead-requires-clause-rests : goal.take_ahead-requires-clause-rests
-take_ahead-requires-clause-rests g c κs within = c.requires.keeping.rests
+take_ahead-requires-clause-rests g c = c.requires.keeping.rests
 
 pub begin-requires-clause-keeping : goal.begin-requires-clause-keeping
 begin-requires-clause-keeping g c κs within =
-    keeping-holds c.args.table.now c.args.self.now c.args.hand.now c.take_ahead.new.hand c.requires.keeping c.take_ahead.ensures.stays.hand
-    c.in-Some.ensures.took.aside
+    taken-keeping c.args.site.now c.args.self.now c.args.at c.in-Some.served c.args.hand.now c.take_ahead.new.hand c.requires.keeping c.in-Some.ensures.took
 
 pub begin-requires-clause-has : goal.begin-requires-clause-has
 begin-requires-clause-has g c κs within =
-    subst (λ (o : Option Delivery). HasAtHand c.args.table.now c.args.at c.in-Some.taken.env o c.take_ahead.new.hand.me) c.in-None-second.is
+    subst (λ (o : Option Delivery). HasAtHand c.args.site.now c.args.at c.in-Some.served.taken o c.take_ahead.new.hand) c.in-None-second.is
     c.in-Some.ensures.took.has
 
 pub finish-requires-clause-keeping : goal.finish-requires-clause-keeping
 finish-requires-clause-keeping g c κs within =
-    keeping-holds c.args.table.now c.args.self.now c.args.hand.now c.take_ahead.new.hand c.requires.keeping c.take_ahead.ensures.stays.hand
-    c.in-Some.ensures.took.aside
+    taken-keeping c.args.site.now c.args.self.now c.args.at c.in-Some.served c.args.hand.now c.take_ahead.new.hand c.requires.keeping c.in-Some.ensures.took
 
 pub finish-requires-clause-has : goal.finish-requires-clause-has
 finish-requires-clause-has g c κs within =
-    subst (λ (o : Option Delivery). HasAtHand c.args.table.now c.args.at c.in-Some.taken.env o c.take_ahead.new.hand.me) c.in-Some-second.is
+    subst (λ (o : Option Delivery). HasAtHand c.args.site.now c.args.at c.in-Some.served.taken o c.take_ahead.new.hand) c.in-Some-second.is
     c.in-Some.ensures.took.has
 
 pub returns-in-None : goal.returns-in-None
 returns-in-None g c =
-    let board = c.args.table.now in
+    let board = c.args.site.now in
     let slots = c.args.self.now in
     let old = c.args.hand.now in
     let new = c.take_ahead.new.hand in
@@ -66,21 +56,21 @@ returns-in-None g c =
 
 pub returns-in-None-second : goal.returns-in-None-second
 returns-in-None-second g c =
-    let board = c.args.table.now in
+    let board = c.args.site.now in
     let slots = c.args.self.now in
     let old = c.args.hand.now in
-    let held = c.take_ahead.new.hand in
+    let from = c.in-Some.served.taken.from in
     let new = c.begin.new.hand in
     let took = c.in-Some.ensures.took in
     let did = c.begin.ensures in
     record {
       keeping = did.keeping;
-      stays = stays-on board old held new c.take_ahead.ensures.stays did.stays;
+      stays = stays-on board old from new took.stays did.stays;
       mail = did.mail;
-      leaves = counts-on board slots slots c.begin.new.self old.me held.me new.me (counts-same board slots old.me held.me took.aside) did.leaves;
+      leaves = counts-on board slots slots c.begin.new.self old.me from.me new.me (counts-same board slots old.me from.me took.before) did.leaves;
       served = record {
-        taken = c.in-Some.taken;
-        held = held;
+        served = c.in-Some.served;
+        held = c.take_ahead.new.hand;
         took = took;
         goes_on = inl (c.in-None-second.is, did.starts);
       };
@@ -90,21 +80,21 @@ returns-in-None-second g c =
 
 pub returns-in-Some-second : goal.returns-in-Some-second
 returns-in-Some-second g c =
-    let board = c.args.table.now in
+    let board = c.args.site.now in
     let slots = c.args.self.now in
     let old = c.args.hand.now in
-    let held = c.take_ahead.new.hand in
+    let from = c.in-Some.served.taken.from in
     let new = c.finish.new.hand in
     let took = c.in-Some.ensures.took in
     let did = c.finish.ensures in
     record {
       keeping = did.keeping;
-      stays = stays-on board old held new c.take_ahead.ensures.stays did.stays;
+      stays = stays-on board old from new took.stays did.stays;
       mail = did.mail;
-      leaves = counts-on board slots slots c.finish.new.self old.me held.me new.me (counts-same board slots old.me held.me took.aside) did.leaves;
+      leaves = counts-on board slots slots c.finish.new.self old.me from.me new.me (counts-same board slots old.me from.me took.before) did.leaves;
       served = record {
-        taken = c.in-Some.taken;
-        held = held;
+        served = c.in-Some.served;
+        held = c.take_ahead.new.hand;
         took = took;
         goes_on = inr (c.in-Some-second.parcel, c.in-Some-second.is, did.ends);
       };

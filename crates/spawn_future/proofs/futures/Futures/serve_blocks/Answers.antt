@@ -1,5 +1,6 @@
 use Rattle.std.proofs.Common.{ℕ, ◌+◌, ◌≡◌, arith, sym, subst}
 use Rattle.std.specs.Bool.{OnTrue, OnFalse}
+use Rattle.exec_recv.specs.Sites.{plan_at}
 use Rattle.op_slot.proofs.Staying.{stays-here, stays-on}
 use Rattle.spawn_future.specs.Turns.{PassesPlace, ServesPlace, Turns}
 use Rattle.spawn_future.proofs.Turned.{turns-none, turns-one, turns-passed, turns-on, blocks-more}
@@ -8,14 +9,14 @@ use Rattle.spawn_future.proofs.futures.Futures.serve_blocks.Goals.{then-serve_pl
 
 pub loop-block-init : goal.loop-block-init
 loop-block-init g c = record {
-  all = c.blocks-block-end.ensures.blocks;
+  all = rw c.site.view_is at c.blocks-block-end.ensures.blocks;
   most = c.blocks-block-end.ensures.most;
   within = omega arith;
   few = omega arith;
   keeping = c.requires.keeping;
-  stays = stays-here c.args.table.now c.args.hand.now c.requires.keeping.hand_of;
+  stays = stays-here c.args.site.now c.args.hand.now c.requires.keeping.hand_of;
   mail = g.met.M.Mail.none c.args.mail.now;
-  turns = turns-none c.args.table.now c.args.plan.now c.args.self.now c.args.hand.now;
+  turns = turns-none c.args.site.now (plan_at c.args.site.now) c.args.self.now c.args.hand.now;
   none = λ zero b below. absurd (omega (arith, below));
 }
 
@@ -34,8 +35,8 @@ overflow_add-taken g c =
 
 pub loop-block-preserved : goal.loop-block-preserved
 loop-block-preserved g c =
-    let board = c.args.table.now in
-    let plan = c.args.plan.now in
+    let board = c.args.site.now in
+    let plan = plan_at c.args.site.now in
     let before = c.loop-block.invariant in
     let first = c.args.self.now in
     let between = c.loop-block.self in

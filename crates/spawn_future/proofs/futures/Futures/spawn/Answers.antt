@@ -29,8 +29,8 @@ pub returns-in-Ok-clause-keeping : goal.returns-in-Ok-clause-keeping
 returns-in-Ok-clause-keeping g c =
     let slots = c.self.inside.slots.items in
     let free = subst (λ (l : List (Option Future)). IsFree l c.in-Some.slot) (sym c.self.view_is) c.in-Some.ensures.free in
-    let keeping = subst (λ (l : List (Option Future)). IsKeeping c.args.table.now l c.args.hand.now) (sym c.self.view_is) c.requires.keeping in
-    spawned-keeping c.args.table.now slots _ c.args.hand.now c.enter.new.hand keeping c.enter.ensures.stays.hand c.enter.ensures.rests
+    let keeping = subst (λ (l : List (Option Future)). IsKeeping c.args.site.now l c.args.hand.now) (sym c.self.view_is) c.requires.keeping in
+    spawned-keeping c.args.site.now slots _ c.args.hand.now c.enter.new.hand keeping c.enter.ensures.stays.hand c.enter.ensures.rests
     c.in-Some.slot free.within _ free.none c.args.env c.requires.start.receiver c.in-Ok.ensures.entered c.put.ensures
 
 pub returns-in-Ok-clause-spawned : goal.returns-in-Ok-clause-spawned
@@ -49,12 +49,12 @@ returns-in-Ok-clause-spawned g c =
 
 pub returns-in-Err-clause-keeping : goal.returns-in-Err-clause-keeping
 returns-in-Err-clause-keeping g c =
-    keeping-same c.args.table.now c.args.self.now c.args.hand.now c.enter.new.hand c.requires.keeping c.enter.ensures.stays.hand
-    c.enter.ensures.rests (kept-out-same c.args.table.now c.args.env c.args.hand.now c.enter.new.hand c.in-Err.fault c.in-Err.ensures.out)
+    keeping-same c.args.site.now c.args.self.now c.args.hand.now c.enter.new.hand c.requires.keeping c.enter.ensures.stays.hand
+    c.enter.ensures.rests (kept-out-same c.args.site.now c.args.env c.args.hand.now c.enter.new.hand c.in-Err.fault c.in-Err.ensures.out)
 
 pub returns-in-Err-clause-refused : goal.returns-in-Err-clause-refused
 returns-in-Err-clause-refused g c =
-    kept-out-refuses c.args.table.now c.args.env c.args.self.now c.args.hand.now c.enter.new.hand c.in-Err.fault
+    kept-out-refuses c.args.site.now c.args.env c.args.self.now c.args.hand.now c.enter.new.hand c.in-Err.fault
     (has-room c.args.self.now c.in-Some.slot c.in-Some.ensures.free) c.in-Err.ensures.out
 
 pub returns-in-None-clause-refused : goal.returns-in-None-clause-refused

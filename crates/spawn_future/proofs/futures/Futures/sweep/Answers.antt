@@ -19,7 +19,7 @@ loop-slot-init g c =
     }
 
 pub sweep_slot-requires-clause-within : goal.sweep_slot-requires-clause-within
-sweep_slot-requires-clause-within g c κs within =
+sweep_slot-requires-clause-within g c =
     let count = c.loop-slot.invariant.count in
     let long = c.loop-slot.invariant.swept.as_many in
     let below = c.loop-slot-test.true in

@@ -1,4 +1,5 @@
 use Rattle.std.proofs.Common.{ℕ, ◌+◌, ◌≡◌, arith, sym, subst}
+use Rattle.exec_recv.specs.Sites.{plan_at}
 use Rattle.op_slot.proofs.Staying.{stays-here, stays-on}
 use Rattle.spawn_future.specs.Turns.{AreUnparked}
 use Rattle.spawn_future.proofs.Turned.{turns-none, turns-on, nodes-more}
@@ -6,14 +7,14 @@ use Rattle.spawn_future.proofs.futures.Futures.turn.Goals as goal
 
 pub loop-node-init : goal.loop-node-init
 loop-node-init g c = record {
-  all = c.size-node-end.ensures.size;
+  all = rw c.site.view_is at (rw c.site.invariant at c.size-node-end.ensures.size);
   most = c.size-node-end.ensures.bound;
   within = omega arith;
   few = omega arith;
   keeping = c.requires.keeping;
-  stays = stays-here c.args.table.now c.args.hand.now c.requires.keeping.hand_of;
+  stays = stays-here c.args.site.now c.args.hand.now c.requires.keeping.hand_of;
   mail = g.met.M.Mail.none c.args.mail.now;
-  turns = turns-none c.args.table.now c.args.plan.now c.args.self.now c.args.hand.now;
+  turns = turns-none c.args.site.now (plan_at c.args.site.now) c.args.self.now c.args.hand.now;
   none = λ zero n below. absurd (omega (arith, below));
 }
 
@@ -33,8 +34,8 @@ overflow_add-taken g c =
 
 pub loop-node-preserved : goal.loop-node-preserved
 loop-node-preserved g c =
-    let board = c.args.table.now in
-    let plan = c.args.plan.now in
+    let board = c.args.site.now in
+    let plan = plan_at c.args.site.now in
     let before = c.loop-node.invariant in
     let first = c.args.self.now in
     let between = c.loop-node.self in

@@ -30,7 +30,7 @@ loop-preserved g c =
 
 pub returns-then-has_ended : goal.returns-then-has_ended
 returns-then-has_ended g c =
-    let board = c.args.table.now in
+    let board = c.args.site.now in
     let before = c.loop.invariant in
     let round = c.has_ended.ensures in
     let old = c.args.self.now.hand.me in

@@ -8,7 +8,7 @@ abbrev pub invariant-loop : goal.invariant-loop
 invariant-loop g l = record {
   next : (goal.iterator-loop g).can_next l.iterator';
   finite : (goal.iterator-loop g).is_finite l.iterator';
-  ready : IsReady l.table l.self.hand;
+  ready : IsReady l.site l.self.hand;
   same : IsSameHand l.fn.self.hand l.self.hand;
   aside : KeepsAside l.fn.self.hand.me l.self.hand.me;
   desk : KeepsDesk l.fn.self.offers.desk l.self.offers.desk;

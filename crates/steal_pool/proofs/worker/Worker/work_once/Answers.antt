@@ -16,7 +16,7 @@ returns-in-Some g c =
 
 pub returns : goal.returns
 returns g c =
-    let board = c.args.table.now in
+    let board = c.args.site.now in
     let old = c.args.self.now.hand in
     let between = c.take_next.new.hand in
     let new = c.seek.new.hand in
@@ -25,7 +25,7 @@ returns g c =
       ready = record { of_table = stays.hand; rests = c.seek.ensures.rests };
       same = stays.same;
       aside = aside-on old.me between.me new.me c.take_next.ensures.aside c.seek.ensures.aside;
-      works = works-before board old.me between.me new.me (g.T.Stepper.does c.args.stepper.now) c.seek.result c.in-None.ensures.looks
+      works = works-before board old.me between.me new.me g.T.Stepper.does c.seek.result c.in-None.ensures.looks
           c.seek.ensures.works;
       desk = desk-on c.args.self.now.offers.desk c.take_next.new.offers.desk c.seek.new.offers.desk c.take_next.ensures.desk c.seek.ensures.desk;
     }

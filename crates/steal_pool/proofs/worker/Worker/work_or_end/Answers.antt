@@ -1,5 +1,5 @@
 use Rattle.exec_recv.proofs.Asiding.{aside-on}
-use Rattle.loop_serve.proofs.Read.{looked-rests}
+use Rattle.node_walks.proofs.Read.{looked-rests}
 use Rattle.steal_pool.proofs.Searched.{same-on, scope-looks, then-ended}
 use Rattle.steal_pool.proofs.worker.Worker.work_or_end.Goals as goal
 
@@ -15,7 +15,7 @@ returns-in-Took g c =
 
 pub returns-then-is_joined : goal.returns-then-is_joined
 returns-then-is_joined g c =
-    let board = c.args.table.now in
+    let board = c.args.site.now in
     let old = c.args.self.now.hand in
     let between = c.work_once.new.self.hand in
     let new = c.is_joined.new.hand in
@@ -23,7 +23,7 @@ returns-then-is_joined g c =
     let read = c.is_joined.ensures.read in
     record {
       ready = record {
-        of_table = c.is_joined.ensures.stays.hand;
+        of_table = rw c.site.view_is at c.is_joined.ensures.stays.hand;
         rests = looked-rests 0 read.word between.me new.me read.me_is worked.ready.rests;
       };
       same = same-on old between new worked.same c.is_joined.ensures.stays.same;
@@ -34,7 +34,7 @@ returns-then-is_joined g c =
 
 pub returns-else-is_joined : goal.returns-else-is_joined
 returns-else-is_joined g c =
-    let board = c.args.table.now in
+    let board = c.args.site.now in
     let old = c.args.self.now.hand in
     let between = c.work_once.new.self.hand in
     let new = c.is_joined.new.hand in
@@ -42,7 +42,7 @@ returns-else-is_joined g c =
     let read = c.is_joined.ensures.read in
     record {
       ready = record {
-        of_table = c.is_joined.ensures.stays.hand;
+        of_table = rw c.site.view_is at c.is_joined.ensures.stays.hand;
         rests = looked-rests 0 read.word between.me new.me read.me_is worked.ready.rests;
       };
       same = same-on old between new worked.same c.is_joined.ensures.stays.same;

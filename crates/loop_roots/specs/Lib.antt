@@ -1,8 +1,0 @@
-pub mod Leaves
-pub mod Starts
-pub mod Emptied
-pub mod Completes
--- the definitions that the public contracts cite
-pub use Rattle.table_steps.specs.Views
-pub use Rattle.exec_recv.specs.Over
-pub use Rattle.loop_walk.specs.Resting

@@ -1,0 +1,12 @@
+pub mod Going
+pub mod Walked
+pub mod Read
+pub mod Took
+pub mod Tops
+pub mod Growing
+pub mod Claimed
+pub mod Started
+pub mod Settled
+pub mod Emptied
+pub mod Completed
+pub mod Unready

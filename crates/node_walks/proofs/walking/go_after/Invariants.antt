@@ -1,0 +1,16 @@
+use Rattle.table_steps.specs.Views.{Stays}
+use Rattle.exec_recv.specs.Asides.{KeepsAside}
+use Rattle.node_walks.specs.Resting.{GoesOn}
+use Rattle.node_walks.proofs.Walked.{Completes}
+use Rattle.node_walks.proofs.walking.go_after.Given as goal
+
+abbrev pub invariant-loop : goal.invariant-loop
+invariant-loop g l = record {
+  next : (goal.iterator-loop g).can_next l.iterator';
+  finite : (goal.iterator-loop g).is_finite l.iterator';
+  stays : Stays l.site l.fn.hand l.hand;
+  goes : GoesOn l.site l.going l.hand.me;
+  aside : KeepsAside l.fn.hand.me l.hand.me;
+  walks : Completes g.T.Stepper.does l.site l.fn.next l.fn.hand.me l.going l.hand.me;
+  mail : g.M.Mail.keeps l.fn.mail l.mail;
+}
