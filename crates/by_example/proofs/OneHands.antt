@@ -3,7 +3,7 @@ use Rattle.std.proofs.Common.{◌≡◌, ℕ, ◌+◌, ◌≤◌, List, [], ◌�
 use Rattle.std.specs.Prelude.{slice_index_or}
 use Rattle.home_items.specs.declared.entry.Entry.{Entry}
 use Rattle.home_items.specs.declared.item.Item.{Item}
-use Rattle.loop_walk.specs.Resting.{IsAtRest}
+use Rattle.node_walks.specs.Resting.{IsAtRest}
 use Rattle.plan_shape.specs.Blueprint.{Blueprint}
 use Rattle.run_loop.specs.Loops.{IsOpened, IsReady}
 use Rattle.run_loop.specs.declared.looped.Loop.{Loop as Looped}

@@ -17,9 +17,9 @@ use Rattle.exec_value.specs.declared.outcome.Completion.{Completion}
 use Rattle.op_slot.specs.Searches.{IsMissedFrom}
 use Rattle.plan_kinds.specs.Small.{IsSmall}
 use Rattle.plan_shape.specs.Blueprint.{Blueprint}
-use Rattle.loop_roots.specs.Completes.{AllowedAtTop}
-use Rattle.loop_roots.specs.Starts.{CanRun, MissesEach}
-use Rattle.loop_roots.specs.declared.completing.Collected.{Collected}
+use Rattle.node_walks.specs.Completes.{AllowedAtTop}
+use Rattle.node_walks.specs.Starts.{CanRun, MissesEach}
+use Rattle.node_walks.specs.declared.completing.Collected.{Collected}
 use Rattle.run_loop.specs.Loops.{IsReady}
 use Rattle.run_loop.specs.Starts.{FindsNoBlock}
 use Rattle.run_loop.specs.Waits.{HasRun, Waits, with_block_used}

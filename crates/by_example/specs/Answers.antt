@@ -7,7 +7,7 @@ use Rattle.plan_kinds.specs.Small.{IsSmall}
 use Rattle.plan_rules.specs.Allowed.{Allowed}
 use Rattle.plan_rules.specs.declared.stop.StopState.TheVariants.{Never}
 use Rattle.plan_shape.specs.Blueprint.{Blueprint}
-use Rattle.loop_roots.specs.Starts.{MissesEach}
+use Rattle.node_walks.specs.Starts.{MissesEach}
 use Rattle.run_loop.specs.declared.waiting.Waited.{Waited}
 use Rattle.run_loop.specs.declared.waiting.Waited.TheVariants.{Completed, NoBlock}
 use Rattle.table_steps.specs.Views.{Board}

@@ -7,7 +7,7 @@ ghost use Rattle.by_example.specs.OneHand.{IsForOne};
 ghost use Rattle.by_example.specs.Answers.{IsAddCause, IsOfInts, MayComplete, answer_of};
 
 use crate::fault::AddFault;
-use exec_recv::{Env, Item, Stepper};
+use exec_recv::{Env, Item, Site, Stepper};
 use exec_value::{Completion, Data, Datum};
 use op_table::{Hand, OpTable};
 use plan_shape::Plan;
@@ -63,7 +63,7 @@ pub(crate) fn run_number<T: Stepper, R: Wait + Sync>(
     };
     let datum = Data::one(alloc, Datum::Int(number));
     let env = Env::of_record(plan, datum, 1, false);
-    let waited = looped.sync_wait(rt, alloc, table, stepper, env);
+    let waited = looped.sync_wait(&Site::of(rt, alloc, table, stepper), env);
     Answer {
         completion: answer_of(waited),
         hand: looped.into_hand(),

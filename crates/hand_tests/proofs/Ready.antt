@@ -12,7 +12,7 @@ use Rattle.table_steps.specs.Claims.{Seated}
 use Rattle.table_steps.specs.Views.{Board, IsHandOf, AreFreshHands, fresh_with, knows}
 use Rattle.home_items.specs.declared.entry.Entry.{Entry}
 use Rattle.home_items.specs.declared.item.Item.{Item}
-use Rattle.loop_walk.specs.Resting.{IsAtRest}
+use Rattle.node_walks.specs.Resting.{IsAtRest}
 use Rattle.spawn_future.specs.declared.future.Future.{Future}
 use Rattle.spawn_future.specs.Keeping.{IsKeeping}
 use Rattle.spawn_future.specs.Opened.{IsOpened}

@@ -1,13 +1,14 @@
 //! How futures are spawned, polled, abandoned and swept, over a table of a few blocks.
-ghost use Rattle.std.specs.Prelude.{◌≡◌, ◌≤◌, IfOk, IfSome};
+ghost use Rattle.std.specs.Prelude.{◌≤◌, IfOk, IfSome};
 ghost use Rattle.std.specs.Thread.{IsSync};
 ghost use Rattle.plan_kinds.specs.Runnable.{IsRunnable};
 ghost use Rattle.exec_recv.specs.Over.{IsOver};
-ghost use Rattle.loop_roots.specs.Starts.{CanRun};
+ghost use Rattle.exec_recv.specs.Sites.{IsSite};
+ghost use Rattle.node_walks.specs.Starts.{CanRun};
 ghost use Rattle.spawn_future.specs.Keeping.{IsKeeping};
 ghost use Rattle.hand_tests.specs.Ready.{IsFirst};
 
-use exec_recv::OpenGate;
+use exec_recv::Site;
 use exec_value::{Completion, Data, Datum};
 use life_rules::Name;
 use node_tree::{Context, ScopeKind};
@@ -91,15 +92,15 @@ fn opened(alloc: Global, plan: &Plan, blocks: u32) -> Result<(OpTable<Item>, Han
 }
 
 // The start of the plan's operation for the record `5`, of number 1.
-fn started(alloc: Global, plan: &Plan, table: &OpTable<Item>) -> Option<Env>
-    requires over { IsOver table.now plan.now }
-    ensures { IfSome result (λ env. CanRun table.now env) }
+fn started<R, T>(site: &Site<R, T>) -> Option<Env>
+    requires site { IsSite site.now }
+    ensures { IfSome result (λ env. CanRun site.now env) }
 {
     let datum = Datum::Int(5);
-    if !datum.is_of(plan.settings().input) {
+    if !datum.is_of(site.plan.settings().input) {
         return None;
     }
-    Some(Env::of_record(plan, Data::one(alloc, datum), 1, false))
+    Some(Env::of_record(site.plan, Data::one(site.alloc, datum), 1, false))
 }
 
 // An owner of this number.
@@ -112,21 +113,17 @@ fn owner(node: u32) -> Name {
 }
 
 // Polls the owner's future.
-fn poll_for<R: Wait + Sync>(
-    rt: &R,
-    plan: &Plan,
-    table: &OpTable<Item>,
+fn poll_for<T: Stepper, R>(
+    site: &Site<R, T>,
     hand: &mut Hand<Item>,
     futures: &mut Futures,
     owner: Name,
 ) -> Poll
-    requires sync { IsSync R.row }
-    requires over { IsOver table.now plan.now }
-    requires keeping { IsKeeping table.now futures.old hand.old }
-    ensures keeping { IsKeeping table.now futures.new hand.new }
+    requires site { IsSite site.now }
+    requires keeping { IsKeeping site.now futures.old hand.old }
+    ensures keeping { IsKeeping site.now futures.new hand.new }
 {
-    let _ = plan;
-    match futures.poll(rt, table, hand, owner, &OpenGate) {
+    match futures.poll(site.table, hand, owner, site.gate) {
         Polled::Ready(Completion::Value(data), false) => {
             if matches!(data.as_slice(), [Datum::Int(5)]) {
                 Poll::Five
@@ -142,43 +139,27 @@ fn poll_for<R: Wait + Sync>(
 
 // Spawns an operation for an owner that waits for none.
 fn spawn_for<T: Stepper, R: Wait + Sync>(
-    rt: &R,
-    alloc: Global,
-    plan: &Plan,
-    table: &OpTable<Item>,
+    site: &Site<R, T>,
     hand: &mut Hand<Item>,
     futures: &mut Futures,
-    stepper: &T,
     owner: Name,
 ) -> Spawn
     requires sync { IsSync R.row }
-    requires over { IsOver table.now plan.now }
-    requires kinds { IsRunnable plan.now }
-    requires stepper { T.plan stepper.now ≡ plan.now }
-    requires keeping { IsKeeping table.now futures.old hand.old }
-    ensures keeping { IsKeeping table.now futures.new hand.new }
+    requires site { IsSite site.now }
+    requires keeping { IsKeeping site.now futures.old hand.old }
+    ensures keeping { IsKeeping site.now futures.new hand.new }
 {
-    let Some(env) = started(alloc, plan, table) else {
+    let Some(env) = started(site) else {
         return Spawn::Not;
     };
     let Some(first) = env.child() else {
         return Spawn::Not;
     };
-    match futures.poll(rt, table, hand, owner, &OpenGate) {
+    match futures.poll(site.table, hand, owner, site.gate) {
         Polled::Unknown => {}
         Polled::Waiting | Polled::Ready(_, _) => return Spawn::Not,
     }
-    match futures.spawn(
-        rt,
-        alloc,
-        table,
-        hand,
-        stepper,
-        owner,
-        first,
-        env,
-        &mut NoMail,
-    ) {
+    match futures.spawn(site, hand, owner, first, env, &mut NoMail) {
         Ok(()) => Spawn::Spawned,
         Err(SpawnFault::Full(_)) => Spawn::Full,
         Err(SpawnFault::Scope(_, _)) => Spawn::Scope,

@@ -19,10 +19,10 @@ use Rattle.home_items.specs.declared.entry.Entry.{Entry}
 use Rattle.home_items.specs.declared.item.Item.{Item}
 use Rattle.home_items.specs.Entries.{record_start}
 use Rattle.home_items.proofs.Beginning.{record-kinds}
-use Rattle.loop_walk.specs.Resting.{IsAtRest}
+use Rattle.node_walks.specs.Resting.{IsAtRest}
 use Rattle.run_loop.specs.declared.looped.Loop.{Loop as Looped}
 use Rattle.run_loop.specs.Loops.{IsOpened, IsReady, IsTold, decked}
-use Rattle.loop_roots.specs.Starts.{CanRun}
+use Rattle.node_walks.specs.Starts.{CanRun}
 use Rattle.node_tests.specs.Ready.{IsFirst}
 
 -- a plan that was read, and is whole, can be evaluated

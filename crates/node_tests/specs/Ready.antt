@@ -6,7 +6,7 @@ use Rattle.table_rules.specs.declared.view.View.{View}
 use Rattle.table_steps.specs.Views.{Board, IsHandOf, knows}
 use Rattle.home_items.specs.declared.entry.Entry.{Entry}
 use Rattle.home_items.specs.declared.item.Item.{Item}
-use Rattle.loop_walk.specs.Resting.{IsAtRest}
+use Rattle.node_walks.specs.Resting.{IsAtRest}
 
 -- The hand is hand 0 of the table, and at rest.
 pub record IsFirst (board : Board Blueprint)

@@ -3,9 +3,10 @@ ghost use Rattle.std.specs.Prelude.{◌≡◌, IfOk, IfSome};
 ghost use Rattle.std.specs.Thread.{IsSync};
 ghost use Rattle.plan_kinds.specs.Runnable.{IsRunnable};
 ghost use Rattle.exec_recv.specs.Over.{IsOver};
-ghost use Rattle.loop_roots.specs.Completes.{IsListed};
+ghost use Rattle.exec_recv.specs.Sites.{IsSite};
+ghost use Rattle.node_walks.specs.Completes.{IsListed};
 ghost use Rattle.run_loop.specs.Loops.{IsReady};
-ghost use Rattle.loop_roots.specs.Starts.{CanRun};
+ghost use Rattle.node_walks.specs.Starts.{CanRun};
 ghost use Rattle.node_tests.specs.Ready.{IsFirst};
 
 mod bulks;
@@ -26,7 +27,7 @@ use op_table::{Hand, OpTable};
 use outcome_lines::put_line;
 use plan_reader::read_plan;
 use plan_shape::Plan;
-use run_loop::{Block, Env, Item, Loop, Stepper, Waited};
+use run_loop::{Block, Env, Item, Loop, Site, Stepper, Waited};
 use std::alloc::Global;
 use std::sync::Wait;
 use std::test::Fail;
@@ -65,38 +66,34 @@ fn opened(alloc: Global, plan: &Plan) -> Result<(OpTable<Item>, Hand<Item>), Fai
 }
 
 // The start of the plan's operation for the record `5`, of number 1.
-fn started(alloc: Global, plan: &Plan, table: &OpTable<Item>, asked: bool) -> Option<Env>
-    requires over { IsOver table.now plan.now }
-    ensures { IfSome result (λ env. CanRun table.now env) }
+fn started<R, T>(site: &Site<R, T>, asked: bool) -> Option<Env>
+    requires site { IsSite site.now }
+    ensures { IfSome result (λ env. CanRun site.now env) }
 {
     let datum = Datum::Int(5);
-    if !datum.is_of(plan.settings().input) {
+    if !datum.is_of(site.plan.settings().input) {
         return None;
     }
-    Some(Env::of_record(plan, Data::one(alloc, datum), 1, asked))
+    Some(Env::of_record(site.plan, Data::one(site.alloc, datum), 1, asked))
 }
 
 // How many turns the loop takes until the operation in this block can be collected, or the most.
 fn turns_until<T: Stepper, R: Wait + Sync>(
-    rt: &R,
-    alloc: Global,
-    table: &OpTable<Item>,
+    site: &Site<R, T>,
     looped: &mut Loop,
-    stepper: &T,
     block: Block,
 ) -> u32
     requires sync { IsSync R.row }
-    requires ready { IsReady table.now looped.old }
-    requires over { IsOver table.now (T.plan stepper.now) }
-    requires kinds { IsRunnable (T.plan stepper.now) }
-    requires listed { IsListed table.now block looped.old.hand.me }
+    requires ready { IsReady site.now looped.old }
+    requires site { IsSite site.now }
+    requires listed { IsListed site.now block looped.old.hand.me }
 {
     for turns in 0..MOST_TURNS {
-        if let Some(found) = looped.collect(rt, table, block, stepper) {
+        if let Some(found) = looped.collect(site.table, block, site.gate) {
             drop(found);
             return turns;
         }
-        let _taken = looped.turn(rt, alloc, table, stepper);
+        let _taken = looped.turn(site);
     }
     MOST_TURNS
 }
@@ -118,13 +115,14 @@ fn turned<T: Stepper, R: Wait + Sync>(
         return Ok(MOST_TURNS);
     };
     looped.help_pool(true);
-    let Some(env) = started(alloc, plan, &table, asked) else {
+    let site = Site::of(rt, alloc, &table, stepper);
+    let Some(env) = started(&site, asked) else {
         return Ok(MOST_TURNS);
     };
-    let Ok(block) = looped.start(rt, alloc, &table, stepper, env) else {
+    let Ok(block) = looped.start(&site, env) else {
         return Ok(MOST_TURNS);
     };
-    Ok(turns_until(rt, alloc, &table, &mut looped, stepper, block))
+    Ok(turns_until(&site, &mut looped, block))
 }
 
 // Starts it, and takes turns, in the pool too, until it can be collected.
@@ -144,10 +142,11 @@ fn waited<T: Stepper, R: Wait + Sync>(
         return Ok(None);
     };
     looped.help_pool(true);
-    let Some(env) = started(alloc, plan, &table, asked) else {
+    let site = Site::of(rt, alloc, &table, stepper);
+    let Some(env) = started(&site, asked) else {
         return Ok(None);
     };
-    match looped.sync_wait(rt, alloc, &table, stepper, env) {
+    match looped.sync_wait(&site, env) {
         Waited::Completed(found) => Ok(Some(found.completion)),
         Waited::NoBlock(_) => Ok(None),
     }

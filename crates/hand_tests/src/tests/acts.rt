@@ -1,18 +1,16 @@
 //! What tests do with futures, one after the other, and whether it is told so.
-ghost use Rattle.std.specs.Prelude.{◌≡◌, ◌≤◌};
+ghost use Rattle.std.specs.Prelude.{◌≤◌};
 ghost use Rattle.std.specs.Thread.{IsSync};
-ghost use Rattle.plan_kinds.specs.Runnable.{IsRunnable};
-ghost use Rattle.exec_recv.specs.Over.{IsOver};
+ghost use Rattle.exec_recv.specs.Sites.{IsSite};
 ghost use Rattle.spawn_future.specs.Keeping.{IsKeeping};
 
 use super::{NoMail, Poll, Spawn, opened, owner, poll_for, read, spawn_for};
 use count_scope::close;
-use exec_recv::OpenGate;
-use loop_serve::serve_place;
+use exec_recv::{OpenGate, Site};
 use node_stepper::NodeSteps;
 use node_tree::Context;
-use op_table::{Hand, OpTable};
-use plan_shape::Plan;
+use node_walks::serve_place;
+use op_table::Hand;
 use spawn_future::{Futures, Item, Stepper};
 use std::alloc::Global;
 use std::sync::Wait;
@@ -33,100 +31,68 @@ enum Act {
 
 // Whether what is done is told so.
 fn is_told<T: Stepper, R: Wait + Sync>(
-    rt: &R,
-    alloc: Global,
-    plan: &Plan,
-    table: &OpTable<Item>,
+    site: &Site<R, T>,
     hand: &mut Hand<Item>,
     futures: &mut Futures,
-    stepper: &T,
     act: Act,
 ) -> bool
     requires sync { IsSync R.row }
-    requires over { IsOver table.now plan.now }
-    requires kinds { IsRunnable plan.now }
-    requires stepper { T.plan stepper.now ≡ plan.now }
-    requires keeping { IsKeeping table.now futures.old hand.old }
-    ensures keeping { IsKeeping table.now futures.new hand.new }
+    requires site { IsSite site.now }
+    requires keeping { IsKeeping site.now futures.old hand.old }
+    ensures keeping { IsKeeping site.now futures.new hand.new }
 {
     match act {
-        Act::Spawns(node, told) => {
-            spawn_for(rt, alloc, plan, table, hand, futures, stepper, owner(node)) == told
-        }
-        Act::Polls(node, told) => poll_for(rt, plan, table, hand, futures, owner(node)) == told,
+        Act::Spawns(node, told) => spawn_for(site, hand, futures, owner(node)) == told,
+        Act::Polls(node, told) => poll_for(site, hand, futures, owner(node)) == told,
         Act::Abandons(node, told) => futures.abandon(owner(node)) == told,
-        Act::Sweeps(count) => futures.sweep(rt, table, hand, &OpenGate) == count,
+        Act::Sweeps(count) => futures.sweep(site.table, hand, site.gate) == count,
         Act::Keeps(count) => futures.kept() == count,
         Act::Serves(block, node) => {
-            if block >= table.blocks() || node >= table.tree().size() {
+            if block >= site.table.blocks() || node >= site.table.tree().size() {
                 return false;
             }
             let mail = &mut NoMail;
-            serve_place(
-                rt,
-                alloc,
-                table,
-                hand,
-                stepper,
-                mail,
-                block,
-                node,
-                Context::Pool,
-            )
-            .is_some()
+            serve_place(site, hand, mail, block, node, Context::Pool).is_some()
         }
         Act::Closes => {
-            close(table, hand);
+            close(site.table, hand);
             true
         }
     }
 }
 
 // Sweeps until no future is kept: none of them waits.
-fn end<R: Wait + Sync>(
-    rt: &R,
-    plan: &Plan,
-    table: &OpTable<Item>,
-    hand: &mut Hand<Item>,
-    futures: Futures,
-)
+fn end<T: Stepper, R: Wait + Sync>(site: &Site<R, T>, hand: &mut Hand<Item>, futures: Futures)
     requires sync { IsSync R.row }
-    requires over { IsOver table.now plan.now }
-    requires keeping { IsKeeping table.now futures hand.old }
+    requires site { IsSite site.now }
+    requires keeping { IsKeeping site.now futures hand.old }
 {
-    let _ = plan;
     let mut left = futures;
-    for _ in rt.forever() {
+    for _ in site.rt.forever() {
         if left.kept() == 0 {
             left.close();
             return;
         }
-        left.sweep(rt, table, hand, &OpenGate);
+        left.sweep(site.table, hand, site.gate);
     }
     unreachable!()
 }
 
 // Whether all that is done is told so.
 fn all_told<T: Stepper, R: Wait + Sync>(
-    rt: &R,
-    alloc: Global,
-    plan: &Plan,
-    table: &OpTable<Item>,
+    site: &Site<R, T>,
     hand: &mut Hand<Item>,
     futures: &mut Futures,
-    stepper: &T,
     acts: &[Act],
 ) -> bool
     requires sync { IsSync R.row }
-    requires over { IsOver table.now plan.now }
-    requires kinds { IsRunnable plan.now }
-    requires stepper { T.plan stepper.now ≡ plan.now }
-    requires keeping { IsKeeping table.now futures.old hand.old }
-    ensures keeping { IsKeeping table.now futures.new hand.new }
+    requires site { IsSite site.now }
+    requires keeping { IsKeeping site.now futures.old hand.old }
+    ensures keeping { IsKeeping site.now futures.new hand.new }
 {
     let mut as_told = true;
     for act in acts {
-        let told = is_told(rt, alloc, plan, table, hand, futures, stepper, *act);
+        let told = is_told(site, hand, futures, *act);
         as_told = as_told && told;
     }
     as_told
@@ -156,17 +122,9 @@ fn are_told<R: Wait + Sync>(
     let stepper = NodeSteps::of(&plan, &gate);
     let (table, mut hand) = opened(alloc, &plan, blocks)?;
     let mut futures = Futures::open(alloc, most)?;
-    let told = all_told(
-        rt,
-        alloc,
-        &plan,
-        &table,
-        &mut hand,
-        &mut futures,
-        &stepper,
-        acts,
-    );
-    end(rt, &plan, &table, &mut hand, futures);
+    let site = Site::of(rt, alloc, &table, &stepper);
+    let told = all_told(&site, &mut hand, &mut futures, acts);
+    end(&site, &mut hand, futures);
     Ok(told)
 }
 

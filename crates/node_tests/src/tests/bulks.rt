@@ -19,7 +19,7 @@ struct Parts {
 }
 
 impl Gate for Parts {
-    fn pass<R: Wait + Sync>(&self, _rt: &R, point: Point) {
+    fn pass(&self, point: Point) {
         if let Point::Job { number: _, node } = point {
             self.jobs.set(self.jobs.get().saturating_add(1));
             if node < 32 {

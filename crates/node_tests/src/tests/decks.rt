@@ -1,9 +1,10 @@
 //! How names travel: to a loop's deck, from which others steal, and through the loop's queue.
-ghost use Rattle.std.specs.Prelude.{◌≡◌, IfSome};
+ghost use Rattle.std.specs.Prelude.{IfSome};
 ghost use Rattle.std.specs.Thread.{IsSync};
 ghost use Rattle.plan_kinds.specs.Runnable.{IsRunnable};
 ghost use Rattle.exec_recv.specs.Over.{IsOver};
-ghost use Rattle.loop_roots.specs.Completes.{IsListed};
+ghost use Rattle.exec_recv.specs.Sites.{IsSite};
+ghost use Rattle.node_walks.specs.Completes.{IsListed};
 ghost use Rattle.run_loop.specs.Loops.{IsReady};
 ghost use Rattle.node_tests.specs.Ready.{IsFirst};
 
@@ -16,7 +17,7 @@ use loop_queue::LoopQueue;
 use node_stepper::NodeSteps;
 use op_table::{Hand, OpTable};
 use plan_shape::Plan;
-use run_loop::{Block, Drained, Item, Loop, LoopPost, Stepper};
+use run_loop::{Block, Drained, Item, Loop, LoopPost, Site, Stepper};
 use std::alloc::Global;
 use std::sync::Wait;
 use std::test::Fail;
@@ -24,27 +25,23 @@ use std::test::Fail;
 // What the loop drains where this name was posted, and how many nodes a poll takes then. The
 // operation in the block is left to be collected.
 fn hears<T: Stepper, R: Wait + Sync>(
-    rt: &R,
-    alloc: Global,
-    table: &OpTable<Item>,
+    site: &Site<R, T>,
     looped: &mut Loop,
-    stepper: &T,
     block: Block,
     name: Name,
     post: &mut LoopPost,
 ) -> (Drained, u32)
     requires sync { IsSync R.row }
-    requires ready { IsReady table.now looped.old }
-    requires over { IsOver table.now (T.plan stepper.now) }
-    requires kinds { IsRunnable (T.plan stepper.now) }
-    requires listed { IsListed table.now block looped.old.hand.me }
-    ensures ready { IsReady table.now looped.new }
-    ensures listed { IsListed table.now block looped.new.hand.me }
+    requires ready { IsReady site.now looped.old }
+    requires site { IsSite site.now }
+    requires listed { IsListed site.now block looped.old.hand.me }
+    ensures ready { IsReady site.now looped.new }
+    ensures listed { IsListed site.now block looped.new.hand.me }
 {
     let _ = block;
-    let _posted = post.post(rt, name);
-    let moved = looped.drain(rt, post);
-    let taken = looped.poll(rt, alloc, table, stepper);
+    let _posted = post.post(site.rt, name);
+    let moved = looped.drain(site.rt, post);
+    let taken = looped.poll(site);
     (moved, taken)
 }
 
@@ -52,27 +49,21 @@ fn hears<T: Stepper, R: Wait + Sync>(
 // that helps hears of its node only when it is posted; and where nobody steals it, the loop takes
 // it.
 fn travels<T: Stepper, R: Wait + Sync>(
-    rt: &R,
-    alloc: Global,
-    plan: &Plan,
-    table: &OpTable<Item>,
+    site: &Site<R, T>,
     looped: &mut Loop,
-    stepper: &T,
     thief: &mut Deck,
     post: &mut LoopPost,
 ) -> Option<bool>
     requires sync { IsSync R.row }
-    requires ready { IsReady table.now looped.old }
-    requires over { IsOver table.now plan.now }
-    requires kinds { IsRunnable plan.now }
-    requires stepper { T.plan stepper.now ≡ plan.now }
+    requires ready { IsReady site.now looped.old }
+    requires site { IsSite site.now }
 {
-    let (block, name) = begins(rt, alloc, plan, table, looped, stepper)?;
-    let stolen = thief.take(rt) == Some(name);
-    let (moved, taken) = hears(rt, alloc, table, looped, stepper, block, name, post);
-    drop(looped.collect(rt, table, block, stepper)?);
-    let (_second, _left) = begins(rt, alloc, plan, table, looped, stepper)?;
-    let fetched = looped.poll(rt, alloc, table, stepper);
+    let (block, name) = begins(site, looped)?;
+    let stolen = thief.take(site.rt) == Some(name);
+    let (moved, taken) = hears(site, looped, block, name, post);
+    drop(looped.collect(site.table, block, site.gate)?);
+    let (_second, _left) = begins(site, looped)?;
+    let fetched = looped.poll(site);
     Some(stolen && moved == Drained::Emptied(1) && taken == 1 && fetched == 1)
 }
 
@@ -123,16 +114,8 @@ fn travels_between_decks<R: Wait + Sync>(rt: &R, alloc: Global, root: &str) -> R
     let Some(mut looped) = helping(alloc, &plan, &table, hand, own) else {
         return Ok(false);
     };
-    let travelled = travels(
-        rt,
-        alloc,
-        &plan,
-        &table,
-        &mut looped,
-        &stepper,
-        &mut thief,
-        &mut post,
-    );
+    let site = Site::of(rt, alloc, &table, &stepper);
+    let travelled = travels(&site, &mut looped, &mut thief, &mut post);
     let (_hand, deck) = looped.into_parts();
     Ok(travelled == Some(true) && deck.is_some())
 }

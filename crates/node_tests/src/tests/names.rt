@@ -1,21 +1,17 @@
 //! A name is a hint: one that was kept until its block was given again takes nothing.
-ghost use Rattle.std.specs.Prelude.{◌≡◌, IfSome};
+ghost use Rattle.std.specs.Prelude.{IfSome};
 ghost use Rattle.std.specs.Thread.{IsSync};
-ghost use Rattle.plan_kinds.specs.Runnable.{IsRunnable};
-ghost use Rattle.exec_recv.specs.Over.{IsOver};
-ghost use Rattle.loop_roots.specs.Completes.{IsListed};
+ghost use Rattle.exec_recv.specs.Sites.{IsSite};
+ghost use Rattle.node_walks.specs.Completes.{IsListed};
 ghost use Rattle.run_loop.specs.Loops.{IsReady};
 
 use super::{opened, plan_of, started};
-use exec_recv::OpenGate;
+use exec_recv::{OpenGate, Site};
 use life_rules::{Name, Resting};
-use loop_serve::serve;
-use loop_walk::Mail;
 use node_stepper::NodeSteps;
 use node_tree::Context;
-use op_table::OpTable;
-use plan_shape::Plan;
-use run_loop::{Block, Item, Loop, Stepper};
+use node_walks::{Mail, serve};
+use run_loop::{Block, Loop, Stepper};
 use std::alloc::Global;
 use std::sync::Wait;
 use std::test::Fail;
@@ -38,30 +34,24 @@ impl Mail for Nobody {
 
 // Starts the plan's operation, and gives the name of its `starts_on`, which waits in the pool.
 pub(crate) fn begins<T: Stepper, R: Wait + Sync>(
-    rt: &R,
-    alloc: Global,
-    plan: &Plan,
-    table: &OpTable<Item>,
+    site: &Site<R, T>,
     looped: &mut Loop,
-    stepper: &T,
 ) -> Option<(Block, Name)>
     requires sync { IsSync R.row }
-    requires ready { IsReady table.now looped.old }
-    requires over { IsOver table.now plan.now }
-    requires kinds { IsRunnable plan.now }
-    requires stepper { T.plan stepper.now ≡ plan.now }
-    ensures ready { IsReady table.now looped.new }
-    ensures listed { IfSome result (λ begun. IsListed table.now begun.0 looped.new.hand.me) }
+    requires ready { IsReady site.now looped.old }
+    requires site { IsSite site.now }
+    ensures ready { IsReady site.now looped.new }
+    ensures listed { IfSome result (λ begun. IsListed site.now begun.0 looped.new.hand.me) }
 {
-    let Some(env) = started(alloc, plan, table, false) else {
+    let Some(env) = started(site, false) else {
         return None;
     };
-    let Ok(block) = looped.start(rt, alloc, table, stepper, env) else {
+    let Ok(block) = looped.start(site, env) else {
         return None;
     };
     let name = Name {
         node: 1,
-        ..table.root(block)
+        ..site.table.root(block)
     };
     Some((block, name))
 }
@@ -69,64 +59,42 @@ pub(crate) fn begins<T: Stepper, R: Wait + Sync>(
 // Whether this name takes its node out of the pool. The operation in the block is left to be
 // collected.
 fn takes<T: Stepper, R: Wait + Sync>(
-    rt: &R,
-    alloc: Global,
-    table: &OpTable<Item>,
+    site: &Site<R, T>,
     looped: &mut Loop,
-    stepper: &T,
     block: Block,
     name: Name,
 ) -> bool
     requires sync { IsSync R.row }
-    requires ready { IsReady table.now looped.old }
-    requires over { IsOver table.now (T.plan stepper.now) }
-    requires kinds { IsRunnable (T.plan stepper.now) }
-    requires listed { IsListed table.now block looped.old.hand.me }
-    ensures ready { IsReady table.now looped.new }
-    ensures listed { IsListed table.now block looped.new.hand.me }
+    requires ready { IsReady site.now looped.old }
+    requires site { IsSite site.now }
+    requires listed { IsListed site.now block looped.old.hand.me }
+    ensures ready { IsReady site.now looped.new }
+    ensures listed { IsListed site.now block looped.new.hand.me }
 {
     let _ = block;
-    if name.block >= table.blocks() || name.node >= table.tree().size() {
+    if name.block >= site.table.blocks() || name.node >= site.table.tree().size() {
         return false;
     }
     let hand = &mut looped.hand;
-    serve(
-        rt,
-        alloc,
-        table,
-        hand,
-        stepper,
-        &mut Nobody,
-        name,
-        Resting::Pool,
-    )
+    serve(site, hand, &mut Nobody, name, Resting::Pool)
 }
 
 // Whether the name of the first operation takes its node once, and none of the second, which is in
 // the same block; and the name of the second takes that.
-fn is_lost<T: Stepper, R: Wait + Sync>(
-    rt: &R,
-    alloc: Global,
-    plan: &Plan,
-    table: &OpTable<Item>,
-    looped: &mut Loop,
-    stepper: &T,
-) -> Option<bool>
+fn is_lost<T: Stepper, R: Wait + Sync>(site: &Site<R, T>, looped: &mut Loop) -> Option<bool>
     requires sync { IsSync R.row }
-    requires ready { IsReady table.now looped.old }
-    requires over { IsOver table.now plan.now }
-    requires kinds { IsRunnable plan.now }
-    requires stepper { T.plan stepper.now ≡ plan.now }
+    requires ready { IsReady site.now looped.old }
+    requires site { IsSite site.now }
 {
-    let (block, kept) = begins(rt, alloc, plan, table, looped, stepper)?;
-    let first = takes(rt, alloc, table, looped, stepper, block, kept);
-    let again = takes(rt, alloc, table, looped, stepper, block, kept);
-    drop(looped.collect(rt, table, block, stepper)?);
-    let (second, name) = begins(rt, alloc, plan, table, looped, stepper)?;
-    let late = takes(rt, alloc, table, looped, stepper, second, kept);
-    let found = takes(rt, alloc, table, looped, stepper, second, name);
+    let (block, kept) = begins(site, looped)?;
+    let first = takes(site, looped, block, kept);
+    let again = takes(site, looped, block, kept);
+    drop(looped.collect(site.table, block, site.gate)?);
+    let (second, name) = begins(site, looped)?;
+    let late = takes(site, looped, second, kept);
+    let found = takes(site, looped, second, name);
     let same = second.index == kept.block;
-    drop(looped.collect(rt, table, second, stepper)?);
+    drop(looped.collect(site.table, second, site.gate)?);
     Some(same && first && found && !again && !late)
 }
 
@@ -142,7 +110,8 @@ fn loses_a_late_name<R: Wait + Sync>(rt: &R, alloc: Global, root: &str) -> Resul
     let Ok(mut looped) = Loop::open(alloc, &plan, &table, hand) else {
         return Ok(false);
     };
-    Ok(is_lost(rt, alloc, &plan, &table, &mut looped, &stepper) == Some(true))
+    let site = Site::of(rt, alloc, &table, &stepper);
+    Ok(is_lost(&site, &mut looped) == Some(true))
 }
 
 #[test]

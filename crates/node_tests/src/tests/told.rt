@@ -1,8 +1,6 @@
 //! A loop takes the nodes that it was told of in the order in which it was told.
-ghost use Rattle.std.specs.Prelude.{◌≡◌};
 ghost use Rattle.std.specs.Thread.{IsSync};
-ghost use Rattle.plan_kinds.specs.Runnable.{IsRunnable};
-ghost use Rattle.exec_recv.specs.Over.{IsOver};
+ghost use Rattle.exec_recv.specs.Sites.{IsSite};
 ghost use Rattle.run_loop.specs.Loops.{IsReady};
 
 use super::{MOST_TURNS, opened, plan_of, started, turns_until};
@@ -11,8 +9,7 @@ use life_rules::Name;
 use node_stepper::NodeSteps;
 use node_tree::Context;
 use op_table::OpTable;
-use plan_shape::Plan;
-use run_loop::{Item, Loop, Stepper};
+use run_loop::{Item, Loop, Site, Stepper};
 use std::alloc::Global;
 use std::sync::Wait;
 use std::sync::atomic::{AtomicU64, Ordering};
@@ -34,7 +31,7 @@ struct Tries {
 }
 
 impl Gate for Tries {
-    fn pass<R: Wait + Sync>(&self, _rt: &R, point: Point) {
+    fn pass(&self, point: Point) {
         if let Point::Take(name) = point {
             let before = self.nodes.load(Ordering::SeqCst);
             let after = before.wrapping_mul(10).wrapping_add(name.node as u64);
@@ -59,27 +56,18 @@ fn tells<R: Wait + Sync>(rt: &R, table: &OpTable<Item>, looped: &mut Loop, node:
 }
 
 // Whether the plan's operation is started and can be collected after some turns.
-fn ends<T: Stepper, R: Wait + Sync>(
-    rt: &R,
-    alloc: Global,
-    plan: &Plan,
-    table: &OpTable<Item>,
-    looped: &mut Loop,
-    stepper: &T,
-) -> bool
+fn ends<T: Stepper, R: Wait + Sync>(site: &Site<R, T>, looped: &mut Loop) -> bool
     requires sync { IsSync R.row }
-    requires ready { IsReady table.now looped.old }
-    requires over { IsOver table.now plan.now }
-    requires kinds { IsRunnable plan.now }
-    requires stepper { T.plan stepper.now ≡ plan.now }
+    requires ready { IsReady site.now looped.old }
+    requires site { IsSite site.now }
 {
-    let Some(env) = started(alloc, plan, table, false) else {
+    let Some(env) = started(site, false) else {
         return false;
     };
-    let Ok(block) = looped.start(rt, alloc, table, stepper, env) else {
+    let Ok(block) = looped.start(site, env) else {
         return false;
     };
-    turns_until(rt, alloc, table, looped, stepper, block) < MOST_TURNS
+    turns_until(site, looped, block) < MOST_TURNS
 }
 
 // The numbers of the nodes that the loop tries to take, where it was told of these two before they
@@ -105,7 +93,7 @@ fn tried<R: Wait + Sync>(
     };
     tells(rt, &table, &mut looped, before);
     tells(rt, &table, &mut looped, behind);
-    if !ends(rt, alloc, &plan, &table, &mut looped, &stepper) {
+    if !ends(&Site::of(rt, alloc, &table, &stepper), &mut looped) {
         return Ok(None);
     }
     Ok(Some(gate.nodes.load(Ordering::SeqCst)))

@@ -1,42 +1,29 @@
 //! An operation for which no block is free isn't waited for.
-ghost use Rattle.std.specs.Prelude.{◌≡◌};
 ghost use Rattle.std.specs.Thread.{IsSync};
-ghost use Rattle.plan_kinds.specs.Runnable.{IsRunnable};
-ghost use Rattle.exec_recv.specs.Over.{IsOver};
+ghost use Rattle.exec_recv.specs.Sites.{IsSite};
 ghost use Rattle.run_loop.specs.Loops.{IsReady};
 
 use super::{opened, plan_of, started};
 use exec_recv::OpenGate;
 use node_stepper::NodeSteps;
-use op_table::OpTable;
-use plan_shape::Plan;
-use run_loop::{Item, Loop, Stepper, Waited};
+use run_loop::{Loop, Site, Stepper, Waited};
 use std::alloc::Global;
 use std::sync::Wait;
 use std::test::Fail;
 
 // Starts the plan's operation in the one block, and waits for a second one. The number of the
 // record whose start comes back, where no block is free for it.
-fn comes_back<T: Stepper, R: Wait + Sync>(
-    rt: &R,
-    alloc: Global,
-    plan: &Plan,
-    table: &OpTable<Item>,
-    looped: &mut Loop,
-    stepper: &T,
-) -> Option<u32>
+fn comes_back<T: Stepper, R: Wait + Sync>(site: &Site<R, T>, looped: &mut Loop) -> Option<u32>
     requires sync { IsSync R.row }
-    requires ready { IsReady table.now looped.old }
-    requires over { IsOver table.now plan.now }
-    requires kinds { IsRunnable plan.now }
-    requires stepper { T.plan stepper.now ≡ plan.now }
+    requires ready { IsReady site.now looped.old }
+    requires site { IsSite site.now }
 {
-    let env = started(alloc, plan, table, false)?;
-    let Ok(_block) = looped.start(rt, alloc, table, stepper, env) else {
+    let env = started(site, false)?;
+    let Ok(_block) = looped.start(site, env) else {
         return None;
     };
-    let second = started(alloc, plan, table, false)?;
-    match looped.sync_wait(rt, alloc, table, stepper, second) {
+    let second = started(site, false)?;
+    match looped.sync_wait(site, second) {
         Waited::NoBlock(env) => Some(env.number()),
         Waited::Completed(done) => {
             drop(done);
@@ -57,7 +44,8 @@ fn waits_in_vain<R: Wait + Sync>(rt: &R, alloc: Global, root: &str) -> Result<Op
     let Ok(mut looped) = Loop::open(alloc, &plan, &table, hand) else {
         return Ok(None);
     };
-    Ok(comes_back(rt, alloc, &plan, &table, &mut looped, &stepper))
+    let site = Site::of(rt, alloc, &table, &stepper);
+    Ok(comes_back(&site, &mut looped))
 }
 
 #[test]

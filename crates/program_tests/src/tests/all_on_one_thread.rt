@@ -59,7 +59,7 @@ impl Holding {
 }
 
 impl Gate for Holding {
-    fn pass<R: Wait + Sync>(&self, _rt: &R, point: Point) {
+    fn pass(&self, point: Point) {
         if let Point::Job { number, node: _ } = point {
             if number == 1 {
                 self.hold();

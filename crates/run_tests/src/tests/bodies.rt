@@ -1,12 +1,10 @@
 //! Which body of a let runs, as a gate sees it.
-ghost use Rattle.std.specs.Thread.{IsSync};
 
 use super::{is_left, nobody, plan_of};
 use exec_io::{MemSink, MemSource};
 use exec_recv::{Gate, Point};
 use line_rules::may_run;
 use record_loop::Form;
-use std::sync::Wait;
 use std::sync::atomic::{AtomicU64, Ordering};
 use std::test::Fail;
 use whole_run::run_lines;
@@ -22,7 +20,7 @@ struct Counting {
 }
 
 impl Gate for Counting {
-    fn pass<R: Wait + Sync>(&self, _rt: &R, point: Point) {
+    fn pass(&self, point: Point) {
         if let Point::Job { number, node } = point {
             if node == THIRD {
                 let count = if number == 1 {

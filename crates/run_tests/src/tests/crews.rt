@@ -171,7 +171,7 @@ impl Holding {
 }
 
 impl Gate for Holding {
-    fn pass<R: Wait + Sync>(&self, _rt: &R, point: Point) {
+    fn pass(&self, point: Point) {
         if matches!(point, Point::Job { number: _, node: _ }) {
             self.hold();
         }

@@ -1,11 +1,9 @@
 //! In which order a worker goes on with names of which it has several.
-ghost use Rattle.std.specs.Thread.{IsSync};
 
 use super::crews::{MOST_LOOKS, RUNS, Trial, crew_of, writes};
 use super::unlawful::Way;
 use exec_recv::{Gate, Point};
 use run_workers::Order;
-use std::sync::Wait;
 use std::sync::atomic::{AtomicU64, Ordering};
 use std::test::Fail;
 use std::thread::yield_now;
@@ -78,7 +76,7 @@ impl Ordered {
 }
 
 impl Gate for Ordered {
-    fn pass<R: Wait + Sync>(&self, _rt: &R, point: Point) {
+    fn pass(&self, point: Point) {
         match point {
             Point::Job { number, node } if node == ON_POOL => self.comes(number),
             Point::Job { number: _, node } if node == ON_LOOP => {

@@ -96,7 +96,7 @@ impl Seen {
 }
 
 impl Gate for Seen {
-    fn pass<R: Wait + Sync>(&self, _rt: &R, point: Point) {
+    fn pass(&self, point: Point) {
         match point {
             Point::Job { number: _, node: _ } => self.at_job(),
             Point::Take(name) => self.at_take(name.node),

@@ -1,10 +1,8 @@
 //! A callback's run that is held until a child is reported: a record is stopped, or it isn't.
-ghost use Rattle.std.specs.Thread.{IsSync};
 
 use super::crews::{MOST_LOOKS, RUNS, Trial, crew_of, writes};
 use super::unlawful::Way;
 use exec_recv::{Gate, Point};
-use std::sync::Wait;
 use std::sync::atomic::{AtomicU64, Ordering};
 use std::test::Fail;
 use std::thread::yield_now;
@@ -46,7 +44,7 @@ impl Reported {
 }
 
 impl Gate for Reported {
-    fn pass<R: Wait + Sync>(&self, _rt: &R, point: Point) {
+    fn pass(&self, point: Point) {
         match point {
             Point::Run(name) => self.hold(name.block),
             Point::Report(name) if name.node == HOP => {

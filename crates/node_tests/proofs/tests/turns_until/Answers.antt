@@ -1,5 +1,5 @@
 use Rattle.exec_recv.proofs.Asiding.{aside-on}
-use Rattle.loop_serve.proofs.Read.{looked-aside}
+use Rattle.node_walks.proofs.Read.{looked-aside}
 use Rattle.run_loop.proofs.OneRun.{listed-still}
 use Rattle.node_tests.proofs.tests.turns_until.Goals as goal
 
@@ -15,6 +15,6 @@ loop-turns-preserved g c =
     let last = c.turn-taken.new.self.hand.me in
     record {
       ready = turn.ready;
-      listed = listed-still c.args.table.now c.args.block before last
+      listed = listed-still c.args.site.now c.args.block before last
           (aside-on before after last (looked-aside _ read.word before after read.is) turn.aside) c.loop-turns.invariant.listed;
     }

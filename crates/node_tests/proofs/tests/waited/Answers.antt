@@ -1,19 +1,25 @@
 use Rattle.std.proofs.Common.{true, sym, subst}
 use Rattle.exec_recv.specs.Over.{IsOver}
-use Rattle.plan_kinds.specs.Runnable.{IsRunnable}
 use Rattle.plan_shape.specs.Blueprint.{Blueprint}
+use Rattle.exec_recv.proofs.Sites.{over-site}
 use Rattle.node_tests.proofs.Ready.{opens-ready, helps-ready}
 use Rattle.node_tests.proofs.tests.waited.Goals as goal
 
+pub of-site-requires : goal.of-site-requires
+of-site-requires g c =
+    record { over = subst (λ (plan : Blueprint). IsOver c.in_ok-table.table plan) (sym c.requires.stepper) c.in_ok-table.ensures.over }
+
+pub started-requires : goal.started-requires
+started-requires g c =
+    record { site = rw c.of-site.ensures (over-site c.in_ok-table.table c.args.plan.now c.in_ok-table.ensures.over c.requires.kinds) }
+
 pub sync_wait-requires-clause-ready : goal.sync_wait-requires-clause-ready
 sync_wait-requires-clause-ready g c κs within =
-    helps-ready c.in_ok-table.table c.in-Ok.looped c.help_pool.new.self true
+    rw c.of-site.ensures
+    (helps-ready c.in_ok-table.table c.in-Ok.looped c.help_pool.new.self true
     (opens-ready c.in_ok-table.table c.in_ok-table.hand c.in_ok-table.ensures.hand c.in-Ok.looped c.in-Ok.ensures.opened)
-    c.help_pool.ensures
+    c.help_pool.ensures)
 
-pub sync_wait-requires-clause-over : goal.sync_wait-requires-clause-over
-sync_wait-requires-clause-over g c κs within =
-    subst (λ (plan : Blueprint). IsOver c.in_ok-table.table plan) (sym c.requires.stepper) c.in_ok-table.ensures.over
-
-pub sync_wait-requires-clause-kinds : goal.sync_wait-requires-clause-kinds
-sync_wait-requires-clause-kinds g c κs within = subst (λ (plan : Blueprint). IsRunnable plan) (sym c.requires.stepper) c.requires.kinds
+pub sync_wait-requires-clause-site : goal.sync_wait-requires-clause-site
+sync_wait-requires-clause-site g c κs within =
+    rw c.of-site.ensures (over-site c.in_ok-table.table c.args.plan.now c.in_ok-table.ensures.over c.requires.kinds)
