@@ -34,7 +34,8 @@ fn look_through_all<F: Folder>(
     ensures fault { (all : Texts) → (F.told folder.old).texts ≡ Some all
         → IfErr result (IsJoinFault all names.now) }
     ensures many { IfOk result (λ tallies. vec_len tallies ≡ length names.now) }
-    ensures few { IfOk result (λ tallies. All (λ tally. tally.lines ≤ MOST_LINES) tallies.items) }
+    ensures few { IfOk result
+        (λ tallies. All (λ tally. tally.lines ≤ MOST_LINES) tallies.items) }
     ensures same { (F.told folder.new).texts ≡ (F.told folder.old).texts }
     ensures cause { HasJoinCause ReadFault (F.told folder.old).faults (F.told folder.new).faults
         result }

@@ -111,7 +111,8 @@ fn read_signed(digits: &[u8]) -> Option<i128>
 
 /// The count that stands behind a name, and what stands behind it.
 fn read_count(text: &[u8]) -> Option<Count<'_>>
-    ensures { (name : List ℕ) (count : ℕ) (more : List ℕ) → HasNoBlank name → count < 2 ^ 64
+    ensures { (name : List ℕ) (count : ℕ) (more : List ℕ) →
+        HasNoBlank name → count < 2 ^ 64
         → text.now ≡ count_before name count more → IsSomeAnd result (HasCount count more) }
 {
     let name = cut_word(text)?;

@@ -34,7 +34,8 @@ impl<P: Cargo> Hand<P> {
         ensures* writes_back { sem 𝓛 (LendsSo (the_row P.row P.Entry.row P.Over.row P.Cargo)
             (OptionOf P.row) self.entry result
             (λ n w. EndsWithHome table.now name self.old n result w) (λ n. ⊤)) }
-        ensures value { home_at table.now.frame.layout self.old.me name ≡ option_copied_mut result }
+        ensures value { home_at table.now.frame.layout self.old.me name
+            ≡ option_copied_mut result }
     {
         let slot = table.turn_to::<Brand>(&mut self.seat, name);
         Some(self.seat.slot_mut(&table.table, slot))

@@ -17,7 +17,8 @@ pub fn count_lines<F: Folder>(
     ensures few { IfOk result (λ tally. tally.lines ≤ MOST_LINES) }
     ensures counted { (text : List ℕ) → reader.old.ahead ≡ Some text
         → IfOk result (HoldsTallied text) }
-    ensures fault { (text : List ℕ) → reader.old.ahead ≡ Some text → IfErr result (StopsPart text) }
+    ensures fault { (text : List ℕ) → reader.old.ahead ≡ Some text
+        → IfErr result (StopsPart text) }
     ensures same { (F.told folder.new).texts ≡ (F.told folder.old).texts }
     ensures cause { HasPartCause (F.told folder.old).faults (F.told folder.new).faults result }
 {

@@ -9,7 +9,8 @@ ghost use Rattle.part_lines.specs.Outcomes.{CountsAgree, IsWritable, LinesAreTex
 pub fn outcomes_are_parts()
     ensures part { OutcomesArePart }
     ensures text { LinesAreText }
-    ensures counts { (outcomes : List Outcome) → All IsWritable outcomes → CountsAgree outcomes }
+    ensures counts { (outcomes : List Outcome) →
+        All IsWritable outcomes → CountsAgree outcomes }
 {}
 
 /// The text of a part is that of one list of lines. The call does nothing. Its contract is the law.

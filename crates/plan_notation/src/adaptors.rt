@@ -87,7 +87,8 @@ pub(crate) fn put_adaptor(
 
 /// Adds a sender, a bar and the name of the node that takes it.
 fn put_over(child: NodeId, name: &str, done: &[Words], words: &mut Words) -> Result<(), AllocError>
-    ensures { OnOk result (words.new ≡ words.old ++ behind_child done.now child (name.now ∷ [])) }
+    ensures { OnOk result
+        (words.new ≡ words.old ++ behind_child done.now child (name.now ∷ [])) }
 {
     put_node(child, done, words)?;
     words.put_all(&["|", name])

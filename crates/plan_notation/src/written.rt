@@ -157,7 +157,8 @@ pub(crate) fn put_with_count(name: &str, n: u32, words: &mut Words) -> Result<()
 
 /// Adds a name and a text.
 fn put_with_text(alloc: Global, name: &str, text: &Txt, words: &mut Words) -> Result<(), AllocError>
-    ensures words { OnOk result (words.new ≡ words.old ++ name.now ∷ text_word text.now ∷ []) }
+    ensures words { OnOk result
+        (words.new ≡ words.old ++ name.now ∷ text_word text.now ∷ []) }
     ensures held { OnOk result (IsText text.now) }
 {
     words.put(name)?;

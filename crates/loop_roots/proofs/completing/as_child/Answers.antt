@@ -1,7 +1,0 @@
-use Rattle.loop_roots.proofs.Completed.{keeps-as}
-use Rattle.loop_roots.proofs.completing.as_child.Goals as goal
-
-pub returns : goal.returns
-returns c =
-    keeps-as c.collected_is_allowed.ensures c.args.env.now c.args.parcel c.requires.root c.known.ensures _ c.number.ensures
-    c.into_completion.ensures c.saw-saw.ensures
