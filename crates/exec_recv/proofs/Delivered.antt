@@ -131,7 +131,7 @@ module _ (board : Board Blueprint) (x : Name) (failed : Bool) (hand : HandSeat) 
             done = m2;
             finished = finished;
             last = m3;
-            told = told.keeps.aside;
+            told = told.keeps;
             fails = λ source fails. told.marks source (can.off fails);
             acts = told.acts;
             report = report;

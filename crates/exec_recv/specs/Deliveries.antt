@@ -33,7 +33,7 @@ use Rattle.home_items.specs.Parcels.{Delivery, IsDelivery}
 use Rattle.exec_recv.specs.declared.next.Next.{Next}
 use Rattle.exec_recv.specs.declared.next.Next.TheVariants.{Go, Rest}
 use Rattle.exec_recv.specs.Actions.{ListsActions}
-use Rattle.exec_recv.specs.Asides.{KeepsAside, KeepsAll}
+use Rattle.exec_recv.specs.Asides.{KeepsAll}
 use Rattle.exec_recv.specs.Beginnings.{AllCanStart}
 use Rattle.exec_recv.specs.Family.{AreOwedElsewhere}
 use Rattle.exec_recv.specs.Over.{IsOver}
@@ -106,9 +106,10 @@ pub record Delivers (board : Board Blueprint) (x : Name) (next : Next)
   pub finished : LeavesControl (aim_at board x) (Busy 0) IsDone
       (FinishesAt ghosts (aim_at board x)) m done
   pub last : Seated Item Entry
-  pub told : KeepsAside done last
+  pub told : KeepsAll done last
   pub fails : has_source board.frame.tree (above_it board.frame.tree x).node ≡ true →
-      IsFailure parcel.completion → MarksFailed board (above_it board.frame.tree x) told.fresh
+      IsFailure parcel.completion →
+      MarksFailed board (above_it board.frame.tree x) told.aside.fresh
   -- each callback whose run began since did what it does
   pub acts : ListsActions board board.frame.over.value (Node (above_it board.frame.tree x))
       done last

@@ -22,6 +22,7 @@ impl<P: Cargo> OpTable<P> {
     /// Afterwards: the hand holds the node, and has its home and the empty homes of its children.
     /// What lies in its home is no completion. The hand has noted the start of a root: where it
     /// comes to hold the root again, it knows that this is its start.
+    #[inline(always)]
     pub fn begin(&self, hand: &mut Hand<P>, name: Name)
         requires table { IsHandOf self.now hand.old }
         requires place { IsPlaceIn self.now name }

@@ -45,6 +45,7 @@ impl<P: Cargo> OpTable<P> {
     /// the node's, has the table's key, and draws the lot that the item in the node's home fixes.
     /// Afterwards: the hand holds the child, and has its home with the item, and the empty homes of
     /// its children. It has given back the node's and the other children's.
+    #[inline(always)]
     pub fn begin_child(&self, hand: &mut Hand<P>, name: Name, child: u32, item: P)
         requires table { IsHandOf self.now hand.old }
         requires place { IsPlaceIn self.now name }

@@ -1,6 +1,6 @@
 -- How a step hears of requests, and a node that has just begun listens to the source above it.
 use Rattle.std.proofs.Common.{◌≡◌, Bool, true, false, List, refl, sym, ap, ◌∙◌, subst}
-use Rattle.std.specs.Prelude.{Option, Some, None, is_some}
+use Rattle.std.specs.Prelude.{Option, Some, None, MatchOption, is_some}
 use Rattle.std.proofs.lemmas.Bool.{both_ways}
 use Rattle.life_rules.specs.declared.event.Name.{Name}
 use Rattle.life_rules.specs.declared.event.SourceRef.{SourceRef}
@@ -17,7 +17,7 @@ use Rattle.stop_calls.specs.Armings.{is_asked, IsArmedSo}
 use Rattle.home_items.specs.declared.entry.Entry.{Entry}
 use Rattle.home_items.specs.declared.item.Item.{Item}
 use Rattle.exec_recv.specs.Seats.{HandSeat}
-use Rattle.step_parts.specs.Heard.{hears_one, Looked}
+use Rattle.step_parts.specs.Heard.{hears_one, Looked, LooksOnce}
 use Rattle.step_parts.specs.Kids.{KeepsIdle}
 use Rattle.step_parts.specs.Listens.{Listens}
 use Rattle.step_parts.specs.Stepping.{Stepping}
@@ -40,11 +40,18 @@ module _ (board : Board Blueprint) (t : Stepping) (source : SourceRef) (answer :
   hear-looks is still told =
       hears-so board t.name source None answer old new near looked is.ready.is.held is.ready.is.tends.holds still told
 
+  pub hear-once : LooksOnce board t.name answer old new
+  hear-once =
+      subst (λ (o : Option SourceRef). MatchOption o (new ≡ old) (λ s. IsLookedAt board s None answer old new)) (sym near) looked
+
 -- where it hears no source nothing is done
 module _ (board : Board Blueprint) (t : Stepping) (hand : HandSeat) (is : IsTaken board t hand)
     (near : source_for t.name (nearest board.frame.tree t.name.node) ≡ None) where
   pub deaf-keeps : Keeps board t hand hand
   deaf-keeps = keeps-same board t hand is.stays.hand
+
+  pub deaf-once : LooksOnce board t.name false hand hand
+  deaf-once = subst (λ (o : Option SourceRef). MatchOption o (hand ≡ hand) (λ s. IsLookedAt board s None false hand hand)) (sym near) refl
 
   pub deaf-looks : Looked board t.name false hand.me hand.me
   deaf-looks = deaf-looked board t.name hand.me near

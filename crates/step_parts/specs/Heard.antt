@@ -1,5 +1,5 @@
 -- What a hand in the middle of a step knows of requests above its node.
-use Rattle.std.specs.Prelude.{◌≡◌, Bool, true, false, ◌||◌, MatchOption, is_some}
+use Rattle.std.specs.Prelude.{◌≡◌, Bool, true, false, ◌||◌, MatchOption, None, is_some}
 use Rattle.std.specs.Option.{option_map_or}
 use Rattle.life_rules.specs.declared.event.Name.{Name}
 use Rattle.life_rules.specs.States.{source_for}
@@ -9,10 +9,11 @@ use Rattle.table_words.specs.Layouts.{index}
 use Rattle.table_rules.specs.declared.view.Held.{Held}
 use Rattle.table_steps.specs.Views.{Board}
 use Rattle.table_steps.specs.Claims.{Seated}
-use Rattle.table_steps.specs.Sights.{spot_of, says_requested}
+use Rattle.table_steps.specs.Sights.{spot_of, says_requested, IsLookedAt}
 use Rattle.table_steps.specs.Slots.{has_seen, held_at}
 use Rattle.home_items.specs.declared.entry.Entry.{Entry}
 use Rattle.home_items.specs.declared.item.Item.{Item}
+use Rattle.exec_recv.specs.Seats.{HandSeat}
 use Rattle.exec_recv.specs.Since.{HasReadSince}
 
 -- whether the hand was told of a request on the source that x hears, when it came to hold x
@@ -41,3 +42,10 @@ pub record Looked (board : Board Blueprint) (x : Name) (saw : Bool)
       (λ word. says_requested source word ≡ saw) m m')
   pub yes : saw ≡ true → has_seen board.frame.tree m'.0 x ≡ true
   pub no : saw ≡ false → hears_one board x ≡ true → has_heard board x m' ≡ false
+
+-- It looked once at the source that x hears, and did nothing else. Where x hears none, it did
+-- nothing.
+abbrev pub LooksOnce : Board Blueprint → Name → Bool → HandSeat → HandSeat → Type 0
+LooksOnce board x answer old new =
+    MatchOption (source_for x (nearest board.frame.tree x.node)) (new ≡ old)
+    (λ source. IsLookedAt board source None answer old new)

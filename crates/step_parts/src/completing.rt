@@ -31,8 +31,7 @@ pub fn complete<R: Wait, G: Gate>(
     settle(site, hand, &taken);
     let Taken {
         name,
-        number: _,
-        asked: _,
+        mark: _,
         child: _,
         shown: _,
         origin: _,
@@ -77,8 +76,7 @@ pub fn complete_with_args<R: Wait, G: Gate>(
     settle(site, hand, &taken);
     let Taken {
         name,
-        number: _,
-        asked: _,
+        mark: _,
         child: _,
         shown: _,
         origin: _,

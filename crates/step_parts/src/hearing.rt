@@ -1,5 +1,5 @@
 //! How a step asks the source that its node hears ([exec.get.stop.token]).
-ghost use Rattle.step_parts.specs.Heard.{Looked};
+ghost use Rattle.step_parts.specs.Heard.{Looked, LooksOnce};
 ghost use Rattle.step_parts.specs.Takes.{IsTaken, Keeps};
 
 use crate::taken::Taken;
@@ -16,6 +16,7 @@ pub fn hear<R, G>(site: &Site<R, G>, hand: &mut Hand<Item>, taken: &Taken) -> bo
     requires taken { IsTaken site.now taken.now hand.old }
     ensures keeps { Keeps site.now taken.now hand.old hand.new }
     ensures looked { Looked site.now taken.now.name result hand.old.me hand.new.me }
+    ensures once { LooksOnce site.now taken.now.name result hand.old hand.new }
 {
     match source_above(site.table.tree(), taken.name) {
         Some(source) => stop_requested(site.table, hand, source),

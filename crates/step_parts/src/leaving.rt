@@ -27,8 +27,7 @@ pub(crate) fn rest<R, G>(
 {
     let Taken {
         name,
-        number: _,
-        asked: _,
+        mark: _,
         child: _,
         shown: _,
         origin: _,

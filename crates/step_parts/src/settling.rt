@@ -41,7 +41,7 @@ pub fn settle<R: Wait, G: Gate>(site: &Site<R, G>, hand: &mut Hand<Item>, taken:
 }
 
 // Removes the callback, which may run still, past the gate.
-#[inline(never)]
+#[inline(always)]
 fn remove<R: Wait, G: Gate>(site: &Site<R, G>, hand: &mut Hand<Item>, taken: &Taken)
     requires taken { IsTaken site.now taken.now hand.old }
     requires may { MayWithdraw (knows hand.old) taken.now.name }

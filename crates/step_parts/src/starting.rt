@@ -36,11 +36,10 @@ fn go_below<R, G>(
     requires lies { LiesAt site.now taken (Rest taken.start None) hand.old.me }
     ensures { AwaitsChild site.now taken child args asked result hand.old hand.new }
 {
-    let below = Env::below(&taken, child, args, taken.number, asked);
+    let below = Env::below(&taken, child, args, taken.number(), asked);
     let Taken {
         name,
-        number: _,
-        asked: _,
+        mark: _,
         child: _,
         shown: _,
         origin: _,
@@ -169,7 +168,7 @@ pub fn start_top<R, G>(
     requires idle { KnowsIdle taken.name child hand.old.me }
     ensures { StartsTop site.now taken child result hand.old hand.new }
 {
-    let asked = taken.asked;
+    let asked = taken.asked();
     match rest_and_copy(site, hand, &taken) {
         Some(args) => go_below(site, hand, taken, child, args, asked),
         None => leave_at_rest(site, hand, taken, None, Context::Loop),

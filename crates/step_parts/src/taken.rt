@@ -2,6 +2,7 @@
 ghost use Rattle.std.specs.Prelude.{◌≡◌};
 ghost use Rattle.home_items.specs.Entries.{record_number, asked_of, child_of};
 ghost use Rattle.home_items.specs.Starts.{IsStart};
+ghost use Rattle.step_parts.specs.Stepping.{number_in, asked_in};
 
 use crate::found::Found;
 use crate::origin::Origin;
@@ -10,12 +11,36 @@ use life_rules::Name;
 use plan_rules::NodeId;
 use std::marker::Model;
 
+/// The number of a record, and whether the scope's request was made before its operation was
+/// started. A bool of its own would leave a gap of three bytes, which each move would copy.
+#[derive(Clone, Copy, Debug, PartialEq, Eq)]
+pub enum Mark {
+    /// The request was made before.
+    Asked(u32),
+    /// It wasn't.
+    Calm(u32),
+}
+
+impl Mark {
+    // The mark of this number.
+    #[inline(always)]
+    pub(crate) fn for_number(number: u32, asked: bool) -> Mark
+        ensures number { number_in result ≡ number }
+        ensures asked { asked_in result ≡ asked }
+    {
+        if asked {
+            Mark::Asked(number)
+        } else {
+            Mark::Calm(number)
+        }
+    }
+}
+
 /// A node that a step has taken up: the hand holds it, and its start lies in its home. It is no
 /// `Drop`: a call that ends the step takes it.
 pub struct Taken {
     pub(crate) name: Name,
-    pub(crate) number: u32,
-    pub(crate) asked: bool,
+    pub(crate) mark: Mark,
     pub(crate) child: Option<NodeId>,
     pub(crate) shown: Shown,
     pub(crate) origin: Origin,
@@ -26,11 +51,12 @@ impl Model for Taken {
 
     ghost Value = { Stepping };
 
-    ghost use Rattle.step_parts.specs.Stepping.{IsHead};
+    ghost use Rattle.step_parts.specs.Stepping.{IsHead, number_in, asked_in};
 
     ghost view = { λ t. record { name = t.name; start = t.shown.start; from = t.origin.seat } };
 
-    ghost invariant = { λ t. IsHead t.number t.asked t.child t.shown.start };
+    ghost invariant = { λ t.
+        IsHead (number_in t.mark) (asked_in t.mark) t.child t.shown.start };
 }
 
 impl Shows for Taken {
@@ -51,7 +77,10 @@ impl Taken {
     pub fn number(&self) -> u32
         ensures { result ≡ record_number self.now.start }
     {
-        self.number
+        match self.mark {
+            Mark::Asked(number) => number,
+            Mark::Calm(number) => number,
+        }
     }
 
     /// Whether the scope's request was made before the operation was started.
@@ -59,7 +88,7 @@ impl Taken {
     pub fn asked(&self) -> bool
         ensures { result ≡ asked_of self.now.start }
     {
-        self.asked
+        matches!(self.mark, Mark::Asked(_))
     }
 
     /// The child that the operation runs, where the node is the receiver node; else none.

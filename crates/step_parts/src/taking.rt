@@ -1,6 +1,6 @@
 //! How a step takes up its node.
 ghost use Rattle.std.specs.Option.{option_map};
-ghost use Rattle.std.specs.Prelude.{◌≡◌, true, Some, IfSome};
+ghost use Rattle.std.specs.Prelude.{◌≡◌, true, None, Some, IfSome};
 ghost use Rattle.node_tree.specs.Tree.{is_child};
 ghost use Rattle.home_items.specs.Parcels.{delivery_of};
 ghost use Rattle.exec_recv.specs.Sites.{node_at, MayStep};
@@ -8,7 +8,7 @@ ghost use Rattle.step_parts.specs.Takes.{IsFoundBelow, IsOnlyChild, IsOpen, Take
 
 use crate::found::Found;
 use crate::origin::Origin;
-use crate::taken::{Taken, TakenUp};
+use crate::taken::{Mark, Taken, TakenUp};
 use exec_recv::{Item, Label, Parcel, Site};
 use exec_value::Completion;
 use home_items::{Shown, State};
@@ -32,8 +32,7 @@ pub fn take_up<R, G>(site: &Site<R, G>, hand: &mut Hand<Item>, name: Name) -> (T
             item.known();
             let taken = Taken {
                 name,
-                number: item.number(),
-                asked: item.asked(),
+                mark: Mark::for_number(item.number(), item.asked()),
                 child: item.child(),
                 shown: Shown::of(item),
                 origin,
@@ -42,6 +41,14 @@ pub fn take_up<R, G>(site: &Site<R, G>, hand: &mut Hand<Item>, name: Name) -> (T
         }
         None => unreachable!(),
     }
+}
+
+// Empties the home.
+#[inline(always)]
+fn empty(home: &mut Option<Item>)
+    ensures { home.new ≡ None }
+{
+    *home = None;
 }
 
 /// Takes what lies in the home of a child of the node: the parcel with which the child completed,
@@ -68,7 +75,7 @@ pub fn take_child<R, G>(
         Some(home) => match home {
             Some(item) => {
                 let parcel = item.take_done();
-                *home = None;
+                empty(home);
                 Some(parcel)
             }
             None => None,
@@ -126,9 +133,10 @@ pub fn take_back_into<R, G>(
     requires only { IsOnlyChild site.now taken.now.name (Some child) }
     requires one { TakesOne (node_at site.now taken.now.name) (Some child) }
     requires opened { IsOpen site.now taken.now hand.old }
-    ensures { TakesBack site.now taken.now child
+    ensures takes { TakesBack site.now taken.now child
         (option_map (λ label. delivery_of label done.new) result)
         hand.old hand.new }
+    ensures stays { result ≡ None → done.new ≡ done.old }
 {
     let below = Name {
         node: child,
@@ -138,7 +146,7 @@ pub fn take_back_into<R, G>(
         Some(home) => match home {
             Some(item) => {
                 let label = item.give_done(done);
-                *home = None;
+                empty(home);
                 Some(label)
             }
             None => None,

@@ -70,6 +70,7 @@ pub fn try_withdraw<P: Cargo>(table: &OpTable<P>, hand: &mut Hand<P>, node: Name
 /// Step: those of `try_withdraw`, as long as the answer is Running.
 /// Needs: as `try_withdraw`.
 /// Afterwards: the callback doesn't run, and never will. Under the scope hand 0 has tried once.
+#[inline(never)]
 pub fn withdraw<P: Cargo, R: Wait>(
     rt: &R,
     table: &OpTable<P>,

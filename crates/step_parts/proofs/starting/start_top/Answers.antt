@@ -5,9 +5,8 @@ use Rattle.step_parts.proofs.starting.start_top.Goals as goal
 
 pub go_below-requires-clause-may : goal.go_below-requires-clause-may
 go_below-requires-clause-may g c =
-    rw (← c.taken.view_is, ← c.taken.invariant.asked_is)
-    (run-may _ _ _ _ _ (rw (← c.taken.view_is) at c.requires.may) _ (rw (← c.taken.view_is) at c.in-Some.ensures.copies) _
-    (rw (← c.taken.view_is) at c.in-Some.ensures.changes) (rw (← c.taken.view_is) at c.requires.idle))
+    rw (c.asked-asked.ensures)
+    (run-may _ _ _ _ _ c.requires.may _ c.in-Some.ensures.copies _ c.in-Some.ensures.changes c.requires.idle)
 
 pub leave_at_rest-requires : goal.leave_at_rest-requires
 leave_at_rest-requires g c = record {
@@ -17,9 +16,8 @@ leave_at_rest-requires g c = record {
 
 pub returns-in-Some : goal.returns-in-Some
 returns-in-Some g c =
-    rw (← c.taken.view_is)
-    (inl (run-starts _ _ _ _ _ (rw (← c.taken.view_is) at c.requires.may) _ (rw (← c.taken.view_is) at c.in-Some.ensures.copies) _
-    (rw (← c.taken.view_is) at c.in-Some.ensures.changes) _ _ (rw (← c.taken.view_is, ← c.taken.invariant.asked_is) at c.go_below.ensures)))
+    inl (run-starts _ _ _ _ _ c.requires.may _ c.in-Some.ensures.copies _ c.in-Some.ensures.changes _ _
+    (rw (c.asked-asked.ensures) at c.go_below.ensures))
 
 pub returns-in-None : goal.returns-in-None
 returns-in-None g c =

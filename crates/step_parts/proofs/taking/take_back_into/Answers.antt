@@ -25,13 +25,13 @@ give_done-label-requires g c =
     (rw (← c.site.view_is, ← c.taken.view_is) at c.requires.opened) c.in-Some-home.item
     (c.home_mut.ensures.value ∙ ap (λ z. option_copied_mut z) c.in-Some.is ∙ ap (λ z. Some z) c.in-Some-home.is)
 
-pub returns-in-Some-home : goal.returns-in-Some-home
-returns-in-Some-home g c =
+pub returns-in-Some-home-clause-takes : goal.returns-in-Some-home-clause-takes
+returns-in-Some-home-clause-takes g c =
     let left = if-there _ (c.home_mut.follows.holds None) c.in-Some.is in
     let hand = c.home_mut.follows.lender None in
     let only = rw (← c.site.view_is, ← c.taken.view_is) at c.requires.only in
     let parcel = delivery_of c.give_done-label.result c.give_done-label.new.done in
-    rw (← c.site.view_is, ← c.taken.view_is)
+    rw (c.empty.ensures, ← c.site.view_is, ← c.taken.view_is)
     (takes-back c.site.inside.table.now _ c.args.child only (rw (← c.site.view_is, ← c.taken.view_is) at c.requires.one) (Some parcel)
     c.args.hand.now hand (rw (← c.site.view_is, ← c.taken.view_is) at c.requires.opened)
     (takes-child c.site.inside.table.now _ c.args.child (only.is c.args.child refl) (Some parcel) c.args.hand.now hand left.stays
@@ -39,8 +39,8 @@ returns-in-Some-home g c =
     (c.in-Some-home.is ∙ ap (λ z. Some z) c.give_done-label.ensures.taken) left.swapped)
     c.give_done-label.ensures.lawful))
 
-pub returns-in-None-home : goal.returns-in-None-home
-returns-in-None-home g c =
+pub returns-in-None-home-clause-takes : goal.returns-in-None-home-clause-takes
+returns-in-None-home-clause-takes g c =
     let left = if-there _ (c.home_mut.follows.holds c.in-Some.home.now) c.in-Some.is in
     let hand = c.home_mut.follows.lender c.in-Some.home.now in
     let only = rw (← c.site.view_is, ← c.taken.view_is) at c.requires.only in

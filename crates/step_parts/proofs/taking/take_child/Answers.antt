@@ -20,7 +20,7 @@ pub returns-in-Some-home : goal.returns-in-Some-home
 returns-in-Some-home g c =
     let left = if-there _ (c.home_mut.follows.holds None) c.in-Some.is in
     let hand = c.home_mut.follows.lender None in
-    rw (← c.site.view_is, ← c.taken.view_is)
+    rw (c.empty.ensures, ← c.site.view_is, ← c.taken.view_is)
     (takes-child c.site.inside.table.now _ c.args.child (rw (← c.site.view_is, ← c.taken.view_is) at c.requires.child)
     (Some c.take_done-parcel.result) c.args.hand.now hand left.stays
     (subst (λ z. IsSwapped c.site.inside.table.now.frame (record c.taken.inside.name { node = c.args.child }) None z c.args.hand.now.me hand.me)
