@@ -1,5 +1,5 @@
 -- How the step of a factory goes on.
-use Rattle.std.proofs.Common.{◌≡◌, ◌≢◌, inl, inr, ℕ, Bool, true, false, ◌||◌, List, [], ◌∷◌, Some, None, refl, sym, ap, ◌∙◌, subst}
+use Rattle.std.proofs.Common.{◌≡◌, ◌≢◌, inl, inr, ℕ, Bool, true, false, ◌||◌, List, [], ◌∷◌, Some, refl, sym, ap, ◌∙◌, subst}
 use Rattle.exec_value.specs.declared.outcome.Completion.{Completion}
 use Rattle.exec_value.specs.declared.outcome.Completion.TheVariants.{Value, Error, NoMemory}
 use Rattle.life_rules.specs.declared.event.Name.{Name}
@@ -33,9 +33,9 @@ use Rattle.step_parts.specs.Takes.{IsTaken, Keeps, TakesState}
 use Rattle.step_parts.proofs.Asked.{look-sees}
 use Rattle.step_parts.proofs.Ended.{open-none, open-taken, taken-on}
 use Rattle.step_parts.proofs.Wanted.{want-ends}
-use Rattle.step_parts.proofs.Took.{taken-inner, taken-of, taken-leaves}
+use Rattle.step_parts.proofs.Took.{taken-inner, taken-of}
 use Rattle.exec_adapt.specs.Adapts.{Makes, MakesAs}
-use Rattle.exec_adapt.specs.Ends.{MayAnswer, MayMake, MayName}
+use Rattle.exec_adapt.specs.Ends.{MayAnswer, MayMake}
 use Rattle.exec_adapt.specs.Images.{made_of}
 use Rattle.exec_adapt.specs.Kinds.{IsFactory, IsPlainFactory}
 use Rattle.exec_adapt.proofs.Places.{factory-only}
@@ -106,7 +106,7 @@ module _ (board : Board Blueprint) (t : Stepping) (hand : HandSeat) (taken : IsT
     | inr long ↦ short long
   ]
 
--- An `input` completes with its arguments, and an error of the plan with its name, or goes on later.
+-- An `input` completes with its arguments, and an error of the plan with its name.
 module _ (board : Board Blueprint) (t : Stepping) (hand : HandSeat) (taken : IsTaken board t hand) where
   pub input-carries : node_at board t.name ≡ Some Input → carried_of t.start ≡ args_of t.start
   input-carries at = carries t.start (taken-of board t hand taken Input at).node_is
@@ -119,11 +119,8 @@ module _ (board : Board Blueprint) (t : Stepping) (hand : HandSeat) (taken : IsT
   input-ends at =
       leaf-ends board t hand taken Input at tt false (λ none. refl) (Value (carried_of t.start)) (ap Value (input-carries at)) (λ e. cc)
 
-  pub error-names : (name : List ℕ) → node_at board t.name ≡ Some (JustError name) → MayName board t None name false hand
-  error-names name at = record {
-    ends = leaf-ends board t hand taken (JustError name) at tt false (λ none. refl) (Error name) refl (λ e. cc);
-    leaves = taken-leaves board t hand taken (JustError name) at tt None tt;
-  }
+  pub error-names : (name : List ℕ) → node_at board t.name ≡ Some (JustError name) → MayEnd board t (Error name) false hand
+  error-names name at = leaf-ends board t hand taken (JustError name) at tt false (λ none. refl) (Error name) refl (λ e. cc)
 
 -- The others complete with what the plan or the environment says.
 module _ (board : Board Blueprint) (t : Stepping) (node : Node) (stop saw : Bool) (hand : HandSeat) (may : MayMake board t node stop saw hand) where

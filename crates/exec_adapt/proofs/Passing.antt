@@ -1,5 +1,5 @@
 -- How the step of an adaptor goes on whose child has completed.
-use Rattle.std.proofs.Common.{◌≡◌, ◌≢◌, Some, true, false, subst, sym}
+use Rattle.std.proofs.Common.{◌≡◌, ◌≢◌, true, false, subst, sym}
 use Rattle.exec_value.specs.declared.outcome.Completion.{Completion}
 use Rattle.exec_value.specs.declared.outcome.Completion.TheVariants.{Error, NoMemory}
 use Rattle.plan_kinds.specs.Small.{IsSmall, own_name}
@@ -20,8 +20,8 @@ use Rattle.step_parts.specs.Completes.{MayEnd}
 use Rattle.step_parts.specs.Stepping.{Stepping}
 use Rattle.step_parts.proofs.Frames.{ready-less}
 use Rattle.step_parts.proofs.Wanted.{want-ends}
-use Rattle.step_parts.proofs.Took.{taken-inner, taken-of, taken-leaves}
-use Rattle.exec_adapt.specs.Ends.{MayName, MayPass}
+use Rattle.step_parts.proofs.Took.{taken-inner, taken-of}
+use Rattle.exec_adapt.specs.Ends.{MayPass}
 use Rattle.exec_adapt.specs.Images.{adapted_to, names_error, StandsButForName}
 use Rattle.exec_adapt.proofs.Making.{image-any, image-named}
 use Rattle.exec_adapt.proofs.Places.{adaptor-awaits, adaptor-makes, adaptor-sees}
@@ -64,12 +64,9 @@ module _ (board : Board Blueprint) (t : Stepping) (node : Node) (parcel : Delive
   pub pass-ends : (done : Completion) → done ≡ adapted_to node parcel.completion → MayEnd board t done parcel.saw hand
   pass-ends done made = subst (λ (c : Completion). MayEnd board t c parcel.saw hand) (sym made) pass-made
 
-  -- and with the error that it names, or rest with the parcel
-  pub pass-names : names_error node parcel.completion ≡ true → MayName board t (Some parcel) (own_name node) parcel.saw hand
-  pass-names named = record {
-    ends = pass-ends (Error (own_name node)) (sym (image-named node parcel.completion named));
-    leaves = taken-leaves board t hand pass.taken node pass.node_is (adaptor-awaits node pass.adaptor) (Some parcel) pass.has;
-  }
+  -- and with the error that it names
+  pub pass-names : names_error node parcel.completion ≡ true → MayEnd board t (Error (own_name node)) parcel.saw hand
+  pass-names named = pass-ends (Error (own_name node)) (sym (image-named node parcel.completion named))
 
   -- where what it makes doesn't stand in place, it may complete with want of memory
   pub pass-wants : (StandsButForName (adapted_to node parcel.completion) → ⊥) → MayEnd board t NoMemory false hand

@@ -12,11 +12,11 @@ use Rattle.home_items.specs.Parcels.{Delivery}
 use Rattle.exec_recv.specs.declared.next.Next.{Next}
 use Rattle.exec_recv.specs.Seats.{HandSeat}
 use Rattle.exec_recv.specs.Sites.{Steps}
-use Rattle.std.specs.Prelude.{ℕ, List}
+use Rattle.std.specs.Prelude.{ℕ}
 use Rattle.step_parts.specs.Stepping.{Stepping}
 use Rattle.step_parts.specs.Takes.{TakesState}
 use Rattle.step_parts.proofs.Started.{again-steps, top-steps}
-use Rattle.exec_adapt.specs.Adapts.{Answers, Ends, EndsWith, GoesOn, GoesOnAgain, Names}
+use Rattle.exec_adapt.specs.Adapts.{Answers, Ends, EndsWith, GoesOn, GoesOnAgain}
 use Rattle.exec_adapt.specs.Images.{names_error}
 use Rattle.exec_adapt.specs.Receives.{ReadsTop, Receives, RestsAgain}
 
@@ -40,15 +40,10 @@ module _ (board : Board Blueprint) (t : Stepping) (next : Next) (new : HandSeat)
   with-steps old done saw (inl completes) = completes.steps
   with-steps old done saw (inr wants) = wants.completes.steps
 
-  pub names-steps : (old : HandSeat) (kept : Option Delivery) (name : List ℕ) (saw : Bool) → Names board t kept name saw next old new →
-      Steps board t.name next t.from new
-  names-steps old kept name saw (inl completes) = completes.steps
-  names-steps old kept name saw (inr delays) = delays.left.steps
-
   ends-steps : (old : HandSeat) (node : Node) (parcel : Delivery) → Ends board t node parcel next old new → Steps board t.name next t.from new
   ends-steps old node parcel ends =
       bool-cases (names_error node parcel.completion)
-      (λ is. names-steps old (Some parcel) _ _ (ends.named is))
+      (λ is. (ends.named is).steps)
       (λ isnt. with-steps old _ _ (ends.made isnt))
 
   again-ends : (old : HandSeat) (node : Node) (child : ℕ) → GoesOnAgain board t node child next old new → Steps board t.name next t.from new

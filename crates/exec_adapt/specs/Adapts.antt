@@ -1,9 +1,8 @@
 -- What the step of a factory and that of an adaptor do ([exec.factories], [exec.adapt]).
-use Rattle.std.specs.Prelude.{◌≡◌, ◌≢◌, ◌⊎◌, ◌||◌, ℕ, Bool, true, false, List, Option, Some, None}
+use Rattle.std.specs.Prelude.{◌≡◌, ◌≢◌, ◌⊎◌, ◌||◌, ℕ, Bool, true, false, Option, Some, None}
 use Rattle.exec_value.specs.declared.outcome.Completion.{Completion}
 use Rattle.exec_value.specs.declared.outcome.Completion.TheVariants.{Value, Error, NoMemory}
 use Rattle.life_rules.specs.declared.event.Name.{Name}
-use Rattle.life_rules.specs.declared.event.Resting.TheVariants.{Loop as InLoop}
 use Rattle.plan_kinds.specs.Small.{own_name}
 use Rattle.plan_rules.specs.declared.node.Node.{Node}
 use Rattle.plan_rules.specs.declared.node.Node.TheVariants.{Input, JustError, ReadEnv}
@@ -21,7 +20,6 @@ use Rattle.exec_recv.specs.Seats.{HandSeat}
 use Rattle.exec_recv.specs.Sites.{node_at}
 use Rattle.step_parts.specs.Completes.{Completes}
 use Rattle.step_parts.specs.Heard.{Looked}
-use Rattle.step_parts.specs.Leaves.{LeavesAt}
 use Rattle.step_parts.specs.Starts.{StartsAgain, StartsChild}
 use Rattle.step_parts.specs.Stepping.{Stepping}
 use Rattle.step_parts.specs.Takes.{TakesBack, TakesKept, TakesNew, TakesState}
@@ -39,22 +37,12 @@ module _ (board : Board Blueprint) (t : Stepping) where
   EndsWith done saw next old new =
       Completes board t done saw next old new ⊎ Wants done next old new
 
-  -- It completed with the error of this name; or there was no memory for the name, and it went on
-  -- later, in the loop, with this parcel of its child, where it has one.
-  pub record Delays (kept : Option Delivery) (name : List ℕ) (next : Next)
-      (old new : HandSeat) : Type 0 where
-    pub large : CompletesInPlace (Error name) → ⊥
-    pub left : LeavesAt board t kept InLoop next old new
-
-  abbrev pub Names : Option Delivery → List ℕ → Bool → Next → HandSeat → HandSeat → Type 0
-  Names kept name saw next old new =
-      Completes board t (Error name) saw next old new ⊎ Delays kept name next old new
-
-  -- An adaptor whose child completed so completed with what it makes of that.
+  -- An adaptor whose child completed so completed with what it makes of that. There is always
+  -- memory for an error's name.
   pub record Ends (node : Node) (parcel : Delivery) (next : Next) (old new : HandSeat) :
       Type 0 where
     pub named : names_error node parcel.completion ≡ true →
-        Names (Some parcel) (own_name node) parcel.saw next old new
+        Completes board t (Error (own_name node)) parcel.saw next old new
     pub made : names_error node parcel.completion ≡ false →
         EndsWith (adapted_to node parcel.completion) parcel.saw next old new
 
@@ -99,7 +87,7 @@ module _ (board : Board Blueprint) (t : Stepping) where
   abbrev pub MakesAs : Node → Next → HandSeat → HandSeat → Type 0
   MakesAs Input next old new =
       Completes board t (Value (args_of t.start)) false next old new
-  MakesAs (JustError name) next old new = Names None name false next old new
+  MakesAs (JustError name) next old new = Completes board t (Error name) false next old new
   MakesAs (ReadEnv query) next old new = Answers query next old new
   MakesAs node next old new = Makes node false false next old new
 

@@ -1,6 +1,5 @@
 -- From where in its step a node may go on.
-use Rattle.std.specs.Prelude.{◌≡◌, ◌||◌, ℕ, Bool, List, Option, Some, None}
-use Rattle.exec_value.specs.declared.outcome.Completion.TheVariants.{Error}
+use Rattle.std.specs.Prelude.{◌≡◌, ◌||◌, ℕ, Bool, Option, Some, None}
 use Rattle.plan_kinds.specs.Small.{IsSmall}
 use Rattle.plan_rules.specs.declared.node.Node.{Node}
 use Rattle.plan_rules.specs.declared.node.Node.TheVariants.{ReadEnv}
@@ -15,9 +14,7 @@ use Rattle.home_items.specs.Items.{parcel_in, saw_in}
 use Rattle.home_items.specs.Parcels.{Delivery}
 use Rattle.exec_recv.specs.Seats.{HandSeat}
 use Rattle.exec_recv.specs.Sites.{node_at}
-use Rattle.step_parts.specs.Completes.{MayEnd}
 use Rattle.step_parts.specs.Heard.{MaySee}
-use Rattle.step_parts.specs.Leaves.{MayLeave}
 use Rattle.step_parts.specs.Stepping.{Stepping}
 use Rattle.step_parts.specs.Takes.{HasParcel, IsOpenWith, IsTaken}
 use Rattle.exec_adapt.specs.Kinds.{adapted, IsAdaptor, IsPlainFactory}
@@ -91,10 +88,3 @@ module _ (board : Board Blueprint) (t : Stepping) where
     pub made : IsPlainFactory node
     pub sees : MaySee board t.name saw hand.me
     pub stop_is : node ≡ ReadEnv Stop → stop ≡ (asked_of t.start || saw)
-
-  -- The node may complete with the error of this name, or go on later with what it keeps of its
-  -- child.
-  pub record MayName (kept : Option Delivery) (name : List ℕ) (saw : Bool)
-      (hand : HandSeat) : Type 0 where
-    pub ends : MayEnd board t (Error name) saw hand
-    pub leaves : MayLeave board t kept hand

@@ -31,8 +31,7 @@ impl Kind for Adaptors {
 
     ghost does = { Adapts };
 
-    /// Step: those of `take_up`, and then those of `start_child`; or those of `complete`; or those
-    /// of `leave_at_rest`, where a long name wants memory.
+    /// Step: those of `take_up`, and then those of `start_child`, or of `complete`.
     #[inline(never)]
     fn step<R: Wait, G: Gate>(site: &Site<R, G>, hand: &mut Hand<Item>, name: Name) -> Next {
         let node = site.node(name);
@@ -69,8 +68,8 @@ fn go_on<R: Wait, G: Gate>(
     }
 }
 
-// Goes on where the child hasn't completed since the node rested: with what the node kept of it,
-// whose name wanted memory; else the child is started, where it hasn't begun.
+// Goes on where the child hasn't completed since the node rested: with what the node kept of it;
+// else the child is started, where it hasn't begun.
 #[cold]
 #[inline(never)]
 fn go_on_again<R: Wait, G: Gate>(
@@ -130,11 +129,10 @@ fn pass_on<R: Wait, G: Gate>(
         });
     }
     let saw = label.saw();
-    if names_error(node, done) {
-        let kept = Some(label.parcel(done));
-        return complete_named(site, hand, taken, kept, own_name(node), saw);
-    }
     drop(label);
+    if names_error(node, done) {
+        return complete_named(site, hand, taken, own_name(node), saw);
+    }
     match make_image(site.alloc, node, done) {
         Ok(()) => complete(site, hand, taken, done, saw),
         Err(AllocError) => want_memory(site, hand, taken),

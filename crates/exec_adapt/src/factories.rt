@@ -30,15 +30,14 @@ impl Kind for Factories {
 
     ghost does = { MakesOwn };
 
-    /// Step: those of `take_up`, for a query of stop a look, and then those of `complete`; or
-    /// those of `leave_at_rest`, where a long name wants memory.
+    /// Step: those of `take_up`, for a query of stop a look, and then those of `complete`.
     #[inline(never)]
     fn step<R: Wait, G: Gate>(site: &Site<R, G>, hand: &mut Hand<Item>, name: Name) -> Next {
         let node = site.node(name);
         let (taken, _) = take_up(site, hand, name);
         match node {
             Node::Input => complete_with_args(site, hand, taken),
-            Node::JustError(error) => complete_named(site, hand, taken, None, error, false),
+            Node::JustError(error) => complete_named(site, hand, taken, error, false),
             Node::ReadEnv(query) => answer(site, hand, taken, node, *query),
             _ => make_own(site, hand, taken, node, false, false),
         }

@@ -92,6 +92,7 @@ pub(crate) fn own_name(node: &Node) -> &Txt
 
 /// Puts what the node makes of its child's completion in its place. It is no error that the plan
 /// names, so it wants memory only for data.
+#[inline(always)]
 pub(crate) fn make_image(
     alloc: Global,
     node: &Node,

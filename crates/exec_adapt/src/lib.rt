@@ -11,8 +11,8 @@
 //!     receiver  Start --start_top--> Go(child) .. its child is done --> Ready, with its parcel
 //!               its child is the one that its start names: the root, or the first of an `ahead`
 //!
-//! Where a long name of an error wants memory, the node goes on later, in the loop. What else wants
-//! memory is delivered so; small plans have nothing of the kind.
+//! A long name of an error is shared, and its step waits where it can't be copied, which doesn't
+//! come. What else wants memory is delivered so; small plans have nothing of the kind.
 #![tactic(auto)]
 
 mod adaptors;

@@ -1,38 +1,41 @@
 //! How a node completes with an error that the plan names.
-ghost use Rattle.exec_adapt.specs.Adapts.{Names};
-ghost use Rattle.exec_adapt.specs.Ends.{MayName};
+ghost use Rattle.std.specs.Prelude.{◌≡◌};
+ghost use Rattle.exec_value.specs.declared.outcome.Completion.TheVariants.{Error};
+ghost use Rattle.step_parts.specs.Completes.{Completes, MayEnd};
 
 use exec_value::{Completion, Txt};
-use node_images::put_error;
-use node_tree::Context;
 use op_slot::Hand;
 use std::alloc::AllocError;
 use std::sync::Wait;
-use step_parts::{Gate, Item, Next, Parcel, Site, Taken, complete, leave_at_rest};
+use std::thread::yield_now;
+use step_parts::{Gate, Item, Next, Site, Taken, complete};
 
-/// Completes the node with the error of this name. Where there is no memory for the name, the node
-/// goes on later, in the loop, with what it keeps of its child.
+// An equal name. Where there is no memory for it, this waits. That doesn't come: one that doesn't
+// stand in place is shared, so that a copy counts one owner more.
+fn copy_name<R: Wait>(rt: &R, name: &Txt) -> Txt
+    ensures { result ≡ name.now }
+{
+    for _ in rt.forever() {
+        match name.clone() {
+            Ok(copy) => return copy,
+            Err(AllocError) => yield_now(),
+        }
+    }
+    unreachable!()
+}
+
+/// Completes the node with the error of this name.
 #[inline(never)]
 pub(crate) fn complete_named<R: Wait, G: Gate>(
     site: &Site<R, G>,
     hand: &mut Hand<Item>,
     taken: Taken,
-    kept: Option<Parcel>,
     error: &Txt,
     saw: bool,
 ) -> Next
-    requires may { MayName site.now taken kept error.now saw hand.old }
-    ensures { Names site.now taken kept error.now saw result hand.old hand.new }
+    requires may { MayEnd site.now taken (Error error.now) saw hand.old }
+    ensures { Completes site.now taken (Error error.now) saw result hand.old hand.new }
 {
-    let mut done = Completion::Stopped;
-    match put_error(error, &mut done) {
-        Ok(()) => {
-            drop(kept);
-            complete(site, hand, taken, &mut done, saw)
-        }
-        Err(AllocError) => {
-            drop(done);
-            leave_at_rest(site, hand, taken, kept, Context::Loop)
-        }
-    }
+    let mut done = Completion::Error(copy_name(site.rt, error));
+    complete(site, hand, taken, &mut done, saw)
 }

@@ -50,7 +50,7 @@ use Rattle.step_parts.proofs.Asked.{look-sees}
 use Rattle.step_parts.proofs.Ended.{taken-on, ready-on, unheard-before}
 use Rattle.step_parts.proofs.Frames.{ready-less}
 use Rattle.step_parts.proofs.Took.{taken-inner, taken-of}
-use Rattle.exec_let.specs.Ends.{MayGoOn, MayEndAsBody, MayWantFor}
+use Rattle.exec_let.specs.Ends.{MayGoOn, MayEndAsBody}
 use Rattle.exec_let.specs.Kinds.{IsLet, let_child, is_small}
 use Rattle.exec_let.specs.declared.picking.Picked.{Picked}
 use Rattle.exec_let.specs.declared.picking.Picked.TheVariants.{Answer, Passes}
@@ -230,15 +230,14 @@ small-delivers (e ∷ p ∷ above) start of is runnable small saw done may =
           e.args kinds.kinds e.number (seen_state e.asked saw) done allowed)
     ]
 
--- so a let of a small plan whose child's data want memory goes on later, and another completes with want of memory
-pub want-ends : (board : Board Blueprint) (t : Stepping) (parcel : Delivery) (hand : HandSeat) → MayWantFor board t parcel hand →
+-- so a let may complete with want of memory where its child's data are more
+pub want-ends : (board : Board Blueprint) (t : Stepping) (node : Node) (parcel : Delivery) (hand : HandSeat) → MayGoOn board t node parcel hand →
     is_small parcel.completion ≡ false → MayEnd board t NoMemory false hand
-want-ends board t parcel hand want large =
-    let may = want.may in
-    let of = taken-of board t hand may.taken want.node may.node_is in
+want-ends board t node parcel hand may large =
+    let of = taken-of board t hand may.taken node may.node_is in
     record {
       taken = may.taken;
-      inner = taken-inner board t hand may.taken want.node may.node_is;
+      inner = taken-inner board t hand may.taken node may.node_is;
       allowed = inl refl;
       few = subst (λ k. Ready board t.name t.start k hand.me) (sym (few-begun.want (parcel_with t.start NoMemory false) refl)) may.taken.ready;
       sees = λ none. refl;

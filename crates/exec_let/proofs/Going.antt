@@ -1,7 +1,8 @@
 -- How a let goes on, by what its pick names.
-use Rattle.std.proofs.Common.{◌≡◌, inr, ℕ, List, Option, Some, None, refl}
+use Rattle.std.proofs.Common.{◌≡◌, inr, ℕ, false, List, Option, Some, None, refl}
 use Rattle.exec_value.specs.declared.data.Datum.{Datum}
 use Rattle.exec_value.specs.declared.outcome.Completion.{Completion}
+use Rattle.exec_value.specs.declared.outcome.Completion.TheVariants.{NoMemory}
 use Rattle.plan_rules.specs.declared.node.Node.{Node}
 use Rattle.plan_shape.specs.Blueprint.{Blueprint}
 use Rattle.plan_kinds.specs.Runs.{bodies_of}
@@ -11,9 +12,11 @@ use Rattle.home_items.specs.Parcels.{Delivery}
 use Rattle.exec_recv.specs.declared.next.Next.{Next}
 use Rattle.exec_recv.specs.Seats.{HandSeat}
 use Rattle.start_laws.specs.Lets.{channel_of}
+use Rattle.step_parts.specs.Completes.{Completes}
 use Rattle.step_parts.specs.Stepping.{Stepping}
 use Rattle.exec_let.specs.declared.picking.Picked.TheVariants.{Answer, Passes}
-use Rattle.exec_let.specs.Lets.{Defers, GoesOn, Wants}
+use Rattle.exec_let.specs.Kinds.{is_small}
+use Rattle.exec_let.specs.Lets.{GoesOn, Wants}
 use Rattle.exec_let.specs.Picks.{answer_from, body_or, picked_for, PicksInPlace}
 
 -- The pick names no body: it answers.
@@ -39,14 +42,15 @@ picks-passes node (Some values) e =
     no-pass (answer_from node values) (picked_body (answer_from node values) (bodies_of node)) e
 
 module _ (board : Board Blueprint) (t : Stepping) (next : Next) (node : Node) (parcel : Delivery) (old new : HandSeat)
-    (how : Defers board t next parcel old new) where
+    (more : is_small parcel.completion ≡ false) (completes : Completes board t NoMemory false next old new) where
   wants-of : (o : Option (List Datum)) → channel_of node parcel.completion ≡ o → (PicksInPlace node o → ⊥) → Wants board t next node parcel old new
   wants-of None on large = absurd (large tt)
   wants-of (Some values) on large = record {
     values = values;
     on = on;
     large = λ in_place ends. large (in_place, ends);
-    how = how;
+    more = more;
+    completes = completes;
   }
 
   -- there was no memory for the channel's data, or for what the pick answers to them

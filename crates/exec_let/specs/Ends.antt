@@ -35,8 +35,3 @@ module _ (board : Board Blueprint) (t : Stepping) where
     pub node_is : node_at board t.name ≡ Some node
     pub is_let : IsLet node
     pub has : HasBody board t node hand.me parcel
-
-  -- there is no memory for what the pick answers
-  pub record MayWantFor (parcel : Delivery) (hand : HandSeat) : Type 0 where
-    pub node : Node
-    pub may : MayGoOn node parcel hand

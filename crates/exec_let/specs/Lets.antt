@@ -56,19 +56,14 @@ module _ (board : Board Blueprint) (t : Stepping) (next : Next) where
     pub looked : Looked board t.name saw old.me middle.me
     pub completes : Completes board t parcel.completion saw next middle new
 
-  -- Where a node of a small plan may complete as the child did, it was left in the loop with this
-  -- parcel of its child; and else it completed with want of memory.
-  pub record Defers (parcel : Delivery) (old new : HandSeat) : Type 0 where
-    pub later : is_small parcel.completion ≡ true →
-        LeavesAt board t (Some parcel) InLoop next old new
-    pub now : is_small parcel.completion ≡ false → Completes board t NoMemory false next old new
-
-  -- There was no memory for what the pick answers to these data: not both stand in place.
+  -- There was no memory for what the pick answers to these data: not both stand in place, and no
+  -- node of a small plan completes as the child did. It completed with want of memory.
   pub record Wants (node : Node) (parcel : Delivery) (old new : HandSeat) : Type 0 where
     pub values : List Datum
     pub on : channel_of node parcel.completion ≡ Some values
     pub large : AreInPlace values → EndsInPlace (apply_of (pick_of node) values) → ⊥
-    pub how : Defers parcel old new
+    pub more : is_small parcel.completion ≡ false
+    pub completes : Completes board t NoMemory false next old new
 
   -- by what the pick answered to the data of the let's channel; what is on another passes
   abbrev pub GoesBy : Node → Delivery → Picked → HandSeat → HandSeat → Type 0

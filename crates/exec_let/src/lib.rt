@@ -13,8 +13,8 @@
 //!
 //! Before a body begins, and where one is done, the let looks at the source that it hears: a body's
 //! start may rest on a request that the child saw, and then what the body completes with does.
-//! Where the data of a small plan want memory, as long names of errors do, the node goes on later,
-//! in the loop, with the child's parcel.
+//! Where the data of a small plan want memory, as long names of errors may, the step tries again;
+//! they are shared, so that this doesn't come.
 #![tactic(auto)]
 
 mod beginning;

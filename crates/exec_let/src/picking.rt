@@ -1,13 +1,17 @@
 //! How a let picks the body for what its child completed with ([exec.let]).
-ghost use Rattle.std.specs.Prelude.{IfOk, IsOk, Some};
+ghost use Rattle.std.specs.Prelude.{◌≡◌, IfOk, IsOk, Some, true};
 ghost use Rattle.start_laws.specs.Lets.{channel_of};
+ghost use Rattle.exec_let.specs.Kinds.{is_small};
 ghost use Rattle.exec_let.specs.Picks.{CanPick, Picks, PicksInPlace};
 
+use crate::channel::is_small;
 use crate::parts::{let_bodies, let_pick};
 use exec_value::{Completion, Data, Datum};
 use node_images::pick_body;
 use plan_rules::{Node, NodeId};
 use std::alloc::{AllocError, Global};
+use std::sync::Wait;
+use std::thread::yield_now;
 use step_parts::{Gate, Point, Site, Taken};
 
 /// How a let goes on with what its child completed with.
@@ -38,10 +42,10 @@ fn pick_for(alloc: Global, node: &Node, values: &Data) -> Result<Picked, AllocEr
     }
 }
 
-/// What the let's pick, which is applied past the gate, names for the data that the completion has
-/// on the let's channel. Where these data and the answer stand in place, it wants no memory.
+// What the let's pick, which is applied past the gate, names for the data that the completion has
+// on the let's channel. Where these data and the answer stand in place, it wants no memory.
 #[inline(always)]
-pub(crate) fn pick<R, G: Gate>(
+fn pick<R, G: Gate>(
     site: &Site<R, G>,
     taken: &Taken,
     node: &Node,
@@ -76,6 +80,35 @@ pub(crate) fn pick<R, G: Gate>(
         },
         _ => unreachable!(),
     }
+}
+
+/// What the let's pick names for the data that the completion has on the let's channel. Where there
+/// is no memory for it, and a node of a small plan may complete so, this tries again: such data
+/// want no memory but for a long name of an error, which is shared, so that it doesn't come.
+#[inline(always)]
+pub(crate) fn pick_or_wait<R: Wait, G: Gate>(
+    site: &Site<R, G>,
+    taken: &Taken,
+    node: &Node,
+    done: &Completion,
+) -> Result<Picked, AllocError>
+    requires may { CanPick node.now (channel_of node.now done.now) }
+    ensures picks { IfOk result (Picks node.now (channel_of node.now done.now)) }
+    ensures in_place { PicksInPlace node.now (channel_of node.now done.now) → IsOk result }
+    ensures small { is_small done.now ≡ true → IsOk result }
+{
+    for _ in site.rt.forever() {
+        match pick(site, taken, node, done) {
+            Ok(picked) => return Ok(picked),
+            Err(AllocError) => {
+                if !is_small(done) {
+                    return Err(AllocError);
+                }
+                yield_now()
+            }
+        }
+    }
+    unreachable!()
 }
 
 // Passes the gate before the job.

@@ -5,10 +5,10 @@ ghost use Rattle.exec_let.specs.Lets.{GoesOn, StepsBegun};
 ghost use Rattle.exec_let.specs.Opens.{MayOpen};
 
 use crate::beginning::begin_body;
-use crate::ending::{end_as_body, end_wanting};
+use crate::ending::end_as_body;
 use crate::opening::{Opened, open};
 use crate::parts::let_child;
-use crate::picking::{Picked, pick};
+use crate::picking::{Picked, pick_or_wait};
 use home_items::State;
 use life_rules::Name;
 use op_slot::Hand;
@@ -17,6 +17,7 @@ use std::alloc::AllocError;
 use std::sync::Wait;
 use step_parts::{
     Gate, Item, Kind, Next, Parcel, Site, Taken, complete, start_again, start_child, take_up,
+    want_memory,
 };
 
 /// Each let.
@@ -95,7 +96,7 @@ fn go_on<R: Wait, G: Gate>(
     ensures steps { Steps site.now taken.name result taken.from hand.new }
     ensures goes { GoesOn site.now taken node.now parcel result hand.old hand.new }
 {
-    match pick(site, &taken, node, parcel.completion()) {
+    match pick_or_wait(site, &taken, node, parcel.completion()) {
         Ok(Picked::Body(body)) => begin_body(site, hand, taken, node, parcel, body),
         Ok(Picked::Answer(answer)) => {
             let saw = parcel.saw();
@@ -108,6 +109,9 @@ fn go_on<R: Wait, G: Gate>(
             let mut done = parcel.into_completion();
             complete(site, hand, taken, &mut done, saw)
         }
-        Err(AllocError) => end_wanting(site, hand, taken, parcel),
+        Err(AllocError) => {
+            drop(parcel);
+            want_memory(site, hand, taken)
+        }
     }
 }

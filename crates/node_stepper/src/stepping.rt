@@ -59,12 +59,13 @@ impl<'a, G: Gate> Stepper for NodeSteps<'a, G> {
         self.plan
     }
 
+    #[inline(always)]
     fn step<R: Wait>(site: &Site<R, NodeSteps<'a, G>>, hand: &mut Hand<Item>, name: Name) -> Next {
         step_node(site, hand, name)
     }
 }
 
-// Steps the node by its kind.
+// Steps the node by its kind. Each arm returns: what a match yields would be copied once more.
 #[inline(always)]
 fn step_node<R: Wait, G: Gate>(site: &Site<R, G>, hand: &mut Hand<Item>, name: Name) -> Next
     requires may { MayStep site.now name hand.old }
@@ -75,22 +76,24 @@ fn step_node<R: Wait, G: Gate>(site: &Site<R, G>, hand: &mut Hand<Item>, name: N
         return Receivers::step(site, hand, name);
     }
     match site.node(name) {
-        Node::Input | Node::Just(_) | Node::JustError(_) => Factories::step(site, hand, name),
-        Node::JustStopped | Node::ReadEnv(_) => Factories::step(site, hand, name),
-        Node::Then { .. } | Node::UponError { .. } => Adaptors::step(site, hand, name),
-        Node::UponStopped { .. } => Adaptors::step(site, hand, name),
-        Node::StoppedAsOptional { .. } => Adaptors::step(site, hand, name),
-        Node::StoppedAsError { .. } => Adaptors::step(site, hand, name),
-        Node::Schedule(_) => Schedules::step(site, hand, name),
-        Node::StartsOn { .. } => StartsOns::step(site, hand, name),
-        Node::ContinuesOn { .. } => ContinuesOns::step(site, hand, name),
-        Node::Unstoppable { .. } => Unstoppables::step(site, hand, name),
-        Node::LetValue { .. } | Node::LetError { .. } => Lets::step(site, hand, name),
-        Node::LetStopped { .. } => Lets::step(site, hand, name),
-        Node::WhenAll { .. } => Alls::step(site, hand, name),
-        Node::Bulk { .. } => Bulks::step(site, hand, name),
-        Node::Part { .. } => Parts::step(site, hand, name),
-        Node::Delay(_) => Delays::step(site, hand, name),
-        Node::Ahead { .. } => Aheads::step(site, hand, name),
+        Node::Input | Node::Just(_) | Node::JustError(_) => {
+            return Factories::step(site, hand, name);
+        }
+        Node::JustStopped | Node::ReadEnv(_) => return Factories::step(site, hand, name),
+        Node::Then { .. } | Node::UponError { .. } => return Adaptors::step(site, hand, name),
+        Node::UponStopped { .. } => return Adaptors::step(site, hand, name),
+        Node::StoppedAsOptional { .. } => return Adaptors::step(site, hand, name),
+        Node::StoppedAsError { .. } => return Adaptors::step(site, hand, name),
+        Node::Schedule(_) => return Schedules::step(site, hand, name),
+        Node::StartsOn { .. } => return StartsOns::step(site, hand, name),
+        Node::ContinuesOn { .. } => return ContinuesOns::step(site, hand, name),
+        Node::Unstoppable { .. } => return Unstoppables::step(site, hand, name),
+        Node::LetValue { .. } | Node::LetError { .. } => return Lets::step(site, hand, name),
+        Node::LetStopped { .. } => return Lets::step(site, hand, name),
+        Node::WhenAll { .. } => return Alls::step(site, hand, name),
+        Node::Bulk { .. } => return Bulks::step(site, hand, name),
+        Node::Part { .. } => return Parts::step(site, hand, name),
+        Node::Delay(_) => return Delays::step(site, hand, name),
+        Node::Ahead { .. } => return Aheads::step(site, hand, name),
     }
 }

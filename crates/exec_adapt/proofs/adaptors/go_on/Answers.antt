@@ -17,12 +17,12 @@ take_back_into-requires-clause-opened g c = goes-open _ _ _ _ _ c.requires.may
 
 pub pass_on-requires : goal.pass_on-requires
 pass_on-requires g c = record {
-  may = back-passes _ _ _ _ _ c.requires.may _ _ c.take_back_into.ensures (delivery_of c.in-Some.label c.take_back_into.new.done)
+  may = back-passes _ _ _ _ _ c.requires.may _ _ c.take_back_into.ensures.takes (delivery_of c.in-Some.label c.take_back_into.new.done)
       (ap (λ (o : Option Sent). option_map (λ (label : Sent). delivery_of label c.take_back_into.new.done) o) c.in-Some.is);
 }
 
 pub go_on_again-requires : goal.go_on_again-requires
-go_on_again-requires g c = record { may = back-goes _ _ _ _ _ c.requires.may _ _ c.take_back_into.ensures }
+go_on_again-requires g c = record { may = back-goes _ _ _ _ _ c.requires.may _ _ c.take_back_into.ensures.takes }
 
 pub returns-in-Some : goal.returns-in-Some
 returns-in-Some g c =
@@ -33,7 +33,7 @@ returns-in-Some g c =
     record {
       answer = option_map (λ (sent : Sent). delivery_of sent c.take_back_into.new.done) c.take_back_into.result;
       middle = c.take_back_into.new.hand;
-      takes = c.take_back_into.ensures;
+      takes = c.take_back_into.ensures.takes;
       ends = λ parcel other.
           subst (λ (p : Delivery). Ends c.args.site.now c.args.taken c.args.node.now p c.pass_on.result c.take_back_into.new.hand c.pass_on.new.hand)
           (same_Some (delivery_of label c.take_back_into.new.done) parcel (sym is ∙ other)) c.pass_on.ensures;
@@ -47,7 +47,7 @@ returns g c =
     record {
       answer = option_map (λ (sent : Sent). delivery_of sent c.take_back_into.new.done) c.take_back_into.result;
       middle = c.take_back_into.new.hand;
-      takes = c.take_back_into.ensures;
+      takes = c.take_back_into.ensures.takes;
       ends = λ parcel other. let wrong = sym is ∙ other in cc;
       again = λ _. c.go_on_again.ensures;
     }

@@ -5,16 +5,13 @@ use Rattle.exec_adapt.proofs.Making.{and-right}
 use Rattle.exec_adapt.proofs.Passing.{pass-takes, pass-ends, pass-names, pass-wants}
 use Rattle.exec_adapt.proofs.adaptors.pass_on.Goals as goal
 
-pub parcel-requires : goal.parcel-requires
-parcel-requires g c = c.requires.may.has.from.delivers
-
 pub own_name-requires : goal.own_name-requires
 own_name-requires g c =
     and-right (acts_on c.args.node.now c.args.done.now) (has_own_name c.args.node.now) (sym c.names_error.ensures ∙ c.if-names_error.true)
 
 pub complete_named-requires : goal.complete_named-requires
 complete_named-requires g c = record {
-  may = rw (c.parcel.ensures, c.own_name.ensures, c.saw-saw.ensures)
+  may = rw (c.own_name.ensures, c.saw-saw.ensures)
       (pass-names _ _ _ _ _ c.requires.may (sym c.names_error.ensures ∙ c.if-names_error.true));
 }
 
@@ -41,7 +38,7 @@ pub returns-then-names_error : goal.returns-then-names_error
 returns-then-names_error g c =
     let is : names_error c.args.node.now c.args.done.now ≡ true = sym c.names_error.ensures ∙ c.if-names_error.true in
     record {
-      named = λ _. rw (c.parcel.ensures, c.own_name.ensures, c.saw-saw.ensures) at c.complete_named.ensures;
+      named = λ _. rw (c.own_name.ensures, c.saw-saw.ensures) at c.complete_named.ensures;
       made = λ isnt. absurd (both_ways (names_error c.args.node.now c.args.done.now) isnt is);
     }
 

@@ -8,7 +8,7 @@ use Rattle.exec_adapt.specs.Adapts.{MakesAs}
 use Rattle.exec_adapt.specs.Kinds.{IsFactory, IsFactoryNode}
 use Rattle.exec_adapt.proofs.MakingOwn.{leaf-at, leaf-taken, input-carries, input-ends, error-names, other-made, made-as}
 use Rattle.exec_adapt.proofs.Places.{factory-at}
-use Rattle.exec_adapt.proofs.Stepped.{steps-as, names-steps, answer-steps, with-steps}
+use Rattle.exec_adapt.proofs.Stepped.{steps-as, answer-steps, with-steps}
 use Rattle.exec_adapt.proofs.factories.FactoriesKind.step.Goals as goal
 
 pub node-node-requires : goal.node-node-requires
@@ -66,7 +66,7 @@ returns-in-Input-clause-steps g c = steps-as _ _ _ _ _ _ c.take_up-taken.ensures
 
 pub returns-in-JustError-clause-steps : goal.returns-in-JustError-clause-steps
 returns-in-JustError-clause-steps g c =
-    steps-as _ _ _ _ _ _ c.take_up-taken.ensures _ _ (names-steps _ _ _ _ _ _ _ _ c.complete_named.ensures)
+    steps-as _ _ _ _ _ _ c.take_up-taken.ensures _ _ c.complete_named.ensures.steps
 
 pub returns-in-ReadEnv-clause-steps : goal.returns-in-ReadEnv-clause-steps
 returns-in-ReadEnv-clause-steps g c =

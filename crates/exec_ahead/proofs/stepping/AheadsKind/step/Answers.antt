@@ -6,11 +6,10 @@ use Rattle.plan_rules.specs.declared.node.Node.TheVariants.{Ahead}
 use Rattle.home_items.specs.Parcels.{Delivery}
 use Rattle.exec_recv.specs.Sites.{node_at}
 use Rattle.step_parts.specs.Leaves.{LeavesAt}
-use Rattle.step_parts.specs.Takes.{HasParcel, TakesOne}
+use Rattle.step_parts.specs.Takes.{HasParcel}
 use Rattle.step_parts.proofs.Took.{taken-leaves}
 use Rattle.exec_ahead.specs.Parks.{ParksAs}
-use Rattle.exec_ahead.proofs.Seconds.{ahead-only, second-among}
-use Rattle.exec_ahead.proofs.Parked.{parks-with}
+use Rattle.exec_ahead.proofs.Seconds.{ahead-only}
 use Rattle.exec_ahead.proofs.stepping.AheadsKind.step.Goals as goal
 
 pub take_one-taken-requires-clause-only : goal.take_one-taken-requires-clause-only
@@ -37,7 +36,10 @@ returns-clause-does g c =
     let next = c.leave_parked.result in
     subst (λ (o : Option Node). ParksAs board c.args.name o next c.args.hand.now c.leave_parked.new.hand)
     (sym (c.node.ensures ∙ ap (λ (n : Node). Some n) c.in-Ahead.is))
-    (parks-with board c.args.name c.in-Ahead.second up c.args.hand.now c.take_one-taken.new.hand c.leave_parked.new.hand
-    c.take_one-taken.ensures next
-    (subst (λ (o : Option Delivery). LeavesAt board up.taken o IsParked next c.take_one-taken.new.hand c.leave_parked.new.hand)
-    c.into_parcel.ensures c.leave_parked.ensures))
+    (record {
+      up = up;
+      middle = c.take_one-taken.new.hand;
+      takes = c.take_one-taken.ensures;
+      parks = subst (λ (o : Option Delivery). LeavesAt board up.taken o IsParked next c.take_one-taken.new.hand c.leave_parked.new.hand)
+          c.into_parcel.ensures c.leave_parked.ensures;
+    })
