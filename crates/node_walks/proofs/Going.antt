@@ -64,6 +64,7 @@ stepped-on does board x m m1 m' is more =
       stepped = is.stepped;
       after = aside-on is.between m1 m' is.after more;
       last = is.last;
+      ready = is.ready;
       walks = is.walks;
       since = aside-on is.last m1 m' is.since more;
     }

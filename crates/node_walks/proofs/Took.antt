@@ -31,6 +31,7 @@ use Rattle.exec_recv.specs.Over.{IsOver}
 use Rattle.exec_recv.proofs.Arriving.{taken-steps}
 use Rattle.exec_recv.proofs.Asiding.{aside-on, aside-one}
 use Rattle.exec_recv.proofs.Places.{over-places}
+use Rattle.node_walks.specs.declared.mail.ReadyNode.{ReadyNode}
 use Rattle.node_walks.specs.Resting.{IsAtRest, CanGoOn}
 use Rattle.node_walks.proofs.Going.{stepped-on}
 use Rattle.exec_recv.specs.Since.{HasMovedSince}
@@ -125,8 +126,9 @@ module _ (does : Does) (board : Board Blueprint) (from : Resting) (name : Name) 
       }
 
   -- and after looks it is all that was done
-  pub only-before : OnlyLooks m between → OnlyServes does board from name between m' → OnlyServes does board from name m m'
-  only-before looks one =
+  pub only-before : OnlyLooks m between → (ready : List ReadyNode) → OnlyServes does board from name between m' ready →
+      OnlyServes does board from name m m' ready
+  only-before looks ready one =
       record {
         before = one.before;
         looks = looks-on m between one.before looks one.looks;

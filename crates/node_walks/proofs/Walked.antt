@@ -1,28 +1,129 @@
--- How a walk goes on.
-use Rattle.std.proofs.Common.{◌≡◌, refl}
-use Rattle.std.specs.Prelude.{Option, Some}
+-- How a walk goes on, and the mail with it.
+use Rattle.std.proofs.Common.{◌≡◌, ℕ, List, [], ◌∷◌, ◌++◌, refl, sym, subst}
+use Rattle.std.specs.Prelude.{Option, Some, None}
 use Rattle.life_rules.specs.declared.event.Name.{Name}
 use Rattle.plan_shape.specs.Blueprint.{Blueprint}
 use Rattle.table_steps.specs.Views.{Board}
-use Rattle.table_steps.specs.Claims.{Seated}
+use Rattle.table_steps.specs.declared.block.Block.{Block}
+use Rattle.table_steps.specs.Claims.{Seated, root_name}
 use Rattle.home_items.specs.declared.entry.Entry.{Entry}
 use Rattle.home_items.specs.declared.item.Item.{Item}
 use Rattle.exec_recv.specs.declared.next.Next.{Next}
-use Rattle.exec_recv.specs.Sites.{Does}
-use Rattle.node_walks.specs.Walks.{LeadsTo, StepsOnce, Walks, Ends, Steps, WalksOn}
+use Rattle.exec_recv.specs.Seats.{HandSeat}
+use Rattle.exec_recv.specs.Sites.{Did, Does}
+use Rattle.node_walks.specs.declared.mail.ReadyNode.{ReadyNode}
+use Rattle.node_walks.specs.Mails.{HearsAll, HearsEach, HearsOf, ready_after}
+use Rattle.node_walks.specs.Starts.{GoesOnWith}
+use Rattle.node_walks.specs.Walks.{LeadsTo, StepsOnce, Walks, Ends, Steps, WalksOn, Anything, WalksAnyhow}
 
--- What is left to walk from here, with this node, makes the whole walk after that step.
-abbrev pub Completes : Does → Board Blueprint → Next → Seated Item Entry → Option Name → Seated Item Entry → Type 0
-Completes does board next first going m = (m' : Seated Item Entry) → Walks does board going m m' → WalksOn does board next first m'
+module _ {M : Type 0} (hears : HearsOf M) where
+  -- a mail that heard of these nodes, and then of those
+  pub hears-then : (ready others : List ReadyNode) (mail between mail' : M) → HearsEach hears ready mail between →
+      HearsEach hears others between mail' → HearsEach hears (ready ++ others) mail mail'
+  hears-then [] others mail between mail' same next = subst (λ (b : M). HearsEach hears others b mail') same next
+  hears-then (node ∷ ready) others mail between mail' first next =
+      record {
+        between = first.between;
+        first = first.first;
+        others = hears-then ready others first.between between mail' first.others next;
+      }
 
--- so it is at first
-pub completes-first : (does : Does) (board : Board Blueprint) (next : Next) (first : Seated Item Entry) (going : Option Name) (m : Seated Item Entry) →
-    LeadsTo board next going first m → Completes does board next first going m
-completes-first does board next first going m follows m' walks =
-    record { going = going; found = m; follows = follows; walks = walks }
+  -- what left these nodes ready did more besides
+  pub hears-as : (mail mail' : M) (P Q : List ReadyNode → Type 0) → ((ready : List ReadyNode) → P ready → Q ready) →
+      HearsAll hears mail mail' P → HearsAll hears mail mail' Q
+  hears-as mail mail' P Q more all =
+      record { ready = all.ready; leaves = more all.ready all.leaves; heard = all.heard }
 
--- and after one more step
-pub completes-on : (does : Does) (board : Board Blueprint) (next : Next) (first : Seated Item Entry) (x : Name) (m : Seated Item Entry)
-    (going : Option Name) (m1 : Seated Item Entry) → Completes does board next first (Some x) m → StepsOnce does board x going m m1 →
-    Completes does board next first going m1
-completes-on does board next first x m going m1 so_far step m' walks = so_far m' (Steps x going m m1 m' step walks)
+module _ {M : Type 0} (hears : HearsOf M) (does : Does) (board : Board Blueprint) (x : Name) (next : Next) (first : Seated Item Entry) (mail : M) where
+  -- What is left to walk from here, with this node, makes the whole walk after that step.
+  abbrev pub Completes : Option Name → Seated Item Entry → M → Type 0
+  Completes going m posted =
+      (m' : Seated Item Entry) (mail' : M) (others : List ReadyNode) → Walks does board going m m' others →
+      HearsEach hears others posted mail' → HearsAll hears mail mail' (WalksOn does board x next first m')
+
+  -- so it is at first
+  pub completes-first : (going : Option Name) (m : Seated Item Entry) (posted : M) → LeadsTo board next going first m →
+      HearsEach hears (ready_after x next) mail posted → Completes going m posted
+  completes-first going m posted follows heard m' mail' others walks more =
+      record {
+        ready = ready_after x next ++ others;
+        leaves = record {
+          going = going;
+          found = m;
+          follows = follows;
+          others = others;
+          walks = walks;
+          ready_is = refl;
+        };
+        heard = hears-then hears (ready_after x next) others mail posted mail' heard more;
+      }
+
+  -- after one more step
+  pub completes-on : (y : Name) (m : Seated Item Entry) (posted : M) (going : Option Name) (m1 : Seated Item Entry) (posted1 : M) →
+      Completes (Some y) m posted → HearsAll hears posted posted1 (StepsOnce does board y going m m1) → Completes going m1 posted1
+  completes-on y m posted going m1 posted1 so_far step m' mail' others walks more =
+      so_far m' mail' (step.ready ++ others) (Steps y going m m1 m' step.ready others step.leaves walks)
+      (hears-then hears step.ready others posted posted1 mail' step.heard more)
+
+  -- and where there is no node to go on with nothing is left
+  pub completes-last : (m : Seated Item Entry) (posted : M) → Completes None m posted →
+      HearsAll hears mail posted (WalksOn does board x next first m)
+  completes-last m posted so_far = so_far m posted [] (Ends m) refl
+
+-- A walk is one whatever is said of its steps.
+module _ (does : Does) (board : Board Blueprint) where
+  pub any-did : (x : Name) (next : Next) (m m' : Seated Item Entry) → Did does board x next m m' → Did Anything board x next m m'
+  any-did x next m m' did = record { old = did.old; new = did.new; old_is = did.old_is; new_is = did.new_is; did = tt }
+
+  any-walks : {going : Option Name} {m m' : Seated Item Entry} {ready : List ReadyNode} → Walks does board going m m' ready →
+      Walks Anything board going m m' ready
+  any-walks (Ends m) = Ends m
+  any-walks (Steps x going m between m' first others step rest) =
+      Steps x going m between m' first others
+      (record {
+        next = step.next;
+        between = step.between;
+        did = any-did x step.next m step.between step.did;
+        stepped = step.stepped;
+        follows = step.follows;
+        ready_is = step.ready_is;
+      })
+      (any-walks rest)
+
+  pub any-walk : (x : Name) (next : Next) (m m' : Seated Item Entry) (ready : List ReadyNode) → WalksOn does board x next m m' ready →
+      WalksOn Anything board x next m m' ready
+  any-walk x next m m' ready went =
+      record {
+        going = went.going;
+        found = went.found;
+        follows = went.follows;
+        others = went.others;
+        walks = any-walks went.walks;
+        ready_is = went.ready_is;
+      }
+
+  -- of which the mail heard
+  pub walked-anyhow : {M : Type 0} {hears : HearsOf M} {mail mail' : M} (x y : Name) (next : Next) (m m' : Seated Item Entry) → y ≡ x →
+      HearsAll hears mail mail' (WalksOn does board x next m m') → WalksAnyhow board y next m m'
+  walked-anyhow x y next m m' is all =
+      subst (λ (z : Name). WalksAnyhow board z next m m') (sym is) (all.ready, any-walk x next m m' all.ready all.leaves)
+
+  -- and so are an operation's first steps
+  pub any-goes : (from : ℕ) (b : Block) (start : List Entry) (old : HandSeat) (m' : Seated Item Entry) (ready : List ReadyNode) →
+      GoesOnWith does board from b start old m' ready → GoesOnWith Anything board from b start old m' ready
+  any-goes from b start old m' ready goes =
+      let steps = goes.steps in
+      let root = root_name board b.index b.generation in
+      record {
+        placed = goes.placed;
+        places = goes.places;
+        begun = goes.begun;
+        has_begun = goes.has_begun;
+        steps = record {
+          next = steps.next;
+          between = steps.between;
+          did = any-did root steps.next goes.begun steps.between steps.did;
+          stepped = steps.stepped;
+          walks = any-walk root steps.next steps.between m' ready steps.walks;
+        };
+      }

@@ -1,4 +1,5 @@
 pub mod Resting
+pub mod Mails
 pub mod Walks
 pub mod Stepped
 pub mod Since

@@ -1,5 +1,5 @@
 -- What it comes to where a node that may be ready is served.
-use Rattle.std.specs.Prelude.{◌≡◌, ◌≢◌, ℕ, Bool, true, false}
+use Rattle.std.specs.Prelude.{◌≡◌, ◌≢◌, ℕ, Bool, true, false, List}
 use Rattle.life_rules.specs.declared.event.Name.{Name}
 use Rattle.life_rules.specs.declared.event.Resting.{Resting}
 use Rattle.life_rules.specs.declared.words.ControlWord.TheVariants.{Busy}
@@ -18,6 +18,7 @@ use Rattle.home_items.specs.declared.entry.Entry.{Entry}
 use Rattle.home_items.specs.declared.item.Item.{Item}
 use Rattle.exec_recv.specs.Asides.{KeepsAside}
 use Rattle.exec_recv.specs.Sites.{Does}
+use Rattle.node_walks.specs.declared.mail.ReadyNode.{ReadyNode}
 use Rattle.node_walks.specs.Stepped.{HasStepped, OnlySteps}
 use Rattle.exec_recv.specs.Since.{HasMovedSince, HasReadSince}
 use Rattle.node_walks.specs.Since.{OnlyLooks}
@@ -42,14 +43,15 @@ pub record ServesNode (does : Does) (board : Board Blueprint) (from : Resting) (
   pub taken : HasMovedSince (control_index board name) (TakesWord from name) m m'
   pub stepped : HasStepped does board name held m'
 
--- So it was taken and stepped, and the hand did nothing else, but looks before that.
+-- So it was taken and stepped, and the hand did nothing else, but looks before that. The steps left
+-- these nodes ready, in this order.
 pub record OnlyServes (does : Does) (board : Board Blueprint) (from : Resting) (name : Name)
-    (m m' : Seated Item Entry) : Type 0 where
+    (m m' : Seated Item Entry) (ready : List ReadyNode) : Type 0 where
   pub before : Seated Item Entry
   pub looks : OnlyLooks m before
   pub held : Seated Item Entry
   pub took : TakesUp board name from true before held
-  pub steps : OnlySteps does board name held m'
+  pub steps : OnlySteps does board name held m' ready
 
 -- The word says that its node isn't ready in the context.
 abbrev pub IsUnready : Context → ℕ → Type 0

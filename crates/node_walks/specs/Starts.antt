@@ -9,7 +9,8 @@ use Rattle.table_steps.specs.Begins.{Begins}
 use Rattle.table_rules.specs.declared.view.View.{View}
 use Rattle.table_steps.specs.Claims.{Seated, root_name, IsUnnoted}
 use Rattle.table_steps.specs.Slots.{home_at}
-use Rattle.op_slot.specs.Searches.{IsMissedFrom}
+use Rattle.op_slot.specs.Puts.{IsPut}
+use Rattle.op_slot.specs.Searches.{IsMissedFrom, IsFoundFrom}
 use Rattle.home_items.specs.contracts.item.ItemCargo.TheImpl.{ghosts}
 use Rattle.home_items.specs.declared.entry.Entry.{Entry}
 use Rattle.home_items.specs.declared.item.Item.{Item}
@@ -18,9 +19,11 @@ use Rattle.home_items.specs.Entries.{plan_of}
 use Rattle.home_items.specs.Fits.{FitsChild}
 use Rattle.home_items.specs.Starts.{IsReceiverStart}
 use Rattle.exec_recv.specs.Asides.{Aside, aside_of}
+use Rattle.exec_recv.specs.Seats.{HandSeat}
 use Rattle.exec_recv.specs.Sites.{Does}
 use Rattle.node_walks.specs.Resting.{HasOnlyStarts}
-use Rattle.node_walks.specs.Stepped.{HasStepped}
+use Rattle.node_walks.specs.declared.mail.ReadyNode.{ReadyNode}
+use Rattle.node_walks.specs.Stepped.{OnlySteps}
 use Rattle.node_walks.specs.Leaves.{LeavesAside}
 
 -- A start of the receiver node of the table's plan, with arguments of the kinds of the child that
@@ -72,11 +75,21 @@ abbrev pub MissesEach : Board Blueprint → ℕ → Seat (Option Item) (View Ite
     Seat (Option Item) (View Item Entry) → Type 0
 MissesEach board from old new = IsMissedFrom board from board.frame.layout.blocks old new
 
--- The start was placed in the block, whose root the hand began and stepped; and it went on.
-pub record GoesOnWith (does : Does) (board : Board Blueprint) (b : Block) (start : List Entry)
-    (m m' : Seated Item Entry) : Type 0 where
+-- The blocks before it, round from this one, were missed; the block was claimed, and the start put
+-- into the home of its root. Nothing else was done.
+pub record OnlyPlaces (board : Board Blueprint) (from : ℕ) (b : Block) (start : List Entry)
+    (old : HandSeat) (m' : Seated Item Entry) : Type 0 where
+  pub claimed : HandSeat
+  pub found : IsFoundFrom board from b old claimed
+  pub put : IsPut board.frame (root_name board b.index b.generation) (Start start) claimed.me m'
+
+-- So the start was placed in the block, whose root the hand began and stepped; and it went on. It
+-- did nothing else. The steps left these nodes ready, in this order.
+pub record GoesOnWith (does : Does) (board : Board Blueprint) (from : ℕ) (b : Block)
+    (start : List Entry) (old : HandSeat) (m' : Seated Item Entry) (ready : List ReadyNode)
+    : Type 0 where
   pub placed : Seated Item Entry
-  pub was_placed : IsStartPlaced board b start m placed
+  pub places : OnlyPlaces board from b start old placed
   pub begun : Seated Item Entry
   pub has_begun : Begins ghosts (aim_at board (root_name board b.index b.generation)) placed begun
-  pub stepped : HasStepped does board (root_name board b.index b.generation) begun m'
+  pub steps : OnlySteps does board (root_name board b.index b.generation) begun m' ready

@@ -51,7 +51,7 @@ mod walking;
 pub use completing::{Collected, Ended};
 pub use ending::end_root;
 pub use exec_recv::{Env, Gate, Item, Next, Stepper};
-pub use mail::Mail;
+pub use mail::{Mail, ReadyNode};
 pub use op_slot::{Block, Hand, OpTable};
 pub use serving::{serve, serve_place};
 pub use starting::begin_root;

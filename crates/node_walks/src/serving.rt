@@ -5,6 +5,7 @@ ghost use Rattle.table_steps.specs.Views.{IsHandOf, IsPlaceIn, Stays, knows};
 ghost use Rattle.table_steps.specs.Takes.{MayServe, resting_in};
 ghost use Rattle.exec_recv.specs.Asides.{KeepsAside};
 ghost use Rattle.exec_recv.specs.Sites.{IsSite};
+ghost use Rattle.node_walks.specs.Mails.{HearsAll};
 ghost use Rattle.node_walks.specs.Resting.{IsAtRest};
 ghost use Rattle.node_walks.specs.Since.{OnlyLooks};
 ghost use Rattle.node_walks.specs.Serving.{OnlyServes, ServesNode, TakesUp, WasMissed, WasUnready};
@@ -47,8 +48,9 @@ fn take_up(table: &OpTable<Item>, hand: &mut Hand<Item>, name: Name, from: Resti
 ///
 /// Step: that of `take`, or of `take_parked`, and where it took the node those of `go_on`.
 /// Needs: the hand is at rest. What is parked or ready in the loop only hand 0 takes.
-/// Afterwards: the hand is at rest. It did nothing beside that. All else that its view says is as
-/// before, but for requests that it has seen and the list of its steps.
+/// Afterwards: the hand is at rest. It did nothing beside that. The mail heard of what `go_on`
+/// says, and where no node was taken of nothing. All else that its view says is as before, but for
+/// requests that it has seen and the list of its steps.
 pub fn serve<T: Stepper, M: Mail, R: Wait + Sync>(
     site: &Site<R, T>,
     hand: &mut Hand<Item>,
@@ -67,10 +69,11 @@ pub fn serve<T: Stepper, M: Mail, R: Wait + Sync>(
     ensures aside { KeepsAside hand.old.me hand.new.me }
     ensures served { result ≡ true →
         ServesNode T.does site.now from name hand.old.me hand.new.me }
-    ensures only { result ≡ true →
-        OnlyServes T.does site.now from name hand.old.me hand.new.me }
+    ensures only { result ≡ true → HearsAll M.hears mail.old mail.new
+        (OnlyServes T.does site.now from name hand.old.me hand.new.me) }
     ensures missed { result ≡ false → WasMissed site.now hand.old.me hand.new.me from name }
     ensures looks { result ≡ false → OnlyLooks hand.old.me hand.new.me }
+    ensures unheard { result ≡ false → mail.new ≡ mail.old }
     ensures mail { M.keeps mail.old mail.new }
 {
     site.pass(Point::Take(name));
@@ -109,11 +112,12 @@ pub fn serve_place<T: Stepper, M: Mail, R: Wait + Sync>(
     ensures aside { KeepsAside hand.old.me hand.new.me }
     ensures served { IfSome result (λ name.
         ServesNode T.does site.now (resting_in on) name hand.old.me hand.new.me) }
-    ensures only { IfSome result (λ name.
-        OnlyServes T.does site.now (resting_in on) name hand.old.me hand.new.me) }
+    ensures only { IfSome result (λ name. HearsAll M.hears mail.old mail.new
+        (OnlyServes T.does site.now (resting_in on) name hand.old.me hand.new.me)) }
     ensures there { IfSome result (λ name. (name.block ≡ block) × (name.node ≡ node)) }
     ensures unready { IfNone result (WasUnready site.now hand.old.me hand.new.me on block node) }
     ensures looks { IfNone result (OnlyLooks hand.old.me hand.new.me) }
+    ensures unheard { IfNone result (mail.new ≡ mail.old) }
     ensures mail { M.keeps mail.old mail.new }
 {
     let from = resting(on);

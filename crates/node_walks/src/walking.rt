@@ -4,6 +4,7 @@ ghost use Rattle.std.specs.Thread.{IsSync};
 ghost use Rattle.table_steps.specs.Views.{IsHandOf, Stays, knows};
 ghost use Rattle.exec_recv.specs.Asides.{KeepsAside};
 ghost use Rattle.exec_recv.specs.Sites.{IsSite};
+ghost use Rattle.node_walks.specs.Mails.{HearsAll, HearsEach, ready_after};
 ghost use Rattle.node_walks.specs.Resting.{IsAtRest, OwesOnly, CanGoOn, GoesOn};
 ghost use Rattle.node_walks.specs.Stepped.{HasStepped, OnlySteps, WasStepped};
 ghost use Rattle.node_walks.specs.Walks.{FindsOwed, LeadsTo, StepsOnce, WalksOn};
@@ -48,6 +49,7 @@ fn find_next<T: Stepper, M: Mail, R: Wait + Sync>(
     ensures next { GoesOn site.now result hand.new.me }
     ensures follows { LeadsTo site.now next result hand.old.me hand.new.me }
     ensures mail { M.keeps mail.old mail.new }
+    ensures heard { HearsEach M.hears (ready_after name next) mail.old mail.new }
 {
     match next {
         Next::Go(next) => Some(next),
@@ -72,7 +74,8 @@ fn step_once<T: Stepper, M: Mail, R: Wait + Sync>(
     requires site { IsSite site.now }
     requires can { CanGoOn site.now name hand.old.me }
     ensures stays { Stays site.now hand.old hand.new }
-    ensures steps { StepsOnce T.does site.now name result hand.old.me hand.new.me }
+    ensures steps { HearsAll M.hears mail.old mail.new
+        (StepsOnce T.does site.now name result hand.old.me hand.new.me) }
     ensures aside { KeepsAside hand.old.me hand.new.me }
     ensures next { GoesOn site.now result hand.new.me }
     ensures mail { M.keeps mail.old mail.new }
@@ -89,9 +92,10 @@ fn step_once<T: Stepper, M: Mail, R: Wait + Sync>(
 /// Needs: before that step the hand might step the node, and had nothing besides but starts that it
 /// owed, none of a root; and the step ended as a step does.
 /// Afterwards: each step since was one of the stepper's, and each node with which the hand went on
-/// was named by the last step, or began, where the hand owed its start. The hand is at rest. All
-/// else that its view says is as before, but for requests that it has seen and the list of its
-/// steps.
+/// was named by the last step, or began, where the hand owed its start. The mail heard of each node
+/// that one of these steps left ready, that first one included, in their order, and of nothing
+/// else. The hand is at rest. All else that its view says is as before, but for requests that it
+/// has seen and the list of its steps.
 pub fn go_after<T: Stepper, M: Mail, R: Wait + Sync>(
     site: &Site<R, T>,
     hand: &mut Hand<Item>,
@@ -104,7 +108,8 @@ pub fn go_after<T: Stepper, M: Mail, R: Wait + Sync>(
     requires site { IsSite site.now }
     requires after { WasStepped site.now name next hand.old.me }
     ensures stays { Stays site.now hand.old hand.new }
-    ensures walks { WalksOn T.does site.now next hand.old.me hand.new.me }
+    ensures walks { HearsAll M.hears mail.old mail.new
+        (WalksOn T.does site.now name next hand.old.me hand.new.me) }
     ensures rests { IsAtRest (knows hand.new) }
     ensures aside { KeepsAside hand.old.me hand.new.me }
     ensures mail { M.keeps mail.old mail.new }
@@ -128,8 +133,9 @@ pub fn go_after<T: Stepper, M: Mail, R: Wait + Sync>(
 /// Needs: the hand may step the node, and has nothing besides but starts that it owes, each of
 /// which can begin, and none of a root. Afterwards: the stepper has stepped the node, and each step
 /// since was one of the stepper's; each node with which the hand went on was named by the last
-/// step, or began, where the hand owed its start. It did nothing else. The hand is at rest. All
-/// else that its view says is as before, but for requests that it has seen and the list of its
+/// step, or began, where the hand owed its start. It did nothing else. The mail heard of each node
+/// that one of these steps left ready, in their order, and of nothing else. The hand is at rest.
+/// All else that its view says is as before, but for requests that it has seen and the list of its
 /// steps.
 pub fn go_on<T: Stepper, M: Mail, R: Wait + Sync>(
     site: &Site<R, T>,
@@ -143,7 +149,8 @@ pub fn go_on<T: Stepper, M: Mail, R: Wait + Sync>(
     requires can { CanGoOn site.now name hand.old.me }
     ensures stays { Stays site.now hand.old hand.new }
     ensures first { HasStepped T.does site.now name hand.old.me hand.new.me }
-    ensures only { OnlySteps T.does site.now name hand.old.me hand.new.me }
+    ensures only { HearsAll M.hears mail.old mail.new
+        (OnlySteps T.does site.now name hand.old.me hand.new.me) }
     ensures rests { IsAtRest (knows hand.new) }
     ensures aside { KeepsAside hand.old.me hand.new.me }
     ensures mail { M.keeps mail.old mail.new }

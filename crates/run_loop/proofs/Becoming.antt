@@ -1,17 +1,14 @@
 -- What became of the parked delays of a loop, call by call.
-use Rattle.std.proofs.Common.{◌≡◌, ◌≢◌, ◌⊎◌, inl, inr, ℕ, ◌<◌, ◌≤◌, ◌/◌, ◌%◌, true, false, refl, sym, ap, ◌∙◌, subst, arith}
+use Rattle.std.proofs.Common.{◌≡◌, ◌≢◌, ◌⊎◌, inl, inr, ℕ, ◌<◌, ◌≤◌, ◌/◌, ◌%◌, false, sym, ap, ◌∙◌, subst, arith}
 use Rattle.std.specs.Prelude.{Option, Some}
-use Rattle.std.proofs.lemmas.Bool.{cases_eq, cond-true, cond-false}
+use Rattle.std.proofs.lemmas.Bool.{both_ways, eq-eqb}
 use Rattle.std.proofs.lemmas.Nat.{div-mul-add, mod-mul-add}
 use Rattle.std.proofs.lemmas.Option.{none-some, same_Some}
-use Rattle.common_lemmas.proofs.Bool.{either}
 use Rattle.life_rules.specs.declared.event.Name.{Name}
 use Rattle.life_rules.specs.declared.event.Resting.TheVariants as rest
-use Rattle.life_rules.specs.Words.{is_parked}
 use Rattle.timer_wheel.specs.declared.waiting.Waiting.{Waiting}
-use Rattle.timer_wheel.specs.Delays.{DelayList, places, delay_at, is_known, is_of, seen_parked}
+use Rattle.timer_wheel.specs.Delays.{DelayList, delay_at, is_of}
 use Rattle.plan_shape.specs.Blueprint.{Blueprint}
-use Rattle.table_words.specs.Controls.{control_read}
 use Rattle.table_words.specs.Stamps.{stamp_of}
 use Rattle.table_steps.specs.Views.{Board}
 use Rattle.table_steps.specs.Claims.{Seated}
@@ -20,15 +17,11 @@ use Rattle.table_steps.specs.Takes.{rest_word}
 use Rattle.home_items.specs.declared.entry.Entry.{Entry}
 use Rattle.home_items.specs.declared.item.Item.{Item}
 use Rattle.exec_recv.specs.Asides.{KeepsAside}
-use Rattle.node_walks.specs.Resting.{IsAtRest}
-use Rattle.node_walks.specs.Since.{OnlyLooks}
 use Rattle.node_walks.specs.Serving.{TakesWord}
 use Rattle.exec_recv.proofs.Since.{moved-before, moved-after, since-before, since-after}
-use Rattle.node_walks.proofs.Read.{looked-rests, looked-only, looked-since}
-use Rattle.run_loop.specs.declared.delay_node.DelayNode.{DelayNode}
-use Rattle.run_loop.specs.DelayNodes.{IsDelayNode, nodes_of, place_of, name_at}
-use Rattle.run_loop.specs.Delayed.{SaysParked, word_at, IsSeenNow, WasTried, WasDue, Becomes, IsLookedAt, LooksAtDelay, WasTakenOut}
-use Rattle.run_loop.proofs.DelayLists.{seen_one, seen-turn, seen-places, seen-other, seen-known, seen-new, seen-is-known, known-waits}
+use Rattle.run_loop.specs.DelayNodes.{place_of, name_at}
+use Rattle.run_loop.specs.Delayed.{SaysParked, word_at, IsSeenNow, IsNewIn, WasTried, WasDue, Becomes, IsLookedAt, WasTakenOut}
+use Rattle.run_loop.proofs.DelayLists.{known-waits}
 
 abbrev as_name : ℕ → ℕ → ℕ → Name
 as_name block node generation = record { block = block; generation = generation; node = node }
@@ -146,12 +139,28 @@ module _ (board : Board Blueprint) (m between m' : Seated Item Entry) where
         tried = λ within. tried-after count more _ le (was.tried within) aside;
       }
 
+  new-after : (turn count more place : ℕ) (before : Option Waiting) (generation : ℕ) → count ≤ more →
+      IsNewIn board m between turn count place before generation → KeepsAside between m' → IsNewIn board m m' turn more place before generation
+  new-after turn count more place before generation le is aside = elim is [
+    | inl unknown ↦ inl unknown
+    | inr lost ↦ inr (elim lost [
+      | inl other ↦ inl (other.0, other.1, seen-after turn place other.0 other.2 aside)
+      | inr was ↦ inr (due-after turn count more place before le was aside)
+    ])
+  ]
+
   pub becomes-after : (turn count more place : ℕ) (before after : Option Waiting) → count ≤ more →
       Becomes board m between turn count place before after → KeepsAside between m' → Becomes board m m' turn more place before after
   becomes-after turn count more place before after le first aside = elim first [
     | inl same ↦ inl same
     | inr changes ↦ inr (elim changes [
-      | inl new ↦ inl (new.0, new.1, seen-after turn place new.0 new.2 aside)
+      | inl new ↦
+          inl (
+            new.0,
+            new.1,
+            seen-after turn place new.0 new.2 aside,
+            new-after turn count more place before new.0.generation le new.3 aside,
+          )
       | inr out ↦ inr (out.0, due-after turn count more place before le out.1 aside)
     ])
   ]
@@ -180,6 +189,30 @@ module _ (board : Board Blueprint) (m between m' : Seated Item Entry) where
           (seen-after turn place new.0 new.2 next))
       came (inr (inr out)) there = absurd (none-some was.waiting (sym out.0 ∙ there))
 
+  -- a delay that is new in what an earlier call left
+  new-on : (turn count more place : ℕ) (before middle : Option Waiting) (generation : ℕ) → count ≤ more →
+      Becomes board m between turn count place before middle → IsNewIn board between m' turn more place middle generation →
+      KeepsAside m between → KeepsAside between m' → IsNewIn board m m' turn more place before generation
+  new-on turn count more place before middle generation le first is aside next = elim is [
+    | inl unknown ↦ unknown-on first unknown
+    | inr lost ↦ inr (elim lost [
+      | inl other ↦ inl (other.0, other.1, seen-before turn place other.0 aside other.2)
+      | inr was ↦ inr (due-on turn count more place before middle first was aside next)
+    ])
+  ]
+    where
+      unknown-on : Becomes board m between turn count place before middle → is_of generation middle ≡ false →
+          IsNewIn board m m' turn more place before generation
+      unknown-on (inl same) unknown = inl (ap (is_of generation) (sym same) ∙ unknown)
+      unknown-on (inr (inl new)) unknown =
+          inr
+          (inl (
+            new.0,
+            λ same. both_ways (is_of generation middle) unknown (ap (is_of generation) new.1 ∙ eq-eqb new.0.generation generation same),
+            seen-after turn place new.0 new.2 next,
+          ))
+      unknown-on (inr (inr out)) unknown = inr (inr (due-after turn count more place before le out.1 next))
+
   -- one call after another
   pub becomes-on : (turn count more place : ℕ) (before middle after : Option Waiting) → count ≤ more →
       Becomes board m between turn count place before middle → Becomes board between m' turn more place middle after →
@@ -190,85 +223,12 @@ module _ (board : Board Blueprint) (m between m' : Seated Item Entry) where
       on (inl same) =
           subst (λ (o : Option Waiting). Becomes board m m' turn more place before o) (sym same)
           (becomes-after turn count more place before middle le first next)
-      on (inr (inl new)) = inr (inl (new.0, new.1, seen-before turn place new.0 aside new.2))
-      on (inr (inr out)) = inr (inr (out.0, due-on turn count more place before middle first out.1 aside next))
-
--- a look at one place
-module _ (board : Board Blueprint) (block : ℕ) (delay : DelayNode) (m m' : Seated Item Entry) (before after : DelayList)
-    (looks : LooksAtDelay board block delay m m' before after) where
-  abbrev place : ℕ
-  place = place_of board block delay.node
-
-  abbrev generation : ℕ
-  generation = stamp_of looks.word
-
-  abbrev noted : DelayList
-  noted = seen_parked before place generation delay.turns
-
-  -- by whether it is parked
-  by_word : (P : DelayList → Type 0) → (is_parked (control_read looks.word) ≡ true → P noted) →
-      (is_parked (control_read looks.word) ≡ false → P before) → P after
-  by_word P parked unparked =
-      either (is_parked (control_read looks.word))
-      (λ t. subst P (sym (looks.list ∙ cond-true (is_parked (control_read looks.word)) noted before t)) (parked t))
-      (λ f. subst P (sym (looks.list ∙ cond-false (is_parked (control_read looks.word)) noted before f)) (unparked f))
-
-  pub look-turn : after.turn ≡ before.turn
-  look-turn = by_word (λ d. d.turn ≡ before.turn) (λ _. seen-turn before place generation delay.turns) (λ _. refl)
-
-  -- a look lists itself
-  pub look-only : OnlyLooks m m'
-  look-only = looked-only (word_at board block delay.node) looks.word m m' looks.me_is
-
-  pub look-rests : IsAtRest m.0 → IsAtRest m'.0
-  look-rests = looked-rests (word_at board block delay.node) looks.word m m' looks.me_is
-
-  pub look-places : places after ≡ places before
-  look-places = by_word (λ d. places d ≡ places before) (λ _. seen-places before place generation delay.turns) (λ _. refl)
-
-  pub look-other : (other : ℕ) → other ≢ place → delay_at after other ≡ delay_at before other
-  look-other other apart =
-      by_word (λ d. delay_at d other ≡ delay_at before other) (λ _. seen-other before place generation delay.turns other apart) (λ _. refl)
-
-  -- its word was read
-  pub look-here : place < places before → IsLookedAt board m m' after 0 block delay.node
-  look-here within =
-      record {
-        word = looks.word;
-        read = looked-since (word_at board block delay.node) looks.word m m' looks.me_is (λ w. w ≡ looks.word) refl;
-        known = λ parked.
-            inl
-            (ap (λ (d : DelayList). is_known d place generation)
-            (looks.list ∙ cond-true (is_parked (control_read looks.word)) noted before parked)
-            ∙ seen-is-known before place generation delay.turns within);
-      }
-
-  -- and the place has the delay that it had, or this one
-  pub look-becomes : place < places before → block < board.frame.layout.blocks → IsDelayNode (nodes_of board) delay → (other : ℕ) →
-      Becomes board m m' after.turn 0 other (delay_at before other) (delay_at after other)
-  look-becomes within in_blocks is other = elim (cases_eq other place) [
-    | inl here ↦
-        subst (λ k. Becomes board m m' after.turn 0 k (delay_at before k) (delay_at after k)) (sym here)
-        (by_word (λ d. Becomes board m m' after.turn 0 place (delay_at before place) (delay_at d place)) at_place (λ _. inl refl))
-    | inr there ↦ inl (look-other other there)
-  ]
-    where
-      at_place : is_parked (control_read looks.word) ≡ true → Becomes board m m' after.turn 0 place (delay_at before place) (delay_at noted place)
-      at_place parked =
-          either (is_known before place generation)
-          (λ known. inl (seen-known before place generation delay.turns known))
-          (λ unknown.
+      on (inr (inl new)) =
           inr
           (inl (
-            seen_one before place generation delay.turns,
-            seen-new before place generation delay.turns within unknown,
-            record {
-              block = block;
-              node = delay.node;
-              within = in_blocks;
-              place_is = refl;
-              delay = is;
-              since = sym look-turn;
-              read = looked-since (word_at board block delay.node) looks.word m m' looks.me_is (SaysParked generation) (parked, refl);
-            },
-          )))
+            new.0,
+            new.1,
+            seen-before turn place new.0 aside new.2,
+            new-on turn count more place before middle new.0.generation le first new.3 aside next,
+          ))
+      on (inr (inr out)) = inr (inr (out.0, due-on turn count more place before middle first out.1 aside next))

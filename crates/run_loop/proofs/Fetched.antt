@@ -5,11 +5,11 @@ use Rattle.std.proofs.Math.Numerals.{add-one}
 use Rattle.life_rules.specs.declared.event.Name.{Name}
 use Rattle.deck_relay.specs.declared.deck.Deck.{Deck}
 use Rattle.deck_relay.specs.Moves.{FindsNone, Takes}
-use Rattle.run_loop.specs.declared.names.Names.{Names}
+use Rattle.run_loop.specs.declared.loop_mail.LoopMail.{LoopMail}
 use Rattle.run_loop.specs.Fetches.{FetchesMany, FetchesOne, FindsNoneOf, IsNameListed, IsPushed, IsShared, TakesOf}
 
 -- one name more
-pub fetch-more : (count : ℕ) (old between new : Names) → FetchesMany count old between → FetchesOne between new → FetchesMany (count + 1) old new
+pub fetch-more : (count : ℕ) (old between new : LoopMail) → FetchesMany count old between → FetchesOne between new → FetchesMany (count + 1) old new
 fetch-more count old between new before one =
     let all : FetchesMany (suc count) old new = record { between = between; before = before; one = one } in
     subst (λ n. FetchesMany n old new) (sym (add-one count)) all
@@ -27,14 +27,14 @@ module _ (o o' : Option Deck) (deck deck' : Deck) (is : o ≡ Some deck) (is' : 
   none-of (Some name) none = tt
   none-of None none = both FindsNoneOf none
 
-  pub shared-of : (name : Name) (old new : Names) → new.list ≡ old.list → IsPushed name deck deck' → IsShared name old new o o'
+  pub shared-of : (name : Name) (old new : LoopMail) → new.list ≡ old.list → IsPushed name deck deck' → IsShared name old new o o'
   shared-of name old new same pushed = both (IsShared name old new) (same, pushed)
 
 -- and where there is none
 pub finds-none : (o : Option Deck) → o ≡ None → FindsNoneOf o o
 finds-none o is = subst (λ (p : Option Deck). FindsNoneOf p p) (sym is) tt
 
-pub shared-here : (name : Name) (old new : Names) (o o' : Option Deck) → o ≡ None → o' ≡ o → IsNameListed name old new → IsShared name old new o o'
+pub shared-here : (name : Name) (old new : LoopMail) (o o' : Option Deck) → o ≡ None → o' ≡ o → IsNameListed name old new → IsShared name old new o o'
 shared-here name old new o o' none same listed =
     subst (λ (p : Option Deck). IsShared name old new o p) (sym same)
     (subst (λ (p : Option Deck). IsShared name old new p p) (sym none) listed)

@@ -26,7 +26,8 @@ use Rattle.exec_recv.specs.Over.{IsOver}
 use Rattle.run_loop.specs.declared.delay_node.DelayNode.{DelayNode}
 use Rattle.run_loop.specs.DelayNodes.{IsDelayNode, AreDelaysOf, nodes_of, place_of, place_count}
 use Rattle.run_loop.specs.Delayed.{Becomes, IsLookedAt, LooksAtDelay, LooksThrough, LooksBelow}
-use Rattle.run_loop.proofs.Becoming.{becomes-on, looked-before, looked-after, look-turn, look-places, look-other, look-here, look-becomes}
+use Rattle.run_loop.proofs.Becoming.{becomes-on, looked-before, looked-after}
+use Rattle.run_loop.proofs.PlaceLooks.{look-turn, look-places, look-other, look-here, look-becomes}
 
 module _ (board : Board Blueprint) (over : IsOver board board.frame.over.value) where
   -- a delay of the plan has a place in each block, and waits few turns

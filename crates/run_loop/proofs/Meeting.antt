@@ -13,9 +13,11 @@ use Rattle.home_items.specs.declared.item.Item.{Item}
 use Rattle.exec_recv.specs.Asides.{KeepsAside}
 use Rattle.exec_recv.specs.Sites.{Does}
 use Rattle.exec_recv.proofs.Asiding.{aside-on}
+use Rattle.node_walks.specs.Mails.{HearsAll}
 use Rattle.run_loop.specs.declared.looped.Loop.{Loop as Looped}
 use Rattle.run_loop.specs.Longer.{AreMoreNames}
-use Rattle.run_loop.specs.Serves.{MayHelp, ServesOne}
+use Rattle.run_loop.specs.Fetches.{HearsName}
+use Rattle.run_loop.specs.Serves.{MayHelp, HandMoment, ServesOne}
 use Rattle.run_loop.specs.Turns.{Meets, MeetsFirst, MeetsAll, TakesNamed, AreAllLeft}
 
 module _ (does : Does) (board : Board Blueprint) (helps : Bool) where
@@ -30,9 +32,15 @@ module _ (does : Does) (board : Board Blueprint) (helps : Bool) where
       subst (λ n. MeetsFirst does board helps names n m m') (sym (add-one count)) all
 
   -- a name whose node was taken
-  pub named-one : (name : Name) (m m' : Seated Item Entry) → TakesNamed does board helps name m m' →
+  pub named-one : (name : Name) (m m' : HandMoment) → HearsAll HearsName m.names m'.names (TakesNamed does board helps name m.me m'.me) →
       ServesOne does board (MayHelp helps) m m'
-  named-one name m m' one = record { name = name; from = one.from; may_be = one.may_be; serves = one.serves }
+  named-one name m m' one =
+      record {
+        name = name;
+        from = one.leaves.from;
+        may_be = one.leaves.may_be;
+        serves = record { ready = one.ready; leaves = one.leaves.serves; heard = one.heard };
+      }
 
 -- and something else after them
 pub met-later : (does : Does) (board : Board Blueprint) (old between new : Looped) → MeetsAll does board old between →

@@ -1,9 +1,10 @@
 -- Nodes that a turn passed over, and names that it left, one after the other.
-use Rattle.std.proofs.Common.{◌≡◌, inl, inr, ℕ, ◌+◌, ◌-◌, Bool, List, length, arith, sym, ap, ◌∙◌, subst}
-use Rattle.std.specs.Prelude.{◌≢◌, slice_get, Some}
+use Rattle.std.proofs.Common.{◌≡◌, inl, inr, ℕ, ◌+◌, ◌-◌, Bool, true, false, List, length, arith, refl, sym, ap, ◌∙◌, subst}
+use Rattle.std.specs.Prelude.{◌≢◌, slice_get, is_some, Option, Some, None, IfSome}
 use Rattle.std.proofs.lemmas.Bool.{both_ways, cases_lt, eq-eqb}
 use Rattle.std.proofs.lemmas.Option.{same_Some}
 use Rattle.life_rules.specs.declared.event.Name.{Name}
+use Rattle.life_rules.specs.declared.event.Resting.{Resting}
 use Rattle.life_rules.specs.declared.event.Resting.TheVariants as rest
 use Rattle.node_tree.specs.declared.context.Context.TheVariants.{Loop, Pool}
 use Rattle.node_tree.specs.Tree.{is_root}
@@ -16,9 +17,11 @@ use Rattle.table_steps.specs.Takes.{rest_word}
 use Rattle.home_items.specs.declared.entry.Entry.{Entry}
 use Rattle.home_items.specs.declared.item.Item.{Item}
 use Rattle.exec_recv.specs.Asides.{KeepsAside}
-use Rattle.node_walks.specs.Serving.{IsUnready}
-use Rattle.exec_recv.proofs.Since.{since-before, since-after}
-use Rattle.run_loop.specs.Turns.{WasPassed, ArePassed, ArePassedBelow, TakesNothing, IsInner, WasLeft, IsLeft, AreLeft}
+use Rattle.exec_recv.specs.Sites.{Does}
+use Rattle.node_walks.specs.Serving.{IsUnready, ServesNode, TakesWord}
+use Rattle.exec_recv.proofs.Since.{moved-before, moved-after, since-before, since-after}
+use Rattle.run_loop.specs.Serves.{IsOpen}
+use Rattle.run_loop.specs.Turns.{WasPassed, ArePassed, ArePassedBelow, TakesNothing, IsInner, WasLeft, IsLeft, AreLeft, WasTakenThere, WasMet, AreMet, AreMetBelow}
 
 module _ (board : Board Blueprint) (helps : Bool) (block : ℕ) (m between m' : Seated Item Entry) where
   pub passed-before : (node : ℕ) → KeepsAside m between → WasPassed board between m' helps block node → WasPassed board m m' helps block node
@@ -71,6 +74,80 @@ module _ (board : Board Blueprint) (helps : Bool) (block : ℕ) (m between m' : 
 pub passed-all : (board : Board Blueprint) (helps : Bool) (block : ℕ) (m m' : Seated Item Entry) →
     ArePassed board m m' helps block (length board.frame.tree - 1) → ArePassed board m m' helps block (length board.frame.tree)
 passed-all board helps block m m' all node below inner =
+    elim (cases_lt node (length board.frame.tree - 1)) [
+      | inl less ↦ all node less inner
+      | inr past ↦
+          let last : node + 1 ≡ length board.frame.tree = omega (arith, below, past) in
+          absurd (both_ways (is_root board.frame.tree node) inner (eq-eqb (node + 1) (length board.frame.tree) last))
+    ]
+
+-- a node that was taken at its place of the table
+pub taken-there : (does : Does) (board : Board Blueprint) (helps : Bool) (from : Resting) (answer : Option Name) (block node : ℕ)
+    (m m' : Seated Item Entry) → is_some answer ≡ true → IsOpen helps from →
+    IfSome answer (λ name. ServesNode does board from name m m') →
+    IfSome answer (λ name. (name.block ≡ block) × (name.node ≡ node)) → WasTakenThere board m m' helps block node
+taken-there does board helps from (Some name) block node m m' some may_be served there =
+    record { name = name; there = there; from = from; may_be = may_be; taken = served.taken }
+taken-there does board helps from None block node m m' some may_be served there = absurd (both_ways false refl some)
+
+-- what is met is so still, seen from earlier and later
+module _ (board : Board Blueprint) (helps : Bool) (m between m' : Seated Item Entry) where
+  there-before : (block node : ℕ) → KeepsAside m between → WasTakenThere board between m' helps block node →
+      WasTakenThere board m m' helps block node
+  there-before block node aside one =
+      record {
+        name = one.name;
+        there = one.there;
+        from = one.from;
+        may_be = one.may_be;
+        taken = moved-before (control_index board one.name) (TakesWord one.from one.name) m between m' aside one.taken;
+      }
+
+  there-after : (block node : ℕ) → WasTakenThere board m between helps block node → KeepsAside between m' →
+      WasTakenThere board m m' helps block node
+  there-after block node one aside =
+      record {
+        name = one.name;
+        there = one.there;
+        from = one.from;
+        may_be = one.may_be;
+        taken = moved-after (control_index board one.name) (TakesWord one.from one.name) m between m' one.taken aside;
+      }
+
+  pub met-before : (block node : ℕ) → KeepsAside m between → WasMet board between m' helps block node → WasMet board m m' helps block node
+  met-before block node aside (inl taken) = inl (there-before block node aside taken)
+  met-before block node aside (inr passed) = inr (passed-before board helps block m between m' node aside passed)
+
+  met-after : (block node : ℕ) → WasMet board m between helps block node → KeepsAside between m' → WasMet board m m' helps block node
+  met-after block node (inl taken) aside = inl (there-after block node taken aside)
+  met-after block node (inr passed) aside = inr (passed-after board helps block m between m' node passed aside)
+
+  -- one node more
+  pub node-met : (block count : ℕ) → KeepsAside m between → KeepsAside between m' → AreMet board m between helps block count →
+      WasMet board between m' helps block count → AreMet board m m' helps block (count + 1)
+  node-met block count first next all one node below inner =
+      elim (cases_lt node count) [
+        | inl less ↦ met-after block node (all node less inner) next
+        | inr past ↦
+            let is : count ≡ node = omega (arith, below, past) in
+            subst (λ (n : ℕ). WasMet board m m' helps block n) is (met-before block count first one)
+      ]
+
+  -- and one block more
+  pub block-met : (block : ℕ) → KeepsAside m between → KeepsAside between m' → AreMetBelow board m between helps block →
+      AreMet board between m' helps block (length board.frame.tree) → AreMetBelow board m m' helps (block + 1)
+  block-met block first next all one other below node within inner =
+      elim (cases_lt other block) [
+        | inl less ↦ met-after other node (all other less node within inner) next
+        | inr past ↦
+            let is : block ≡ other = omega (arith, below, past) in
+            subst (λ (k : ℕ). WasMet board m m' helps k node) is (met-before block node first (one node within inner))
+      ]
+
+-- all nodes but the last are all but the root
+pub met-all : (board : Board Blueprint) (helps : Bool) (block : ℕ) (m m' : Seated Item Entry) →
+    AreMet board m m' helps block (length board.frame.tree - 1) → AreMet board m m' helps block (length board.frame.tree)
+met-all board helps block m m' all node below inner =
     elim (cases_lt node (length board.frame.tree - 1)) [
       | inl less ↦ all node less inner
       | inr past ↦

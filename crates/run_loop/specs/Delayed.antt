@@ -1,10 +1,10 @@
 -- What a turn makes of the parked delays of the plan.
-use Rattle.std.specs.Prelude.{◌≡◌, ◌≢◌, ◌⊎◌, ℕ, ◌<◌, ◌≤◌, true, List, slice_get, Option, Some, None, if◌then◌else◌}
+use Rattle.std.specs.Prelude.{◌≡◌, ◌≢◌, ◌⊎◌, ℕ, ◌<◌, ◌≤◌, true, false, List, slice_get, Option, Some, None, if◌then◌else◌}
 use Rattle.life_rules.specs.declared.event.Name.{Name}
 use Rattle.life_rules.specs.declared.event.Resting.TheVariants as rest
 use Rattle.life_rules.specs.Words.{is_parked}
 use Rattle.timer_wheel.specs.declared.waiting.Waiting.{Waiting}
-use Rattle.timer_wheel.specs.Delays.{DelayList, places, delay_at, turn_due, is_known, seen_parked, turn_after, NoneIsDue}
+use Rattle.timer_wheel.specs.Delays.{DelayList, places, delay_at, turn_due, is_of, is_known, seen_parked, turn_after, NoneIsDue}
 use Rattle.plan_rules.specs.declared.node.Node.TheVariants.{Delay}
 use Rattle.plan_shape.specs.Blueprint.{Blueprint}
 use Rattle.table_words.specs.Controls.{control_read}
@@ -20,7 +20,7 @@ use Rattle.node_walks.specs.Serving.{WasMissed}
 use Rattle.run_loop.specs.declared.delay_node.DelayNode.{DelayNode}
 use Rattle.run_loop.specs.declared.looped.Loop.{Loop as Looped}
 use Rattle.run_loop.specs.DelayNodes.{nodes_of, place_of, name_at}
-use Rattle.run_loop.specs.Serves.{IsOpen, ServesMore, Taking}
+use Rattle.run_loop.specs.Serves.{IsOpen, ServesAll, Taking}
 use Rattle.run_loop.specs.Turns.{WasTaken}
 
 -- The word says that its node is parked, at this generation.
@@ -62,11 +62,20 @@ module _ (board : Board Blueprint) (m m' : Seated Item Entry) where
     pub due : turn_due waiting ≤ turn
     pub tried : WasTriedAt count place waiting.generation
 
-  -- The place has a delay that was first seen in this turn; or none more, since that which waited
-  -- there was due.
+  -- The place had no delay of this generation, or lost it in this turn: the word said another, or
+  -- the delay was due.
+  abbrev pub IsNewIn : ℕ → ℕ → ℕ → Option Waiting → ℕ → Type 0
+  IsNewIn turn count place before generation =
+      (is_of generation before ≡ false)
+      ⊎ (((other : Waiting) × (other.generation ≢ generation) × IsSeenNow turn place other)
+      ⊎ WasDue turn count place before)
+
+  -- The place has a delay that was first seen in this turn, and had it not before; or none more,
+  -- since that which waited there was due.
   abbrev pub Changes : ℕ → ℕ → ℕ → Option Waiting → Option Waiting → Type 0
   Changes turn count place before after =
-      ((waiting : Waiting) × (after ≡ Some waiting) × IsSeenNow turn place waiting)
+      ((waiting : Waiting) × (after ≡ Some waiting) × IsSeenNow turn place waiting
+      × IsNewIn turn count place before waiting.generation)
       ⊎ ((after ≡ None) × WasDue turn count place before)
 
   -- It has the delay that it had, or changed so.
@@ -132,11 +141,9 @@ MayTakeIn board old new =
     λ from name. IsOpen old.helps from
     ⊎ MayTakeDue board old.hand.me new.hand.me new.delays.turn old.delays from name
 
--- So many nodes were taken and stepped, one after the other, each of which might be. Nothing else
--- was done, but looks. The number counts up to 2 ^ 32 - 1.
+-- So many nodes were taken and stepped, one after the other, each of which might be.
 abbrev pub TakesSoMany : Does → Board Blueprint → ℕ → Looped → Looped → Type 0
-TakesSoMany does board count old new =
-    ServesMore does board (MayTakeIn board old new) 0 count old.hand.me new.hand.me
+TakesSoMany does board count old new = ServesAll does board (MayTakeIn board old new) count old new
 
 abbrev pub HasTurned : Board Blueprint → ℕ → Looped → Looped → Type 0
 HasTurned board count old new =

@@ -5,7 +5,7 @@ use Rattle.node_tree.specs.declared.context.Context.{Context}
 use Rattle.node_tree.specs.declared.context.Context.TheVariants.{Loop, Pool}
 use Rattle.deck_relay.specs.declared.deck.Deck.{Deck}
 use Rattle.deck_relay.specs.Moves.{FindsNone, HandsBack, IsOwnFull, Pushes, Takes}
-use Rattle.run_loop.specs.declared.names.Names.{Names}
+use Rattle.run_loop.specs.declared.loop_mail.LoopMail.{LoopMail}
 
 -- The name left the deck, where there is one.
 abbrev pub TakesOf : Name → Option Deck → Option Deck → Type 0
@@ -21,44 +21,46 @@ FindsNoneOf None (Some new) = ⊥
 FindsNoneOf None None = ⊤
 
 -- A name left the deck, and went to the back of the list.
-pub record FetchesOne (old new : Names) : Type 0 where
+pub record FetchesOne (old new : LoopMail) : Type 0 where
   pub name : Name
   pub takes : TakesOf name old.deck new.deck
   pub list : new.list.items ≡ old.list.items ++ name ∷ []
+  pub root : new.root ≡ old.root
 
 -- The list is as it was. No name was found in the deck, or the list is full and the deck is as it
 -- was.
-pub record FetchesNone (old new : Names) : Type 0 where
+pub record FetchesNone (old new : LoopMail) : Type 0 where
   pub list : new.list.items ≡ old.list.items
+  pub root : new.root ≡ old.root
   pub cause : FindsNoneOf old.deck new.deck
       ⊎ ((vec_capacity old.list ≤ vec_len old.list) × (new.deck ≡ old.deck))
 
 -- One did after this.
-pub record FetchesAfter (Before : Names → Type 0) (new : Names) : Type 0 where
-  pub between : Names
+pub record FetchesAfter (Before : LoopMail → Type 0) (new : LoopMail) : Type 0 where
+  pub between : LoopMail
   pub before : Before between
   pub one : FetchesOne between new
 
 -- So many did, one after the other.
-abbrev pub FetchesMany : ℕ → Names → Names → Type 0
+abbrev pub FetchesMany : ℕ → LoopMail → LoopMail → Type 0
 FetchesMany zero old new = new ≡ old
 FetchesMany (suc count) old new = FetchesAfter (λ between. FetchesMany count old between) new
 
 -- 256 did, or as many as were found, or as there was room for.
-pub record Fetches (old new : Names) : Type 0 where
+pub record Fetches (old new : LoopMail) : Type 0 where
   pub count : ℕ
-  pub last : Names
+  pub last : LoopMail
   pub many : FetchesMany count old last
   pub stops : ((count ≡ 256) × (new ≡ last)) ⊎ FetchesNone last new
 
 -- So it was where the loop helps the pool; else nothing was done.
-abbrev pub FetchesWhere : Bool → Names → Names → Type 0
+abbrev pub FetchesWhere : Bool → LoopMail → LoopMail → Type 0
 FetchesWhere true old new = Fetches old new
 FetchesWhere false old new = new ≡ old
 
 -- The name went to the back of the list; or it is of a root, or the list is full, and the list is
 -- as it was.
-abbrev pub IsNameListed : Name → Names → Names → Type 0
+abbrev pub IsNameListed : Name → LoopMail → LoopMail → Type 0
 IsNameListed name old new =
     (new.list.items ≡ old.list.items ++ name ∷ [])
     ⊎ ((new.list.items ≡ old.list.items)
@@ -70,7 +72,7 @@ IsPushed name old new =
     Pushes name old new ⊎ ((back : Name) × HandsBack name old new back × IsOwnFull old)
 
 -- The list is as it was, and the name was pushed to the deck; or there is none, and it was listed.
-abbrev pub IsShared : Name → Names → Names → Option Deck → Option Deck → Type 0
+abbrev pub IsShared : Name → LoopMail → LoopMail → Option Deck → Option Deck → Type 0
 IsShared name old new (Some deck) (Some deck') =
     (new.list ≡ old.list) × IsPushed name deck deck'
 IsShared name old new (Some deck) None = ⊥
@@ -79,6 +81,11 @@ IsShared name old new None None = IsNameListed name old new
 
 -- What is ready in the loop was listed. What is ready in the pool was pushed to the deck, where
 -- there is one.
-abbrev pub HearsName : Name → Context → Names → Names → Type 0
-HearsName name Loop old new = (new.deck ≡ old.deck) × IsNameListed name old new
-HearsName name Pool old new = IsShared name old new old.deck new.deck
+abbrev pub GoesTo : Name → Context → LoopMail → LoopMail → Type 0
+GoesTo name Loop old new = (new.deck ≡ old.deck) × IsNameListed name old new
+GoesTo name Pool old new = IsShared name old new old.deck new.deck
+
+-- So the name went there. Which node is of roots stays.
+pub record HearsName (name : Name) (on : Context) (old new : LoopMail) : Type 0 where
+  pub root : new.root ≡ old.root
+  pub goes : GoesTo name on old new

@@ -7,6 +7,7 @@ pub mod Collects
 pub mod Serves
 pub mod Turns
 pub mod Delayed
+pub mod Scans
 pub mod Waits
 -- the definitions that the public contracts cite
 pub use Rattle.table_steps.specs.Views

@@ -1,5 +1,5 @@
 -- A loop as its callers see it, and what its calls leave of its hand's view.
-use Rattle.std.specs.Prelude.{◌≡◌, ℕ, ◌≤◌, false, List, [], ◌∷◌, Option, Some, None}
+use Rattle.std.specs.Prelude.{◌≡◌, ℕ, ◌+◌, ◌≤◌, false, List, [], ◌∷◌, length, Option, Some, None}
 use Rattle.life_rules.specs.declared.event.Name.{Name}
 use Rattle.atomic_table.specs.Seated.{TableId}
 use Rattle.atomic_table.specs.declared.shared.Seat.{Seat}
@@ -36,7 +36,7 @@ abbrev pub decked : Deck → Looped → Looped
 decked deck loop = record loop { names = record loop.names { deck = Some deck } }
 
 -- A new loop on this hand knows no names, has no deck, doesn't help the pool, and has collected
--- nothing. No delay waits, and no turn is over.
+-- nothing. No delay waits, and no turn is over. It leaves out names of roots.
 pub record IsOpened (board : Board Blueprint) (hand : Seat (Option Item) (View Item Entry))
     (loop : Looped)
     : Type 0 where
@@ -48,6 +48,7 @@ pub record IsOpened (board : Board Blueprint) (hand : Seat (Option Item) (View I
   pub delays : HasDelays board loop.delays loop.delay_nodes.items
   pub waiting : HasNoDelay loop.delays
   pub deck : deck_of loop ≡ None
+  pub root : loop.names.root + 1 ≡ length board.frame.tree
 
 -- The names that it was told of.
 abbrev pub told : Looped → List Name
@@ -56,6 +57,7 @@ told loop = loop.names.list.items
 -- These are the names that it knows now. All else is as before.
 pub record IsTold (names : List Name) (old new : Looped) : Type 0 where
   pub names_are : told new ≡ names
+  pub root : new.names.root ≡ old.names.root
   pub rest : new ≡ record old { names = new.names }
 
 -- The loop's hand is hand 0 of this table, and at rest. It has room for the delays of the table's

@@ -14,10 +14,11 @@ use Rattle.home_items.specs.declared.item.Item.{Item}
 use Rattle.exec_recv.specs.Asides.{KeepsAside}
 use Rattle.exec_recv.specs.Sites.{Does}
 use Rattle.exec_recv.specs.Since.{HasMovedSince}
+use Rattle.node_walks.specs.declared.mail.ReadyNode.{ReadyNode}
 use Rattle.node_walks.specs.Since.{OnlyLooks}
 use Rattle.node_walks.specs.Serving.{OnlyServes, TakesWord, WasMissed, WasUnready}
 use Rattle.run_loop.specs.declared.looped.Loop.{Loop as Looped}
-use Rattle.run_loop.specs.declared.names.Names.{Names}
+use Rattle.run_loop.specs.declared.loop_mail.LoopMail.{LoopMail}
 use Rattle.run_loop.specs.Fetches.{FetchesWhere}
 use Rattle.run_loop.specs.Longer.{AreMoreNames}
 use Rattle.run_loop.specs.Loops.{told}
@@ -86,13 +87,37 @@ module _ (board : Board Blueprint) (m m' : Seated Item Entry) where
   abbrev pub AreAllLeft : Bool → List Name → Type 0
   AreAllLeft helps names = AreLeft helps names (length names)
 
-module _ (does : Does) (board : Board Blueprint) (helps : Bool) where
-  -- The named node was taken where it rested in the loop, or where the loop helps in the pool, and
-  -- stepped. Nothing else was done, but looks before that.
-  pub record TakesNamed (name : Name) (m m' : Seated Item Entry) : Type 0 where
+module _ (board : Board Blueprint) (m m' : Seated Item Entry) where
+  -- The block's node was taken where it rested in the loop, or where the loop helps in the pool.
+  pub record WasTakenThere (helps : Bool) (block node : ℕ) : Type 0 where
+    pub name : Name
+    pub there : (name.block ≡ block) × (name.node ≡ node)
     pub from : Resting
     pub may_be : IsOpen helps from
-    pub serves : OnlyServes does board from name m m'
+    pub taken : WasTaken board m m' from name
+
+  -- so it was, or it was passed
+  abbrev pub WasMet : Bool → ℕ → ℕ → Type 0
+  WasMet helps block node =
+      WasTakenThere helps block node ⊎ WasPassed board m m' helps block node
+
+  -- each of the first so many nodes of the block was, but the root; and of the first so many blocks
+  abbrev pub AreMet : Bool → ℕ → ℕ → Type 0
+  AreMet helps block count =
+      (node : ℕ) → node < count → is_root board.frame.tree node ≡ false → WasMet helps block node
+
+  abbrev pub AreMetBelow : Bool → ℕ → Type 0
+  AreMetBelow helps blocks =
+      (block : ℕ) → block < blocks → AreMet helps block (length board.frame.tree)
+
+module _ (does : Does) (board : Board Blueprint) (helps : Bool) where
+  -- The named node was taken where it rested in the loop, or where the loop helps in the pool, and
+  -- stepped. Nothing else was done, but looks before that. The steps left these nodes ready.
+  pub record TakesNamed (name : Name) (m m' : Seated Item Entry) (ready : List ReadyNode)
+      : Type 0 where
+    pub from : Resting
+    pub may_be : IsOpen helps from
+    pub serves : OnlyServes does board from name m m' ready
 
   -- It was left, and words were only looked at.
   pub record LeavesNamed (name : Name) (m m' : Seated Item Entry) : Type 0 where
@@ -101,7 +126,8 @@ module _ (does : Does) (board : Board Blueprint) (helps : Bool) where
 
   -- the one or the other
   abbrev pub Meets : Name → Seated Item Entry → Seated Item Entry → Type 0
-  Meets name m m' = TakesNamed name m m' ⊎ LeavesNamed name m m'
+  Meets name m m' =
+      ((ready : List ReadyNode) × TakesNamed name m m' ready) ⊎ LeavesNamed name m m'
 
   -- So the name at this place of the list was met, after this.
   pub record MeetsAfter (names : List Name) (place : ℕ) (Before : Seated Item Entry → Type 0)
@@ -134,7 +160,7 @@ pub record MeetsEach (does : Does) (board : Board Blueprint) (old new : Looped) 
 
 -- The names that the loop was told of were, and after them those that it took of its hand's deck.
 pub record MeetsAll (does : Does) (board : Board Blueprint) (old new : Looped) : Type 0 where
-  pub names : Names
+  pub names : LoopMail
   pub fetches : FetchesWhere old.helps old.names names
   pub longer : AreMoreNames (told old) names.list.items
   pub meets : MeetsList does board names.list.items old new
@@ -146,3 +172,11 @@ MissesAll board old new = AreAllLeft board old.hand.me new.hand.me old.helps (to
 -- All nodes of the table were passed but the roots.
 abbrev pub FindsNothing : Board Blueprint → Looped → Looped → Type 0
 FindsNothing board old new = TakesNothing board old.hand.me new.hand.me old.helps
+
+-- The names that the loop was told of were met, and after them those that it took of its hand's
+-- deck. It did nothing else.
+pub record OnlyMeets (does : Does) (board : Board Blueprint) (old new : Looped) : Type 0 where
+  pub names : LoopMail
+  pub fetches : FetchesWhere old.helps old.names names
+  pub each : MeetsFirst does board old.helps names.list.items (length names.list.items)
+      old.hand.me new.hand.me

@@ -12,10 +12,10 @@ ghost use Rattle.node_walks.specs.Since.{OnlyLooks};
 ghost use Rattle.run_loop.specs.Delayed.{WasTriedAt, LooksAtDelay, LooksThrough, LooksBelow, TakesDue, PassesTurn};
 ghost use Rattle.run_loop.specs.Delayed.{MayTakeDelay, MayTakeDue, MayTakeOf};
 ghost use Rattle.run_loop.specs.DelayNodes.{IsDelayNode, AreDelaysOf, nodes_of, place_of, place_count};
-ghost use Rattle.run_loop.specs.Serves.{ServesMore};
+ghost use Rattle.run_loop.specs.Serves.{ServesMore, moment};
 
 use crate::delay_node::DelayNode;
-use crate::names::Names;
+use crate::loop_mail::LoopMail;
 use crate::serving::one_more;
 use exec_recv::{Item, Site, Stepper};
 use life_rules::{Name, Resting};
@@ -115,7 +115,7 @@ fn look_round(
 fn try_due<T: Stepper, R: Wait + Sync>(
     site: &Site<R, T>,
     hand: &mut Hand<Item>,
-    names: &mut Names,
+    names: &mut LoopMail,
     due: DueDelay,
     taken: u32,
 ) -> u32
@@ -128,7 +128,8 @@ fn try_due<T: Stepper, R: Wait + Sync>(
     ensures rests { IsAtRest (knows hand.new) }
     ensures aside { KeepsAside hand.old.me hand.new.me }
     ensures served { ServesMore T.does site.now
-        (MayTakeDelay site.now due.place due.generation) taken result hand.old.me hand.new.me }
+        (MayTakeDelay site.now due.place due.generation) taken result
+        (moment hand.old names.old) (moment hand.new names.new) }
     ensures more { taken ≤ result }
     ensures tried { WasTriedAt site.now hand.old.me hand.new.me result due.place due.generation }
     ensures deck { KeepsDeck names.old.deck names.new.deck }
@@ -153,7 +154,7 @@ fn try_due<T: Stepper, R: Wait + Sync>(
 fn take_due<T: Stepper, R: Wait + Sync>(
     site: &Site<R, T>,
     hand: &mut Hand<Item>,
-    names: &mut Names,
+    names: &mut LoopMail,
     delays: &mut Delays,
     taken: u32,
 ) -> u32
@@ -166,7 +167,8 @@ fn take_due<T: Stepper, R: Wait + Sync>(
     ensures rests { IsAtRest (knows hand.new) }
     ensures aside { KeepsAside hand.old.me hand.new.me }
     ensures served { ServesMore T.does site.now
-        (MayTakeOf site.now delays.old) taken result hand.old.me hand.new.me }
+        (MayTakeOf site.now delays.old) taken result
+        (moment hand.old names.old) (moment hand.new names.new) }
     ensures more { taken ≤ result }
     ensures due { TakesDue site.now result hand.old.me hand.new.me delays.old delays.new }
     ensures deck { KeepsDeck names.old.deck names.new.deck }
@@ -183,7 +185,7 @@ fn take_due<T: Stepper, R: Wait + Sync>(
 pub fn serve_delays<T: Stepper, R: Wait + Sync>(
     site: &Site<R, T>,
     hand: &mut Hand<Item>,
-    names: &mut Names,
+    names: &mut LoopMail,
     delays: &mut Delays,
     nodes: &[DelayNode],
     taken: u32,
@@ -200,7 +202,7 @@ pub fn serve_delays<T: Stepper, R: Wait + Sync>(
     ensures aside { KeepsAside hand.old.me hand.new.me }
     ensures served { ServesMore T.does site.now
         (MayTakeDue site.now hand.old.me hand.new.me delays.new.turn delays.old)
-        taken result hand.old.me hand.new.me }
+        taken result (moment hand.old names.old) (moment hand.new names.new) }
     ensures more { taken ≤ result }
     ensures places { places delays.new ≡ places delays.old }
     ensures turn { PassesTurn site.now hand.old.me hand.new.me result delays.old delays.new }

@@ -20,10 +20,7 @@
 //! Other hands tell a loop of nodes that they left ready there through a queue (loop_queue):
 //! `drain` adds these names to those that the next poll serves. A name is a hint, and one that is
 //! lost is found by a turn's look at each node. A loop whose hand has a deck (deck_relay) pushes
-//! the names of nodes there that it leaves ready in the pool, and sleeps by the deck's sleeper:
-//!
-//!     awake --lie_down--> lying, looks once more --sleep--> asleep --woken--> awake
-//!                              +--get_up: it found something--> awake
+//! the names of nodes there that it leaves ready in the pool, and may sleep by the deck's sleeper.
 //!
 //! The loop has no list of its operations. Its hand notes the start of each root that it begins,
 //! and forgets it when it gives the block back: the operations that a loop started and hasn't
@@ -36,8 +33,8 @@ mod delay_node;
 mod delaying;
 mod draining;
 mod listing;
+mod loop_mail;
 mod looped;
-mod names;
 mod resting;
 mod scanning;
 mod serving;
@@ -46,7 +43,7 @@ mod tally;
 mod turning;
 mod waiting;
 
-pub use deck_relay::Deck;
+pub use deck_relay::{Deck, Sleeper};
 pub use exec_recv::{Env, Gate, Item, Site, Stepper};
 pub use loop_queue::{Drained, LoopPost};
 pub use looped::Loop;

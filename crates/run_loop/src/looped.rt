@@ -7,7 +7,7 @@ ghost use Rattle.run_loop.specs.Loops.{IsOpened, deck_of, decked};
 
 use crate::delay_node::DelayNode;
 use crate::listing::{delays_of, room_of};
-use crate::names::Names;
+use crate::loop_mail::LoopMail;
 use crate::tally::Tally;
 use deck_relay::Deck;
 use exec_recv::Item;
@@ -25,7 +25,7 @@ pub struct Loop {
     /// The hand on which it works.
     pub hand: Hand<Item>,
     /// What it was told of since the last poll, and the hand's deck.
-    pub(crate) names: Names,
+    pub(crate) names: LoopMail,
     /// The room of the names that a poll serves.
     pub(crate) served: Vec<Name>,
     /// The block at which the search for a free one begins.
@@ -58,7 +58,7 @@ impl Loop {
         ensures back { IfErr result (λ back. back ≡ hand) }
     {
         let (blocks, nodes) = (table.blocks(), table.tree().size());
-        let Ok(names) = Names::with_room(alloc, blocks, nodes) else {
+        let Ok(names) = LoopMail::with_room(alloc, blocks, nodes) else {
             return Err(hand);
         };
         let Ok(served) = Vec::with_capacity(alloc, blocks as usize) else {

@@ -3,7 +3,7 @@ ghost use Rattle.std.specs.Prelude.{◌≡◌, ◌==◌, not, is_some, vec_len};
 ghost use Rattle.run_loop.specs.Loops.{deck_of};
 
 use crate::looped::Loop;
-use std::sync::Wait;
+use deck_relay::Sleeper;
 
 impl Loop {
     /// Whether its hand has a deck. Without one it doesn't sleep: nobody would wake it.
@@ -21,28 +21,14 @@ impl Loop {
         !self.delay_nodes.is_empty()
     }
 
-    /// Says that it is about to sleep. It looks once more at the queue, at each node and at the
-    /// roots of its operations, and sleeps only where that finds nothing.
-    pub fn lie_down(&self) {
-        if let Some(deck) = &self.names.deck {
-            deck.sleeper().lie_down();
+    /// The sleeper of its hand, where that has a deck.
+    pub fn sleeper(&self) -> Option<&Sleeper>
+        ensures { is_some result ≡ is_some (deck_of self.now) }
+    {
+        match &self.names.deck {
+            None => None,
+            Some(deck) => Some(deck.sleeper()),
         }
-    }
-
-    /// It doesn't sleep: its last look found something. The last hand isn't counted as searching,
-    /// so it doesn't matter whether another woke it.
-    pub fn get_up(&self) {
-        if let Some(deck) = &self.names.deck {
-            let _slept = deck.sleeper().get_up();
-        }
-    }
-
-    /// Sleeps until it is woken, after it has lain down.
-    pub fn sleep<R: Wait>(&self, rt: &R) {
-        if let Some(deck) = &self.names.deck {
-            deck.sleeper().park(rt);
-        }
-        self.get_up();
     }
 
     /// Gives each hand of the pool a token, so that it looks once more.

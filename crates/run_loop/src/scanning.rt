@@ -1,15 +1,15 @@
 //! A look at each node of the table, but roots.
-ghost use Rattle.std.specs.Prelude.{◌≡◌, ◌<◌};
+ghost use Rattle.std.specs.Prelude.{◌≡◌, ◌<◌, length};
 ghost use Rattle.std.specs.Thread.{IsSync};
 ghost use Rattle.table_steps.specs.Views.{IsHandOf, Stays, knows};
 ghost use Rattle.deck_relay.specs.SameDecks.{KeepsDeck};
 ghost use Rattle.exec_recv.specs.Asides.{KeepsAside};
 ghost use Rattle.exec_recv.specs.Sites.{IsSite};
 ghost use Rattle.node_walks.specs.Resting.{IsAtRest};
-ghost use Rattle.run_loop.specs.Serves.{MayHelp, ServesMore};
-ghost use Rattle.run_loop.specs.Turns.{CountsBlock, TakesNothing};
+ghost use Rattle.run_loop.specs.Serves.{MayHelp, ServesMore, moment};
+ghost use Rattle.run_loop.specs.Turns.{AreMet, AreMetBelow, CountsBlock, TakesNothing};
 
-use crate::names::Names;
+use crate::loop_mail::LoopMail;
 use crate::serving::take_node;
 use exec_recv::{Item, Site, Stepper};
 use op_slot::Hand;
@@ -19,7 +19,7 @@ use std::sync::Wait;
 fn scan_block<T: Stepper, R: Wait + Sync>(
     site: &Site<R, T>,
     hand: &mut Hand<Item>,
-    names: &mut Names,
+    names: &mut LoopMail,
     helps: bool,
     block: u32,
     taken: u32,
@@ -34,8 +34,10 @@ fn scan_block<T: Stepper, R: Wait + Sync>(
     ensures rests { IsAtRest (knows hand.new) }
     ensures aside { KeepsAside hand.old.me hand.new.me }
     ensures served { ServesMore T.does site.now (MayHelp helps) taken result
-        hand.old.me hand.new.me }
+        (moment hand.old names.old) (moment hand.new names.new) }
     ensures none { CountsBlock site.now hand.old.me hand.new.me helps block taken result }
+    ensures met { AreMet site.now hand.old.me hand.new.me helps block
+        (length site.now.frame.tree) }
     ensures deck { KeepsDeck names.old.deck names.new.deck }
 {
     let size = site.table.tree().size();
@@ -50,7 +52,7 @@ fn scan_block<T: Stepper, R: Wait + Sync>(
 pub fn scan_blocks<T: Stepper, R: Wait + Sync>(
     site: &Site<R, T>,
     hand: &mut Hand<Item>,
-    names: &mut Names,
+    names: &mut LoopMail,
     helps: bool,
 ) -> u32
     requires sync { IsSync R.row }
@@ -62,8 +64,10 @@ pub fn scan_blocks<T: Stepper, R: Wait + Sync>(
     ensures rests { IsAtRest (knows hand.new) }
     ensures aside { KeepsAside hand.old.me hand.new.me }
     ensures served { ServesMore T.does site.now (MayHelp helps) 0 result
-        hand.old.me hand.new.me }
+        (moment hand.old names.old) (moment hand.new names.new) }
     ensures none { result ≡ 0 → TakesNothing site.now hand.old.me hand.new.me helps }
+    ensures met { AreMetBelow site.now hand.old.me hand.new.me helps
+        site.now.frame.layout.blocks }
     ensures deck { KeepsDeck names.old.deck names.new.deck }
 {
     let mut taken = 0;

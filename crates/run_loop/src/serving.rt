@@ -6,10 +6,10 @@ ghost use Rattle.deck_relay.specs.SameDecks.{KeepsDeck};
 ghost use Rattle.exec_recv.specs.Asides.{KeepsAside};
 ghost use Rattle.exec_recv.specs.Sites.{IsSite};
 ghost use Rattle.node_walks.specs.Resting.{IsAtRest};
-ghost use Rattle.run_loop.specs.Serves.{MayHelp, ServesMore};
-ghost use Rattle.run_loop.specs.Turns.{CountsNode};
+ghost use Rattle.run_loop.specs.Serves.{MayHelp, ServesMore, moment};
+ghost use Rattle.run_loop.specs.Turns.{CountsNode, WasMet};
 
-use crate::names::Names;
+use crate::loop_mail::LoopMail;
 use exec_recv::{Item, Site, Stepper};
 use node_tree::Context;
 use node_walks::serve_place;
@@ -29,7 +29,7 @@ pub fn one_more(count: u32) -> u32
 pub fn take_node<T: Stepper, R: Wait + Sync>(
     site: &Site<R, T>,
     hand: &mut Hand<Item>,
-    names: &mut Names,
+    names: &mut LoopMail,
     helps: bool,
     block: u32,
     node: u32,
@@ -46,8 +46,9 @@ pub fn take_node<T: Stepper, R: Wait + Sync>(
     ensures rests { IsAtRest (knows hand.new) }
     ensures aside { KeepsAside hand.old.me hand.new.me }
     ensures served { ServesMore T.does site.now (MayHelp helps) taken result
-        hand.old.me hand.new.me }
+        (moment hand.old names.old) (moment hand.new names.new) }
     ensures none { CountsNode site.now hand.old.me hand.new.me helps block node taken result }
+    ensures met { WasMet site.now hand.old.me hand.new.me helps block node }
     ensures deck { KeepsDeck names.old.deck names.new.deck }
 {
     if serve_place(site, hand, names, block, node, Context::Loop).is_some() {

@@ -24,8 +24,9 @@ impl Loop {
     /// environment shows a start of the receiver node of that plan, with arguments of the kinds of
     /// the child that it names.
     /// Afterwards: the loop is ready. The block's root began with the start that the environment
-    /// shows, and the stepper stepped it. The hand has noted that start, and had noted none of this
-    /// root before.
+    /// shows, and the stepper stepped it. The search for the block began from the one that was
+    /// collected last, and the hand did nothing else. The loop took note of each node that the
+    /// steps left ready. The hand has noted that start, and had noted none of this root before.
     #[inline(always)]
     pub fn start<T: Stepper, R: Wait + Sync>(
         &mut self,

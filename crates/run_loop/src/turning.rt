@@ -6,16 +6,19 @@ ghost use Rattle.deck_relay.specs.SameDecks.{KeepsDeck};
 ghost use Rattle.exec_recv.specs.Asides.{KeepsAside};
 ghost use Rattle.exec_recv.specs.Over.{IsOver};
 ghost use Rattle.exec_recv.specs.Sites.{IsSite};
+ghost use Rattle.node_walks.specs.Mails.{HearsAll};
 ghost use Rattle.node_walks.specs.Resting.{IsAtRest};
 ghost use Rattle.node_walks.specs.Since.{OnlyLooks};
 ghost use Rattle.run_loop.specs.Delayed.{HasTurned, TakesSoMany};
 ghost use Rattle.run_loop.specs.Loops.{IsReady, KeepsCounts, KeepsDelays, deck_of};
-ghost use Rattle.run_loop.specs.Serves.{MayHelp, ServesMore};
-ghost use Rattle.run_loop.specs.Turns.{IsInner, IsLeft, AreAllLeft, TakesNamed, MeetsFirst, MeetsAll, MissesAll, FindsNothing};
+ghost use Rattle.run_loop.specs.Fetches.{HearsName};
+ghost use Rattle.run_loop.specs.Serves.{MayHelp, ServesAll, ServesMore, moment};
+ghost use Rattle.run_loop.specs.Turns.{IsInner, IsLeft, AreAllLeft, TakesNamed, MeetsFirst, MeetsAll, MissesAll, FindsNothing, OnlyMeets};
+ghost use Rattle.run_loop.specs.Scans.{OnlyPolls, OnlyTurns};
 
 use crate::delaying::serve_delays;
+use crate::loop_mail::LoopMail;
 use crate::looped::Loop;
-use crate::names::Names;
 use crate::scanning::scan_blocks;
 use crate::serving::one_more;
 use exec_recv::{Item, Site, Stepper};
@@ -40,7 +43,7 @@ fn is_inner(table: &OpTable<Item>, name: Name) -> bool
 fn serve_name<T: Stepper, R: Wait + Sync>(
     site: &Site<R, T>,
     hand: &mut Hand<Item>,
-    names: &mut Names,
+    names: &mut LoopMail,
     helps: bool,
     name: Name,
 ) -> bool
@@ -52,10 +55,11 @@ fn serve_name<T: Stepper, R: Wait + Sync>(
     ensures stays { Stays site.now hand.old hand.new }
     ensures rests { IsAtRest (knows hand.new) }
     ensures aside { KeepsAside hand.old.me hand.new.me }
-    ensures served { result ≡ true →
-        TakesNamed T.does site.now helps name hand.old.me hand.new.me }
+    ensures served { result ≡ true → HearsAll HearsName names.old names.new
+        (TakesNamed T.does site.now helps name hand.old.me hand.new.me) }
     ensures left { result ≡ false → IsLeft site.now hand.old.me hand.new.me helps name }
     ensures looks { result ≡ false → OnlyLooks hand.old.me hand.new.me }
+    ensures unheard { result ≡ false → names.new ≡ names.old }
     ensures deck { KeepsDeck names.old.deck names.new.deck }
 {
     if !is_inner(site.table, name) {
@@ -74,7 +78,7 @@ fn serve_name<T: Stepper, R: Wait + Sync>(
 fn serve_each<T: Stepper, R: Wait + Sync>(
     site: &Site<R, T>,
     hand: &mut Hand<Item>,
-    names: &mut Names,
+    names: &mut LoopMail,
     helps: bool,
     told: &[Name],
 ) -> u32
@@ -87,7 +91,7 @@ fn serve_each<T: Stepper, R: Wait + Sync>(
     ensures rests { IsAtRest (knows hand.new) }
     ensures aside { KeepsAside hand.old.me hand.new.me }
     ensures served { ServesMore T.does site.now (MayHelp helps) 0 result
-        hand.old.me hand.new.me }
+        (moment hand.old names.old) (moment hand.new names.new) }
     ensures met { MeetsFirst T.does site.now helps told.now (length told.now)
         hand.old.me hand.new.me }
     ensures none { result ≡ 0 → AreAllLeft site.now hand.old.me hand.new.me helps told.now }
@@ -114,9 +118,10 @@ impl Loop {
         ensures counts { KeepsCounts self.old self.new }
         ensures delays { KeepsDelays self.old self.new }
         ensures aside { KeepsAside self.old.hand.me self.new.hand.me }
-        ensures served { ServesMore T.does site.now (MayHelp self.old.helps) 0 result
-            self.old.hand.me self.new.hand.me }
+        ensures served { ServesAll T.does site.now (MayHelp self.old.helps) result
+            self.old self.new }
         ensures met { MeetsAll T.does site.now self.old self.new }
+        ensures only { OnlyMeets T.does site.now self.old self.new }
         ensures none { result ≡ 0 → MissesAll site.now self.old self.new }
         ensures deck { KeepsDeck (deck_of self.old) (deck_of self.new) }
     {
@@ -164,6 +169,7 @@ impl Loop {
         ensures aside { KeepsAside self.old.hand.me self.new.hand.me }
         ensures served { TakesSoMany T.does site.now result self.old self.new }
         ensures met { MeetsAll T.does site.now self.old self.new }
+        ensures only { OnlyPolls T.does site.now result self.old self.new }
         ensures turn { HasTurned site.now result self.old self.new }
         ensures none { result ≡ 0 → MissesAll site.now self.old self.new }
         ensures deck { KeepsDeck (deck_of self.old) (deck_of self.new) }
@@ -199,6 +205,7 @@ impl Loop {
         ensures aside { KeepsAside self.old.hand.me self.new.hand.me }
         ensures served { TakesSoMany T.does site.now result self.old self.new }
         ensures met { MeetsAll T.does site.now self.old self.new }
+        ensures only { OnlyTurns T.does site.now result self.old self.new }
         ensures turn { HasTurned site.now result self.old self.new }
         ensures none { result ≡ 0 → FindsNothing site.now self.old self.new }
         ensures deck { KeepsDeck (deck_of self.old) (deck_of self.new) }

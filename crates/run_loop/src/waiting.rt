@@ -6,7 +6,7 @@ ghost use Rattle.deck_relay.specs.SameDecks.{KeepsDeck};
 ghost use Rattle.run_loop.specs.Loops.{IsReady, deck_of};
 ghost use Rattle.node_walks.specs.Starts.{CanRun};
 ghost use Rattle.node_walks.specs.Completes.{IsListed};
-ghost use Rattle.run_loop.specs.Waits.{IsCollected, Waits};
+ghost use Rattle.run_loop.specs.Waits.{IsCollected, OnlyWaits, TurnsUntil, Waits};
 ghost use Rattle.exec_recv.specs.Sites.{IsSite};
 
 use crate::looped::Loop;
@@ -38,6 +38,7 @@ impl Loop {
         ensures ready { IsReady site.now self.new }
         ensures same { IsSameHand self.old.hand self.new.hand }
         ensures collected { IsCollected site.now block self.old self.new result }
+        ensures until { TurnsUntil T.does site.now block self.old self.new result }
         ensures deck { KeepsDeck (deck_of self.old) (deck_of self.new) }
     {
         for _ in site.rt.forever() {
@@ -52,7 +53,7 @@ impl Loop {
 
     /// Starts an operation in a free block, turns until it can be collected, and collects it
     /// ([exec.sync.wait]). NoBlock where no block was free: each was missed at its own step of this
-    /// call. What is promised holds if it returns.
+    /// call. It does nothing else. What is promised holds if it returns.
     ///
     /// Step: those of `start`, of turns and of `collect`.
     /// Needs: as `start`.
@@ -68,6 +69,7 @@ impl Loop {
         ensures ready { IsReady site.now self.new }
         ensures same { IsSameHand self.old.hand self.new.hand }
         ensures waits { Waits site.now env self.old self.new result }
+        ensures only { OnlyWaits T.does site.now env self.old self.new result }
         ensures deck { KeepsDeck (deck_of self.old) (deck_of self.new) }
     {
         match self.start(site, env) {

@@ -41,10 +41,12 @@ pub record IsOperation (board : Board Blueprint) (ended : Ended) : Type 0 where
 abbrev pub HasRoom : Completion → List Datum → Type 0
 HasRoom first values = IfSome (value_data first) (λ front. length front + length values ≤ DATA)
 
--- What both children came to: the second with this parcel, and the first with this completion. It
--- says that a request was seen where the second saw one, or where the first did, whose values it
--- has.
+-- Whether both saw a request: the second did, or the first, whose values the `ahead` has.
+abbrev pub saw_joined : Delivery → Bool → Bool
+saw_joined parcel seen = parcel.saw || (is_some (value_data parcel.completion) && seen)
+
+-- What both children came to: the second with this parcel, and the first with this completion.
 pub record IsJoined (parcel : Delivery) (first : Completion) (seen : Bool) (joined : Joined) :
     Type 0 where
   pub done_is : joined.done ≡ ahead_of first parcel.completion
-  pub saw_is : joined.saw ≡ parcel.saw || (is_some (value_data parcel.completion) && seen)
+  pub saw_is : joined.saw ≡ saw_joined parcel seen

@@ -1,5 +1,5 @@
 -- What a hand has of an `ahead` that it took where that was parked.
-use Rattle.std.specs.Prelude.{◌≡◌, ℕ, Option, Some, None, IfSome}
+use Rattle.std.specs.Prelude.{◌≡◌, ℕ, true, Option, Some, None, IfSome}
 use Rattle.life_rules.specs.declared.event.Name.{Name}
 use Rattle.life_rules.specs.declared.event.Resting.TheVariants.{Parked}
 use Rattle.plan_rules.specs.declared.node.Node.TheVariants.{Ahead}
@@ -21,7 +21,7 @@ use Rattle.step_parts.specs.Takes.{HasParcel, IsTaken}
 use Rattle.node_walks.specs.Resting.{IsAtRest, CanGoOn}
 use Rattle.exec_recv.specs.Since.{HasMovedSince}
 use Rattle.node_walks.specs.Since.{OnlyLooks}
-use Rattle.node_walks.specs.Serving.{TakesWord, WasMissed}
+use Rattle.node_walks.specs.Serving.{TakesUp, TakesWord, WasMissed}
 use Rattle.serve_ahead.specs.declared.taking.AheadAt.{AheadAt}
 use Rattle.serve_ahead.specs.declared.taking.Served.{Served}
 
@@ -52,6 +52,7 @@ module _ (board : Board Blueprint) (at : AheadAt) where
     pub has : HasAtHand board at served.taken served.second new
     pub finds : FindsSecond board at.name at.second served.second served.taken.from.me
     pub stays : Stays board old served.taken.from
+    pub took : TakesUp board at.name Parked true old.me served.taken.from.me
     pub before : KeepsAside old.me served.taken.from.me
     pub aside : KeepsAside old.me new.me
     pub moved : HasMovedSince (control_index board at.name) (TakesWord Parked at.name)

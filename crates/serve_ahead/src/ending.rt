@@ -38,7 +38,7 @@ pub fn fail_ahead<T: Stepper, M: Mail, R: Wait + Sync>(
     requires sync { IsSync R.row }
     requires has { HasAtHand site.now at taken (Some parcel) hand.old }
     requires fails { is_some (value_data parcel.completion) ≡ false }
-    ensures serves { Serves site.now taken parcel.completion hand.old hand.new }
+    ensures serves { Serves site.now taken parcel.completion parcel.saw hand.old hand.new }
     ensures mail { M.keeps mail.old mail.new }
     ensures rests { RestsAfter site.now taken.from hand.new }
 {
@@ -60,7 +60,7 @@ pub fn give_up<T: Stepper, M: Mail, R: Wait + Sync>(
 )
     requires sync { IsSync R.row }
     requires has { HasAtHand site.now at taken None hand.old }
-    ensures serves { Serves site.now taken NoMemory hand.old hand.new }
+    ensures serves { Serves site.now taken NoMemory false hand.old hand.new }
     ensures mail { M.keeps mail.old mail.new }
     ensures rests { RestsAfter site.now taken.from hand.new }
 {

@@ -2,7 +2,7 @@
 use Rattle.std.proofs.Common.{◌≡◌, ℕ, ◌+◌, ◌-◌, List, refl, sym, ap, ◌∙◌, arith}
 use Rattle.std.specs.Prelude.{Option}
 use Rattle.atomic_table.specs.declared.shared.Seat.{Seat}
-use Rattle.count_scope.specs.Leaves.{HasAssociation}
+use Rattle.count_scope.specs.Leaves.{disassociated, HasAssociation, Leaves}
 use Rattle.plan_shape.specs.Blueprint.{Blueprint}
 use Rattle.table_rules.specs.declared.view.Rooted.{Rooted}
 use Rattle.table_rules.specs.declared.view.View.{View}
@@ -24,7 +24,7 @@ use Rattle.node_walks.proofs.Growing.{grows-on, leaves-grows, leaves-with}
 use Rattle.node_walks.specs.Completes.{EndsRoot}
 use Rattle.spawn_future.specs.Keeping.{block_root, Enters, Ends}
 use Rattle.node_walks.specs.declared.completing.Ended.{Ended}
-use Rattle.spawn_future.proofs.Moved.{Moves, moved-leaves}
+use Rattle.spawn_future.proofs.Moved.{Moves, moved-leaves, left-moves}
 
 abbrev with_made : ℕ → Aside → Aside
 with_made made aside = record aside { made = made }
@@ -89,9 +89,12 @@ module _ (board : Board Blueprint) (count : ℕ) (m : Seated Item Entry) (old ne
 
 -- an operation was ended, and its association left
 pub ended : (board : Board Blueprint) (b : Block) (m between m' : Seated Item Entry) (c : Ended) → EndsRoot board b m between c →
-    Moves (between.0.made - 1) between m' → Ends board b m m' c
+    Leaves (disassociated between) m' → Ends board b m m' c
 ended board b m between m' c did left =
     record {
       completes = did.completes;
-      leaves = then-moved (with_released (block_root board b) (aside_of m.0)) m between m' did.leaves left;
+      given = between;
+      moves = did.moves;
+      left = left;
+      leaves = then-moved (with_released (block_root board b) (aside_of m.0)) m between m' did.leaves (left-moves between m' left);
     }

@@ -1,4 +1,5 @@
 pub mod Moved
+pub mod Later
 pub mod Slotted
 pub mod Fresh
 pub mod Kept
@@ -8,3 +9,4 @@ pub mod Swept
 pub mod Counted
 pub mod Served
 pub mod Turned
+pub mod Visited

@@ -1,10 +1,10 @@
 -- What a sweep has done after so many slots.
-use Rattle.std.proofs.Common.{◌≡◌, ◌≢◌, ℕ, ◌+◌, ◌<◌, ◌≤◌, true, false, List, [], ◌∷◌, ◌++◌, append_assoc, length, length-set, set, get_or, inl, inr, refl, sym, ap, ◌∙◌, subst, arith}
+use Rattle.std.proofs.Common.{◌≡◌, ◌≢◌, ◌⊎◌, ℕ, suc, ◌+◌, ◌<◌, ◌≤◌, true, false, List, [], ◌∷◌, ◌++◌, append_assoc, length, length-set, set, get_or, inl, inr, refl, sym, ap, ◌∙◌, subst, arith}
 use Rattle.std.specs.Prelude.{Option, Some, None, is_some}
+use Rattle.std.proofs.Math.Numerals.{add-one}
 use Rattle.std.proofs.lemmas.Bool.{both_ways, cases_eq, cases_lt}
 use Rattle.std.proofs.lemmas.Option.{same_Some}
 use Rattle.std.proofs.lemmas.List.Sums.{count_by-le-length}
-use Rattle.std.proofs.lemmas.List.Elements.{Contains-append_right}
 use Rattle.life_rules.specs.declared.event.Name.{Name}
 use Rattle.life_rules.specs.declared.event.Resting.TheVariants as rest
 use Rattle.listed_words.specs.declared.seen.Seen.{Seen}
@@ -28,22 +28,10 @@ use Rattle.spawn_future.specs.declared.future.Future.{Future}
 use Rattle.spawn_future.specs.Keeping.{block_root, root_of, AreKept}
 use Rattle.spawn_future.specs.Polls.{EndsSlotAt, IsIncomplete}
 use Rattle.spawn_future.specs.Slots.{Has, kept_in, abandoned_block}
-use Rattle.spawn_future.specs.Sweeps.{EndsSlot, LeavesSlot, WasIncomplete, beside_ended, EndsSome, SweepsTo}
+use Rattle.spawn_future.specs.Sweeps.{EndsSlot, LeavesSlot, SweepsFirst, WasIncomplete, beside_ended, EndsSome, SweepsTo}
 use Rattle.spawn_future.proofs.Kept.{others-stay}
+use Rattle.spawn_future.proofs.Later.{read-later}
 use Rattle.spawn_future.proofs.Slotted.{one-less, stays-there, has-within, abandoned-has, not-abandoned, put-there}
-
--- what was read stays so while the list grows
-since-grown : (i : ℕ) (says : ℕ → Type 0) (m between m' : Seated Item Entry) → HasReadSince i says m between → (fresh : List Seen) →
-    m'.0.steps ≡ fresh ++ between.0.steps → HasReadSince i says m m'
-since-grown i says m between m' read fresh grown =
-    record {
-      fresh = fresh ++ read.fresh;
-      grown = grown ∙ ap (λ (l : List Seen). fresh ++ l) read.grown ∙ sym (append_assoc fresh read.fresh m.0.steps);
-      word = read.word;
-      left = read.left;
-      there = Contains-append_right fresh read.fresh (entry i read.word read.left) read.there;
-      said = read.said;
-    }
 
 -- a slot before the next is this one, or one before it
 next-slot : (t slot : ℕ) → t < slot + 1 → (t ≡ slot → ⊥) → t < slot
@@ -51,6 +39,16 @@ next-slot t slot below apart = elim (cases_lt t slot) [
   | inl less ↦ less
   | inr more ↦ absurd (apart (omega (arith, below, more)))
 ]
+
+-- one slot more was swept, after those before it
+pub each-more : (board : Board Blueprint) (slot : ℕ) (old slots new : List (Option Future)) (m between m' : Seated Item Entry) →
+    SweepsFirst board slot old slots m between → EndsSlot board slot slots new between m' ⊎ LeavesSlot board slot slots new between m' →
+    SweepsFirst board (slot + 1) old new m m'
+each-more board slot old slots new m between m' before swept =
+    let all : SweepsFirst board (suc slot) old new m m' =
+    record { slots = slots; between = between; before = before; swept = swept }
+    in
+    subst (λ n. SweepsFirst board n old new m m') (sym (add-one slot)) all
 
 -- nothing was swept yet
 pub swept-none : (board : Board Blueprint) (old : List (Option Future)) (m : Seated Item Entry) → SweepsTo board 0 0 old old m m
@@ -156,7 +154,7 @@ module _ (board : Board Blueprint) (slot count : ℕ) (old new : List (Option Fu
         | inl here ↦
             subst (WasIncomplete board m m') (same_future t f has here) was-read
         | inr there ↦
-            since-grown (control_index board (root_of board f)) (λ word. word ≢ rest_word (root_of board f) rest.Loop) m m1 m' (before.read t f (next-slot t slot below there) has abandoned) (step ∷ []) steps_are
+            read-later (control_index board (root_of board f)) (λ word. word ≢ rest_word (root_of board f) rest.Loop) m m1 m' (before.read t f (next-slot t slot below there) has abandoned) (step ∷ []) steps_are
       ]
         where
           same_future : (t : ℕ) (f : Future) → Has new t f → t ≡ slot → future ≡ f
@@ -223,7 +221,7 @@ module _ (board : Board Blueprint) (slot count : ℕ) (old new : List (Option Fu
       read-still : (t : ℕ) (f : Future) → t < slot + 1 → Has (set new slot None) t f → f.abandoned ≡ true → WasIncomplete board m m' f
       read-still t f below has abandoned =
           let there = stays-there new slot within t f has in
-          since-grown (control_index board (root_of board f)) (λ word. word ≢ rest_word (root_of board f) rest.Loop) m m1 m' (before.read t f (next-slot t slot below there.0) there.1 abandoned) did.ends.leaves.fresh
+          read-later (control_index board (root_of board f)) (λ word. word ≢ rest_word (root_of board f) rest.Loop) m m1 m' (before.read t f (next-slot t slot below there.0) there.1 abandoned) did.ends.leaves.fresh
           did.ends.leaves.grown
 
       ended-swept : SweepsTo board (slot + 1) (count + 1) old (set new slot None) m m'

@@ -8,13 +8,14 @@ use Rattle.table_steps.specs.declared.block.Block.{Block}
 use Rattle.table_steps.specs.ScopeEntries.{MayEnter}
 use Rattle.table_steps.specs.Views.{Board, IsHandOf, knows}
 use Rattle.table_steps.specs.Claims.{Seated, root_name, IsUnnoted}
+use Rattle.count_scope.specs.Leaves.{disassociated, Leaves}
 use Rattle.home_items.specs.declared.entry.Entry.{Entry}
 use Rattle.home_items.specs.declared.item.Item.{Item}
 use Rattle.exec_recv.specs.Asides.{Aside, aside_of}
 use Rattle.node_walks.specs.Resting.{IsAtRest}
 use Rattle.node_walks.specs.declared.completing.Ended.{Ended}
 use Rattle.node_walks.specs.Completes.{CompletesNoted, IsListed}
-use Rattle.node_walks.specs.Emptied.{with_released}
+use Rattle.node_walks.specs.Emptied.{with_released, MovesAndGivesBack}
 use Rattle.node_walks.specs.Leaves.{LeavesAside}
 use Rattle.node_walks.specs.Starts.{with_started}
 use Rattle.spawn_future.specs.declared.future.Future.{Future}
@@ -76,8 +77,12 @@ pub record Enters (board : Board Blueprint) (b : Block) (start : List Entry)
   pub unnoted : IsUnnoted m.0 (block_root board b)
   pub leaves : LeavesAside (with_spawned (block_root board b) start (aside_of m.0)) m m'
 
--- The operation in the block completed so. The block was given back, and then the association left.
+-- The operation in the block completed so. The block was given back, beside whose words none was
+-- moved, and then the association left.
 pub record Ends (board : Board Blueprint) (b : Block) (m m' : Seated Item Entry)
     (ended : Ended) : Type 0 where
   pub completes : CompletesNoted board b m ended
+  pub given : Seated Item Entry
+  pub moves : MovesAndGivesBack board b m given
+  pub left : Leaves (disassociated given) m'
   pub leaves : LeavesAside (with_ended (block_root board b) (aside_of m.0)) m m'

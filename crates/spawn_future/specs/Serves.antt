@@ -123,14 +123,14 @@ module _ (board : Board Blueprint) (at : AheadAt) (t : Stepping) (parcel : Deliv
   pub record FailsWithSecond : Type 0 where
     pub fails : is_some (value_data parcel.completion) ≡ false
     pub abandons : Abandons at.name old new ⊎ AbandonsNone at.name old new
-    pub done : Serves board t parcel.completion hand hand'
+    pub done : Serves board t parcel.completion parcel.saw hand hand'
 
   -- It has a value, and no operation of its first child is kept, which doesn't come.
   pub record HasNoFirst : Type 0 where
     pub value : is_some (value_data parcel.completion) ≡ true
     pub nowhere : WaitsNowhere at.name old
     pub slots : new ≡ old
-    pub done : Serves board t NoMemory hand hand'
+    pub done : Serves board t NoMemory false hand hand'
 
 -- It is at hand with a value of its second child, and its first child's operation is kept.
 module _ (board : Board Blueprint) (at : AheadAt) (served : Served)

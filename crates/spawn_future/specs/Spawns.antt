@@ -8,17 +8,30 @@ use Rattle.life_rules.specs.declared.event.Name.{Name}
 use Rattle.life_rules.specs.declared.scope.Refused.{Refused}
 use Rattle.plan_shape.specs.Blueprint.{Blueprint}
 use Rattle.table_rules.specs.declared.view.View.{View}
+use Rattle.table_steps.specs.declared.block.Block.{Block}
 use Rattle.table_steps.specs.Views.{Board, knows}
 use Rattle.home_items.specs.declared.entry.Entry.{Entry}
 use Rattle.home_items.specs.declared.item.Item.{Item}
 use Rattle.exec_recv.specs.Asides.{aside_of}
+use Rattle.node_walks.specs.declared.mail.ReadyNode.{ReadyNode}
 use Rattle.node_walks.specs.Leaves.{LeavesAside}
-use Rattle.node_walks.specs.Starts.{MissesEach}
+use Rattle.node_walks.specs.Starts.{GoesOnWith, MissesEach}
+use Rattle.node_walks.specs.Walks.{Anything}
 use Rattle.spawn_future.specs.declared.future.Future.{Future}
 use Rattle.spawn_future.specs.declared.spawning.SpawnFault.{SpawnFault}
 use Rattle.spawn_future.specs.declared.spawning.SpawnFault.TheVariants.{Full, Scope, NoBlock}
 use Rattle.spawn_future.specs.Keeping.{Enters}
 use Rattle.spawn_future.specs.Slots.{HasRoom, IsFree, IsFull}
+
+-- An association was made, and then the operation begun in the block, and the hand went on with it.
+-- It did nothing else.
+pub record OnlyEnters (board : Board Blueprint) (b : Block) (start : List Entry)
+    (old new : Seat (Option Item) (View Item Entry)) : Type 0 where
+  pub association : Association
+  pub entered : Seat (Option Item) (View Item Entry)
+  pub made : Associates board.frame.most (Ok association) old.me entered.me
+  pub ready : List ReadyNode
+  pub goes : GoesOnWith Anything board 0 b start entered new.me ready
 
 -- The owner's operation was begun with this start, and is kept in a slot that was free.
 pub record Spawns (board : Board Blueprint) (owner : Name) (start : List Entry)
@@ -30,6 +43,7 @@ pub record Spawns (board : Board Blueprint) (owner : Name) (start : List Entry)
   pub waited : future.abandoned ≡ false
   pub slots : new ≡ slice_set old slot (Some future)
   pub enters : Enters board future.block start m.me m'.me
+  pub only : OnlyEnters board future.block start m m'
 
 -- By the word that it read the scope took no association, for this cause.
 pub record IsTurnedAway (board : Board Blueprint) (cause : Refused)

@@ -1,5 +1,5 @@
 -- What `sweep` does with the futures that are abandoned.
-use Rattle.std.specs.Prelude.{◌≡◌, ◌≢◌, ◌⊎◌, ℕ, ◌+◌, ◌<◌, true, false, List, ◌++◌, length, Option, Some, None, slice_index_or}
+use Rattle.std.specs.Prelude.{◌≡◌, ◌≢◌, ◌⊎◌, ℕ, zero, suc, ◌+◌, ◌<◌, true, false, List, ◌++◌, length, Option, Some, None, slice_index_or}
 use Rattle.life_rules.specs.declared.event.Name.{Name}
 use Rattle.life_rules.specs.declared.event.Resting.TheVariants.{Loop}
 use Rattle.listed_words.specs.declared.seen.Seen.{Seen}
@@ -94,3 +94,19 @@ pub record SweepsTo (board : Board Blueprint) (slots count : ℕ) (old new : Lis
 abbrev pub Sweeps : Board Blueprint → List (Option Future) → List (Option Future)
     → Seated Item Entry → Seated Item Entry → ℕ → Type 0
 Sweeps board old new m m' count = SweepsTo board (length old) count old new m m'
+
+-- After this the slot was swept: its future was ended, or left.
+pub record SweepsAfter (board : Board Blueprint) (t : ℕ)
+    (Before : List (Option Future) → Seated Item Entry → Type 0) (new : List (Option Future))
+    (m' : Seated Item Entry) : Type 0 where
+  pub slots : List (Option Future)
+  pub between : Seated Item Entry
+  pub before : Before slots between
+  pub swept : EndsSlot board t slots new between m' ⊎ LeavesSlot board t slots new between m'
+
+-- So the first so many slots were, one after the other. Nothing else was done.
+abbrev pub SweepsFirst : Board Blueprint → ℕ → List (Option Future) → List (Option Future)
+    → Seated Item Entry → Seated Item Entry → Type 0
+SweepsFirst board zero old new m m' = (new ≡ old) × (m' ≡ m)
+SweepsFirst board (suc t) old new m m' =
+    SweepsAfter board t (λ slots between. SweepsFirst board t old slots m between) new m'

@@ -1,18 +1,21 @@
 -- What a turn does with the `ahead` nodes that are parked.
-use Rattle.std.specs.Prelude.{◌≡◌, ℕ, ◌<◌, false, List, [], ◌∷◌, length, Option, Some, slice_get}
+use Rattle.std.specs.Prelude.{◌≡◌, ◌⊎◌, ℕ, ◌<◌, false, List, [], ◌∷◌, length, Option, Some, slice_get}
 use Rattle.atomic_table.specs.declared.shared.Seat.{Seat}
 use Rattle.life_rules.specs.declared.event.Name.{Name}
+use Rattle.life_rules.specs.declared.event.Resting.TheVariants.{Parked}
 use Rattle.life_rules.specs.Words.{is_parked}
 use Rattle.plan_rules.specs.declared.node.Node.TheVariants.{Ahead}
 use Rattle.plan_shape.specs.Blueprint.{Blueprint}
 use Rattle.table_rules.specs.declared.view.View.{View}
 use Rattle.table_words.specs.Controls.{control_read}
 use Rattle.table_words.specs.Layouts.{OfControl, index}
+use Rattle.table_steps.specs.Steps.{control_index}
 use Rattle.table_steps.specs.Views.{Board}
 use Rattle.table_steps.specs.Claims.{Seated}
 use Rattle.home_items.specs.declared.entry.Entry.{Entry}
 use Rattle.home_items.specs.declared.item.Item.{Item}
-use Rattle.exec_recv.specs.Since.{HasReadSince}
+use Rattle.exec_recv.specs.Since.{HasMovedSince, HasReadSince}
+use Rattle.node_walks.specs.Serving.{TakesWord}
 use Rattle.node_walks.specs.Since.{OnlyLooks}
 use Rattle.serve_ahead.specs.declared.taking.AheadAt.{AheadAt}
 use Rattle.serve_ahead.specs.Takes.{IsAheadIn}
@@ -55,7 +58,44 @@ abbrev pub AreUnparked : Board Blueprint → Blueprint → ℕ → Seated Item E
 AreUnparked board plan count m m' =
     (node : ℕ) → node < count → IsUnparked board plan node m m'
 
--- The place's word was read so, no word was moved, and no future either.
+-- The node of this name was parked, and the hand took it by a step on its word.
+abbrev pub TakesParked : Board Blueprint → Name → Seated Item Entry → Seated Item Entry → Type 0
+TakesParked board x m m' = HasMovedSince (control_index board x) (TakesWord Parked x) m m'
+
+-- So it was of the block's node.
+pub record WasTakenParked (board : Board Blueprint) (block node : ℕ) (m m' : Seated Item Entry)
+    : Type 0 where
+  pub name : Name
+  pub there : (name.block ≡ block) × (name.node ≡ node)
+  pub taken : TakesParked board name m m'
+
+-- It was taken where it was parked, or its word didn't say that it is parked.
+abbrev pub WasVisited : Board Blueprint → ℕ → ℕ → Seated Item Entry → Seated Item Entry → Type 0
+WasVisited board block node m m' =
+    WasTakenParked board block node m m' ⊎ WasUnparked board block node m m'
+
+-- So it was in each of the first so many blocks, and in each block.
+abbrev pub IsVisitedBelow : Board Blueprint → ℕ → ℕ → Seated Item Entry → Seated Item Entry → Type 0
+IsVisitedBelow board node blocks m m' =
+    (block : ℕ) → block < blocks → WasVisited board block node m m'
+
+abbrev pub IsVisitedInAll : Board Blueprint → ℕ → Seated Item Entry → Seated Item Entry → Type 0
+IsVisitedInAll board node m m' = IsVisitedBelow board node board.frame.layout.blocks m m'
+
+-- Where the node is an `ahead`, it was.
+abbrev pub IsVisited : Board Blueprint → Blueprint → ℕ → Seated Item Entry → Seated Item Entry
+    → Type 0
+IsVisited board plan node m m' =
+    (first second : ℕ) → slice_get plan.nodes node ≡ Some (Ahead first second) →
+    IsVisitedInAll board node m m'
+
+-- So it was of the first so many nodes.
+abbrev pub AreVisited : Board Blueprint → Blueprint → ℕ → Seated Item Entry → Seated Item Entry
+    → Type 0
+AreVisited board plan count m m' =
+    (node : ℕ) → node < count → IsVisited board plan node m m'
+
+-- The place's word didn't say that it is parked, no word was moved, and no future either.
 pub record PassesPlace (board : Board Blueprint) (block node : ℕ) (old new : List (Option Future))
     (m m' : Seated Item Entry) : Type 0 where
   pub slots : new ≡ old

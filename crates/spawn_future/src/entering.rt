@@ -7,7 +7,7 @@ ghost use Rattle.exec_recv.specs.Sites.{IsSite};
 ghost use Rattle.node_walks.specs.Resting.{IsAtRest};
 ghost use Rattle.node_walks.specs.Starts.{CanRun};
 ghost use Rattle.spawn_future.specs.Keeping.{Enters};
-ghost use Rattle.spawn_future.specs.Spawns.{IsKeptOut};
+ghost use Rattle.spawn_future.specs.Spawns.{IsKeptOut, OnlyEnters};
 
 use crate::spawning::SpawnFault;
 use count_scope::{Association, associate, disassociate};
@@ -39,6 +39,7 @@ pub(crate) fn enter<T: Stepper, M: Mail, R: Wait + Sync>(
     ensures stays { Stays site.now hand.old hand.new }
     ensures rests { IsAtRest (knows hand.new) }
     ensures entered { IfOk result (λ e. Enters site.now e.block env hand.old.me hand.new.me) }
+    ensures only { IfOk result (λ e. OnlyEnters site.now e.block env hand.old hand.new) }
     ensures out { IfErr result (IsKeptOut site.now env hand.old hand.new) }
     ensures mail { M.keeps mail.old mail.new }
 {

@@ -28,6 +28,7 @@ mod again;
 mod entering;
 mod future;
 mod futures;
+mod law;
 mod limits;
 mod naming;
 mod polling;
@@ -39,6 +40,7 @@ mod turning;
 
 pub use exec_recv::{Env, Gate, Item, Stepper};
 pub use futures::Futures;
+pub use law::limits_of_futures;
 pub use limits::MOST_FUTURES;
 pub use node_walks::Mail;
 pub use op_slot::{Hand, OpTable};

@@ -9,6 +9,7 @@ ghost use Rattle.spawn_future.specs.Counts.{BeginsAndEnds};
 ghost use Rattle.spawn_future.specs.Keeping.{IsKeeping, KeepsAtHand};
 ghost use Rattle.spawn_future.specs.Serves.{StartsBoth, EndsBoth, SpawnsOrPutsOff, AwaitsOrJoins, ServesAhead};
 ghost use Rattle.spawn_future.specs.Slots.{IsFoundAt, WaitsNowhere};
+ghost use Rattle.spawn_future.specs.Turns.{TakesParked};
 
 use crate::again::{begin_again, join_again};
 use crate::futures::Futures;
@@ -170,6 +171,8 @@ impl Futures {
         ensures leaves { BeginsAndEnds site.now self.old self.new hand.old.me hand.new.me }
         ensures served { OnTrue result
             (ServesAhead site.now at self.old self.new hand.old hand.new) }
+        ensures taken { OnTrue result
+            (TakesParked site.now at.name hand.old.me hand.new.me) }
         ensures slots { OnFalse result (self.new ≡ self.old) }
         ensures missed { OnFalse result (MissesAhead site.now at hand.old.me hand.new.me) }
     {

@@ -6,7 +6,7 @@ ghost use Rattle.exec_recv.specs.Over.{IsOver};
 ghost use Rattle.spawn_future.specs.declared.limits.TheConstants.{MOST_FUTURES};
 ghost use Rattle.spawn_future.specs.Keeping.{IsKeeping};
 ghost use Rattle.spawn_future.specs.Slots.{abandoned_block};
-ghost use Rattle.spawn_future.specs.Sweeps.{EndsSlot, LeavesSlot, Sweeps};
+ghost use Rattle.spawn_future.specs.Sweeps.{EndsSlot, LeavesSlot, Sweeps, SweepsFirst};
 
 use crate::futures::Futures;
 use crate::slots::abandoned_in;
@@ -67,14 +67,16 @@ impl Futures {
     /// Step: for each abandoned future those of `poll`. It wants no memory.
     /// Needs: hand 0 keeps these futures, and is at rest.
     /// Afterwards: the same of the hand. Futures that aren't abandoned are kept. For each that was
-    /// ended the block was given back, and then the association left. Notes of all other blocks are
-    /// as they were.
+    /// ended the block was given back, and then the association left; no other word was moved.
+    /// Notes of all other blocks are as they were.
     pub fn sweep<G: Gate>(&mut self, table: &OpTable<Item>, hand: &mut Hand<Item>, gate: &G) -> u32
         requires keeping { IsKeeping table.now self.old hand.old }
         requires over { IsOver table.now table.now.frame.over.value }
         ensures keeping { IsKeeping table.now self.new hand.new }
         ensures same { IsSameHand hand.old hand.new }
         ensures swept { Sweeps table.now self.old self.new hand.old.me hand.new.me result }
+        ensures each { SweepsFirst table.now (length self.old) self.old self.new
+            hand.old.me hand.new.me }
     {
         let mut ended = 0;
         for slot in 0..self.most() {

@@ -7,7 +7,7 @@ ghost use Rattle.table_steps.specs.Views.{IsSameHand, Stays};
 ghost use Rattle.exec_recv.specs.Sites.{IsSite, plan_at};
 ghost use Rattle.spawn_future.specs.Counts.{BeginsAndEnds};
 ghost use Rattle.spawn_future.specs.Keeping.{IsKeeping};
-ghost use Rattle.spawn_future.specs.Turns.{HasAhead, IsAheadOf, IsUnparked, AreAllUnparked, AreUnparked, ServesPlace, PassesPlace, Turns};
+ghost use Rattle.spawn_future.specs.Turns.{HasAhead, IsAheadOf, IsUnparked, AreAllUnparked, AreUnparked, AreVisited, IsVisited, IsVisitedInAll, ServesPlace, PassesPlace, Turns, WasVisited};
 
 use crate::futures::Futures;
 use exec_recv::{Item, Site, Stepper};
@@ -58,6 +58,7 @@ impl Futures {
             (ServesPlace site.now (plan_at site.now) self.old self.new hand.old hand.new) }
         ensures passed { OnFalse result
             (PassesPlace site.now block node self.old self.new hand.old.me hand.new.me) }
+        ensures visited { WasVisited site.now block node hand.old.me hand.new.me }
     {
         for _ in site.rt.forever() {
             match site.table.parked_at(hand, block, node) {
@@ -90,6 +91,7 @@ impl Futures {
         ensures turns { Turns site.now (plan_at site.now) self.old self.new
             hand.old hand.new result }
         ensures none { result ≡ 0 → AreAllUnparked site.now node hand.old.me hand.new.me }
+        ensures visited { IsVisitedInAll site.now node hand.old.me hand.new.me }
         ensures few { result ≤ MOST_BLOCKS }
     {
         let mut taken = 0;
@@ -120,6 +122,7 @@ impl Futures {
             hand.old hand.new result }
         ensures none { result ≡ 0 →
             IsUnparked site.now (plan_at site.now) node hand.old.me hand.new.me }
+        ensures visited { IsVisited site.now (plan_at site.now) node hand.old.me hand.new.me }
         ensures few { result ≤ MOST_BLOCKS }
     {
         match site.plan.node(node) {
@@ -132,8 +135,9 @@ impl Futures {
     /// spawned, and then its second started; where the spawn is refused, or there is no memory for
     /// it, the `ahead` is parked again. One whose second child has completed completes: with the
     /// second's failure, and then the first's operation is abandoned; else once that is complete,
-    /// by what it came to. Until then it is parked again. 0 only where the word of each `ahead`, in
-    /// each block, at a step of this call of its own, didn't say that it is parked.
+    /// by what it came to. Until then it is parked again. Each `ahead`, in each block, was taken
+    /// where it was parked, or its word, at a step of this call of its own, didn't say that it is
+    /// parked; and where the answer is 0, each word did not.
     ///
     /// Step: for each `ahead` in each block one load of its word; and for each that is parked those
     /// of `take_parked`, `park`, `spawn`, `poll`, and of the steps of its nodes.
@@ -159,6 +163,8 @@ impl Futures {
             hand.old hand.new result }
         ensures none { result ≡ 0 →
             AreUnparked site.now (plan_at site.now)
+            (length (plan_at site.now).nodes) hand.old.me hand.new.me }
+        ensures visited { AreVisited site.now (plan_at site.now)
             (length (plan_at site.now).nodes) hand.old.me hand.new.me }
     {
         let mut taken = 0;

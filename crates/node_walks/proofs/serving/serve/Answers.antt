@@ -22,6 +22,7 @@ returns-then-not-take_up g c =
       only = λ is. absurd (both_ways false refl is);
       missed = λ _. rw (← c.site.view_is) (lost-missed c.site.inside.table.now c.args.from c.args.name old new lost);
       looks = λ _. looked-only _ _ old new lost.2;
+      unheard = λ _. refl;
       mail = g.met.M.Mail.none c.args.mail.now;
     }
 
@@ -64,15 +65,21 @@ returns g c =
             stepped = rw (← c.site.view_is) at c.go_on.ensures.first;
           });
       only = λ _.
+          let only = rw (← c.site.view_is) at c.go_on.ensures.only in
           rw (← c.site.view_is)
           (record {
-            before = old.me;
-            looks = looks-here old.me;
-            held = held.me;
-            took = took;
-            steps = rw (← c.site.view_is) at c.go_on.ensures.only;
+            ready = only.ready;
+            leaves = record {
+              before = old.me;
+              looks = looks-here old.me;
+              held = held.me;
+              took = took;
+              steps = only.leaves;
+            };
+            heard = only.heard;
           });
       missed = λ is. absurd (both_ways true is refl);
       looks = λ is. absurd (both_ways true is refl);
+      unheard = λ is. absurd (both_ways true is refl);
       mail = c.go_on.ensures.mail;
     }

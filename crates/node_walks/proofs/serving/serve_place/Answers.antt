@@ -1,9 +1,10 @@
-use Rattle.std.proofs.Common.{sym, subst}
+use Rattle.std.proofs.Common.{refl, sym, ◌∙◌, subst}
 use Rattle.life_rules.specs.declared.event.Resting.{Resting}
 use Rattle.table_words.specs.Layouts.{OfControl, index}
 use Rattle.table_steps.specs.Takes.{MayServe}
 use Rattle.op_slot.proofs.Staying.{stays-here, stays-on}
 use Rattle.exec_recv.proofs.Asiding.{aside-on}
+use Rattle.node_walks.specs.Mails.{HearsEach}
 use Rattle.node_walks.specs.Serving.{IsUnready, OnlyServes, ServesNode}
 use Rattle.exec_recv.proofs.Since.{since-before}
 use Rattle.node_walks.proofs.Read.{looked-rests, looked-aside, looked-only, looks-here, looks-on, read-unready, read-place, read-there}
@@ -19,6 +20,7 @@ loop-init g c =
       rests = c.requires.rests;
       looks = looks-here c.args.hand.now.me;
       mail = g.met.M.Mail.none c.args.mail.now;
+      unheard = refl;
     }
 
 pub serve-requires-clause-place : goal.serve-requires-clause-place
@@ -57,6 +59,7 @@ loop-preserved g c =
       looks = looks-on c.args.hand.now.me c.ready_at.new.hand.me c.serve.new.hand.me
           (looks-on c.args.hand.now.me c.loop.hand.me c.ready_at.new.hand.me before.looks looked) (c.serve.ensures.looks c.if-serve.false);
       mail = g.met.M.Mail.on _ _ _ before.mail c.serve.ensures.mail;
+      unheard = c.serve.ensures.unheard c.if-serve.false ∙ before.unheard;
     }
 
 pub returns-then-serve : goal.returns-then-serve
@@ -78,11 +81,17 @@ returns-then-serve g c =
       aside = aside-on old.me between.me new.me looks.aside c.serve.ensures.aside;
       served = subst (λ (from : Resting). ServesNode does board from name old.me new.me) c.resting-from.ensures
           (serves-before does board c.resting-from.result name old.me between.me new.me looks.aside (c.serve.ensures.served c.if-serve.true));
-      only = subst (λ (from : Resting). OnlyServes does board from name old.me new.me) c.resting-from.ensures
-          (only-before does board c.resting-from.result name old.me between.me new.me looks (c.serve.ensures.only c.if-serve.true));
+      only = let only = c.serve.ensures.only c.if-serve.true in
+          record {
+            ready = only.ready;
+            leaves = subst (λ (from : Resting). OnlyServes does board from name old.me new.me only.ready) c.resting-from.ensures
+                (only-before does board c.resting-from.result name old.me between.me new.me looks only.ready only.leaves);
+            heard = subst (λ m. HearsEach g.M.Mail.hears only.ready m c.serve.new.mail) c.loop.invariant.unheard only.heard;
+          };
       there = read-there board c.args.on c.args.block c.args.node c.ready_at.result name round between read c.in-Some-ready_at.is;
       unready = tt;
       looks = tt;
+      unheard = tt;
       mail = g.met.M.Mail.on _ _ _ c.loop.invariant.mail c.serve.ensures.mail;
     }
 
@@ -105,4 +114,5 @@ returns-in-None-ready_at g c =
           (read-unready board c.args.on c.args.block c.args.node c.ready_at.result round new read c.in-None-ready_at.is);
       looks = looks-on old.me round.me new.me c.loop.invariant.looks (looked-only i read.word round.me new.me read.me_is);
       mail = c.loop.invariant.mail;
+      unheard = c.loop.invariant.unheard;
     }

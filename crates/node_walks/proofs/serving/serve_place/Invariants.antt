@@ -1,3 +1,4 @@
+use Rattle.std.proofs.Common.{◌≡◌}
 use Rattle.table_steps.specs.Views.{Stays}
 use Rattle.node_walks.specs.Resting.{IsAtRest}
 use Rattle.node_walks.specs.Since.{OnlyLooks}
@@ -11,4 +12,5 @@ invariant-loop g l = record {
   rests : IsAtRest l.hand.me.0;
   looks : OnlyLooks l.fn.hand.me l.hand.me;
   mail : g.M.Mail.keeps l.fn.mail l.mail;
+  unheard : l.mail ≡ l.fn.mail;
 }

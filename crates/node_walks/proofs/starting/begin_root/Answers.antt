@@ -7,7 +7,7 @@ use Rattle.op_slot.proofs.Staying.{stays-on}
 use Rattle.home_items.specs.contracts.item.ItemCargo.TheImpl.{ghosts}
 use Rattle.exec_recv.specs.Asides.{Aside}
 use Rattle.node_walks.specs.Resting.{CanGoOn}
-use Rattle.node_walks.specs.Stepped.{HasStepped}
+use Rattle.node_walks.specs.Stepped.{OnlySteps}
 use Rattle.node_walks.proofs.Claimed.{missed-number, missed-rests}
 use Rattle.node_walks.proofs.Started.{has-begun, placed-begins, begun-can, started-leaves}
 use Rattle.node_walks.proofs.starting.begin_root.Goals as goal
@@ -71,14 +71,20 @@ returns-clause-first g c =
     let root = root_name board b.index b.generation in
     let placed = c.place.new.hand.me in
     let begun = c.begin.new.hand.me in
+    let new = c.go_on.new.hand.me in
+    let does = g.T.Stepper.does in
+    let only = rw (← c.site.view_is) at c.go_on.ensures.only in
     rw (← c.site.view_is)
     (record {
-      placed = placed;
-      was_placed = c.in-Ok.ensures.placed;
-      begun = begun;
-      has_begun = subst (λ (x : Name). Begins ghosts (aimed board.frame x) placed begun) {y = root} c.root-root.ensures.name c.begin.ensures.begun;
-      stepped = subst (λ (x : Name). HasStepped g.T.Stepper.does board x begun c.go_on.new.hand.me) {y = root} c.root-root.ensures.name
-          (rw (← c.site.view_is) at c.go_on.ensures.first);
+      ready = only.ready;
+      leaves = record {
+        placed = placed;
+        places = c.in-Ok.ensures.only;
+        begun = begun;
+        has_begun = subst (λ (x : Name). Begins ghosts (aimed board.frame x) placed begun) {y = root} c.root-root.ensures.name c.begin.ensures.begun;
+        steps = subst (λ (x : Name). OnlySteps does board x begun new only.ready) {y = root} c.root-root.ensures.name only.leaves;
+      };
+      heard = only.heard;
     })
 
 pub returns-clause-number : goal.returns-clause-number

@@ -45,3 +45,12 @@ returns-clause-placed c =
     let put = subst (λ (x : Name). IsPut board.frame x (Start c.args.env) new.me c.put_home.new.hand.me) c.root.ensures.name
     (subst (λ (i : Item). IsPut board.frame c.root.result i new.me c.put_home.new.hand.me) c.starting.ensures c.put_home.ensures.put) in
     is-placed board b c.args.env c.args.hand.now new did c.put_home.new.hand.me put
+
+pub returns-clause-only : goal.returns-clause-only
+returns-clause-only c =
+    let board = c.args.table.now in
+    let b = c.in-Some.block in
+    let new = c.claim_from.new.hand in
+    let put = subst (λ (x : Name). IsPut board.frame x (Start c.args.env) new.me c.put_home.new.hand.me) c.root.ensures.name
+    (subst (λ (i : Item). IsPut board.frame c.root.result i new.me c.put_home.new.hand.me) c.starting.ensures c.put_home.ensures.put) in
+    record { claimed = new; found = c.in-Some.ensures.claimed; put = put }

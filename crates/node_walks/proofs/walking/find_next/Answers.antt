@@ -1,6 +1,7 @@
 use Rattle.std.proofs.Common.{Some, inl, inr, refl, sym, subst}
 use Rattle.exec_recv.specs.declared.next.Next.{Next}
 use Rattle.exec_recv.specs.Nexts.{IsNext}
+use Rattle.node_walks.specs.Mails.{HearsEach, ready_after}
 use Rattle.node_walks.specs.Walks.{LeadsTo}
 use Rattle.node_walks.proofs.Going.{goes-to, let-go}
 use Rattle.node_walks.proofs.walking.find_next.Goals as goal
@@ -49,3 +50,20 @@ pub returns-in-Go-clause-follows : goal.returns-in-Go-clause-follows
 returns-in-Go-clause-follows g c =
     subst (λ (n : Next). LeadsTo c.args.site.now n (Some c.in-Go.next) c.args.hand.now.me c.args.hand.now.me) (sym c.in-Go.is)
     (record { going_is = refl; same = refl })
+
+pub returns-in-Ready-clause-heard : goal.returns-in-Ready-clause-heard
+returns-in-Ready-clause-heard g c =
+    subst (λ (n : Next). HearsEach g.M.Mail.hears (ready_after c.args.name n) c.args.mail.now c.ready.new.self) (sym c.in-Ready.is)
+    (record { between = c.ready.new.self; first = c.ready.ensures.hears; others = refl })
+
+pub returns-in-Rest-clause-heard : goal.returns-in-Rest-clause-heard
+returns-in-Rest-clause-heard g c =
+    let heard = λ (n : Next). HearsEach g.M.Mail.hears (ready_after c.args.name n) c.args.mail.now c.args.mail.now in
+    elim c.in-Rest.is [
+      | inl rest ↦ subst heard (sym rest) refl
+      | inr parked ↦ subst heard (sym parked) refl
+    ]
+
+pub returns-in-Go-clause-heard : goal.returns-in-Go-clause-heard
+returns-in-Go-clause-heard g c =
+    subst (λ (n : Next). HearsEach g.M.Mail.hears (ready_after c.args.name n) c.args.mail.now c.args.mail.now) (sym c.in-Go.is) refl

@@ -11,6 +11,6 @@ invariant-loop g l = record {
   stays : Stays l.site l.fn.hand l.hand;
   goes : GoesOn l.site l.going l.hand.me;
   aside : KeepsAside l.fn.hand.me l.hand.me;
-  walks : Completes g.T.Stepper.does l.site l.fn.next l.fn.hand.me l.going l.hand.me;
+  walks : Completes g.M.Mail.hears g.T.Stepper.does l.site l.fn.name l.fn.next l.fn.hand.me l.fn.mail l.going l.hand.me l.mail;
   mail : g.M.Mail.keeps l.fn.mail l.mail;
 }

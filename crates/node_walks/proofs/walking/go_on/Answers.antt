@@ -22,17 +22,22 @@ returns-clause-first g c = record {
   stepped = c.step-next.ensures.steps.stepped;
   after = c.go_after.ensures.aside;
   last = c.go_after.new.hand.me;
-  walks = c.go_after.ensures.walks;
+  ready = c.go_after.ensures.walks.ready;
+  walks = c.go_after.ensures.walks.leaves;
   since = aside-here c.go_after.new.hand.me;
 }
 
 pub returns-clause-only : goal.returns-clause-only
 returns-clause-only g c = record {
-  next = c.step-next.result;
-  between = c.step-next.new.hand.me;
-  did = did-so _ c.args.site.now c.args.name c.step-next.result c.args.hand.now c.step-next.new.hand c.step-next.ensures.does;
-  stepped = c.step-next.ensures.steps.stepped;
-  walks = c.go_after.ensures.walks;
+  ready = c.go_after.ensures.walks.ready;
+  leaves = record {
+    next = c.step-next.result;
+    between = c.step-next.new.hand.me;
+    did = did-so _ c.args.site.now c.args.name c.step-next.result c.args.hand.now c.step-next.new.hand c.step-next.ensures.does;
+    stepped = c.step-next.ensures.steps.stepped;
+    walks = c.go_after.ensures.walks.leaves;
+  };
+  heard = c.go_after.ensures.walks.heard;
 }
 
 pub returns-clause-aside : goal.returns-clause-aside

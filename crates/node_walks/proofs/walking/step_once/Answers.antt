@@ -1,5 +1,7 @@
+use Rattle.std.proofs.Common.{refl}
 use Rattle.exec_recv.proofs.Asiding.{aside-on}
 use Rattle.exec_recv.proofs.Stepped.{did-so}
+use Rattle.node_walks.specs.Mails.{ready_after}
 use Rattle.node_walks.proofs.walking.step_once.Goals as goal
 
 pub find_next-requires-clause-after : goal.find_next-requires-clause-after
@@ -11,11 +13,16 @@ find_next-requires-clause-after g c κs within = record {
 
 pub returns-clause-steps : goal.returns-clause-steps
 returns-clause-steps g c = record {
-  next = c.step-next.result;
-  between = c.step-next.new.hand.me;
-  did = did-so _ c.args.site.now c.args.name c.step-next.result c.args.hand.now c.step-next.new.hand c.step-next.ensures.does;
-  stepped = c.step-next.ensures.steps.stepped;
-  follows = c.find_next.ensures.follows;
+  ready = ready_after c.args.name c.step-next.result;
+  leaves = record {
+    next = c.step-next.result;
+    between = c.step-next.new.hand.me;
+    did = did-so _ c.args.site.now c.args.name c.step-next.result c.args.hand.now c.step-next.new.hand c.step-next.ensures.does;
+    stepped = c.step-next.ensures.steps.stepped;
+    follows = c.find_next.ensures.follows;
+    ready_is = refl;
+  };
+  heard = c.find_next.ensures.heard;
 }
 
 pub returns-clause-aside : goal.returns-clause-aside

@@ -3,7 +3,7 @@ use Rattle.std.proofs.lemmas.Option.{slice_get-get_or}
 use Rattle.op_slot.proofs.Staying.{stays-here, stays-on}
 use Rattle.node_walks.proofs.Read.{looks-here, looks-on}
 use Rattle.run_loop.proofs.Looking.{through-none, through-more}
-use Rattle.run_loop.proofs.Becoming.{look-only, look-rests}
+use Rattle.run_loop.proofs.PlaceLooks.{look-only, look-rests}
 use Rattle.run_loop.proofs.delaying.look_through.Goals as goal
 
 pub loop-delay-init : goal.loop-delay-init

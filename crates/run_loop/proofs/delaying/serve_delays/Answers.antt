@@ -1,9 +1,10 @@
-use Rattle.std.proofs.Common.{ap, ◌∙◌, subst, arith}
+use Rattle.std.proofs.Common.{ap, ◌∙◌, subst, arith, refl}
 use Rattle.op_slot.proofs.Staying.{stays-on}
 use Rattle.exec_recv.specs.Asides.{Aside}
 use Rattle.exec_recv.proofs.Asiding.{aside-on}
 use Rattle.timer_wheel.specs.Delays.{DelayList}
 use Rattle.run_loop.specs.Delayed.{LooksBelow, MayTakeDue, MayTakeOf}
+use Rattle.run_loop.specs.Serves.{moment}
 use Rattle.run_loop.proofs.Due.{due-now, passes}
 use Rattle.run_loop.proofs.Served.{more-none, more-on, more-by}
 use Rattle.run_loop.proofs.delaying.serve_delays.Goals as goal
@@ -30,14 +31,17 @@ returns-clause-served g c =
     let between = c.look_round.new.hand.me in
     let new = c.take_due.new.hand.me in
     let may = MayTakeDue board old new c.take_due.new.delays.turn c.args.delays.now in
-    more-on does board may c.args.taken c.args.taken c.take_due.result old between new
-    (more-none does board may c.args.taken old between (omega arith) c.look_round.ensures.only)
+    let start = moment c.args.hand.now c.args.names.now in
+    let looked = moment c.look_round.new.hand c.args.names.now in
+    let end = moment c.take_due.new.hand c.take_due.new.names in
+    more-on does board may c.args.taken c.args.taken c.take_due.result start looked end
+    (more-none does board may c.args.taken start looked (omega arith) (record { looks = c.look_round.ensures.only; unheard = refl }))
     (more-by does board (MayTakeOf board c.look_round.new.delays) may
     (due-now board c.args.nodes.now old between new c.args.delays.now c.look_round.new.delays c.take_due.new.delays.turn
     (subst (λ (d : DelayList). LooksBelow board c.args.nodes.now board.frame.layout.blocks old between d c.look_round.new.delays)
     c.next_turn.ensures (rw c.site.view_is at c.look_round.ensures.looks))
     c.take_due.ensures.due.takes.turn c.take_due.ensures.aside)
-    c.args.taken c.take_due.result between new c.take_due.ensures.served)
+    c.args.taken c.take_due.result looked end c.take_due.ensures.served)
 
 pub returns-clause-turn : goal.returns-clause-turn
 returns-clause-turn g c =

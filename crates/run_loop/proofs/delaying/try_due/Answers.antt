@@ -2,10 +2,10 @@ use Rattle.std.proofs.Common.{inl, inr, length, arith, refl, ap}
 use Rattle.life_rules.specs.declared.event.Resting.TheVariants as rest
 use Rattle.node_walks.proofs.Took.{first-serves}
 use Rattle.deck_relay.specs.SameDecks.{keeps-here}
-use Rattle.node_walks.proofs.Read.{looks-here}
 use Rattle.run_loop.specs.Delayed.{MayTakeDelay}
+use Rattle.run_loop.specs.Serves.{moment}
 use Rattle.run_loop.proofs.Due.{name-as, tried-as}
-use Rattle.run_loop.proofs.Served.{more-none, more-one}
+use Rattle.run_loop.proofs.Served.{looked-here, more-none, more-one}
 use Rattle.run_loop.proofs.delaying.try_due.Goals as goal
 
 pub serve-requires-clause-serves : goal.serve-requires-clause-serves
@@ -17,7 +17,7 @@ returns-then-serve-clause-served g c =
     let tree = rw c.site.view_is at (ap length c.tree.ensures.tree) in
     let nodes = c.requires.site.over.nodes in
     more-one g.T.Stepper.does c.args.site.now (MayTakeDelay c.args.site.now c.args.due.place c.args.due.generation)
-    c.args.taken c.one_more.result c.args.hand.now.me c.serve.new.hand.me c.one_more.ensures.one
+    c.args.taken c.one_more.result (moment c.args.hand.now c.args.names.now) (moment c.serve.new.hand c.serve.new.mail) c.one_more.ensures.one
     (record {
       name = _;
       from = rest.Parked;
@@ -37,12 +37,14 @@ returns-then-serve-clause-tried g c within =
 pub returns-clause-served : goal.returns-clause-served
 returns-clause-served g c =
     more-none g.T.Stepper.does c.args.site.now (MayTakeDelay c.args.site.now c.args.due.place c.args.due.generation)
-    c.args.taken c.args.hand.now.me c.serve.new.hand.me (omega arith) (c.serve.ensures.looks c.if-serve.false)
+    c.args.taken (moment c.args.hand.now c.args.names.now) (moment c.serve.new.hand c.serve.new.mail) (omega arith)
+    (record { looks = c.serve.ensures.looks c.if-serve.false; unheard = c.serve.ensures.unheard c.if-serve.false })
 
 pub returns-then-name-blocks-clause-served : goal.returns-then-name-blocks-clause-served
 returns-then-name-blocks-clause-served g c =
     more-none g.T.Stepper.does c.args.site.now (MayTakeDelay c.args.site.now c.args.due.place c.args.due.generation)
-    c.args.taken c.args.hand.now.me c.args.hand.now.me (omega arith) (looks-here c.args.hand.now.me)
+    c.args.taken (moment c.args.hand.now c.args.names.now) (moment c.args.hand.now c.args.names.now) (omega arith)
+    (looked-here (moment c.args.hand.now c.args.names.now))
 
 pub returns-clause-tried : goal.returns-clause-tried
 returns-clause-tried g c within =

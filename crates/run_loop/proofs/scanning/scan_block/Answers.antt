@@ -3,10 +3,9 @@ use Rattle.op_slot.proofs.Staying.{stays-here, stays-on}
 use Rattle.exec_recv.specs.Asides.{Aside}
 use Rattle.exec_recv.proofs.Asiding.{aside-here, aside-on}
 use Rattle.deck_relay.specs.SameDecks.{keeps-here, keeps-on}
-use Rattle.node_walks.proofs.Read.{looks-here}
-use Rattle.run_loop.specs.Serves.{MayHelp}
-use Rattle.run_loop.proofs.Served.{more-none, more-on}
-use Rattle.run_loop.proofs.Turned.{passed-more}
+use Rattle.run_loop.specs.Serves.{MayHelp, moment}
+use Rattle.run_loop.proofs.Served.{looked-here, more-none, more-on}
+use Rattle.run_loop.proofs.Turned.{passed-more, node-met}
 use Rattle.run_loop.proofs.scanning.scan_block.Goals as goal
 
 pub loop-node-init : goal.loop-node-init
@@ -15,9 +14,10 @@ loop-node-init g c =
       stays = stays-here c.args.site.now c.args.hand.now c.requires.hand;
       rests = c.requires.rests;
       aside = aside-here c.args.hand.now.me;
-      served = more-none g.T.Stepper.does c.args.site.now (MayHelp c.args.helps) c.args.taken c.args.hand.now.me
-          c.args.hand.now.me (omega arith) (looks-here c.args.hand.now.me);
+      served = more-none g.T.Stepper.does c.args.site.now (MayHelp c.args.helps) c.args.taken (moment c.args.hand.now c.args.names.now)
+          (moment c.args.hand.now c.args.names.now) (omega arith) (looked-here (moment c.args.hand.now c.args.names.now));
       none = λ zero. (zero, λ node below inner. absurd (omega (arith, below)));
+      met = λ node below inner. absurd (omega (arith, below));
       deck = keeps-here c.args.names.now.deck;
     }
 
@@ -36,7 +36,8 @@ loop-node-preserved g c =
       rests = c.take_node-taken.ensures.rests;
       aside = aside-on old.me between.me new.me before.aside c.take_node-taken.ensures.aside;
       served = more-on g.T.Stepper.does board (MayHelp c.args.helps) c.args.taken c.loop-node.taken
-          c.take_node-taken.result old.me between.me new.me before.served c.take_node-taken.ensures.served;
+          c.take_node-taken.result (moment old c.args.names.now) (moment between c.loop-node.names) (moment new c.take_node-taken.new.names)
+          before.served c.take_node-taken.ensures.served;
       none = λ zero.
           let here = c.take_node-taken.ensures.none zero in
           let earlier = before.none here.0 in (
@@ -44,5 +45,7 @@ loop-node-preserved g c =
             passed-more board c.args.helps c.args.block old.me between.me new.me c.loop-node.node before.aside
                 c.take_node-taken.ensures.aside earlier.1 here.1,
           );
+      met = node-met board c.args.helps old.me between.me new.me c.args.block c.loop-node.node before.aside c.take_node-taken.ensures.aside
+          before.met c.take_node-taken.ensures.met;
       deck = keeps-on c.args.names.now.deck c.loop-node.names.deck c.take_node-taken.new.names.deck before.deck c.take_node-taken.ensures.deck;
     }

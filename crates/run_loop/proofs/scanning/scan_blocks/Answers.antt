@@ -2,11 +2,10 @@ use Rattle.std.proofs.Common.{arith, ap, ◌∙◌}
 use Rattle.op_slot.proofs.Staying.{stays-here, stays-on}
 use Rattle.exec_recv.specs.Asides.{Aside}
 use Rattle.exec_recv.proofs.Asiding.{aside-here, aside-on}
-use Rattle.node_walks.proofs.Read.{looks-here}
 use Rattle.deck_relay.specs.SameDecks.{keeps-here, keeps-on}
-use Rattle.run_loop.specs.Serves.{MayHelp}
-use Rattle.run_loop.proofs.Served.{more-none, more-on}
-use Rattle.run_loop.proofs.Turned.{blocks-more}
+use Rattle.run_loop.specs.Serves.{MayHelp, moment}
+use Rattle.run_loop.proofs.Served.{looked-here, more-none, more-on}
+use Rattle.run_loop.proofs.Turned.{blocks-more, block-met}
 use Rattle.run_loop.proofs.scanning.scan_blocks.Goals as goal
 
 pub loop-block-init : goal.loop-block-init
@@ -15,9 +14,10 @@ loop-block-init g c =
       stays = stays-here c.args.site.now c.args.hand.now c.requires.hand;
       rests = c.requires.rests;
       aside = aside-here c.args.hand.now.me;
-      served = more-none g.T.Stepper.does c.args.site.now (MayHelp c.args.helps) 0 c.args.hand.now.me
-          c.args.hand.now.me (omega arith) (looks-here c.args.hand.now.me);
+      served = more-none g.T.Stepper.does c.args.site.now (MayHelp c.args.helps) 0 (moment c.args.hand.now c.args.names.now)
+          (moment c.args.hand.now c.args.names.now) (omega arith) (looked-here (moment c.args.hand.now c.args.names.now));
       none = λ zero block below. absurd (omega (arith, below));
+      met = λ block below. absurd (omega (arith, below));
       deck = keeps-here c.args.names.now.deck;
     }
 
@@ -36,10 +36,13 @@ loop-block-preserved g c =
       rests = c.scan_block-taken.ensures.rests;
       aside = aside-on old.me between.me new.me before.aside c.scan_block-taken.ensures.aside;
       served = more-on g.T.Stepper.does board (MayHelp c.args.helps) 0 c.loop-block.taken c.scan_block-taken.result
-          old.me between.me new.me before.served c.scan_block-taken.ensures.served;
+          (moment old c.args.names.now) (moment between c.loop-block.names) (moment new c.scan_block-taken.new.names) before.served
+          c.scan_block-taken.ensures.served;
       none = λ zero.
           let here = c.scan_block-taken.ensures.none zero in
           blocks-more board c.args.helps c.loop-block.block old.me between.me new.me before.aside c.scan_block-taken.ensures.aside
           (before.none here.0) here.1;
+      met = block-met board c.args.helps old.me between.me new.me c.loop-block.block before.aside c.scan_block-taken.ensures.aside before.met
+          c.scan_block-taken.ensures.met;
       deck = keeps-on c.args.names.now.deck c.loop-block.names.deck c.scan_block-taken.new.names.deck before.deck c.scan_block-taken.ensures.deck;
     }

@@ -3,11 +3,10 @@ use Rattle.std.proofs.lemmas.Option.{slice_get-get_or}
 use Rattle.op_slot.proofs.Staying.{stays-here, stays-on}
 use Rattle.exec_recv.specs.Asides.{Aside}
 use Rattle.exec_recv.proofs.Asiding.{aside-here, aside-on}
-use Rattle.node_walks.proofs.Read.{looks-here}
 use Rattle.deck_relay.specs.SameDecks.{keeps-here, keeps-on}
-use Rattle.run_loop.specs.Serves.{MayHelp, ServesMore}
+use Rattle.run_loop.specs.Serves.{MayHelp, ServesMore, moment}
 use Rattle.run_loop.specs.Turns.{AreLeft, MeetsFirst}
-use Rattle.run_loop.proofs.Served.{more-none, more-one, more-on}
+use Rattle.run_loop.proofs.Served.{looked-here, more-none, more-one, more-on}
 use Rattle.run_loop.proofs.Turned.{left-more}
 use Rattle.run_loop.proofs.Meeting.{met-more, named-one}
 use Rattle.run_loop.proofs.turning.serve_each.Goals as goal
@@ -19,8 +18,8 @@ loop-name-init g c =
       stays = stays-here c.args.site.now c.args.hand.now c.requires.hand;
       rests = c.requires.rests;
       aside = aside-here c.args.hand.now.me;
-      served = more-none g.T.Stepper.does c.args.site.now (MayHelp c.args.helps) 0 c.args.hand.now.me
-          c.args.hand.now.me (omega arith) (looks-here c.args.hand.now.me);
+      served = more-none g.T.Stepper.does c.args.site.now (MayHelp c.args.helps) 0 (moment c.args.hand.now c.args.names.now)
+          (moment c.args.hand.now c.args.names.now) (omega arith) (looked-here (moment c.args.hand.now c.args.names.now));
       within = omega arith;
       met = refl;
       none = λ zero k name below. absurd (omega (arith, below));
@@ -39,26 +38,34 @@ loop-name-preserved g c =
     let old = c.args.hand.now in
     let between = c.loop-name.hand in
     let new = c.serve_name.new.hand in
+    let start = moment old c.args.names.now in
+    let here = moment between c.loop-name.names in
+    let next = moment new c.serve_name.new.names in
     record {
       stays = stays-on board old between new before.stays c.serve_name.ensures.stays;
       rests = c.serve_name.ensures.rests;
       aside = aside-on old.me between.me new.me before.aside c.serve_name.ensures.aside;
       served = elim c.if-serve_name.branch [
         | then-serve_name w ↦
-            subst (λ n. ServesMore does board may 0 n old.me new.me) (sym w.taken-is)
-            (more-on does board may 0 c.loop-name.taken w.one_more-taken.result old.me between.me new.me before.served
-            (more-one does board may c.loop-name.taken w.one_more-taken.result between.me new.me w.one_more-taken.ensures.one
-            (named-one does board c.args.helps _ between.me new.me (c.serve_name.ensures.served w.if-serve_name.true))))
+            subst (λ n. ServesMore does board may 0 n start next) (sym w.taken-is)
+            (more-on does board may 0 c.loop-name.taken w.one_more-taken.result start here next before.served
+            (more-one does board may c.loop-name.taken w.one_more-taken.result here next w.one_more-taken.ensures.one
+            (named-one does board c.args.helps _ here next (c.serve_name.ensures.served w.if-serve_name.true))))
         | else-serve_name w ↦
-            subst (λ n. ServesMore does board may 0 n old.me new.me) (sym w.taken-is)
-            (more-on does board may 0 c.loop-name.taken c.loop-name.taken old.me between.me new.me before.served
-            (more-none does board may c.loop-name.taken between.me new.me (omega arith) (c.serve_name.ensures.looks w.if-serve_name.false)))
+            subst (λ n. ServesMore does board may 0 n start next) (sym w.taken-is)
+            (more-on does board may 0 c.loop-name.taken c.loop-name.taken start here next before.served
+            (more-none does board may c.loop-name.taken here next (omega arith)
+            (record {
+              looks = c.serve_name.ensures.looks w.if-serve_name.false;
+              unheard = c.serve_name.ensures.unheard w.if-serve_name.false;
+            })))
       ];
       within = let below = c.loop-name-test.true in omega (arith, below);
       met = met-more does board c.args.helps c.args.told.now c.loop-name.name-index _ old.me between.me new.me
           (slice_get-get_or c.args.told.now c.loop-name.name-index _ c.loop-name-test.true) before.met
           (elim c.if-serve_name.branch [
-            | then-serve_name w ↦ inl (c.serve_name.ensures.served w.if-serve_name.true)
+            | then-serve_name w ↦
+                let all = c.serve_name.ensures.served w.if-serve_name.true in inl (all.ready, all.leaves)
             | else-serve_name w ↦
                 inr (record { left = c.serve_name.ensures.left w.if-serve_name.false; looks = c.serve_name.ensures.looks w.if-serve_name.false })
           ]);

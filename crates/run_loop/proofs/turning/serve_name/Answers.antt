@@ -1,3 +1,4 @@
+use Rattle.std.proofs.Common.{◌∙◌, subst}
 use Rattle.std.specs.Prelude.{◌≢◌}
 use Rattle.std.proofs.lemmas.Bool.{both_ways}
 use Rattle.life_rules.specs.declared.event.Resting.TheVariants as rest
@@ -6,9 +7,12 @@ use Rattle.table_steps.specs.Takes.{rest_word}
 use Rattle.op_slot.proofs.Staying.{stays-here, stays-on}
 use Rattle.exec_recv.proofs.Asiding.{aside-here, aside-on}
 use Rattle.exec_recv.proofs.Since.{since-before, since-after}
+use Rattle.node_walks.specs.Mails.{HearsEach}
 use Rattle.node_walks.proofs.Read.{looks-here, looks-on}
 use Rattle.node_walks.proofs.Took.{first-serves, only-before}
 use Rattle.deck_relay.specs.SameDecks.{keeps-here, keeps-on}
+use Rattle.run_loop.specs.declared.loop_mail.LoopMail.{LoopMail}
+use Rattle.run_loop.specs.Fetches.{HearsName}
 use Rattle.run_loop.proofs.turning.serve_name.Goals as goal
 
 pub is_inner-requires : goal.is_inner-requires
@@ -61,18 +65,28 @@ returns-then-not-is_inner-clause-looks g c looks = looks-here c.args.hand.now.me
 
 pub returns-then-serve-clause-served : goal.returns-then-serve-clause-served
 returns-then-serve-clause-served g c served =
-    record { from = rest.Loop; may_be = tt; serves = c.serve.ensures.only c.if-serve.true }
+    let only = c.serve.ensures.only c.if-serve.true in
+    record {
+      ready = only.ready;
+      leaves = record { from = rest.Loop; may_be = tt; serves = only.leaves };
+      heard = only.heard;
+    }
 
 pub returns-then-not-helps-clause-looks : goal.returns-then-not-helps-clause-looks
 returns-then-not-helps-clause-looks g c looks = c.serve.ensures.looks c.if-serve.false
 
 pub returns-clause-served : goal.returns-clause-served
 returns-clause-served g c served =
+    let only = c.serve-2.ensures.only served in
     record {
-      from = rest.Pool;
-      may_be = c.if-not-helps.false;
-      serves = only-before g.T.Stepper.does c.args.site.now rest.Pool c.args.name c.args.hand.now.me c.serve.new.hand.me
-          c.serve-2.new.hand.me (c.serve.ensures.looks c.if-serve.false) (c.serve-2.ensures.only served);
+      ready = only.ready;
+      leaves = record {
+        from = rest.Pool;
+        may_be = c.if-not-helps.false;
+        serves = only-before g.T.Stepper.does c.args.site.now rest.Pool c.args.name c.args.hand.now.me c.serve.new.hand.me
+            c.serve-2.new.hand.me (c.serve.ensures.looks c.if-serve.false) only.ready only.leaves;
+      };
+      heard = subst (λ (n : LoopMail). HearsEach HearsName only.ready n c.serve-2.new.mail) (c.serve.ensures.unheard c.if-serve.false) only.heard;
     }
 
 pub returns-clause-looks : goal.returns-clause-looks
@@ -86,3 +100,6 @@ returns-then-not-is_inner-clause-deck g c = keeps-here c.args.names.now.deck
 pub returns-clause-deck : goal.returns-clause-deck
 returns-clause-deck g c =
     keeps-on c.args.names.now.deck c.serve.new.mail.deck c.serve-2.new.mail.deck c.serve.ensures.mail c.serve-2.ensures.mail
+
+pub returns-clause-unheard : goal.returns-clause-unheard
+returns-clause-unheard g c lost = c.serve-2.ensures.unheard lost ∙ c.serve.ensures.unheard c.if-serve.false

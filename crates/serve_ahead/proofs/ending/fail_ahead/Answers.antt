@@ -2,6 +2,7 @@ use Rattle.std.proofs.Common.{Bool, Some, sym, subst}
 use Rattle.exec_value.specs.declared.outcome.Completion.{Completion}
 use Rattle.home_items.specs.Parcels.{MayDeliver}
 use Rattle.step_parts.specs.Completes.{MayEnd, Completes}
+use Rattle.node_walks.proofs.Walked.{walked-anyhow}
 use Rattle.serve_ahead.proofs.AtHand.{has-stepped, rests-since, may-end, may-fail}
 use Rattle.serve_ahead.proofs.ending.fail_ahead.Goals as goal
 
@@ -24,13 +25,15 @@ go_after-requires-clause-after g c κs within =
 
 pub returns-clause-serves : goal.returns-clause-serves
 returns-clause-serves g c = record {
-  saw = c.saw-saw.result;
   next = c.complete-next.result;
   completed = c.complete-next.new.hand;
   completes =
-      subst (λ (done : Completion). Completes c.args.site.now c.args.taken done c.saw-saw.result c.complete-next.result c.args.hand.now c.complete-next.new.hand)
-      c.into_completion-done.ensures c.complete-next.ensures;
-  after = c.go_after.ensures.aside;
+      subst (λ (saw : Bool). Completes c.args.site.now c.args.taken c.args.parcel.completion saw c.complete-next.result c.args.hand.now c.complete-next.new.hand)
+      c.saw-saw.ensures
+      (subst (λ (done : Completion). Completes c.args.site.now c.args.taken done c.saw-saw.result c.complete-next.result c.args.hand.now c.complete-next.new.hand)
+      c.into_completion-done.ensures c.complete-next.ensures);
+  after = walked-anyhow g.T.Stepper.does c.args.site.now c.args.at.name c.args.taken.name c.complete-next.result c.complete-next.new.hand.me
+      c.go_after.new.hand.me c.requires.has.name_is c.go_after.ensures.walks;
 }
 
 pub returns-clause-rests : goal.returns-clause-rests

@@ -1,5 +1,6 @@
 use Rattle.std.proofs.Common.{None}
 use Rattle.exec_value.specs.declared.outcome.Completion.TheVariants.{NoMemory}
+use Rattle.node_walks.proofs.Walked.{walked-anyhow}
 use Rattle.serve_ahead.proofs.AtHand.{has-stepped, rests-since, may-want}
 use Rattle.serve_ahead.proofs.ending.give_up.Goals as goal
 
@@ -17,11 +18,11 @@ go_after-requires-clause-after g c κs within =
 
 pub returns-clause-serves : goal.returns-clause-serves
 returns-clause-serves g c = record {
-  saw = _;
   next = c.want_memory-next.result;
   completed = c.want_memory-next.new.hand;
   completes = c.want_memory-next.ensures;
-  after = c.go_after.ensures.aside;
+  after = walked-anyhow g.T.Stepper.does c.args.site.now c.args.at.name c.args.taken.name c.want_memory-next.result c.want_memory-next.new.hand.me
+      c.go_after.new.hand.me c.requires.has.name_is c.go_after.ensures.walks;
 }
 
 pub returns-clause-rests : goal.returns-clause-rests

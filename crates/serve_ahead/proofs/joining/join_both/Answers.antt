@@ -1,6 +1,8 @@
 use Rattle.std.proofs.Common.{Bool, Some, None, inl, inr, refl, sym, ap, ◌∙◌, subst}
 use Rattle.exec_value.specs.declared.outcome.Completion.{Completion}
+use Rattle.plan_rules.specs.Settle.{ahead_of}
 use Rattle.step_parts.specs.Completes.{Completes}
+use Rattle.node_walks.proofs.Walked.{walked-anyhow}
 use Rattle.serve_ahead.proofs.AtHand.{of, has-stepped, has-still, has-bare, may-end, rests-since}
 use Rattle.serve_ahead.proofs.Both.{plan-same, room-there-is, joined-allowed, joined-sees}
 use Rattle.serve_ahead.proofs.joining.join_both.Goals as goal
@@ -71,13 +73,17 @@ returns-in-Some-clause-joins g c = record {
   middle = c.may_join.new.hand;
   keeps = c.may_join.ensures.keeps;
   how = inl (record {
-    saw = c.in-Some.joined.saw;
     next = c.complete-next.result;
     completed = c.complete-next.new.hand;
     completes =
-        subst (λ (done : Completion). Completes c.args.site.now c.args.taken done c.in-Some.joined.saw c.complete-next.result c.may_join.new.hand c.complete-next.new.hand)
-        c.in-Some.ensures.done_is c.complete-next.ensures;
-    after = c.go_after.ensures.aside;
+        subst
+        (λ (saw : Bool).
+        Completes c.args.site.now c.args.taken (ahead_of c.args.ended.collected.completion c.args.parcel.completion) saw c.complete-next.result c.may_join.new.hand c.complete-next.new.hand)
+        c.in-Some.ensures.saw_is
+        (subst (λ (done : Completion). Completes c.args.site.now c.args.taken done c.in-Some.joined.saw c.complete-next.result c.may_join.new.hand c.complete-next.new.hand)
+        c.in-Some.ensures.done_is c.complete-next.ensures);
+    after = walked-anyhow g.T.Stepper.does c.args.site.now c.args.at.name c.args.taken.name c.complete-next.result c.complete-next.new.hand.me
+        c.go_after.new.hand.me c.requires.has.name_is c.go_after.ensures.walks;
   });
 }
 

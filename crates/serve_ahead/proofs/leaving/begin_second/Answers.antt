@@ -1,5 +1,6 @@
 use Rattle.std.proofs.Common.{None}
 use Rattle.step_parts.proofs.Started.{again-steps}
+use Rattle.node_walks.proofs.Walked.{walked-anyhow}
 use Rattle.serve_ahead.proofs.AtHand.{inner, may-run, has-stepped, rests-since}
 use Rattle.serve_ahead.proofs.leaving.begin_second.Goals as goal
 
@@ -21,7 +22,8 @@ returns-clause-begins g c = record {
   next = c.start_again-next.result;
   begun = c.start_again-next.new.hand;
   starts = c.start_again-next.ensures;
-  after = c.go_after.ensures.aside;
+  after = walked-anyhow g.T.Stepper.does c.args.site.now c.args.at.name c.args.taken.name c.start_again-next.result c.start_again-next.new.hand.me
+      c.go_after.new.hand.me c.requires.has.name_is c.go_after.ensures.walks;
 }
 
 pub returns-clause-rests : goal.returns-clause-rests

@@ -1,3 +1,4 @@
+use Rattle.node_walks.proofs.Walked.{walked-anyhow}
 use Rattle.serve_ahead.proofs.AtHand.{may-leave, has-stepped, rests-since}
 use Rattle.serve_ahead.proofs.leaving.put_back.Goals as goal
 
@@ -18,7 +19,8 @@ returns-clause-back g c = record {
   next = c.leave_parked-next.result;
   left = c.leave_parked-next.new.hand;
   parks = c.leave_parked-next.ensures;
-  after = c.go_after.ensures.aside;
+  after = walked-anyhow g.T.Stepper.does c.args.site.now c.args.at.name c.args.served.taken.name c.leave_parked-next.result c.leave_parked-next.new.hand.me
+      c.go_after.new.hand.me c.requires.has.name_is c.go_after.ensures.walks;
 }
 
 pub returns-clause-rests : goal.returns-clause-rests

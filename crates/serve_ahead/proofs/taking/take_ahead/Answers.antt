@@ -1,4 +1,4 @@
-use Rattle.std.proofs.Common.{Option, Some, arith, refl, sym, subst}
+use Rattle.std.proofs.Common.{Bool, Option, Some, true, arith, refl, sym, subst}
 use Rattle.plan_rules.specs.declared.node.Node.{Node}
 use Rattle.op_slot.proofs.Staying.{stays-on}
 use Rattle.step_parts.specs.Takes.{TakesOne}
@@ -10,7 +10,7 @@ use Rattle.exec_recv.specs.Seats.{HandSeat}
 use Rattle.exec_recv.proofs.Asiding.{aside-on}
 use Rattle.exec_recv.proofs.Since.{moved-after}
 use Rattle.exec_ahead.proofs.Seconds.{ahead-only}
-use Rattle.node_walks.specs.Serving.{TakesWord}
+use Rattle.node_walks.specs.Serving.{TakesUp, TakesWord}
 use Rattle.node_walks.proofs.Read.{looked-rests, looked-only, lost-missed}
 use Rattle.node_walks.proofs.Took.{took-aside, took-can, took-moved}
 use Rattle.serve_ahead.proofs.Found.{at-hand, finds-second, since-taken}
@@ -72,6 +72,9 @@ returns-clause-took g c =
           (took-can board _ over x place _ _ _ old.me held.me won.2 seated c.requires.rests);
       finds = finds-second board c.args.at up held new takes c.into_parcel.result c.into_parcel.ensures;
       stays = subst (λ (h : HandSeat). Stays board old h) (sym takes.from_is) (rw c.site.view_is at c.take_parked.ensures.stays);
+      took = subst (λ (h : HandSeat). TakesUp board x Parked true old.me h.me) (sym takes.from_is)
+          (subst (λ (answer : Bool). TakesUp board x Parked answer old.me held.me) c.if-not-take_parked.false
+          (rw c.site.view_is at c.take_parked.ensures.taken));
       before = subst (λ (h : HandSeat). KeepsAside old.me h.me) (sym takes.from_is)
           (took-aside board _ over x place _ _ _ old.me held.me won.2 seated c.requires.rests);
       aside = aside-on old.me held.me new.me (took-aside board _ over x place _ _ _ old.me held.me won.2 seated c.requires.rests) since;

@@ -2,6 +2,7 @@ use Rattle.std.proofs.Common.{refl, sym, subst}
 use Rattle.plan_shape.specs.Blueprint.{Blueprint}
 use Rattle.table_steps.specs.Views.{Board}
 use Rattle.node_walks.specs.Starts.{MissesEach}
+use Rattle.node_walks.proofs.Walked.{any-goes}
 use Rattle.spawn_future.proofs.Entered.{entered, missed-has, missed-back}
 use Rattle.spawn_future.proofs.Moved.{associated-moves, refused-moves, left-moves, moved-rests, moved-leaves}
 use Rattle.spawn_future.proofs.entering.enter.Goals as goal
@@ -48,6 +49,19 @@ returns-in-Ok-begin_root-clause-entered g c =
     rw (← c.site.view_is)
     (entered board c.in-Ok-begin_root.block c.args.env old c.associate.new.hand.me c.begin_root.new.hand.me made
     (rw (← c.site.view_is) at c.in-Ok-begin_root.ensures.begun))
+
+pub returns-in-Ok-begin_root-clause-only : goal.returns-in-Ok-begin_root-clause-only
+returns-in-Ok-begin_root-clause-only g c =
+    let board = c.args.site.now in
+    let first = c.in-Ok-begin_root.ensures.first in
+    record {
+      association = c.in-Ok.association;
+      entered = c.associate.new.hand;
+      made = rw c.site.view_is at c.in-Ok.ensures.associated;
+      ready = first.ready;
+      goes = any-goes g.T.Stepper.does board 0 c.in-Ok-begin_root.block c.args.env c.associate.new.hand c.begin_root.new.hand.me first.ready
+          first.leaves;
+    }
 
 pub returns-in-Err-begin_root-clause-rests : goal.returns-in-Err-begin_root-clause-rests
 returns-in-Err-begin_root-clause-rests g c =

@@ -22,6 +22,8 @@ returns-clause-collected g c =
     record {
       is_for = c.in_ok-env.ensures.ends.completes.is_for;
       leaves = c.in_ok-env.ensures.ends.leaves;
+      moves = c.in_ok-env.ensures.ends.moves;
+      next = refl;
       helps = refl;
       names = refl;
       delays = record { delays = refl; nodes = refl };

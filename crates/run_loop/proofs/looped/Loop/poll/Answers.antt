@@ -5,7 +5,7 @@ use Rattle.timer_wheel.specs.Delays.{DelayList}
 use Rattle.deck_relay.specs.SameDecks.{keeps-on}
 use Rattle.run_loop.specs.Delayed.{MayTakeDue, PassesTurn}
 use Rattle.run_loop.specs.Loops.{told, deck_of}
-use Rattle.run_loop.specs.Serves.{IsOpen, MayHelp, Taking}
+use Rattle.run_loop.specs.Serves.{IsOpen, MayHelp, ServesMore, Taking, moment}
 use Rattle.run_loop.proofs.Due.{due-before, passes-before}
 use Rattle.run_loop.proofs.Meeting.{met-later}
 use Rattle.run_loop.proofs.Served.{more-on, more-by}
@@ -39,15 +39,22 @@ returns-clause-served g c =
     let new = c.serve_delays.new.hand.me in
     let turn = c.serve_delays.new.delays.turn in
     let may : Taking = λ from name. IsOpen old.helps from ⊎ MayTakeDue board old.hand.me new turn old.delays from name in
-    more-on does board may 0 c.poll_names-taken.result c.serve_delays.result old.hand.me between.hand.me new
-    (more-by does board (MayHelp old.helps) may (λ from name here. inl here) 0 c.poll_names-taken.result old.hand.me between.hand.me
-    c.poll_names-taken.ensures.served)
-    (more-by does board (MayTakeDue board between.hand.me new turn between.delays) may
-    (λ from name here.
-    inr
-    (subst (λ (d : DelayList). MayTakeDue board old.hand.me new turn d from name) c.poll_names-taken.ensures.delays.delays
-    (here.0, due-before board old.hand.me between.hand.me new turn between.delays name c.poll_names-taken.ensures.aside here.1)))
-    c.poll_names-taken.result c.serve_delays.result between.hand.me new c.serve_delays.ensures.served)
+    let first = c.poll_names-taken.ensures.served in
+    let start = moment old.hand (record first.fetched { list = old.served }) in
+    let here = moment between.hand between.names in
+    let end = moment c.serve_delays.new.hand c.serve_delays.new.names in
+    record {
+      fetched = first.fetched;
+      fetches = first.fetches;
+      serves = more-on does board may 0 c.poll_names-taken.result c.serve_delays.result start here end
+          (more-by does board (MayHelp old.helps) may (λ from name ready. inl ready) 0 c.poll_names-taken.result start here first.serves)
+          (more-by does board (MayTakeDue board between.hand.me new turn between.delays) may
+          (λ from name due.
+          inr
+          (subst (λ (d : DelayList). MayTakeDue board old.hand.me new turn d from name) c.poll_names-taken.ensures.delays.delays
+          (due.0, due-before board old.hand.me between.hand.me new turn between.delays name c.poll_names-taken.ensures.aside due.1)))
+          c.poll_names-taken.result c.serve_delays.result here end c.serve_delays.ensures.served);
+    }
 
 pub returns-clause-met : goal.returns-clause-met
 returns-clause-met g c =
@@ -58,6 +65,24 @@ returns-clause-met g c =
       delays = c.serve_delays.new.delays;
     })
     c.poll_names-taken.ensures.met c.serve_delays.ensures.aside
+
+pub returns-clause-only : goal.returns-clause-only
+returns-clause-only g c =
+    let does = g.T.Stepper.does in
+    let board = c.args.site.now in
+    let between = c.poll_names-taken.new.self in
+    let new = c.serve_delays.new.hand.me in
+    record {
+      last = between;
+      meets = c.poll_names-taken.ensures.only;
+      named = c.poll_names-taken.result;
+      taken = c.poll_names-taken.ensures.served;
+      due = subst
+          (λ (d : DelayList).
+          ServesMore does board (MayTakeDue board between.hand.me new c.serve_delays.new.delays.turn d) c.poll_names-taken.result
+          c.serve_delays.result (moment between.hand between.names) (moment c.serve_delays.new.hand c.serve_delays.new.names))
+          c.poll_names-taken.ensures.delays.delays c.serve_delays.ensures.served;
+    }
 
 pub returns-clause-none : goal.returns-clause-none
 returns-clause-none g c zero =

@@ -15,3 +15,11 @@ returns-in-Ok-clause-waits g c =
 pub returns-in-Ok-clause-deck : goal.returns-in-Ok-clause-deck
 returns-in-Ok-clause-deck g c =
     keeps-on (deck_of c.args.self.now) (deck_of c.start.new.self) (deck_of c.turn_until.new.self) c.start.ensures.deck c.turn_until.ensures.deck
+
+pub returns-in-Ok-clause-only : goal.returns-in-Ok-clause-only
+returns-in-Ok-clause-only g c = record {
+  block = c.in-Ok.block;
+  begun = c.start.new.self;
+  first = c.in-Ok.ensures.first;
+  until = c.turn_until.ensures.until;
+}

@@ -1,4 +1,4 @@
-use Rattle.std.proofs.Common.{refl, ap, ◌∙◌}
+use Rattle.std.proofs.Common.{suc, refl, ap, ◌∙◌}
 use Rattle.exec_recv.proofs.Asiding.{aside-here, aside-on}
 use Rattle.deck_relay.specs.SameDecks.{keeps-here, keeps-on}
 use Rattle.run_loop.specs.declared.looped.Loop.{Loop as Looped}
@@ -17,6 +17,7 @@ loop-init g c =
       aside = aside-here c.args.self.now.hand.me;
       counts = record { helps = refl; tally = refl };
       deck = keeps-here (deck_of c.args.self.now);
+      turns = (0, refl);
     }
 
 pub collect-requires-clause-listed : goal.collect-requires-clause-listed
@@ -46,6 +47,25 @@ loop-preserved g c =
       };
       deck = keeps-on (deck_of c.args.self.now) (deck_of c.loop.self) (deck_of c.turn-taken.new.self) before.deck
           (keeps-on (deck_of c.loop.self) (deck_of c.collect.new.self) (deck_of c.turn-taken.new.self) c.collect.ensures.deck turn.deck);
+      turns = (
+        suc before.turns.0,
+        record {
+          between = c.loop.self;
+          before = before.turns.1;
+          looked = c.collect.new.self;
+          none = rw c.site.view_is at none;
+          turns = record { count = c.turn-taken.result; served = turn.served; met = turn.met; turn = turn.turn; none = turn.none };
+        },
+      );
+    }
+
+pub returns-in-Some-collect-clause-until : goal.returns-in-Some-collect-clause-until
+returns-in-Some-collect-clause-until g c =
+    record {
+      count = c.loop.invariant.turns.0;
+      last = c.loop.self;
+      turns = c.loop.invariant.turns.1;
+      collects = rw c.site.view_is at c.in-Some-collect.ensures.collected;
     }
 
 pub returns-in-Some-collect-clause-collected : goal.returns-in-Some-collect-clause-collected

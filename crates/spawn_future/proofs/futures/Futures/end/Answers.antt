@@ -47,17 +47,16 @@ returns-clause-keeping g c =
     ended-keeping c.args.table.now c.args.self.now _ c.args.hand.now c.disassociate.new.hand c.requires.keeping
     c.disassociate.ensures.stays.hand (moved-rests _ between c.disassociate.new.hand.me left c.end_root.ensures.rests)
     c.args.slot c.requires.within c.requires.has.future c.requires.has.has c.args.block c.requires.has.block_is c.in_ok-ended.ended
-    (ended c.args.table.now c.args.block c.args.hand.now.me between c.disassociate.new.hand.me c.in_ok-ended.ended c.in_ok-ended.ensures.ends left)
+    (ended c.args.table.now c.args.block c.args.hand.now.me between c.disassociate.new.hand.me c.in_ok-ended.ended c.in_ok-ended.ensures.ends c.disassociate.ensures.left)
     (rw (← c.self.view_is) c.take-future.ensures.items)
 
 pub returns-clause-ended : goal.returns-clause-ended
 returns-clause-ended g c =
     let between = c.end_root.new.hand.me in
-    let left = left-moves between c.disassociate.new.hand.me c.disassociate.ensures.left in
     record {
       slots = rw (← c.self.view_is) c.take-future.ensures.items;
       ends = ended c.args.table.now c.args.block c.args.hand.now.me between c.disassociate.new.hand.me c.in_ok-ended.ended
-          c.in_ok-ended.ensures.ends left;
+          c.in_ok-ended.ensures.ends c.disassociate.ensures.left;
     }
 
 pub returns-in_err-ended-clause-keeping : goal.returns-in_err-ended-clause-keeping

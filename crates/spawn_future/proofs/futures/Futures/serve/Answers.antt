@@ -7,6 +7,7 @@ use Rattle.node_walks.proofs.Took.{first-serves}
 use Rattle.serve_ahead.specs.Takes.{HasAtHand}
 use Rattle.spawn_future.proofs.Counted.{counts-same, counts-on}
 use Rattle.spawn_future.proofs.Served.{keeping-on, taken-keeping}
+use Rattle.spawn_future.proofs.Visited.{took-parked}
 use Rattle.spawn_future.proofs.futures.Futures.serve.Goals as goal
 
 pub take_ahead-requires-clause-hand : goal.take_ahead-requires-clause-hand
@@ -50,6 +51,7 @@ returns-in-None g c =
       mail = g.met.M.Mail.none c.args.mail.now;
       leaves = counts-same board slots old.me new.me missed.looks.aside;
       served = tt;
+      taken = tt;
       slots = refl;
       missed = missed;
     }
@@ -74,6 +76,8 @@ returns-in-None-second g c =
         took = took;
         goes_on = inl (c.in-None-second.is, did.starts);
       };
+      taken = took-parked board slots slots c.begin.new.self c.args.at c.in-Some.served old c.take_ahead.new.hand new c.requires.site
+          c.requires.place c.requires.keeping took did.leaves;
       slots = tt;
       missed = tt;
     }
@@ -98,6 +102,8 @@ returns-in-Some-second g c =
         took = took;
         goes_on = inr (c.in-Some-second.parcel, c.in-Some-second.is, did.ends);
       };
+      taken = took-parked board slots slots c.finish.new.self c.args.at c.in-Some.served old c.take_ahead.new.hand new c.requires.site
+          c.requires.place c.requires.keeping took did.leaves;
       slots = tt;
       missed = tt;
     }

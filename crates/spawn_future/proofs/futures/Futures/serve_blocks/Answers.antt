@@ -4,6 +4,7 @@ use Rattle.exec_recv.specs.Sites.{plan_at}
 use Rattle.op_slot.proofs.Staying.{stays-here, stays-on}
 use Rattle.spawn_future.specs.Turns.{PassesPlace, ServesPlace, Turns}
 use Rattle.spawn_future.proofs.Turned.{turns-none, turns-one, turns-passed, turns-on, blocks-more}
+use Rattle.spawn_future.proofs.Visited.{blocks-visited}
 use Rattle.spawn_future.proofs.futures.Futures.serve_blocks.Goals as goal
 use Rattle.spawn_future.proofs.futures.Futures.serve_blocks.Goals.{then-serve_place, else-serve_place}
 
@@ -18,6 +19,7 @@ loop-block-init g c = record {
   mail = g.met.M.Mail.none c.args.mail.now;
   turns = turns-none c.args.site.now (plan_at c.args.site.now) c.args.self.now c.args.hand.now;
   none = λ zero b below. absurd (omega (arith, below));
+  visited = λ b below. absurd (omega (arith, below));
 }
 
 pub serve_place-requires-clause-block : goal.serve_place-requires-clause-block
@@ -82,6 +84,8 @@ loop-block-preserved g c =
             (turns-passed board plan c.loop-block.block c.args.node between later round new did.leaves passed) before.none
             (λ _. passed.unparked) (let is = w.taken-is in omega (arith, is, zero))
       ];
+      visited = blocks-visited board first between later old.me round.me new.me before.turns.leaves did.leaves c.args.node c.loop-block.block
+          before.visited did.visited;
     }
 
 pub returns-clause-none : goal.returns-clause-none
@@ -90,6 +94,13 @@ returns-clause-none g c zero b below =
     let all = is.all in
     let past = c.loop-block-test.false in
     is.none zero b (omega (arith, all, past, below))
+
+pub returns-clause-visited : goal.returns-clause-visited
+returns-clause-visited g c b below =
+    let is = c.loop-block.invariant in
+    let all = is.all in
+    let past = c.loop-block-test.false in
+    is.visited b (omega (arith, all, past, below))
 
 pub returns-clause-few : goal.returns-clause-few
 returns-clause-few g c =

@@ -16,6 +16,9 @@ serve_blocks-requires-clause-node g c κs within =
 pub returns-in-Ahead-clause-none : goal.returns-in-Ahead-clause-none
 returns-in-Ahead-clause-none g c zero first second stands = c.serve_blocks.ensures.none zero
 
+pub returns-in-Ahead-clause-visited : goal.returns-in-Ahead-clause-visited
+returns-in-Ahead-clause-visited g c first second stands = c.serve_blocks.ensures.visited
+
 pub returns-in_default : goal.returns-in_default
 returns-in_default g c = record {
   keeping = c.requires.keeping;
@@ -23,5 +26,6 @@ returns-in_default g c = record {
   mail = g.met.M.Mail.none c.args.mail.now;
   turns = turns-none c.args.site.now (plan_at c.args.site.now) c.args.self.now c.args.hand.now;
   none = λ zero first second stands. absurd (c.in_default.not-Ahead first second (same-node _ _ (sym (rw c.site.view_is at (rw c.site.invariant at c.node.ensures)) ∙ stands)));
+  visited = λ first second stands. absurd (c.in_default.not-Ahead first second (same-node _ _ (sym (rw c.site.view_is at (rw c.site.invariant at c.node.ensures)) ∙ stands)));
   few = omega arith;
 }

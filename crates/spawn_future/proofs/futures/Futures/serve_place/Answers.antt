@@ -1,19 +1,24 @@
-use Rattle.std.proofs.Common.{◌≡◌, List, refl, sym, ◌∙◌, subst}
+use Rattle.std.proofs.Common.{◌≡◌, List, inl, inr, refl, sym, ap, ◌∙◌, subst}
 use Rattle.std.specs.Bool.{OnTrue, OnFalse}
 use Rattle.std.specs.Prelude.{Option}
 use Rattle.life_rules.specs.declared.event.Name.{Name}
+use Rattle.life_rules.specs.declared.event.Resting.TheVariants.{Parked}
 use Rattle.table_words.specs.Layouts.{OfControl, index}
+use Rattle.table_steps.specs.Steps.{control_index}
 use Rattle.table_steps.specs.Views.{IsPlaceIn}
 use Rattle.op_slot.proofs.Staying.{stays-here, stays-on}
 use Rattle.exec_recv.specs.Sites.{plan_at}
+use Rattle.exec_recv.proofs.Since.{moved-before}
+use Rattle.node_walks.specs.Serving.{TakesWord}
 use Rattle.node_walks.proofs.Read.{looked-rests, looks-here, looks-on}
 use Rattle.serve_ahead.specs.Takes.{MissesAhead}
 use Rattle.spawn_future.specs.declared.future.Future.{Future}
 use Rattle.spawn_future.specs.Counts.{BeginsAndEnds}
 use Rattle.spawn_future.specs.Serves.{ServesAhead}
+use Rattle.spawn_future.specs.Turns.{TakesParked}
 use Rattle.spawn_future.proofs.Counted.{counts-same, counts-on}
 use Rattle.spawn_future.proofs.Served.{keeping-on}
-use Rattle.spawn_future.proofs.Turned.{ahead-in, parked-looks, parked-none, parked-place, parked-ahead, unparked-before, node-within}
+use Rattle.spawn_future.proofs.Turned.{ahead-in, parked-looks, parked-none, parked-name, parked-place, parked-ahead, unparked-before, node-within}
 use Rattle.spawn_future.proofs.futures.Futures.serve_place.Goals as goal
 
 pub loop-init : goal.loop-init
@@ -105,6 +110,9 @@ returns-then-serve g c =
     let served = subst (λ (l : List (Option Future)). ServesAhead board at l later between new) before.slots
     (subst (λ b. OnTrue b (ServesAhead board at c.loop.self later between new)) c.if-serve.true c.serve.ensures.served) in
     let leaves = subst (λ (l : List (Option Future)). BeginsAndEnds board l later between.me new.me) before.slots c.serve.ensures.leaves in
+    let there = c.ahead_at.ensures.name_is
+    ∙ sym (parked-name board c.args.block c.args.node c.parked_at.result round between read c.in-Some-parked_at.name c.in-Some-parked_at.is) in
+    let taken = subst (λ b. OnTrue b (TakesParked board at.name between.me new.me)) c.if-serve.true c.serve.ensures.taken in
     record {
       keeping = c.serve.ensures.keeping;
       stays = stays-on board old between new (stays-on board old round between before.stays (rw c.site.view_is at c.parked_at.ensures.stays))
@@ -124,6 +132,11 @@ returns-then-serve g c =
         };
       };
       passed = tt;
+      visited = inl (record {
+        name = at.name;
+        there = (ap (λ (x : Name). x.block) there, ap (λ (x : Name). x.node) there);
+        taken = moved-before (control_index board at.name) (TakesWord Parked at.name) old.me between.me new.me looks.aside taken;
+      });
     }
 
 pub returns-in-None-parked_at : goal.returns-in-None-parked_at
@@ -138,6 +151,8 @@ returns-in-None-parked_at g c =
     let stays = rw c.site.view_is at c.parked_at.ensures.stays in
     let looked = parked-looks board c.args.block c.args.node c.parked_at.result round new read in
     let looks = looks-on old.me round.me new.me before.looks looked in
+    let unparked = unparked-before board (plan_at board) c.args.block c.args.node old.me round.me new.me before.looks.aside
+    (parked-none board c.args.block c.args.node c.parked_at.result round new read c.in-None-parked_at.is) in
     record {
       keeping = keeping-on board c.loop.self round new before.keeping stays.hand
           (looked-rests (index board.frame.layout (OfControl c.args.block c.args.node)) read.word round.me new.me read.me_is before.keeping.rests)
@@ -147,10 +162,6 @@ returns-in-None-parked_at g c =
       leaves = subst (λ (l : List (Option Future)). BeginsAndEnds board first l old.me new.me) (sym before.slots)
           (counts-same board first old.me new.me looks.aside);
       served = tt;
-      passed = record {
-        slots = before.slots;
-        looks = looks;
-        unparked = unparked-before board (plan_at board) c.args.block c.args.node old.me round.me new.me before.looks.aside
-            (parked-none board c.args.block c.args.node c.parked_at.result round new read c.in-None-parked_at.is);
-      };
+      passed = record { slots = before.slots; looks = looks; unparked = unparked };
+      visited = inr unparked;
     }

@@ -45,6 +45,7 @@ returns-in-Ok-clause-spawned g c =
       waited = refl;
       slots = c.put.ensures;
       enters = c.in-Ok.ensures.entered;
+      only = c.in-Ok.ensures.only;
     })
 
 pub returns-in-Err-clause-keeping : goal.returns-in-Err-clause-keeping

@@ -1,8 +1,8 @@
-use Rattle.std.proofs.Common.{◌+◌, sym, arith, subst}
+use Rattle.std.proofs.Common.{◌≡◌, ◌+◌, length, inl, inr, refl, sym, arith, subst}
 use Rattle.std.specs.Bool.{OnTrue, OnFalse}
 use Rattle.op_slot.proofs.Staying.{stays-here, stays-on}
-use Rattle.spawn_future.specs.Sweeps.{EndsSlot, LeavesSlot, SweepsTo}
-use Rattle.spawn_future.proofs.Swept.{swept-none, slot-left, slot-ended, swept-all}
+use Rattle.spawn_future.specs.Sweeps.{EndsSlot, LeavesSlot, SweepsFirst, SweepsTo}
+use Rattle.spawn_future.proofs.Swept.{each-more, swept-none, slot-left, slot-ended, swept-all}
 use Rattle.spawn_future.proofs.futures.Futures.sweep.Goals as goal
 use Rattle.spawn_future.proofs.futures.Futures.sweep.Goals.{then-sweep_slot, else-sweep_slot}
 
@@ -15,6 +15,8 @@ loop-slot-init g c =
       few = omega (arith, all, few);
       keeping = c.requires.keeping;
       same = (stays-here c.args.table.now c.args.hand.now c.requires.keeping.hand_of).same;
+      within = omega arith;
+      each = (refl, refl);
       swept = swept-none c.args.table.now c.args.self.now c.args.hand.now.me;
     }
 
@@ -39,6 +41,12 @@ loop-slot-preserved g c =
       keeping = c.sweep_slot.ensures.keeping;
       same = (stays-on board old between new (record { same = before.same; hand = before.keeping.hand_of })
           (record { same = c.sweep_slot.ensures.same; hand = c.sweep_slot.ensures.keeping.hand_of })).same;
+      within = let below = c.loop-slot-test.true in omega (arith, below);
+      each = each-more board c.loop-slot.slot c.args.self.now c.loop-slot.self later old.me between.me new.me before.each
+          (elim c.if-sweep_slot.branch [
+            | then-sweep_slot w ↦ inl (subst (λ b. OnTrue b (EndsSlot board c.loop-slot.slot c.loop-slot.self later between.me new.me)) w.if-sweep_slot.true c.sweep_slot.ensures.ended)
+            | else-sweep_slot w ↦ inr (subst (λ b. OnFalse b (LeavesSlot board c.loop-slot.slot c.loop-slot.self later between.me new.me)) w.if-sweep_slot.false c.sweep_slot.ensures.left)
+          ]);
       swept = elim c.if-sweep_slot.branch [
         | then-sweep_slot w ↦
             subst (λ n. SweepsTo board (c.loop-slot.slot + 1) n c.args.self.now later old.me new.me) (sym w.ended-is)
@@ -50,6 +58,15 @@ loop-slot-preserved g c =
             (subst (λ b. OnFalse b (LeavesSlot board c.loop-slot.slot c.loop-slot.self later between.me new.me)) w.if-sweep_slot.false c.sweep_slot.ensures.left))
       ];
     }
+
+pub returns-clause-each : goal.returns-clause-each
+returns-clause-each g c =
+    let is = c.loop-slot.invariant in
+    let count = is.count in
+    let within = is.within in
+    let past = c.loop-slot-test.false in
+    let all : c.loop-slot.slot ≡ length c.args.self.now = omega (arith, count, within, past) in
+    subst (λ n. SweepsFirst c.args.table.now n c.args.self.now c.loop-slot.self c.args.hand.now.me c.loop-slot.hand.me) all is.each
 
 pub returns-clause-swept : goal.returns-clause-swept
 returns-clause-swept g c =

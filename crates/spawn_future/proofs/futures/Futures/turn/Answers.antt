@@ -3,6 +3,7 @@ use Rattle.exec_recv.specs.Sites.{plan_at}
 use Rattle.op_slot.proofs.Staying.{stays-here, stays-on}
 use Rattle.spawn_future.specs.Turns.{AreUnparked}
 use Rattle.spawn_future.proofs.Turned.{turns-none, turns-on, nodes-more}
+use Rattle.spawn_future.proofs.Visited.{nodes-visited}
 use Rattle.spawn_future.proofs.futures.Futures.turn.Goals as goal
 
 pub loop-node-init : goal.loop-node-init
@@ -16,6 +17,7 @@ loop-node-init g c = record {
   mail = g.met.M.Mail.none c.args.mail.now;
   turns = turns-none c.args.site.now (plan_at c.args.site.now) c.args.self.now c.args.hand.now;
   none = λ zero n below. absurd (omega (arith, below));
+  visited = λ n below. absurd (omega (arith, below));
 }
 
 pub serve_node-taken-requires-clause-node : goal.serve_node-taken-requires-clause-node
@@ -58,6 +60,8 @@ loop-node-preserved g c =
       turns = turns-on board plan first between later old round new c.loop-node.taken c.serve_node-taken.result before.turns did.turns;
       none = nodes-more board plan c.loop-node.node c.loop-node.taken c.serve_node-taken.result first between later old round new before.turns
           did.turns before.none did.none;
+      visited = nodes-visited board first between later old.me round.me new.me before.turns.leaves did.turns.leaves plan c.loop-node.node
+          before.visited did.visited;
     }
 
 pub returns-clause-none : goal.returns-clause-none
@@ -66,3 +70,10 @@ returns-clause-none g c zero n below =
     let all = is.all in
     let past = c.loop-node-test.false in
     is.none zero n (omega (arith, all, past, below))
+
+pub returns-clause-visited : goal.returns-clause-visited
+returns-clause-visited g c n below =
+    let is = c.loop-node.invariant in
+    let all = is.all in
+    let past = c.loop-node-test.false in
+    is.visited n (omega (arith, all, past, below))

@@ -2,7 +2,7 @@ use Rattle.std.proofs.Common.{◌≤◌}
 use Rattle.deck_relay.specs.SameDecks.{KeepsDeck}
 use Rattle.run_loop.specs.Fetches.{FetchesMany}
 use Rattle.run_loop.specs.Longer.{AreMoreNames}
-use Rattle.run_loop.proofs.names.Names.fetch.Given as goal
+use Rattle.run_loop.proofs.loop_mail.LoopMail.fetch.Given as goal
 
 abbrev pub invariant-loop-fetched : goal.invariant-loop-fetched
 invariant-loop-fetched g l = record {

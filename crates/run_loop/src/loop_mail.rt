@@ -1,5 +1,5 @@
 //! The names of nodes that a loop was told of.
-ghost use Rattle.std.specs.Prelude.{◌≡◌, ◌≤◌, ◌∷◌, [], ◌++◌, ◌⊎◌, true, false, IfOk, IfErr, IfSome, IfNone, None, vec_capacity, vec_len};
+ghost use Rattle.std.specs.Prelude.{◌≡◌, ◌+◌, ◌≤◌, ◌∷◌, [], ◌++◌, ◌⊎◌, true, false, IfOk, IfErr, IfSome, IfNone, None, vec_capacity, vec_len};
 ghost use Rattle.deck_relay.specs.Decks.{IsSameDeck};
 ghost use Rattle.deck_relay.specs.SameDecks.{KeepsDeck};
 ghost use Rattle.run_loop.specs.Fetches.{FetchesNone, FetchesOne, FetchesWhere, FindsNoneOf, HearsName, IsNameListed, IsPushed, IsShared, TakesOf};
@@ -18,7 +18,7 @@ const MOST_FETCHED: u32 = 256;
 /// Names in the order in which they came, and the deck of the loop's hand, where it has one. Each
 /// name is a hint: whoever takes the node finds out whether it is ready.
 #[derive(Drop)]
-pub struct Names {
+pub struct LoopMail {
     pub list: Vec<Name>,
     /// Where names of nodes go that are ready in the pool.
     pub deck: Option<Deck>,
@@ -26,14 +26,15 @@ pub struct Names {
     root: u32,
 }
 
-impl Names {
+impl LoopMail {
     /// No names, with room for so many, of nodes of which the last is the root; and no deck.
-    pub fn with_room(alloc: Global, room: u32, nodes: u32) -> Result<Names, AllocError>
+    pub fn with_room(alloc: Global, room: u32, nodes: u32) -> Result<LoopMail, AllocError>
         requires some { 1 ≤ nodes }
         ensures empty { IfOk result (λ names. names.list.items ≡ []) }
         ensures deck { IfOk result (λ names. names.deck ≡ None) }
+        ensures root { IfOk result (λ names. names.root + 1 ≡ nodes) }
     {
-        Ok(Names {
+        Ok(LoopMail {
             list: Vec::with_capacity(alloc, room as usize)?,
             deck: None,
             root: nodes - 1,
@@ -58,6 +59,7 @@ impl Names {
         ensures list { self.new.list ≡ self.old.list }
         ensures takes { IfSome result (λ name. TakesOf name self.old.deck self.new.deck) }
         ensures none { IfNone result (FindsNoneOf self.old.deck self.new.deck) }
+        ensures root { self.new.root ≡ self.old.root }
         ensures deck { KeepsDeck self.old.deck self.new.deck }
     {
         match &mut self.deck {
@@ -104,6 +106,7 @@ impl Names {
     // Adds a name at the back, but of a root. Without memory it is lost, and a scan finds its node.
     fn list_name(&mut self, name: Name)
         ensures listed { IsNameListed name self.old self.new }
+        ensures root { self.new.root ≡ self.old.root }
         ensures deck { self.new.deck ≡ self.old.deck }
     {
         if name.node != self.root {
@@ -114,6 +117,7 @@ impl Names {
     // Pushes a name to the deck, or where there is none adds it at the back.
     fn share<R: Wait>(&mut self, rt: &R, name: Name)
         ensures shared { IsShared name self.old self.new self.old.deck self.new.deck }
+        ensures root { self.new.root ≡ self.old.root }
         ensures deck { KeepsDeck self.old.deck self.new.deck }
     {
         match &mut self.deck {
@@ -154,10 +158,13 @@ fn push<R: Wait>(rt: &R, deck: &mut Deck, name: Name)
     }
 }
 
-impl Mail for Names {
+impl Mail for LoopMail {
     ghost use Rattle.deck_relay.specs.SameDecks.{KeepsDeck, keeps-here, keeps-on};
+    ghost use Rattle.run_loop.specs.Fetches.{HearsName};
 
     ghost keeps = { λ old new. KeepsDeck old.deck new.deck };
+
+    ghost hears = { HearsName };
 
     ghost none = { λ names. keeps-here names.deck };
 

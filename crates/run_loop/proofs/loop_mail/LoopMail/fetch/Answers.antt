@@ -4,7 +4,7 @@ use Rattle.run_loop.specs.Fetches.{FetchesWhere}
 use Rattle.run_loop.proofs.Decked.{longer-here}
 use Rattle.run_loop.proofs.Fetched.{fetch-more}
 use Rattle.run_loop.proofs.Meeting.{longer-on}
-use Rattle.run_loop.proofs.names.Names.fetch.Goals as goal
+use Rattle.run_loop.proofs.loop_mail.LoopMail.fetch.Goals as goal
 
 pub loop-fetched-init : goal.loop-fetched-init
 loop-fetched-init g c =
