@@ -9,3 +9,4 @@ pub mod Steps
 pub mod Settles
 pub mod Opens
 pub mod Kept
+pub mod Told

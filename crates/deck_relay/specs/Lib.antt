@@ -1,5 +1,7 @@
 pub mod Rule
 pub mod Decks
+pub mod Desks
+pub mod DeskMoves
 pub mod SameDecks
 pub mod Steals
 pub mod Moves

@@ -24,13 +24,15 @@
 //!     Relay::open:  a column is added for each deque: its owner lends a share to each deck
 //!     Relay::close: column by column each deck gives a pass back, until each owner knows all
 //!
-//! The crate stands on life_rules for names, on sleepers for hands that wait, and on no table.
+//! A desk is the deck of a hand with its post of the loop's queue. The crate stands on life_rules
+//! for names, on sleepers for hands that wait, on loop_queue for posts, and on no table.
 #![tactic(auto)]
 
 mod calls;
 mod columns;
 mod deck;
 mod deques;
+mod desk;
 mod law;
 mod lending;
 mod queues;
@@ -40,7 +42,9 @@ mod thefts;
 mod tokens;
 
 pub use deck::Deck;
+pub use desk::Desk;
 pub use law::names_count_once;
 pub use life_rules::Name;
+pub use loop_queue::LoopPost;
 pub use relay::Relay;
 pub use sleepers::Sleeper;

@@ -13,8 +13,8 @@ use Rattle.home_items.specs.declared.entry.Entry.{Entry}
 use Rattle.home_items.specs.declared.item.Item.{Item}
 use Rattle.exec_recv.specs.Over.{IsOver}
 use Rattle.plan_kinds.specs.Runnable.{IsRunnable}
-use Rattle.steal_pool.specs.declared.desk.Desk.{Desk}
-use Rattle.steal_pool.specs.Desks.{IsSameDesk, KeepsDesk}
+use Rattle.deck_relay.specs.declared.desk.Desk.{Desk}
+use Rattle.deck_relay.specs.Desks.{KeepsDesk}
 use Rattle.steal_pool.specs.Works.{SaysJoined}
 
 -- So many workers may serve with so many backends: each has one, and a table has hands for all of
@@ -49,7 +49,7 @@ pub record HasServed (board : Board Blueprint) (hand : Seat (Option Item) (View 
   pub joined : AnyOf (ReadsJoined board) (knows hand).steps
 
 -- A worker of this hand and this desk gave them back, the desk where it had one: the hand has
--- served, and has claimed no block.
+-- served, and has claimed no block. Nothing was drained through the desk's post.
 pub record GivesBack (board : Board Blueprint) (before : Seat (Option Item) (View Item Entry))
     (old : Option Desk) (hand : Seat (Option Item) (View Item Entry)) (desk : Option Desk)
     : Type 0 where
@@ -57,11 +57,11 @@ pub record GivesBack (board : Board Blueprint) (before : Seat (Option Item) (Vie
   pub claimed : (knows hand).claimed ≡ (knows before).claimed
   pub same : KeepsDesk old desk
 
--- As many desks as before, each of which is the one that was at its place.
-pub record AreSameDesks (old new : List Desk) : Type 0 where
+-- As many desks as before, each of which was left so at its place.
+pub record AreLeft (Same : Desk → Desk → Type 0) (old new : List Desk) : Type 0 where
   pub count : length new ≡ length old
   pub each : (k : ℕ) (before after : Desk) → slice_get old k ≡ Some before →
-      slice_get new k ≡ Some after → IsSameDesk before after
+      slice_get new k ≡ Some after → Same before after
 
 -- These are all: the rest, and this one last where there is one.
 abbrev pub IsWith : {A : Type 0} → Option A → List A → List A → Type 0

@@ -1,21 +1,20 @@
 //! Work on hand 0 beside the workers of a crew.
 ghost use Rattle.std.specs.Prelude.{◌≡◌, ◌+◌, ◌<◌, ◌≤◌, All, [], IfNone, IfSome, MatchOption, vec_len, vec_capacity};
 ghost use Rattle.std.specs.Thread.{IsSync};
-ghost use Rattle.steal_pool.specs.Desks.{KeepsDesk};
+ghost use Rattle.deck_relay.specs.Desks.{KeepsOwn, OnlyPosts};
 ghost use Rattle.table_steps.specs.Closings.{claimed_by};
-ghost use Rattle.run_workers.specs.Crews.{AreSameDesks, CanServe, GivesBack, HasServed, IsWith};
+ghost use Rattle.run_workers.specs.Crews.{AreLeft, CanServe, GivesBack, HasServed, IsWith};
 
 use crate::front::Front;
 use crate::serving::{Served, serve};
 use exec_recv::{Item, Stepper};
 use op_slot::{Hand, OpTable};
-use pool_backends::{Backend, Order};
 use std::alloc::Global;
 use std::snapshot::Snapshot;
 use std::sync::Wait;
 use std::thread;
 use std::thread::{Scope, Threads};
-use steal_pool::Desk;
+use steal_pool::{Arrangement, Desk, Given};
 
 // Takes the last hand, where there is one.
 fn take_hand<T: Stepper>(
@@ -68,9 +67,8 @@ fn work_beside<'s, E, W: Front, T: Stepper + Sync, R: Threads + Wait + Sync>(
     alloc: Global,
     table: &'s OpTable<Item>,
     stepper: &'s T,
-    order: Order,
     hands: &mut Vec<Hand<Item>>,
-    backends: &mut Vec<Box<dyn Backend + Send>>,
+    backends: &mut Arrangement,
     desks: &mut Vec<Desk>,
     hand: Hand<Item>,
     own: Option<Desk>,
@@ -79,21 +77,23 @@ fn work_beside<'s, E, W: Front, T: Stepper + Sync, R: Threads + Wait + Sync>(
 ) -> (Hand<Item>, Option<Desk>)
     requires sync { IsSync R.row }
     requires serve { All (CanServe table.now (T.plan stepper.now)) hands.old.items }
-    requires each { vec_len hands.old ≤ vec_len backends.old }
+    requires each { vec_len backends.old.backends ≡ vec_len hands.old }
     requires needs { W.needs front.old hand own }
     ensures leaves { W.leaves front.old front.new result.0 }
     ensures served { All (HasServed table.now) hands.new.items }
     ensures claims { claimed_by hands.new.items ≡ claimed_by hands.old.items }
     ensures length { vec_len hands.new ≡ vec_len hands.old }
     ensures room { vec_capacity hands.old ≤ vec_capacity hands.new }
-    ensures same { AreSameDesks desks.old.items desks.new.items }
+    ensures told { backends.new.told ≡ backends.old.told }
+    ensures given { vec_len backends.new.backends ≡ 0 }
+    ensures same { AreLeft OnlyPosts desks.old.items desks.new.items }
     ensures shelf { vec_capacity desks.old ≤ vec_capacity desks.new }
-    ensures own { KeepsDesk own result.1 }
+    ensures own { KeepsOwn own result.1 }
 {
     let Some(next) = take_hand(table, stepper, hands) else {
         return front.work(rt, alloc, hand, own, helps);
     };
-    let Some(backend) = backends.pop() else {
+    let Some(backend) = backends.give() else {
         unreachable!()
     };
     let desk = take_desk(desks);
@@ -108,13 +108,12 @@ fn work_beside<'s, E, W: Front, T: Stepper + Sync, R: Threads + Wait + Sync>(
             requires { IsSync R.row × IsSync T.row
                 × CanServe table.now (T.plan stepper.now) next }
             ensures { GivesBack table.entry.now next desk result.0 result.1 }
-        { serve(rt, alloc, table, stepper, next, backend, order, desk) },
+        { serve(rt, alloc, table, stepper, next, backend, desk) },
     );
     match started {
         Ok(child) => {
             let last = work_beside(
-                scope, rt, alloc, table, stepper, order, hands, backends, desks, hand, own, front,
-                false,
+                scope, rt, alloc, table, stepper, hands, backends, desks, hand, own, front, false,
             );
             let (back, same) = child.join(rt);
             hands.push_reserved(back);
@@ -123,8 +122,7 @@ fn work_beside<'s, E, W: Front, T: Stepper + Sync, R: Threads + Wait + Sync>(
         }
         Err(refused) => {
             let last = work_beside(
-                scope, rt, alloc, table, stepper, order, hands, backends, desks, hand, own, front,
-                helps,
+                scope, rt, alloc, table, stepper, hands, backends, desks, hand, own, front, helps,
             );
             let (served, again) = (refused.value)();
             hands.push_reserved(served);
@@ -142,51 +140,67 @@ fn work_beside<'s, E, W: Front, T: Stepper + Sync, R: Threads + Wait + Sync>(
 /// where it finds nothing: the front wakes all by its own when it has joined the scope.
 ///
 /// Needs: the other hands can serve: the table is over the stepper's plan, whose kinds match. Each
-/// has a backend.
+/// has a backend, and no other is left.
 /// Afterwards: the front's work was done on hand 0. Each other hand served until it read that the
-/// scope is joined, and claimed no block. Each desk is the same, in its place, and so is hand 0's.
+/// scope is joined, and claimed no block; a backend was given out to it, in the order of the
+/// arrangement. Each desk is the same, in its place, and nothing was drained through its post.
+/// Hand 0's is the same.
 pub fn run_beside<W: Front, T: Stepper + Sync, R: Threads + Wait + Sync>(
     rt: &R,
     alloc: Global,
     table: &OpTable<Item>,
     stepper: &T,
-    order: Order,
-    mut backends: Vec<Box<dyn Backend + Send>>,
+    mut backends: Arrangement,
     mut desks: Vec<Desk>,
     mut hands: Vec<Hand<Item>>,
     hand: Hand<Item>,
     own: Option<Desk>,
     mut front: W,
-) -> (W, Hand<Item>, Vec<Hand<Item>>, Vec<Desk>, Option<Desk>)
+) -> (
+    W,
+    Hand<Item>,
+    Vec<Hand<Item>>,
+    Vec<Desk>,
+    Option<Desk>,
+    Given,
+)
     requires sync { IsSync R.row }
     requires serve { All (CanServe table.now (T.plan stepper.now)) hands.items }
-    requires each { vec_len hands ≤ vec_len backends }
+    requires each { vec_len backends.backends ≡ vec_len hands }
     requires needs { W.needs front hand own }
     ensures leaves { W.leaves front result.0 result.1 }
     ensures served { All (HasServed table.now) result.2.items }
     ensures claims { claimed_by result.2.items ≡ claimed_by hands.items }
     ensures length { vec_len result.2 ≡ vec_len hands }
     ensures room { vec_capacity hands ≤ vec_capacity result.2 }
-    ensures desks { AreSameDesks desks.items result.3.items }
+    ensures desks { AreLeft OnlyPosts desks.items result.3.items }
     ensures shelf { vec_capacity desks ≤ vec_capacity result.3 }
-    ensures own { KeepsDesk own result.4 }
+    ensures own { KeepsOwn own result.4 }
+    ensures given { result.5 ≡ backends.told }
 {
-    backends.truncate(hands.len());
     thread::scope(
         thread::scope_env(),
         rt,
-        move |scope| -> (W, Hand<Item>, Vec<Hand<Item>>, Vec<Desk>, Option<Desk>)
+        move |scope| -> (
+            W,
+            Hand<Item>,
+            Vec<Hand<Item>>,
+            Vec<Desk>,
+            Option<Desk>,
+            Given,
+        )
             requires { IsSync R.row × IsSync T.row
                 × All (CanServe table.now (T.plan stepper.now)) hands.items
-                × (vec_len hands ≤ vec_len backends) × W.needs front hand own }
+                × (vec_len backends.backends ≡ vec_len hands) × W.needs front hand own }
             ensures { W.leaves front result.0 result.1
                 × All (HasServed table.entry.now) result.2.items
                 × (claimed_by result.2.items ≡ claimed_by hands.items)
                 × (vec_len result.2 ≡ vec_len hands)
                 × (vec_capacity hands ≤ vec_capacity result.2)
-                × AreSameDesks desks.items result.3.items
+                × AreLeft OnlyPosts desks.items result.3.items
                 × (vec_capacity desks ≤ vec_capacity result.3)
-                × KeepsDesk own result.4 }
+                × KeepsOwn own result.4
+                × (result.5 ≡ backends.told) }
         {
             let last = work_beside(
                 scope,
@@ -194,7 +208,6 @@ pub fn run_beside<W: Front, T: Stepper + Sync, R: Threads + Wait + Sync>(
                 alloc,
                 table,
                 stepper,
-                order,
                 &mut hands,
                 &mut backends,
                 &mut desks,
@@ -203,7 +216,7 @@ pub fn run_beside<W: Front, T: Stepper + Sync, R: Threads + Wait + Sync>(
                 &mut front,
                 true,
             );
-            (front, last.0, hands, desks, last.1)
+            (front, last.0, hands, desks, last.1, backends.end())
         },
     )
 }

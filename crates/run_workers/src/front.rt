@@ -1,6 +1,6 @@
 //! The work of hand 0.
 ghost use Rattle.std.specs.Thread.{IsSync};
-ghost use Rattle.steal_pool.specs.Desks.{KeepsDesk};
+ghost use Rattle.deck_relay.specs.Desks.{KeepsOwn};
 
 use exec_recv::Item;
 use op_slot::Hand;
@@ -16,7 +16,7 @@ pub trait Front: Drop {
     ghost use Rattle.table_rules.specs.declared.view.View.{View};
     ghost use Rattle.home_items.specs.declared.entry.Entry.{Entry};
     ghost use Rattle.home_items.specs.declared.item.Item.{Item};
-    ghost use Rattle.steal_pool.specs.declared.desk.Desk.{Desk};
+    ghost use Rattle.deck_relay.specs.declared.desk.Desk.{Desk};
 
     /// What the work needs of the hand, and of its desk.
     ghost needs: { Self → Seat (Option Item) (View Item Entry) → Option Desk → Type 0 };
@@ -37,5 +37,5 @@ pub trait Front: Drop {
         requires sync { IsSync R.row }
         requires needs { needs self.old hand desk }
         ensures leaves { leaves self.old self.new result.0 }
-        ensures desk { KeepsDesk desk result.1 };
+        ensures desk { KeepsOwn desk result.1 };
 }

@@ -4,7 +4,8 @@
 //! It stands on steal_pool, whose workers serve until the scope of their table is joined. It keeps
 //! one promise: the work on hand 0 was done, and all hands come back, of which each but hand 0's
 //! has nothing, claimed no block, and read that the scope is joined, whether its thread could be
-//! started or not. All desks come back, each the same.
+//! started or not. All desks come back, each the same, and a worker drains nothing through its
+//! post. Each worker has a backend of one arrangement, and so in its order.
 //!
 //!     hands --run_beside--> hand 0: Front::work ---------------- joins the scope --> back
 //!              |            hand 1: a thread: Worker::serve -- reads joined ------> back
@@ -27,4 +28,4 @@ pub use exec_recv::{Item, Stepper};
 pub use front::Front;
 pub use op_slot::{Hand, OpTable};
 pub use pool_backends::{Backend, Order};
-pub use steal_pool::Desk;
+pub use steal_pool::{Arrangement, Desk, Given};

@@ -4,15 +4,14 @@ ghost use Rattle.run_workers.specs.Crews.{CanServe, GivesBack};
 
 use exec_recv::{Item, Site, Stepper};
 use op_slot::{Hand, OpTable};
-use pool_backends::{Backend, Order};
 use std::alloc::Global;
 use std::snapshot::Snapshot;
 use std::sync::Wait;
 use std::thread::Promise;
-use steal_pool::{Desk, Worker};
+use steal_pool::{Arranged, Desk, Worker};
 
 /// The promise of a worker of this table, on this hand and at this desk: the hand has served and
-/// has claimed no block, and the desk comes back.
+/// has claimed no block, and the desk comes back, with nothing drained through its post.
 #[derive(Drop)]
 pub(crate) struct Served {
     pub(crate) table: Snapshot<OpTable<Item>>,
@@ -34,8 +33,7 @@ pub(crate) fn serve<T: Stepper, R: Wait + Sync>(
     table: &OpTable<Item>,
     stepper: &T,
     hand: Hand<Item>,
-    backend: Box<dyn Backend + Send>,
-    order: Order,
+    backend: Arranged,
     desk: Option<Desk>,
 ) -> (Hand<Item>, Option<Desk>)
     requires sync { IsSync R.row }
@@ -43,17 +41,7 @@ pub(crate) fn serve<T: Stepper, R: Wait + Sync>(
     ensures { GivesBack table.now hand desk result.0 result.1 }
 {
     let site = Site::of(rt, alloc, table, stepper);
-    match desk {
-        None => {
-            let mut worker = Worker::new(hand, backend, order);
-            worker.serve(&site);
-            (worker.into_hand(), None)
-        }
-        Some(Desk { deck, post }) => {
-            let mut worker = Worker::with_deck(hand, backend, order, deck, post);
-            worker.serve(&site);
-            let (hand, deck, post) = worker.into_parts();
-            (hand, Some(Desk { deck, post }))
-        }
-    }
+    let mut worker = Worker::new(hand, backend, desk);
+    worker.serve(&site);
+    worker.into_parts()
 }

@@ -9,13 +9,19 @@
 //!     awake --lie_down--> asleep --park--> woken --get_up--> awake, or searching
 //!     asleep --wake_one, wake, wake_last, wake_all--> woken
 //!
+//! The last hand doesn't search for others: it looks as long as it likes, and isn't counted.
+//!
 //! A hand lies down first, looks once more, and parks only then; so what becomes ready in between
-//! finds its bit. A token that comes late costs one round. That a hand that parks is woken isn't
-//! claimed: the proof sees no sleeping. Nothing rests on this crate but the time that a run takes.
+//! finds its bit. `Vigil` keeps this order, and how long a hand looks before it lies down. A token
+//! that comes late costs one round. That a hand that parks is woken isn't claimed: the proof sees
+//! no sleeping. Nothing rests on this crate but the time that a run takes.
 #![tactic(auto)]
 
 mod opening;
+mod patience;
 mod sleeper;
+mod vigil;
 
 pub use opening::open;
 pub use sleeper::{MOST_HANDS, Sleeper};
+pub use vigil::{Stage, Vigil};

@@ -39,9 +39,14 @@ impl Sleeper {
         self.place
     }
 
-    /// Counts this hand as searching, where nobody searches.
+    /// Counts this hand as searching, where nobody searches. The last hand may always look.
     pub fn try_search(&self) -> bool {
-        self.room.searching.compare_exchange(0, 1).is_ok()
+        self.is_last() || self.room.searching.compare_exchange(0, 1).is_ok()
+    }
+
+    // Whether it is the last hand, which isn't counted as searching.
+    fn is_last(&self) -> bool {
+        self.place == self.room.last
     }
 
     /// No hand sleeps or searches, but perhaps the last: a name that this hand keeps for itself is
@@ -52,7 +57,9 @@ impl Sleeper {
 
     /// This hand, which is counted as searching, searches no more.
     pub fn leave_search(&self) {
-        self.room.searching.fetch_sub(1);
+        if !self.is_last() {
+            self.room.searching.fetch_sub(1);
+        }
     }
 
     /// Sets the bit of this hand. It looks once more before it parks.
@@ -66,7 +73,7 @@ impl Sleeper {
     }
 
     /// Takes the bit of this hand down. False where another took it: then this hand is counted as
-    /// searching, but the last, which doesn't search.
+    /// searching, but the last.
     pub fn get_up(&self) -> bool {
         self.room.take_bit(self.place)
     }

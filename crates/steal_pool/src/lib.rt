@@ -15,25 +15,32 @@
 //!
 //! A name is a hint, so a backend need not be lawful: the node's word decides who takes it. Workers
 //! don't meet but at words of the table and by their decks, and nothing of a run rests on those.
+//! Whoever has workers arranges their backends before they begin, and none can be arranged anew:
 //!
-//! A worker with a desk sleeps where it found nothing; without one it lets other threads run:
+//!     backends --Arrangement::of--> Arrangement --give--> Arranged, in that order for good
+//!                                        |
+//!                                        +--end--> Given: that order, and how many were given out
 //!
-//!     Awake --no name--> Searching, if nobody else is --no name, many times--> Lying
-//!       ^                                                                        |
-//!       +-----woken------- asleep <--no node is ready-- a look at each place <---+
+//! A worker with a desk sleeps where it found nothing, by a vigil of sleepers: before it sleeps it
+//! lies down, and looks at each place once more. Without a desk it lets other threads run.
 #![tactic(auto)]
 
-mod desk;
-mod offers;
+mod arranged;
+mod arrangement;
+mod given;
 mod resting;
 mod searching;
 mod serving;
 mod taking;
 mod worker;
+mod worker_mail;
 mod working;
 
-pub use desk::Desk;
+pub use arranged::Arranged;
+pub use arrangement::Arrangement;
+pub use deck_relay::Desk;
 pub use exec_recv::{Item, Stepper};
-pub use pool_backends::{Backend, Order, RingBackend};
+pub use given::Given;
+pub use pool_backends::{Backend, Order};
 pub use worker::Worker;
 pub use working::Worked;

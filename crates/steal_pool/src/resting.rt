@@ -1,39 +1,27 @@
 //! How a worker that finds nothing waits for work.
 ghost use Rattle.std.specs.Prelude.{◌≡◌};
-ghost use Rattle.steal_pool.specs.Desks.{KeepsDesk};
+ghost use Rattle.deck_relay.specs.Desks.{KeepsDesk};
 
-use crate::offers::Offers;
+use crate::worker_mail::WorkerMail;
 use life_rules::Name;
 use std::sync::Wait;
 use std::thread::yield_now;
 
-/// How often a worker that is counted as searching looks for names before it lies down, and after
-/// how many looks it lets other threads run before each.
-const MOST_LOOKS: u32 = 400;
-
-const BUSY_LOOKS: u32 = 300;
-
-/// How a worker looks for work.
-#[derive(Clone, Copy, Debug, PartialEq, Eq)]
-pub enum Rest {
-    /// It has work, or looks for names for the first time since it had.
-    Awake,
-    /// It is counted as searching, and found no name so many times.
-    Searching(u32),
-    /// Its bit is up. It looks at each node once more, and then it sleeps.
-    Lying,
-}
-
-impl Offers {
-    /// A look by names alone doesn't serve any more: the worker is about to sleep, or it never
-    /// sleeps, since it has no desk, or a backend that doesn't end; or the backend lost a name since
-    /// the last time.
-    pub fn looks_at_all(&mut self) -> bool
+impl WorkerMail {
+    /// What comes before a look: where the worker lay down, looked at all and found nothing, it
+    /// sleeps. True where a look by names alone doesn't serve any more: the worker lies and is
+    /// about to sleep, or it never sleeps, since it has no desk, or a backend that doesn't end; or
+    /// the backend lost a name since the last time.
+    pub fn begin<R: Wait>(&mut self, rt: &R) -> bool
         ensures { self.new.desk ≡ self.old.desk }
     {
         let lost = self.lost;
         self.lost = false;
-        lost || self.desk.is_none() || self.rest == Rest::Lying || self.endless
+        let Some(desk) = &self.desk else {
+            return true;
+        };
+        let lies = self.vigil.begin(rt, desk.deck.sleeper());
+        lies || lost || self.endless
     }
 
     /// A look by names found nothing, and might have asked for so many more. Where it might for
@@ -46,26 +34,15 @@ impl Offers {
         }
     }
 
-    /// The worker searches no more, and lies no more. True where it was counted as searching: hands
-    /// that pushed a name meanwhile woke nobody.
+    /// The worker found something, or ends: it searches no more, and lies no more. True where it
+    /// was counted as searching: hands that pushed a name meanwhile woke nobody.
     pub fn leave(&mut self) -> bool
         ensures { self.new.desk ≡ self.old.desk }
     {
-        let rest = self.rest;
-        self.rest = Rest::Awake;
-        let Some(desk) = &self.desk else {
-            return false;
-        };
-        let sleeper = desk.deck.sleeper();
-        let counted = match rest {
-            Rest::Awake => false,
-            Rest::Searching(_) => true,
-            Rest::Lying => !sleeper.get_up(),
-        };
-        if counted {
-            sleeper.leave_search();
+        match &self.desk {
+            None => false,
+            Some(desk) => self.vigil.found(desk.deck.sleeper()),
         }
-        counted
     }
 
     /// The worker found a name: it searches no more. Where it did, it looks for one more name, and
@@ -94,48 +71,14 @@ impl Offers {
         }
     }
 
-    /// The worker found nothing. Without a desk it lets other threads run. Else it searches, where
-    /// nobody does, and lies down where that finds nothing; and where it lies it sleeps until it is
-    /// woken.
-    pub fn wait<R: Wait>(&mut self, rt: &R)
+    /// The worker found nothing: it goes on with lying down. Without a desk it lets other threads
+    /// run.
+    pub fn wait(&mut self)
         ensures { self.new.desk ≡ self.old.desk }
     {
-        let Some(desk) = &self.desk else {
-            yield_now();
-            return;
-        };
-        let sleeper = desk.deck.sleeper();
-        self.rest = match self.rest {
-            Rest::Awake => {
-                if sleeper.try_search() {
-                    Rest::Searching(0)
-                } else {
-                    sleeper.lie_down();
-                    Rest::Lying
-                }
-            }
-            Rest::Searching(looks) => {
-                if looks < MOST_LOOKS {
-                    if BUSY_LOOKS <= looks {
-                        yield_now();
-                    }
-                    Rest::Searching(looks + 1)
-                } else {
-                    sleeper.leave_search();
-                    sleeper.lie_down();
-                    Rest::Lying
-                }
-            }
-            Rest::Lying => {
-                sleeper.park(rt);
-                // Where it takes its own bit, hands that found it there woke nobody else: it has to
-                // search, or another does.
-                if sleeper.get_up() && !sleeper.try_search() {
-                    Rest::Awake
-                } else {
-                    Rest::Searching(0)
-                }
-            }
-        };
+        match &self.desk {
+            None => yield_now(),
+            Some(desk) => self.vigil.missed(desk.deck.sleeper()),
+        }
     }
 }

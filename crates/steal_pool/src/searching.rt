@@ -8,10 +8,10 @@ ghost use Rattle.exec_recv.specs.Sites.{IsSite};
 ghost use Rattle.node_walks.specs.Resting.{IsAtRest};
 ghost use Rattle.node_walks.specs.Since.{OnlyLooks};
 ghost use Rattle.node_walks.specs.Serving.{ServesNode};
-ghost use Rattle.steal_pool.specs.Desks.{KeepsDesk};
+ghost use Rattle.deck_relay.specs.Desks.{KeepsDesk};
 ghost use Rattle.steal_pool.specs.Works.{FindsNode, FindsBlock, FindsAny};
 
-use crate::offers::Offers;
+use crate::worker_mail::WorkerMail;
 use exec_recv::{Item, Site, Stepper};
 use life_rules::Name;
 use node_tree::Context;
@@ -24,7 +24,7 @@ use std::sync::Wait;
 fn look_at<T: Stepper, R: Wait + Sync>(
     site: &Site<R, T>,
     hand: &mut Hand<Item>,
-    offers: &mut Offers,
+    offers: &mut WorkerMail,
     submits: bool,
     found: &mut bool,
     block: u32,
@@ -65,7 +65,7 @@ fn look_at<T: Stepper, R: Wait + Sync>(
 fn search_block<T: Stepper, R: Wait + Sync>(
     site: &Site<R, T>,
     hand: &mut Hand<Item>,
-    offers: &mut Offers,
+    offers: &mut WorkerMail,
     submits: bool,
     found: &mut bool,
     block: u32,
@@ -101,7 +101,7 @@ fn search_block<T: Stepper, R: Wait + Sync>(
 pub fn search<T: Stepper, R: Wait + Sync>(
     site: &Site<R, T>,
     hand: &mut Hand<Item>,
-    offers: &mut Offers,
+    offers: &mut WorkerMail,
     submits: bool,
     found: &mut bool,
 ) -> Option<Name>

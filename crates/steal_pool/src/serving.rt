@@ -4,7 +4,7 @@ ghost use Rattle.std.specs.Thread.{IsSync};
 ghost use Rattle.table_steps.specs.Views.{IsSameHand};
 ghost use Rattle.exec_recv.specs.Asides.{KeepsAside};
 ghost use Rattle.exec_recv.specs.Sites.{IsSite};
-ghost use Rattle.steal_pool.specs.Desks.{KeepsDesk};
+ghost use Rattle.deck_relay.specs.Desks.{KeepsDesk};
 ghost use Rattle.steal_pool.specs.Rounds.{Comes};
 ghost use Rattle.steal_pool.specs.Works.{IsReady, HasEnded};
 
@@ -61,7 +61,7 @@ impl Worker {
         ensures ended { Comes site.now result self.old.hand.me self.new.hand.me }
         ensures desk { KeepsDesk self.old.offers.desk self.new.offers.desk }
     {
-        if self.offers.looks_at_all() {
+        if self.offers.begin(site.rt) {
             return self.work_or_end(site);
         }
         let mut asks = places_of(site.table);
@@ -88,7 +88,7 @@ impl Worker {
         match self.go_round(site) {
             Round::Took => false,
             Round::Idle => {
-                self.offers.wait(site.rt);
+                self.offers.wait();
                 false
             }
             Round::Ended => {

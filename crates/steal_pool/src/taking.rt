@@ -8,9 +8,9 @@ ghost use Rattle.exec_recv.specs.Sites.{IsSite};
 ghost use Rattle.node_walks.specs.Resting.{IsAtRest};
 ghost use Rattle.node_walks.specs.Since.{OnlyLooks};
 ghost use Rattle.node_walks.specs.Serving.{ServesNode};
-ghost use Rattle.steal_pool.specs.Desks.{KeepsDesk};
+ghost use Rattle.deck_relay.specs.Desks.{KeepsDesk};
 
-use crate::offers::Offers;
+use crate::worker_mail::WorkerMail;
 use exec_recv::{Item, Site, Stepper};
 use life_rules::{Name, Resting};
 use node_walks::serve;
@@ -28,7 +28,7 @@ fn is_place(table: &OpTable<Item>, name: Name) -> bool
 fn serve_name<T: Stepper, R: Wait + Sync>(
     site: &Site<R, T>,
     hand: &mut Hand<Item>,
-    offers: &mut Offers,
+    offers: &mut WorkerMail,
     name: Name,
 ) -> bool
     requires sync { IsSync R.row }
@@ -50,7 +50,7 @@ fn serve_name<T: Stepper, R: Wait + Sync>(
 }
 
 // The next name, where the call may ask for one more. Each that is asked for is one fewer.
-fn ask<R: Wait>(rt: &R, offers: &mut Offers, asks: &mut u32) -> Option<Name>
+fn ask<R: Wait>(rt: &R, offers: &mut WorkerMail, asks: &mut u32) -> Option<Name>
     ensures most { asks.new ≤ asks.old }
     ensures fewer { IfSome result (λ _. asks.new + 1 ≡ asks.old) }
     ensures none { asks.old ≡ 0 → offers.new ≡ offers.old }
@@ -69,7 +69,7 @@ fn ask<R: Wait>(rt: &R, offers: &mut Offers, asks: &mut u32) -> Option<Name>
 pub fn take_next<T: Stepper, R: Wait + Sync>(
     site: &Site<R, T>,
     hand: &mut Hand<Item>,
-    offers: &mut Offers,
+    offers: &mut WorkerMail,
     asks: &mut u32,
 ) -> Option<Name>
     requires sync { IsSync R.row }

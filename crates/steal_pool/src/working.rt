@@ -5,13 +5,13 @@ ghost use Rattle.table_steps.specs.Views.{IsHandOf, IsSameHand, Stays, knows};
 ghost use Rattle.exec_recv.specs.Asides.{KeepsAside};
 ghost use Rattle.exec_recv.specs.Sites.{IsSite};
 ghost use Rattle.node_walks.specs.Resting.{IsAtRest};
-ghost use Rattle.steal_pool.specs.Desks.{KeepsDesk};
+ghost use Rattle.deck_relay.specs.Desks.{KeepsDesk};
 ghost use Rattle.steal_pool.specs.Works.{IsReady, WorksOn};
 
-use crate::offers::Offers;
 use crate::searching::search;
 use crate::taking::take_next;
 use crate::worker::Worker;
+use crate::worker_mail::WorkerMail;
 use exec_recv::{Item, Site, Stepper};
 use life_rules::Name;
 use op_slot::{Hand, OpTable};
@@ -35,7 +35,7 @@ pub fn places_of(table: &OpTable<Item>) -> u32 {
 fn take_any<T: Stepper, R: Wait + Sync>(
     site: &Site<R, T>,
     hand: &mut Hand<Item>,
-    offers: &mut Offers,
+    offers: &mut WorkerMail,
 ) -> Worked
     requires sync { IsSync R.row }
     requires hand { IsHandOf site.now hand.old }
@@ -59,7 +59,7 @@ fn take_any<T: Stepper, R: Wait + Sync>(
 fn seek<T: Stepper, R: Wait + Sync>(
     site: &Site<R, T>,
     hand: &mut Hand<Item>,
-    offers: &mut Offers,
+    offers: &mut WorkerMail,
     asks: &mut u32,
 ) -> Worked
     requires sync { IsSync R.row }

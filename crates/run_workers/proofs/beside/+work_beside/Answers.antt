@@ -2,6 +2,7 @@ use Rattle.std.proofs.Common.{rules, ap, ◌∙◌, arith}
 use Rattle.std.specs.Prelude.{vec_len, vec_capacity}
 use Rattle.table_steps.specs.Views.{knows}
 use Rattle.run_workers.proofs.Hands.{TheHand, one-more, claimed-back}
+use Rattle.deck_relay.specs.Desks.{OnlyPosts}
 use Rattle.run_workers.proofs.Kept.{desks-back, desks-here, kept-from, room-back}
 use Rattle.run_workers.proofs.beside.+work_beside.Goals as goal
 
@@ -33,16 +34,16 @@ returns-in-Err-clause-claims g t c =
 
 pub returns-in-Ok-clause-same : goal.returns-in-Ok-clause-same
 returns-in-Ok-clause-same g t c =
-    desks-back c.take_desk-desk.result c.join-back.result.1 c.args.desks.now.items c.take_desk-desk.new.desks.items c.work_beside-last.new.desks.items
+    desks-back OnlyPosts c.take_desk-desk.result c.join-back.result.1 c.args.desks.now.items c.take_desk-desk.new.desks.items c.work_beside-last.new.desks.items
     c.put_desk.new.desks.items c.take_desk-desk.ensures.with c.put_desk.ensures.with c.work_beside-last.ensures.same
-    (kept-from c.take_desk-desk.result c.in-Ok.child.promise.desk.value c.join-back.result.1 (ap (λ p. p.desk.value) c.in-Ok.ensures.ok ∙ c.of-3.ensures) c.join-back.ensures.same)
+    (kept-from OnlyPosts c.take_desk-desk.result c.in-Ok.child.promise.desk.value c.join-back.result.1 (ap (λ p. p.desk.value) c.in-Ok.ensures.ok ∙ c.of-3.ensures) c.join-back.ensures.same)
 
 pub returns-in-Err-clause-same : goal.returns-in-Err-clause-same
 returns-in-Err-clause-same g t c =
-    desks-back c.take_desk-desk.result c.spawn_with-served.result.1 c.args.desks.now.items c.take_desk-desk.new.desks.items
+    desks-back OnlyPosts c.take_desk-desk.result c.spawn_with-served.result.1 c.args.desks.now.items c.take_desk-desk.new.desks.items
     c.work_beside-last-in-Err.new.desks.items c.put_desk-in-Err.new.desks.items c.take_desk-desk.ensures.with c.put_desk-in-Err.ensures.with
     c.work_beside-last-in-Err.ensures.same
-    (kept-from c.take_desk-desk.result c.in-Err.refused.value.7 c.spawn_with-served.result.1 (ap (λ f. f.7) c.in-Err.ensures.err) c.spawn_with-served.ensures.same)
+    (kept-from OnlyPosts c.take_desk-desk.result c.in-Err.refused.value.6 c.spawn_with-served.result.1 (ap (λ f. f.6) c.in-Err.ensures.err) c.spawn_with-served.ensures.same)
 
 pub put_desk-requires : goal.put_desk-requires
 put_desk-requires g t c =
@@ -53,9 +54,9 @@ put_desk-requires g t c =
     let shelf = c.work_beside-last.ensures.shelf in
     let same = c.take_desk-desk.ensures.capacity in
     record {
-      room = room-back c.take_desk-desk.result c.join-back.result.1 (vec_len had) (vec_len took) (vec_len has) (vec_capacity has)
+      room = room-back OnlyPosts c.take_desk-desk.result c.join-back.result.1 (vec_len had) (vec_len took) (vec_len has) (vec_capacity has)
           c.take_desk-desk.ensures.length (omega (arith, had.ok.0, had.ok.1, shelf, same)) (omega (arith, count, took.ok.0, has.ok.0))
-          (kept-from c.take_desk-desk.result c.in-Ok.child.promise.desk.value c.join-back.result.1 (ap (λ p. p.desk.value) c.in-Ok.ensures.ok ∙ c.of-3.ensures)
+          (kept-from OnlyPosts c.take_desk-desk.result c.in-Ok.child.promise.desk.value c.join-back.result.1 (ap (λ p. p.desk.value) c.in-Ok.ensures.ok ∙ c.of-3.ensures)
           c.join-back.ensures.same);
     }
 
@@ -68,8 +69,8 @@ put_desk-requires-in-Err g t c =
     let shelf = c.work_beside-last-in-Err.ensures.shelf in
     let same = c.take_desk-desk.ensures.capacity in
     record {
-      room = room-back c.take_desk-desk.result c.spawn_with-served.result.1 (vec_len had) (vec_len took) (vec_len has) (vec_capacity has)
+      room = room-back OnlyPosts c.take_desk-desk.result c.spawn_with-served.result.1 (vec_len had) (vec_len took) (vec_len has) (vec_capacity has)
           c.take_desk-desk.ensures.length (omega (arith, had.ok.0, had.ok.1, shelf, same)) (omega (arith, count, took.ok.0, has.ok.0))
-          (kept-from c.take_desk-desk.result c.in-Err.refused.value.7 c.spawn_with-served.result.1 (ap (λ f. f.7) c.in-Err.ensures.err)
+          (kept-from OnlyPosts c.take_desk-desk.result c.in-Err.refused.value.6 c.spawn_with-served.result.1 (ap (λ f. f.6) c.in-Err.ensures.err)
           c.spawn_with-served.ensures.same);
     }

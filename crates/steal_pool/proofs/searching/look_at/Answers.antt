@@ -5,7 +5,7 @@ use Rattle.table_words.specs.Layouts.{OfControl, index}
 use Rattle.op_slot.proofs.Staying.{stays-on}
 use Rattle.exec_recv.proofs.Asiding.{aside-on}
 use Rattle.node_walks.proofs.Read.{looked-rests, looked-aside, looked-only, read-unready}
-use Rattle.steal_pool.specs.Desks.{desk-here, desk-on}
+use Rattle.deck_relay.specs.Desks.{desk-here, desk-on}
 use Rattle.steal_pool.proofs.Searched.{finds-before, looks-before, served-before}
 use Rattle.steal_pool.proofs.searching.look_at.Goals as goal
 

@@ -3,7 +3,7 @@ use Rattle.table_steps.specs.Views.{Stays}
 use Rattle.node_walks.specs.Resting.{IsAtRest}
 use Rattle.node_walks.specs.Since.{OnlyLooks}
 use Rattle.steal_pool.specs.Works.{AreIdleBelow, UnlessFound}
-use Rattle.steal_pool.specs.Desks.{KeepsDesk}
+use Rattle.deck_relay.specs.Desks.{KeepsDesk}
 use Rattle.steal_pool.proofs.searching.search.Given as goal
 
 abbrev pub invariant-loop-block : goal.invariant-loop-block

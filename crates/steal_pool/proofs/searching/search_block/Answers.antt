@@ -4,7 +4,7 @@ use Rattle.op_slot.proofs.Staying.{stays-here, stays-on}
 use Rattle.exec_recv.proofs.Asiding.{aside-on}
 use Rattle.node_walks.proofs.Read.{looks-here, looks-on}
 use Rattle.node_walks.proofs.Took.{serves-before}
-use Rattle.steal_pool.specs.Desks.{desk-here, desk-on}
+use Rattle.deck_relay.specs.Desks.{desk-here, desk-on}
 use Rattle.steal_pool.proofs.Searched.{nodes-more, nodes-all}
 use Rattle.steal_pool.proofs.searching.search_block.Goals as goal
 

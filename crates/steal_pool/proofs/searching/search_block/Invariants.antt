@@ -3,7 +3,7 @@ use Rattle.table_steps.specs.Views.{Stays}
 use Rattle.node_walks.specs.Resting.{IsAtRest}
 use Rattle.node_walks.specs.Since.{OnlyLooks}
 use Rattle.steal_pool.specs.Works.{AreIdle, UnlessFound}
-use Rattle.steal_pool.specs.Desks.{KeepsDesk}
+use Rattle.deck_relay.specs.Desks.{KeepsDesk}
 use Rattle.steal_pool.proofs.searching.search_block.Given as goal
 
 abbrev pub invariant-loop-node : goal.invariant-loop-node

@@ -3,7 +3,7 @@ use Rattle.std.proofs.lemmas.Bool.{both_ways}
 use Rattle.op_slot.proofs.Staying.{stays-here}
 use Rattle.exec_recv.proofs.Asiding.{aside-here}
 use Rattle.node_walks.proofs.Read.{looks-here}
-use Rattle.steal_pool.specs.Desks.{desk-here}
+use Rattle.deck_relay.specs.Desks.{desk-here}
 use Rattle.steal_pool.proofs.taking.serve_name.Goals as goal
 
 pub returns-then-not-is_place : goal.returns-then-not-is_place

@@ -2,7 +2,7 @@ use Rattle.std.proofs.Common.{◌≤◌}
 use Rattle.table_steps.specs.Views.{Stays}
 use Rattle.node_walks.specs.Resting.{IsAtRest}
 use Rattle.node_walks.specs.Since.{OnlyLooks}
-use Rattle.steal_pool.specs.Desks.{KeepsDesk}
+use Rattle.deck_relay.specs.Desks.{KeepsDesk}
 use Rattle.steal_pool.proofs.taking.take_next.Given as goal
 
 abbrev pub invariant-asked : goal.invariant-asked

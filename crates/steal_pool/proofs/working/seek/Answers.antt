@@ -4,7 +4,7 @@ use Rattle.op_slot.proofs.Staying.{stays-on}
 use Rattle.exec_recv.proofs.Asiding.{aside-on}
 use Rattle.node_walks.proofs.Read.{looks-on}
 use Rattle.node_walks.proofs.Took.{serves-before}
-use Rattle.steal_pool.specs.Desks.{desk-on}
+use Rattle.deck_relay.specs.Desks.{desk-on}
 use Rattle.steal_pool.proofs.Searched.{works-before}
 use Rattle.steal_pool.proofs.working.seek.Goals as goal
 

@@ -1,4 +1,4 @@
-use Rattle.steal_pool.specs.Desks.{desk-on}
+use Rattle.deck_relay.specs.Desks.{desk-on}
 use Rattle.steal_pool.proofs.Kept.{keeps-same}
 use Rattle.steal_pool.proofs.worker.Worker.go_round.Goals as goal
 
@@ -9,8 +9,8 @@ returns-in-Some g c =
       same = c.take_next.ensures.stays.same;
       aside = c.take_next.ensures.aside;
       ended = tt;
-      desk = desk-on c.args.self.now.offers.desk c.looks_at_all.new.self.desk c.take_next.new.offers.desk
-          (keeps-same c.args.self.now.offers.desk c.looks_at_all.new.self.desk c.looks_at_all.ensures)
+      desk = desk-on c.args.self.now.offers.desk c.begin.new.self.desk c.take_next.new.offers.desk
+          (keeps-same c.args.self.now.offers.desk c.begin.new.self.desk c.begin.ensures)
           c.take_next.ensures.desk;
     }
 
@@ -22,8 +22,8 @@ returns-in-None g c =
       aside = c.take_next.ensures.aside;
       ended = tt;
       desk = desk-on c.args.self.now.offers.desk c.take_next.new.offers.desk c.doubt.new.self.desk
-          (desk-on c.args.self.now.offers.desk c.looks_at_all.new.self.desk c.take_next.new.offers.desk
-          (keeps-same c.args.self.now.offers.desk c.looks_at_all.new.self.desk c.looks_at_all.ensures)
+          (desk-on c.args.self.now.offers.desk c.begin.new.self.desk c.take_next.new.offers.desk
+          (keeps-same c.args.self.now.offers.desk c.begin.new.self.desk c.begin.ensures)
           c.take_next.ensures.desk)
           (keeps-same c.take_next.new.offers.desk c.doubt.new.self.desk c.doubt.ensures);
     }

@@ -1,6 +1,6 @@
 use Rattle.std.proofs.Common.{false, refl}
 use Rattle.std.proofs.lemmas.Bool.{both_ways}
-use Rattle.steal_pool.specs.Desks.{desk-on}
+use Rattle.deck_relay.specs.Desks.{desk-on}
 use Rattle.steal_pool.proofs.Kept.{keeps-same}
 use Rattle.steal_pool.proofs.worker.Worker.has_ended.Goals as goal
 

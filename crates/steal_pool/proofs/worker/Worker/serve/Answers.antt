@@ -1,6 +1,6 @@
 use Rattle.std.proofs.Common.{refl}
 use Rattle.exec_recv.proofs.Asiding.{aside-here, aside-on}
-use Rattle.steal_pool.specs.Desks.{desk-here, desk-on}
+use Rattle.deck_relay.specs.Desks.{desk-here, desk-on}
 use Rattle.steal_pool.proofs.Searched.{ended-before, same-on}
 use Rattle.steal_pool.proofs.worker.Worker.serve.Goals as goal
 

@@ -1,6 +1,6 @@
 use Rattle.table_steps.specs.Views.{IsSameHand}
 use Rattle.exec_recv.specs.Asides.{KeepsAside}
-use Rattle.steal_pool.specs.Desks.{KeepsDesk}
+use Rattle.deck_relay.specs.Desks.{KeepsDesk}
 use Rattle.steal_pool.specs.Works.{IsReady}
 use Rattle.steal_pool.proofs.worker.Worker.serve.Given as goal
 

@@ -1,6 +1,6 @@
 use Rattle.op_slot.proofs.Staying.{stays-on}
 use Rattle.exec_recv.proofs.Asiding.{aside-on}
-use Rattle.steal_pool.specs.Desks.{desk-on}
+use Rattle.deck_relay.specs.Desks.{desk-on}
 use Rattle.steal_pool.proofs.Searched.{works-before}
 use Rattle.steal_pool.proofs.worker.Worker.work_once.Goals as goal
 
