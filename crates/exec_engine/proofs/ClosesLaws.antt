@@ -7,7 +7,13 @@ use Rattle.exec_io.specs.Causes.{Rose}
 use Rattle.exec_io.specs.Views.{SourceView, SinkView}
 use Rattle.exec_value.specs.declared.kinds.Kind.{Kind}
 use Rattle.exec_value.specs.declared.outcome.Outcome.{Outcome}
+use Rattle.exec_words.specs.declared.number.TheConstants.{MOST_WORKERS}
+use Rattle.home_items.specs.declared.entry.Entry.{Entry}
+use Rattle.home_items.specs.declared.item.Item.{Item}
 use Rattle.line_summary.specs.Counting.{Summarizes}
+use Rattle.steal_pool.specs.Arrangements.{HasGiven}
+use Rattle.steal_pool.specs.declared.given.Given.{Given}
+use Rattle.table_steps.specs.Closings.{ClosedTable}
 use Rattle.plan_shape.specs.Blueprint.{Blueprint}
 use Rattle.record_lines.specs.declared.ending.End.{End}
 use Rattle.record_lines.specs.declared.ending.End.TheVariants.{Ended, Fault, Limit}
@@ -21,7 +27,7 @@ use Rattle.record_loop.specs.ReadStarts.{ReadStart}
 use Rattle.record_loop.specs.Reading.{Reads}
 use Rattle.record_loop.specs.Tallies.{IsToldBy, TalliesWith}
 use Rattle.whole_run.specs.declared.account.Account.{Account}
-use Rattle.whole_run.specs.Accounts.{EndsRun, IsClosedFor}
+use Rattle.whole_run.specs.Accounts.{EndsRun, IsClosedFor, AreGiven}
 use Rattle.whole_run.specs.Endings.{IsUnbegun, Streams, streams, begins}
 use Rattle.line_rules.specs.Lawful.{Lawful}
 use Rattle.line_rules.specs.PlanTerms.{window_of}
@@ -35,7 +41,7 @@ use Rattle.exec_engine.specs.declared.task.Task.{Task}
 use Rattle.exec_engine.specs.Closes.{ClosesRun, Runs}
 use Rattle.exec_engine.specs.Says.{terms_for}
 use Rattle.exec_engine.specs.Statuses.{status_of}
-use Rattle.exec_engine.specs.Tallies.{IsNew, IsTallyOf}
+use Rattle.exec_engine.specs.Tallies.{AreInOrder, IsNew, IsTallyOf}
 use Rattle.exec_engine.specs.Taken.{Takes, LeavesSource, OutCaughtUp}
 use Rattle.exec_engine.specs.Tasks.{form_for}
 
@@ -142,6 +148,25 @@ module _ (plan : Blueprint) (task : Task) (window : ℕ) (sized : window ≡ win
         leaves = subst (λ (o : Origin). LeavesSource o (streams source reads first.sink) (streams source reads last.sink)) of_task (record { source_same = refl; reads_same = refl });
         reads = subst (λ (o : Origin). OutCaughtUp o (begins plan account.closing.board.table_id (window_of plan task.window) (form_for o) first.sink) (streams source reads first.sink) (streams source reads last.sink)) of_task (record { source_same = refl; reads_same = refl });
       }
+
+-- no backend was given out for a tally that is new
+pub new-ordered : (task : Task) (tally : Tally) → IsNew tally → AreInOrder task tally.closing tally.given
+new-ordered task tally new =
+    subst (λ (t : Option (ClosedTable Item Entry Blueprint) × Option Given). AreInOrder task t.0 t.1) (λ j. (sym new.unopened j, sym new.ungiven j)) tt
+
+-- and for a run to its workers
+pub takes-ordered : (task : Task) (asked workers : ℕ) (answer : Result Account AllocError) (old new : Tally) → asked ≡ MOST_WORKERS → workers ≤ task.workers
+    → IfOk answer (λ (a : Account). AreGiven task.order asked workers a.given) → IsNew old → IfOk answer (λ (a : Account). new.closing ≡ Some a.closing)
+    → IfOk answer (λ (a : Account). new.given ≡ a.given) → OnErr answer (new ≡ old) → AreInOrder task new.closing new.given
+takes-ordered task asked workers (Ok account) old new all few has was closing given same =
+    subst (λ (t : Option (ClosedTable Item Entry Blueprint) × Option Given). AreInOrder task t.0 t.1) (λ j. (sym closing j, sym given j))
+    (by account.given has)
+  where
+    by : (o : Option Given) → AreGiven task.order asked workers o → AreInOrder task (Some account.closing) o
+    by (Some told) is = record { workers = workers; few = few; given = subst (λ (n : ℕ). HasGiven task.order n workers told) all is }
+    by None is = absurd is
+takes-ordered task asked workers (Err e) old new all few has was closing given same =
+    subst (λ (t : Tally). AreInOrder task t.closing t.given) (sym same) (new-ordered task old was)
 
 -- what a tally that was new told of a run's answer
 pub record Takings (answer : Result Account AllocError) (old new : Tally) (status : Status) : Type 0 where

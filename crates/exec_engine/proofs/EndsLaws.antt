@@ -21,16 +21,17 @@ use Rattle.exec_engine.specs.Opening.{HasPlan, HasPlanRefusal}
 use Rattle.exec_engine.specs.Refusals.{IsPlanRefusedWith, refusal_of}
 use Rattle.exec_engine.specs.Says.{Says}
 use Rattle.exec_engine.specs.Surroundings.{Surroundings, streams_in}
-use Rattle.exec_engine.specs.Tallies.{IsNew}
+use Rattle.exec_engine.specs.Tallies.{AreInOrder, IsNew}
+use Rattle.exec_engine.proofs.ClosesLaws.{new-ordered}
 use Rattle.exec_engine.proofs.RefusedLaws.{opened-stands}
 use Rattle.exec_engine.proofs.SaysLaws.{says-run, says-fault, run-is, run-write, run-read, run-out_still, run-records_still, run-handed, run-out_later, run-records_later, run-leaves, same-leaves}
 use Rattle.exec_engine.proofs.LimitLaws.{says-beyond, says-within, says-finished}
 use Rattle.exec_engine.proofs.ValuesLaws.{says-values, says-small, says-small_lines}
 
 -- the end of a run whose plan was opened
-pub run-ends : (task : Task) (old new : Surroundings) (tally : Tally) {plan : Blueprint} (status result : Status) → HasPlan old.shelf.texts task.plan.now plan → Runs plan task (streams_in old) (streams_in new) tally status
+pub run-ends : (task : Task) (old new : Surroundings) (tally : Tally) {plan : Blueprint} (status result : Status) → AreInOrder task tally.closing tally.given → HasPlan old.shelf.texts task.plan.now plan → Runs plan task (streams_in old) (streams_in new) tally status
     → Concludes status old.notes new.notes result → ReadsShelf {T = Blueprint} {C = PlanFault} task.plan.now old.shelf new.shelf (Ok plan) → old.notes.faults ≤ new.notes.faults → RunEnds task old new tally result
-run-ends task old new tally status result has runs concludes reads notes_later =
+run-ends task old new tally status result ordered has runs concludes reads notes_later =
     let came = Says task old new tally in
     let refused = IsPlanRefusedWith old.shelf.texts task.plan.now in
     let before : came status = says-run task old new tally status has runs in
@@ -44,6 +45,7 @@ run-ends task old new tally status result has runs concludes reads notes_later =
     record {
       says = says;
       noted = noted;
+      ordered = ordered;
       read_fault = λ e. inr (read e);
       write_fault = write;
       shelf_still = λ _ _. shelf;
@@ -89,6 +91,7 @@ missed-ends task old new tally fault result kept uncounted misses gives_up reads
     record {
       says = says;
       noted = noted;
+      ordered = new-ordered task tally uncounted;
       read_fault = λ e. inl (read e);
       write_fault = λ e. inr (write e);
       shelf_still = λ no_read no_write.

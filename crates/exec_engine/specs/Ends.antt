@@ -20,6 +20,7 @@ use Rattle.exec_engine.specs.Opening.{Finds, IsRefused}
 use Rattle.exec_engine.specs.Refusals.{IsPlanRefusedWith}
 use Rattle.exec_engine.specs.Says.{HasNoMemory, Lines, Says, Untouched}
 use Rattle.exec_engine.specs.Surroundings.{Surroundings, streams_in}
+use Rattle.exec_engine.specs.Tallies.{AreInOrder}
 use Rattle.exec_engine.specs.Taken.{LeavesSource, SourcePassesLimit, KeepsLimit, IsWithin, OfRecords}
 
 -- A run of this task ended with this tally and this status.
@@ -29,6 +30,8 @@ pub record RunEnds (task : Task) (old new : Surroundings) (tally : Tally) (statu
   pub says : Says task old new tally status
   pub noted : Noted (Says task old new tally) (IsPlanRefusedWith old.shelf.texts task.plan.now)
       old.notes new.notes status
+  -- Each worker's backend was in the order of the task.
+  pub ordered : AreInOrder task tally.closing tally.given
   -- A fault is answered only where a count of faults rose in this call, and where none is answered
   -- no call of the shelf, the records or out failed.
   pub read_fault : status ≡ ReadFault

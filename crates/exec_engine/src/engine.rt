@@ -28,8 +28,8 @@ use trace_commands::{check_file, replay_file};
 /// nothing of the gate, which is passed at each point of the run.
 ///
 /// Afterwards the tally tells of this call alone, whatever it held before: the operations that a
-/// run collected from its table, one for each line that shows a completion, and how that table was
-/// closed.
+/// run collected from its table, one for each line that shows a completion, how that table was
+/// closed, and in which order backends were given out to its workers.
 pub fn run<R: Threads + Wait + Sync, F: Shelf, S: RecordSource, K: Sink, N: Sink, G: Gate + Sync>(
     rt: &R,
     alloc: Global,

@@ -1,4 +1,5 @@
-//! What a call of `run` collected, and how the table of its operations was closed.
+//! What a call of `run` collected, how the table of its operations was closed, and which backends
+//! its workers had.
 ghost use Rattle.std.specs.Prelude.{◌≡◌, Some, IfOk, OnErr};
 ghost use Rattle.std.specs.Option.{option_copied};
 ghost use Rattle.run_tally.specs.Gathered.{capped, values_in, errors_in, stopped_in, no_memory_in};
@@ -8,19 +9,23 @@ use exec_recv::Item;
 use exec_status::Status;
 use op_table::Closing;
 use run_loop::Tally as Collected;
+use run_workers::Given;
 use std::alloc::AllocError;
 use whole_run::Account;
 
 /// The operations of a call of `run`: how many were collected with each kind of completion
-/// ([exec.recv]), and how the table was closed on which they ran. Contracts see each operation that
-/// was collected, with its plan, its table, the number of its record and its completion.
+/// ([exec.recv]), how the table was closed on which they ran, and which backends were given out to
+/// its workers. Contracts see each operation that was collected, with its plan, its table, the
+/// number of its record and its completion.
 ///
-/// Only a loop adds to what was collected, and only the closing of a table makes a [`Closing`]: so
-/// no tally but a new one is of a call that ran nothing.
+/// Only a loop adds to what was collected, only the closing of a table makes a [`Closing`], and
+/// only an arrangement of backends a [`Given`]: so no tally but a new one is of a call that ran
+/// nothing.
 #[derive(Drop)]
 pub struct Tally {
     collected: Collected,
     closing: Option<Closing<Item>>,
+    given: Option<Given>,
 }
 
 impl Tally {
@@ -34,14 +39,17 @@ impl Tally {
         Tally {
             collected: Collected::new(),
             closing: None,
+            given: None,
         }
     }
 
-    /// Takes over what a run collected and how its table was closed, and gives the status of the
-    /// run. Where it had no memory to begin with, nothing is taken over.
+    /// Takes over what a run collected, how its table was closed and which backends were given out,
+    /// and gives the status of the run. Where it had no memory to begin with, nothing is taken
+    /// over.
     pub(crate) fn take(&mut self, answer: Result<Account, AllocError>) -> Status
         ensures collected { IfOk answer (λ a. self.new.collected ≡ a.tally) }
         ensures closing { IfOk answer (λ a. self.new.closing ≡ Some a.closing) }
+        ensures given { IfOk answer (λ a. self.new.given ≡ a.given) }
         ensures status { IfOk answer (λ a. result ≡ status_of a.ending) }
         ensures same { OnErr answer (self.new ≡ self.old) }
         ensures no_memory { OnErr answer (result ≡ Status.NoMemory) }
@@ -50,6 +58,7 @@ impl Tally {
             Ok(account) => {
                 self.collected = account.tally;
                 self.closing = Some(account.closing);
+                self.given = account.given;
                 status_of(&account.ending)
             }
             Err(AllocError) => Status::NoMemory,
@@ -89,5 +98,12 @@ impl Tally {
         ensures { option_copied result ≡ self.now.closing }
     {
         self.closing.as_ref()
+    }
+
+    /// In which order backends were given out to workers, and how many, where a table was opened.
+    pub fn given(&self) -> Option<Given>
+        ensures { result ≡ self.now.given }
+    {
+        self.given
     }
 }

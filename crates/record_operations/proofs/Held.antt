@@ -1,7 +1,7 @@
 -- A run over a loop that was changed by a call of its own.
 use Rattle.std.proofs.Common.{◌≡◌, ℕ, Bool, sym, subst}
 use Rattle.std.specs.Prelude.{Option}
-use Rattle.deck_relay.specs.declared.deck.Deck.{Deck}
+use Rattle.deck_relay.specs.declared.desk.Desk.{Desk}
 use Rattle.loop_queue.specs.declared.post.LoopPost.{LoopPost}
 use Rattle.plan_shape.specs.Blueprint.{Blueprint}
 use Rattle.table_steps.specs.Views.{Board}
@@ -11,11 +11,11 @@ use Rattle.record_operations.specs.Sound.{KeepsItsDesk, IsSound}
 use Rattle.record_operations.proofs.ServedSounding.{helped-sound}
 
 -- it helps the pool, or no more
-pub helped-held : (on : Board Blueprint → Type 0) (before : ℕ) (deck : Option Deck) (post post' : Option LoopPost) (run : Run) (stepped : Blueprint) (next : ℕ) (spawns helps : Bool)
-    (looped : Looped) → looped ≡ record run.looped { helps = helps } → KeepsItsDesk on before deck post run stepped next spawns post' →
-    KeepsItsDesk on before deck post (record run { looped = looped }) stepped next spawns post'
-helped-held on before deck post post' run stepped next spawns helps looped is held =
-    subst (λ (l : Looped). KeepsItsDesk on before deck post (record run { looped = l }) stepped next spawns post') (sym is)
+pub helped-held : (on : Board Blueprint → Type 0) (before : ℕ) (desk : Option Desk) (post : Option LoopPost) (run : Run) (stepped : Blueprint) (next : ℕ) (spawns helps : Bool)
+    (looped : Looped) → looped ≡ record run.looped { helps = helps } → KeepsItsDesk on before desk run stepped next spawns post →
+    KeepsItsDesk on before desk (record run { looped = looped }) stepped next spawns post
+helped-held on before desk post run stepped next spawns helps looped is held =
+    subst (λ (l : Looped). KeepsItsDesk on before desk (record run { looped = l }) stepped next spawns post) (sym is)
     (record { sound = helped-sound on before run stepped next helps held.sound; spawns_is = held.spawns_is; both = held.both })
 
 -- it has other names

@@ -1,7 +1,9 @@
 -- A deck and a post stay the same where nothing happens, and through one call after the other.
 use Rattle.std.proofs.Common.{◌≡◌, refl, sym, ◌∙◌, subst}
-use Rattle.std.specs.Prelude.{Option, Some, None}
+use Rattle.std.specs.Prelude.{Option, Some, None, is_some}
 use Rattle.deck_relay.specs.declared.deck.Deck.{Deck}
+use Rattle.deck_relay.specs.declared.desk.Desk.{Desk}
+use Rattle.deck_relay.specs.Desks.{KeepsOwn, deck_in, post_in}
 use Rattle.deck_relay.specs.SameDecks.{KeepsDeck, keeps-here, keeps-on}
 use Rattle.loop_queue.specs.declared.post.LoopPost.{LoopPost}
 use Rattle.loop_queue.specs.Posts.{IsSamePost}
@@ -42,3 +44,26 @@ module _ (deck : Option Deck) (post : Option LoopPost) where
     -- and where only the deck was used
     pub deck-on : (deck'' : Option Deck) → KeepsDeck deck' deck'' → KeepsBoth deck post deck'' post'
     deck-on deck'' next = record { same_deck = keeps-on deck deck' deck'' kept.same_deck next; same_post = kept.same_post }
+
+-- Both are there, or neither.
+pub both-together : (desk : Option Desk) (deck : Option Deck) (post : Option LoopPost) → KeepsBoth (deck_in desk) (post_in desk) deck post →
+    is_some deck ≡ is_some post
+both-together (Some desk) (Some deck) (Some post) both = refl
+both-together (Some desk) (Some deck) None both = absurd both.same_post
+both-together (Some desk) None post both = absurd both.same_deck
+both-together None (Some deck) post both = absurd both.same_deck
+both-together None None (Some post) both = absurd both.same_post
+both-together None None None both = refl
+
+-- and they are the same desk
+desk-kept : (desk back : Option Desk) → KeepsBoth (deck_in desk) (post_in desk) (deck_in back) (post_in back) → KeepsOwn desk back
+desk-kept (Some desk) (Some back) both = record { deck = both.same_deck; post = both.same_post }
+desk-kept (Some desk) None both = absurd both.same_deck
+desk-kept None (Some back) both = absurd both.same_deck
+desk-kept None None both = tt
+
+pub both-desk : (desk : Option Desk) (deck : Option Deck) (post : Option LoopPost) (back : Option Desk) → deck_in back ≡ deck → post_in back ≡ post →
+    KeepsBoth (deck_in desk) (post_in desk) deck post → KeepsOwn desk back
+both-desk desk deck post back is is' both =
+    desk-kept desk back
+    (subst (λ (t : Option Deck × Option LoopPost). KeepsBoth (deck_in desk) (post_in desk) t.0 t.1) (λ j. (sym is j, sym is' j)) both)

@@ -4,7 +4,7 @@ use Rattle.std.specs.Prelude.{Option, Some, None, is_some}
 use Rattle.std.proofs.lemmas.Bool.{cases_eq}
 use Rattle.std.proofs.lemmas.List.{get_or-set_same, get_or-set_other}
 use Rattle.std.proofs.lemmas.List.Sums.{sum_by-set}
-use Rattle.std.proofs.lemmas.Option.{same_Some}
+use Rattle.std.proofs.lemmas.Option.{none-some, same_Some}
 use Rattle.exec_value.specs.declared.data.Datum.{Datum}
 use Rattle.life_rules.specs.declared.event.Name.{Name}
 use Rattle.plan_shape.specs.Blueprint.{Blueprint}
@@ -148,9 +148,6 @@ module _ (board : Board Blueprint) (plan : Blueprint) (aside : Aside) (operation
             (sym (put-here operations t within None) ∙ ap (λ k. get_or (set operations t None) k None) (sym here) ∙ has_p))
         | inr there ↦ (there, sym (put-there operations t within None u there) ∙ has_p)
       ]
-        where
-          none-some : (p : Operation) → None ≡ Some p → ⊥
-          none-some p e = cc
 
       pub left-there : (u : ℕ) (p : Operation) → u ≢ t → Has operations u p →
           find_by name_of shrunk.noted (root_of board p) ≡ find_by name_of aside.noted (root_of board p)

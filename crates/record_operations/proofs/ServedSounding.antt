@@ -13,7 +13,7 @@ use Rattle.home_items.specs.declared.item.Item.{Item}
 use Rattle.exec_recv.specs.Asides.{aside_of}
 use Rattle.node_walks.specs.Emptied.{WasNotReady}
 use Rattle.run_loop.specs.declared.looped.Loop.{Loop as Looped}
-use Rattle.run_loop.specs.declared.names.Names.{Names}
+use Rattle.run_loop.specs.declared.loop_mail.LoopMail.{LoopMail}
 use Rattle.run_loop.specs.Loops.{HasDelays, IsReady}
 use Rattle.spawn_future.specs.declared.future.Future.{Future}
 use Rattle.spawn_future.specs.Keeping.{IsKeeping}
@@ -61,7 +61,7 @@ served-keeps on before run stepped next sound looped futures tally serves = reco
 
 -- so the run is sound, once the loop was told of names
 module _ (on : Board Blueprint → Type 0) (before : ℕ) (run : Run) (stepped : Blueprint) (next : ℕ) (sound : IsSound on before run stepped next)
-    (hand : Seat (Option Item) (View Item Entry)) (names : Names) (looped : Looped) (is : looped ≡ record run.looped { hand = hand; names = names })
+    (hand : Seat (Option Item) (View Item Entry)) (names : LoopMail) (looped : Looped) (is : looped ≡ record run.looped { hand = hand; names = names })
     (futures : List (Option Future)) (serves : ServesSpawned run.board run.futures futures run.looped.hand.me hand.me) where
   abbrev told : Looped
   told = record run.looped { hand = hand; names = names }
@@ -78,7 +78,7 @@ module _ (on : Board Blueprint → Type 0) (before : ℕ) (run : Run) (stepped :
       (served-keeps on before run stepped next sound told futures refl serves)
 
 -- and its futures were served
-pub told-serves : (run : Run) (hand : Seat (Option Item) (View Item Entry)) (names : Names) (looped : Looped) →
+pub told-serves : (run : Run) (hand : Seat (Option Item) (View Item Entry)) (names : LoopMail) (looped : Looped) →
     looped ≡ record run.looped { hand = hand; names = names } → (futures : List (Option Future)) →
     ServesFutures run.board run.plan run.futures futures run.looped.hand hand → ServesAheads run (record run { looped = looped; futures = futures })
 told-serves run hand names looped is futures serves =

@@ -2,7 +2,7 @@
 use Rattle.std.proofs.Common.{◌≡◌, ◌⊎◌, ℕ, ◌+◌, ◌<◌, ◌≤◌, List, length, set, get_or, inl, inr, sym, ap, ◌∙◌, arith}
 use Rattle.std.specs.Prelude.{Option, Some, None}
 use Rattle.std.proofs.lemmas.Bool.{cases_eq}
-use Rattle.std.proofs.lemmas.Option.{same_Some}
+use Rattle.std.proofs.lemmas.Option.{none-some, same_Some}
 use Rattle.life_rules.specs.declared.event.Name.{Name}
 use Rattle.plan_shape.specs.Blueprint.{Blueprint}
 use Rattle.table_rules.specs.Named.{find_by}
@@ -57,9 +57,6 @@ left-cases operations t within u p has = elim (cases_eq u t) [
       (none-some p (sym (put-here operations t within None) ∙ ap (λ k. get_or (set operations t None) k None) (sym here) ∙ has))
   | inr there ↦ sym (put-there operations t within None u there) ∙ has
 ]
-  where
-    none-some : (p : Operation) → None ≡ Some p → ⊥
-    none-some p e = cc
 
 module _ (board : Board Blueprint) (operations : List (Option Operation)) (futures : List (Option Future)) (m m' : Seated Item Entry)
     (spawned : AreSpawned board operations futures m) where

@@ -9,9 +9,10 @@ use Rattle.plan_kinds.proofs.Kept.{plain-arguments}
 use Rattle.plan_kinds.proofs.Roots.{last-no_part}
 use Rattle.plan_shape.specs.Blueprint.{Blueprint, IsPlan}
 use Rattle.table_steps.specs.Views.{Board}
-use Rattle.home_items.specs.Entries.{record_start}
+use Rattle.home_items.specs.Entries.{carried_of, record_start}
 use Rattle.home_items.specs.HasKinds.{HasKinds}
 use Rattle.home_items.specs.Starts.{IsReceiverStart}
+use Rattle.home_items.proofs.Starting.{receiver-carries}
 use Rattle.exec_recv.specs.Over.{IsOver}
 use Rattle.node_walks.specs.Starts.{CanRun}
 
@@ -25,6 +26,10 @@ module _ (plan : Blueprint) (is : IsPlan plan) (datum : Datum) (number : ℕ) (a
   pub starts-receiver : IsReceiverStart (record_start plan (datum ∷ []) number asked)
   starts-receiver =
       record { node = refl; top = root; names = refl; is_top = inl (sym root-last); whole = refl }
+
+  -- and carries its datum
+  pub carries-datum : carried_of (record_start plan (datum ∷ []) number asked) ≡ datum ∷ []
+  carries-datum = receiver-carries _ starts-receiver
 
   root-kinds : HasKind datum plan.settings.input → HasKinds plan root (datum ∷ [])
   root-kinds kind =

@@ -4,12 +4,12 @@ use Rattle.std.specs.Prelude.{Option, Some, None, MatchOption, IsSome}
 use Rattle.std.specs.Option.{option_and_then}
 use Rattle.std.proofs.lemmas.Bool.{cases_eq, cases_lt}
 use Rattle.std.proofs.lemmas.List.{get_or_past}
-use Rattle.std.proofs.lemmas.Option.{same_Some}
+use Rattle.std.proofs.lemmas.Option.{none-some, same_Some}
 use Rattle.exec_value.specs.declared.data.Datum.{Datum}
 use Rattle.exec_value.specs.declared.outcome.Completion.{Completion}
 use Rattle.plan_shape.specs.Blueprint.{Blueprint}
 use Rattle.run_loop.specs.Loops.{Raises, gathered_of}
-use Rattle.run_tally.specs.Gathered.{Gathered, gathered}
+use Rattle.run_tally.specs.Gathered.{gathered}
 use Rattle.record_loop.specs.Works.{Begun, KeepsWork, BeginsTicket, CollectsTicket, MayCompleteWork}
 use Rattle.table_rules.specs.declared.view.Rooted.{Rooted}
 use Rattle.table_rules.specs.Named.{find_by}
@@ -28,9 +28,6 @@ use Rattle.record_operations.specs.Runs.{Run, WantsMemory, root_of, begun_in, no
 use Rattle.record_operations.specs.Sound.{Has, IsOfRecord, AreListed}
 use Rattle.record_operations.proofs.Allowed.{collected-may}
 use Rattle.record_operations.proofs.Listed.{name_of, put-here, put-there, one-more, one-less, entered-here, entered-there, left-there}
-
-none-some : {A : Type 0} (x : A) → None ≡ Some x → ⊥
-none-some x e = cc
 
 abbrev begun_from : Option (Rooted Entry) → Option Begun
 begun_from found = option_and_then (λ (e : Rooted Entry). begun_in e.start) found
@@ -74,6 +71,7 @@ operations-work old new keeps =
         ∙ same-begun old.board (knows old.looped.hand).noted (knows new.looped.hand).noted (get_or old.operations t None)
         (λ p has. keeps.noted t p has)
 
+-- what the seam answers of a ticket that was left, or wasn't
 pub left-work : (old new : Run) (ticket : ℕ) (answer : Option Completion) → MatchOption answer (KeepsRun old new) (LeavesRun old new ticket) →
     MatchOption answer (KeepsWork (work_of old) (work_of new)) (CollectsTicket WantsMemory (work_of old) (work_of new) ticket)
 left-work old new ticket None keeps = keeps-work old new keeps

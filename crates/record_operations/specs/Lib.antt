@@ -1,6 +1,7 @@
 pub mod Runs
 pub mod Worked
 pub mod Owns
+pub mod Later
 pub mod Drained
 pub mod Spawned
 pub mod Sound

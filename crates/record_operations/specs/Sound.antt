@@ -1,6 +1,7 @@
 -- What each run over a table keeps.
 use Rattle.std.specs.Prelude.{◌≡◌, ℕ, ◌+◌, ◌<◌, ◌≤◌, ◌^◌, Bool, true, List, [], ◌∷◌, length, Option, Some, None, slice_index_or}
-use Rattle.deck_relay.specs.declared.deck.Deck.{Deck}
+use Rattle.deck_relay.specs.declared.desk.Desk.{Desk}
+use Rattle.deck_relay.specs.Desks.{deck_in, post_in}
 use Rattle.exec_value.specs.declared.data.Datum.{Datum}
 use Rattle.life_rules.specs.declared.event.SourceRef.TheVariants.{Scope}
 use Rattle.loop_queue.specs.declared.post.LoopPost.{LoopPost}
@@ -94,11 +95,10 @@ pub record IsSound (on : Board Blueprint → Type 0) (before : ℕ) (run : Run) 
   pub spawned : AreSpawned run.board run.operations run.futures run.looped.hand.me
   pub asked : IsRequestKept run
 
--- And it has the deck and the post with which it was opened, and knows whether its plan has an
--- `ahead`.
-pub record KeepsItsDesk (on : Board Blueprint → Type 0) (before : ℕ) (deck : Option Deck)
-    (post : Option LoopPost) (run : Run) (stepped : Blueprint) (next : ℕ) (spawns : Bool)
-    (post' : Option LoopPost) : Type 0 where
+-- And it has the desk with which it was opened, and knows whether its plan has an `ahead`.
+pub record KeepsItsDesk (on : Board Blueprint → Type 0) (before : ℕ) (desk : Option Desk)
+    (run : Run) (stepped : Blueprint) (next : ℕ) (spawns : Bool) (post : Option LoopPost)
+    : Type 0 where
   pub sound : IsSound on before run stepped next
   pub spawns_is : spawns ≡ has_ahead run.plan
-  pub both : KeepsBoth deck post (deck_of run.looped) post'
+  pub both : KeepsBoth (deck_in desk) (post_in desk) (deck_of run.looped) post

@@ -1,14 +1,14 @@
 //! How a run ends.
 ghost use Rattle.std.specs.Prelude.{◌+◌};
 ghost use Rattle.std.specs.Thread.{IsSync};
+ghost use Rattle.deck_relay.specs.Desks.{KeepsOwn};
 ghost use Rattle.record_operations.specs.Ends.{IsEnded};
 ghost use Rattle.table_steps.specs.Views.{knows};
-ghost use Rattle.record_operations.specs.Owns.{KeepsBoth};
 ghost use Rattle.record_operations.specs.Runs.{begun_by};
 ghost use Rattle.record_operations.specs.Worked.{HasWorked};
 
 use crate::joining::join;
-use crate::own::Own;
+use crate::own::{Own, desk_of};
 use crate::running::{OnTable, TableRun};
 use crate::tickets::discard;
 use exec_recv::Stepper;
@@ -23,14 +23,14 @@ impl<'a, T: Stepper, B: OnTable> TableRun<'a, T, B> {
     /// Afterwards: the hand is of the run's table, has nothing, and gave back as many blocks as it
     /// claimed: beyond those from before the run one for each operation that the run began, and one
     /// for each first child of an `ahead` that was spawned. One of its steps left the scope joined.
-    /// So the table may be closed, once the other hands have come back. The deck and the post are
-    /// those with which the run was opened.
+    /// So the table may be closed, once the other hands have come back. The desk is the one with
+    /// which the run was opened.
     pub fn end<R: Wait + Sync>(self, rt: &R, alloc: Global) -> Own
         requires sync { IsSync R.row }
         ensures ended { IsEnded B.is result.hand }
         ensures worked { HasWorked self.entry.plan (B.claimed + begun_by self.entry)
             (knows result.hand).claimed }
-        ensures both { KeepsBoth B.deck B.post result.deck result.post }
+        ensures desk { KeepsOwn B.desk result.desk }
     {
         let mut run = self;
         for ticket in 0..run.operations.len() {
@@ -58,6 +58,9 @@ impl<'a, T: Stepper, B: OnTable> TableRun<'a, T, B> {
         join(rt, alloc, table, stepper, &mut last);
         last.wake_all();
         let (hand, deck) = last.into_parts();
-        Own { hand, deck, post }
+        Own {
+            hand,
+            desk: desk_of(deck, post),
+        }
     }
 }

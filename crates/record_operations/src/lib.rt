@@ -34,10 +34,10 @@
 mod ending;
 mod entering;
 mod joining;
+mod later_mail;
 mod operations;
 mod own;
 mod pausing;
-mod posting;
 mod requesting;
 mod rounds;
 mod running;

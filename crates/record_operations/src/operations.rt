@@ -1,4 +1,7 @@
 //! The seam.
+ghost use Rattle.std.specs.Prelude.{IfNone, IsSome, MatchOption};
+ghost use Rattle.std.specs.Thread.{IsSync};
+ghost use Rattle.record_operations.specs.Moves.{KeepsRun, LeavesNone, LeavesRun, TurnsRun};
 ghost use Rattle.record_operations.specs.Runs.{work_of, WantsMemory};
 
 use crate::entering::enter;
@@ -26,6 +29,7 @@ impl<'a, T: Stepper, B: OnTable> Operations for TableRun<'a, T, B> {
     ) -> Result<u32, Datum> {
         let ticket = self.next;
         if !is_free(&self.operations, ticket) {
+            self.pause.lack_room(&self.looped);
             return Err(datum);
         }
         let env = Env::of_record(self.plan, Data::one(alloc, datum), number, self.requested);
@@ -36,16 +40,28 @@ impl<'a, T: Stepper, B: OnTable> Operations for TableRun<'a, T, B> {
                 self.next = (ticket + 1) % self.operations.len();
                 Ok(ticket as u32)
             }
-            Err(back) => Err(back.into_args().into_one()),
+            Err(back) => {
+                self.pause.lack_room(&self.looped);
+                Err(back.into_args().into_one())
+            }
         }
     }
 
-    fn turn<R: Wait + Sync>(&mut self, rt: &R, alloc: Global) {
+    fn turn<R: Wait + Sync>(&mut self, rt: &R, alloc: Global)
+        requires sync { IsSync R.row }
+        ensures turns { TurnsRun T.does self.old self.new }
+    {
         self.go_round(rt, alloc);
         self.serve_spawned(rt, alloc);
     }
 
-    fn collect<R: Wait + Sync>(&mut self, _rt: &R, ticket: u32) -> Option<Completion> {
+    fn collect<R: Wait + Sync>(&mut self, _rt: &R, ticket: u32) -> Option<Completion>
+        requires sync { IsSync R.row }
+        requires begun { IsSome ((work_of self.old).tickets ticket) }
+        ensures leaves { MatchOption result (KeepsRun self.old self.new)
+            (LeavesRun self.old self.new ticket) }
+        ensures none { IfNone result (LeavesNone self.old self.new ticket) }
+    {
         self.leave(ticket as usize)
     }
 

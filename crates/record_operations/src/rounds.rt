@@ -4,10 +4,11 @@ ghost use Rattle.deck_relay.specs.SameDecks.{KeepsDeck};
 ghost use Rattle.plan_kinds.specs.Runnable.{IsRunnable};
 ghost use Rattle.exec_recv.specs.Asides.{KeepsAside};
 ghost use Rattle.exec_recv.specs.Over.{IsOver};
+ghost use Rattle.run_loop.specs.Delayed.{TakesSoMany};
 ghost use Rattle.run_loop.specs.Loops.{IsReady, KeepsCounts, deck_of};
 ghost use Rattle.run_loop.specs.Turns.{MeetsAll, MeetsEach};
 ghost use Rattle.record_operations.specs.Owns.{KeepsBoth, KeepsPost};
-ghost use Rattle.record_operations.specs.Drained.{LearnsMore};
+ghost use Rattle.record_operations.specs.Drained.{LearnsMore, TakesLearned};
 
 use exec_recv::{Item, Site, Stepper};
 use loop_queue::LoopPost;
@@ -47,6 +48,7 @@ pub(crate) fn take_all<T: Stepper, R: Wait + Sync>(
     ensures ready { IsReady table.now looped.new }
     ensures counts { KeepsCounts looped.old looped.new }
     ensures aside { KeepsAside looped.old.hand.me looped.new.hand.me }
+    ensures served { TakesSoMany T.does table.now result looped.old looped.new }
     ensures met { MeetsAll T.does table.now looped.old looped.new }
     ensures deck { KeepsDeck (deck_of looped.old) (deck_of looped.new) }
 {
@@ -77,6 +79,7 @@ pub(crate) fn go_once<T: Stepper, R: Wait + Sync>(
     ensures ready { IsReady table.now looped.new }
     ensures counts { KeepsCounts looped.old looped.new }
     ensures aside { KeepsAside looped.old.hand.me looped.new.hand.me }
+    ensures served { TakesLearned T.does table.now result looped.old looped.new }
     ensures met { MeetsEach T.does table.now looped.old looped.new }
     ensures both { KeepsBoth (deck_of looped.old) post.old (deck_of looped.new) post.new }
 {

@@ -6,9 +6,9 @@ ghost use Rattle.exec_recv.specs.Over.{IsOver};
 ghost use Rattle.run_loop.specs.Loops.{deck_of};
 ghost use Rattle.record_operations.specs.Opened.{IsUnusedHand, IsOpened};
 
-use crate::own::Own;
+use crate::later_mail::LaterMail;
+use crate::own::{Own, parts_of};
 use crate::pausing::Pause;
-use crate::posting::Posted;
 use crate::tickets::{Operation, discard, free_tickets};
 use deck_relay::Deck;
 use exec_recv::{Item, Stepper};
@@ -22,12 +22,11 @@ use std::alloc::{AllocError, Global};
 use std::marker::{Brand, Model, PhantomData};
 
 /// On which table the operations of a run are, what its hand 0 had claimed before, and with which
-/// deck and post. What is generic in the operations knows none of these, so a caller picks this at
+/// desk. What is generic in the operations knows none of these, so a caller picks this at
 /// its call, to know them again at the end.
 pub trait OnTable {
     ghost use Rattle.std.specs.Prelude.{ℕ, Option};
-    ghost use Rattle.deck_relay.specs.declared.deck.Deck.{Deck};
-    ghost use Rattle.loop_queue.specs.declared.post.LoopPost.{LoopPost};
+    ghost use Rattle.deck_relay.specs.declared.desk.Desk.{Desk};
     ghost use Rattle.plan_shape.specs.Blueprint.{Blueprint};
     ghost use Rattle.table_steps.specs.Views.{Board};
 
@@ -37,10 +36,8 @@ pub trait OnTable {
     /// How many blocks hand 0 had claimed.
     ghost claimed: { ℕ };
 
-    /// The deck and the post of hand 0.
-    ghost deck: { Option Deck };
-
-    ghost post: { Option LoopPost };
+    /// The desk of hand 0.
+    ghost desk: { Option Desk };
 }
 
 impl OnTable for Brand {
@@ -50,9 +47,7 @@ impl OnTable for Brand {
 
     ghost claimed = { 0 };
 
-    ghost deck = { None };
-
-    ghost post = { None };
+    ghost desk = { None };
 }
 
 /// The operations of a plan's records, each in a block of a table over the plan, with an
@@ -73,7 +68,7 @@ pub struct TableRun<'a, T: Stepper, B: OnTable> {
     /// The plan has an `ahead`, whose first child is spawned.
     pub(crate) spawns: bool,
     pub(crate) futures: Futures,
-    pub(crate) posted: Posted,
+    pub(crate) posted: LaterMail,
     pub(crate) on: PhantomData<B>,
 }
 
@@ -90,7 +85,7 @@ impl<'a, T: Stepper, B: OnTable> Model for TableRun<'a, T, B> {
     ghost view = { λ s.
         run_of s.table.now s.plan.now s.looped s.operations.items s.requested s.futures };
 
-    ghost invariant = { λ s. KeepsItsDesk B.is B.claimed B.deck B.post
+    ghost invariant = { λ s. KeepsItsDesk B.is B.claimed B.desk
         (run_of s.table.now s.plan.now s.looped s.operations.items s.requested s.futures)
         (T.plan s.stepper.now) s.next s.spawns s.post };
 }
@@ -125,8 +120,7 @@ impl<'a, T: Stepper, B: OnTable> TableRun<'a, T, B> {
     ) -> Result<TableRun<'a, T, B>, Own>
         requires on { B.is table.now }
         requires claimed { B.claimed ≡ (knows own.hand).claimed }
-        requires deck { B.deck ≡ own.deck }
-        requires post { B.post ≡ own.post }
+        requires desk { B.desk ≡ own.desk }
         requires some { 0 < tickets }
         requires few { tickets ≤ 2 ^ 16 }
         requires over { IsOver table.now plan.now }
@@ -149,9 +143,10 @@ impl<'a, T: Stepper, B: OnTable> TableRun<'a, T, B> {
                 return Err(own);
             }
         };
-        let Own { hand, deck, post } = own;
+        let Own { hand, desk } = own;
         match Loop::open(alloc, plan, table, hand) {
             Ok(looped) => {
+                let (deck, post) = parts_of(desk);
                 let looped = seat(looped, deck);
                 // Polls are the clock of delays, and nobody tells of an `ahead` that is parked.
                 let waits = looped.has_delays() || spawns;
@@ -168,18 +163,14 @@ impl<'a, T: Stepper, B: OnTable> TableRun<'a, T, B> {
                     pause: Pause::new(sleeps),
                     spawns,
                     futures,
-                    posted: Posted::none(alloc),
+                    posted: LaterMail::none(alloc),
                     on: PhantomData,
                 })
             }
             Err(back) => {
                 discard(operations);
                 futures.close();
-                Err(Own {
-                    hand: back,
-                    deck,
-                    post,
-                })
+                Err(Own { hand: back, desk })
             }
         }
     }

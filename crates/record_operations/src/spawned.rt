@@ -5,10 +5,10 @@ ghost use Rattle.plan_kinds.specs.Runnable.{IsRunnable};
 ghost use Rattle.exec_recv.specs.Over.{IsOver};
 ghost use Rattle.spawn_future.specs.Keeping.{IsKeeping};
 ghost use Rattle.spawn_future.specs.Slots.{kept_in};
-ghost use Rattle.record_operations.specs.Moves.{KeepsOperations, ServesAheads, Clears};
+ghost use Rattle.record_operations.specs.Moves.{KeepsOperations, ServesAheads, WasTold, Clears};
 ghost use Rattle.record_operations.specs.Spawned.{ServesFutures, ServesSpawned};
 
-use crate::posting::Posted;
+use crate::later_mail::LaterMail;
 use crate::running::{OnTable, TableRun};
 use exec_recv::{Item, Site, Stepper};
 use op_slot::{Hand, OpTable};
@@ -24,7 +24,7 @@ fn serve<T: Stepper, R: Wait + Sync>(
     hand: &mut Hand<Item>,
     stepper: &T,
     futures: &mut Futures,
-    posted: &mut Posted,
+    posted: &mut LaterMail,
 )
     requires sync { IsSync R.row }
     requires keeping { IsKeeping table.now futures.old hand.old }
@@ -46,6 +46,7 @@ impl<'a, T: Stepper, B: OnTable> TableRun<'a, T, B> {
         requires sync { IsSync R.row }
         ensures keeps { KeepsOperations self.old self.new }
         ensures serves { ServesAheads self.old self.new }
+        ensures told { WasTold self.old self.new }
     {
         if !self.spawns {
             return;

@@ -1,7 +1,7 @@
 //! What a run does with the operations that it has.
 ghost use Rattle.std.specs.Prelude.{◌≡◌, ◌<◌, IfNone, MatchOption, is_none, length, None, slice_index_or};
 ghost use Rattle.std.specs.Thread.{IsSync};
-ghost use Rattle.record_operations.specs.Moves.{KeepsRun, LeavesRun, LeavesNone, MeetsTold, Clears};
+ghost use Rattle.record_operations.specs.Moves.{KeepsRun, LeavesRun, LeavesNone, MeetsTold, TakesTold, Clears};
 
 use crate::rounds::go_once;
 use crate::running::{OnTable, TableRun};
@@ -20,6 +20,7 @@ impl<'a, T: Stepper, B: OnTable> TableRun<'a, T, B> {
         requires sync { IsSync R.row }
         ensures keeps { KeepsRun self.old self.new }
         ensures met { MeetsTold T.does self.old self.new }
+        ensures served { TakesTold T.does self.old self.new }
     {
         let looks = self.pause.begin(rt, &self.looped);
         let taken = go_once(
@@ -45,7 +46,7 @@ impl<'a, T: Stepper, B: OnTable> TableRun<'a, T, B> {
     {
         let block = block_of(&self.operations, ticket)?;
         let Some(collected) = self.looped.collect(self.table, block, self.stepper) else {
-            self.pause.wait_on();
+            self.pause.wait_on(&self.looped);
             return None;
         };
         self.pause.stir(&self.looped);

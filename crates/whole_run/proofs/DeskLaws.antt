@@ -1,21 +1,25 @@
 -- All desks of a run stay so until they are closed.
-use Rattle.std.proofs.Common.{◌≡◌, ◌≤◌, ℕ, ◌+◌, zero, suc, List, [], ◌∷◌, ◌++◌, length, map, reverse, sum_by, arith, refl, sym, ap, ◌∙◌, subst, append_assoc, append-nil}
+use Rattle.std.proofs.Common.{◌≡◌, ◌≤◌, ℕ, ◌+◌, zero, suc, List, [], ◌∷◌, ◌++◌, length, map, reverse, sum_by, ⊎_elim, inl, inr, arith, refl, sym, ap, ◌∙◌, subst, append_assoc, append-nil}
 use Rattle.std.specs.Prelude.{Option, Some, None, MatchOption, option_to_list, slice_get, vec_capacity}
 use Rattle.std.specs.Arc.{arc_value}
+use Rattle.std.proofs.lemmas.Bool.{cases_lt}
 use Rattle.std.proofs.lemmas.List.{length-map, length_push, reverse-append, reverse-reverse}
 use Rattle.std.proofs.lemmas.List.Sums.{sum_by-cons}
 use Rattle.deck_relay.specs.declared.deck.Deck.{Deck}
 use Rattle.deck_relay.specs.Decks.{IsSameDeck, queue_view}
 use Rattle.deck_relay.specs.Relays.{AreOpened as AreNewDecks, CameBack as AreAllDecks, IsRow, IsWhole, Marks}
-use Rattle.deck_relay.proofs.Seats.{in-last, map-from, map-got, no-more}
+use Rattle.deck_relay.proofs.Seats.{at-last, in-last, map-from, map-got, no-more, within}
 use Rattle.loop_queue.specs.declared.post.LoopPost.{LoopPost}
 use Rattle.loop_queue.specs.declared.queue.LoopQueue.{LoopQueue}
-use Rattle.loop_queue.specs.Posts.{AreOpened as AreNewPosts, CameBack as AreAllPosts, IsSamePost, share_of}
-use Rattle.run_workers.specs.Crews.{AreSameDesks, IsWith}
-use Rattle.steal_pool.specs.declared.desk.Desk.{Desk}
+use Rattle.loop_queue.specs.Law.{ComeAndGoInOrder, DrainsAlone}
+use Rattle.loop_queue.specs.Posts.{AreOpened as AreNewPosts, CameBack as AreAllPosts, IsSamePost, drained_of, share_of}
+use Rattle.run_workers.specs.Crews.{AreLeft, IsWith}
+use Rattle.run_workers.proofs.Kept.{desks-back}
+use Rattle.deck_relay.specs.declared.desk.Desk.{Desk}
+use Rattle.deck_relay.specs.Desks.{IsSameDesk, KeepsOwn, OnlyPosts}
 use Rattle.whole_run.specs.declared.desks.DeskRoom.{DeskRoom}
-use Rattle.whole_run.specs.DeskEnds.{decks_of, posts_of}
-use Rattle.whole_run.specs.Desks.{AreClosedFor, AreDesksOf, CanClose, Closes, HasDesks}
+use Rattle.whole_run.specs.DeskEnds.{GoInOrder, decks_of, posts_of}
+use Rattle.whole_run.specs.Desks.{AreClosedFor, AreDesksOf, AreFreshDesks, CanClose, Closes, ComeBack, HasDesks, LastDrains}
 use Rattle.whole_run.specs.Owns.{last_desk}
 use Rattle.whole_run.specs.declared.desks.DeskEnd.{DeskEnd}
 
@@ -89,7 +93,7 @@ still-whole marks hands place old new same whole =
       share = ap (λ n. n + hands) same.share ∙ whole.share;
     }
 
-still-decks : (old new : List Desk) → AreSameDesks old new → AreAllDecks (decks_of old) → AreAllDecks (decks_of new)
+still-decks : (old new : List Desk) → AreLeft IsSameDesk old new → AreAllDecks (decks_of old) → AreAllDecks (decks_of new)
 still-decks old new same all =
     let deck = λ (d : Desk). d.deck in
     let long : length (decks_of old) ≡ length (decks_of new) = length-map old deck ∙ sym same.count ∙ sym (length-map new deck) in
@@ -102,7 +106,7 @@ still-decks old new same all =
       shares = sums deck (λ (d : Deck). (queue_view d).share) old new same.count (λ k was now at at'. (same.each k was now at at').deck.queued) ∙ all.shares;
     }
 
-still-posts : (of : LoopQueue) (old new : List Desk) → AreSameDesks old new → AreAllPosts of (posts_of old) → AreAllPosts of (posts_of new)
+still-posts : (of : LoopQueue) (old new : List Desk) → AreLeft IsSameDesk old new → AreAllPosts of (posts_of old) → AreAllPosts of (posts_of new)
 still-posts of old new same all =
     let post = λ (d : Desk). d.post in
     let was-post = before post IsSamePost old new same.count (λ j one other at-one at-other. (same.each j one other at-one at-other).post) in
@@ -115,9 +119,10 @@ still-posts of old new same all =
       shares = sums post share_of old new same.count (λ k was now at at'. (same.each k was now at at').post.share) ∙ all.shares;
     }
 
--- desks that are the same can be closed as the others could
-pub still-closable : (room : Option DeskRoom) (old new : List Desk) → AreSameDesks old new → CanClose room old → CanClose room new
-still-closable (Some room) old new same can =
+-- desks that came back can be closed as the others could
+pub still-closable : (room : Option DeskRoom) (old new : List Desk) → ComeBack old new → CanClose room old → CanClose room new
+still-closable (Some room) old new came can =
+    let same = came.same in
     record {
       all_decks = still-decks old new same can.all_decks;
       all_posts = still-posts (arc_value room.queue) old new same can.all_posts;
@@ -126,15 +131,65 @@ still-closable (Some room) old new same can =
       decks_fit = subst (λ (n : ℕ). n ≤ vec_capacity room.decks) (sym same.count) can.decks_fit;
       posts_fit = subst (λ (n : ℕ). n ≤ vec_capacity room.posts) (sym same.count) can.posts_fit;
     }
-still-closable None old new same none = none-left new (same.count ∙ ap length none)
+still-closable None old new came none = none-left new (came.same.count ∙ ap length none)
+
+-- workers drained nothing through their posts, so hand 0 drained alone
+last-alone : (workers : ℕ) (old new : List Desk) → AreFreshDesks workers old → ComeBack old new → DrainsAlone workers (posts_of new)
+last-alone workers old new fresh came k other apart at =
+    let now = map-from (λ (d : Desk). d.post) new k other at in
+    let was = was-there old new k now.0 came.same.count now.1 in
+    let low = within new k now.0 now.1 in
+    elim (cases_lt k workers) [
+      | inl less ↦
+          subst (λ (post : LoopPost). drained_of post ≡ []) now.2
+          (came.last k was.0 now.0 (omega (arith, less, fresh.count)) was.1 now.1 ∙ fresh.undrained k was.0 was.1)
+      | inr past ↦ absurd (apart (omega (arith, past, low, came.same.count, fresh.count)))
+    ]
+
+in-order : (place lefts : ℕ) (posts : List LoopPost) → ComeAndGoInOrder lefts posts → DrainsAlone place posts → GoInOrder place lefts posts
+in-order place lefts posts law alone =
+    record { left = law.left; count = law.count; order = λ drainer at k post there. law.order place drainer at alone k post there }
 
 -- so many workers' desks, which came back, were closed
 pub closed-all : (workers : ℕ) (room : Option DeskRoom) (old new : List Desk) (end : Option DeskEnd) → HasDesks workers room old →
-    AreSameDesks old new → Closes room new end → AreClosedFor workers end
-closed-all workers (Some room) old new (Some end) has same closed = ap length closed ∙ same.count ∙ has
-closed-all workers (Some room) old new None has same closed = absurd closed
-closed-all workers None old new (Some end) has same closed = absurd closed
-closed-all workers None old new None has same closed = has
+    ComeBack old new → Closes room new end → AreClosedFor workers end
+closed-all workers (Some room) old new (Some end) has came closed =
+    record {
+      count = ap length closed.all ∙ came.same.count ∙ has.count;
+      decks = closed.so.decks;
+      posts = in-order workers end.entries (posts_of end.desks) closed.so.posts
+          (subst (λ (l : List Desk). DrainsAlone workers (posts_of l)) (sym closed.all) (last-alone workers old new has came));
+    }
+closed-all workers (Some room) old new None has came closed = absurd closed
+closed-all workers None old new (Some end) has came closed = absurd closed
+closed-all workers None old new None has came closed = has
+
+-- the workers' desks come back, and hand 0's
+last-drains : (last again : Option Desk) (all rest back after : List Desk) → IsWith last rest all → IsWith again back after →
+    AreLeft OnlyPosts rest back → KeepsOwn last again → LastDrains all after
+last-drains (Some last) (Some again) all rest back after is is' left own =
+    subst (λ (t : List Desk × List Desk). LastDrains t.0 t.1) (λ j. (sym is j, sym is' j))
+    (λ k before now low at_old at_new. ⊎_elim
+    (λ old_last. absurd (omega (arith, low, length_push rest last, old_last.0)))
+    (λ old_in. ⊎_elim
+    (λ new_last. let below = within rest k before old_in in absurd (omega (arith, below, new_last.0, left.count)))
+    (λ new_in. (left.each k before now old_in new_in).undrained)
+    (at-last back again now k at_new))
+    (at-last rest last before k at_old))
+last-drains (Some last) None all rest back after is is' left own = absurd own
+last-drains None (Some again) all rest back after is is' left own = absurd own
+last-drains None None all rest back after is is' left own =
+    subst (λ (t : List Desk × List Desk). LastDrains t.0 t.1) (λ j. (sym is j, sym is' j))
+    (λ k before now low at at'. (left.each k before now at at').undrained)
+
+pub come-back : (last again : Option Desk) (all rest back after : List Desk) → IsWith last rest all → IsWith again back after →
+    AreLeft OnlyPosts rest back → KeepsOwn last again → ComeBack all after
+come-back last again all rest back after is is' left own =
+    let same : AreLeft IsSameDesk rest back = record { count = left.count; each = λ k before now at at'. (left.each k before now at at').same } in
+    record {
+      same = desks-back IsSameDesk last again all rest back after is is' same own;
+      last = last-drains last again all rest back after is is' left own;
+    }
 
 -- a queue opens with all its posts
 opened-posts : (count : ℕ) (of : LoopQueue) (posts : List LoopPost) → AreNewPosts count of posts → AreAllPosts of posts
@@ -143,6 +198,18 @@ opened-posts count of posts opened =
       queue = λ k post at. (opened.new k post at).queue;
       numbers = λ j k one other apart at at' is. apart (sym (opened.new j one at).number ∙ is ∙ (opened.new k other at').number);
       shares = opened.shares;
+    }
+
+-- through which nothing was drained yet
+pub opens-fresh : (workers : ℕ) (of : LoopQueue) (posts : List LoopPost) (desks : List Desk) → AreNewPosts (workers + 1) of posts →
+    posts ≡ posts_of desks → AreFreshDesks workers desks
+opens-fresh workers of posts desks new are =
+    let post = λ (d : Desk). d.post in
+    record {
+      count = sym (length-map desks post) ∙ ap length (sym are) ∙ new.count;
+      undrained = λ k desk at.
+          let there = subst (λ (l : List LoopPost). slice_get l k ≡ Some desk.post) (sym are) (map-got post desks k desk at) in
+          (new.new k desk.post there).drained;
     }
 
 -- all of them on new desks

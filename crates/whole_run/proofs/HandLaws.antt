@@ -1,5 +1,5 @@
 -- What the hands of a run are before it.
-use Rattle.std.proofs.Common.{◌≡◌, ℕ, ◌+◌, zero, suc, List, [], ◌∷◌, All, refl, sym, ap, ◌∙◌, subst, arith}
+use Rattle.std.proofs.Common.{◌≡◌, ℕ, ◌+◌, zero, suc, List, [], ◌∷◌, length, All, refl, sym, ap, ◌∙◌, subst, arith}
 use Rattle.std.specs.Prelude.{Option, remove, slice_index_or}
 use mathlib.Core.Option.{some}
 use lib.ListN.{get_elem?}
@@ -62,6 +62,11 @@ rest-spare board workers (first ∷ others) rest fresh is =
     subst (λ (hands : List TheHand). All (IsSpare board) hands) (sym is)
     (all-of (IsSpare board) others
     (λ h hand at. let each = fresh.each (suc h) hand at in untouched-spare board (suc h) hand each.0 each.2))
+
+pub rest-count : (board : Board Blueprint) (workers : ℕ) (all rest : List TheHand) → AreFreshHands board (workers + 1) all → rest ≡ remove all 0 → length rest ≡ workers
+rest-count board workers [] rest fresh is = absurd (let wrong : 0 ≡ workers + 1 = fresh.length_is in omega arith)
+rest-count board workers (first ∷ others) rest fresh is =
+    let same : length rest ≡ length others = ap length is in omega (arith, same, fresh.length_is)
 
 -- and they claimed no block
 claimed-none : (board : Board Blueprint) (all : List TheHand) → All (λ (hand : TheHand). (knows hand).claimed ≡ 0) all → claimed_by all ≡ 0

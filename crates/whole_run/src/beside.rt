@@ -6,7 +6,9 @@ ghost use Rattle.table_steps.specs.Views.{AreFreshHands};
 ghost use Rattle.whole_run.specs.Fronts.{CameOut, opening_by, streams_of};
 ghost use Rattle.whole_run.specs.Opened.{AreBack, CanRunOn};
 ghost use Rattle.whole_run.specs.Owns.{IsMarkedBy, last_desk};
-ghost use Rattle.run_workers.specs.Crews.{AreSameDesks, IsCrew};
+ghost use Rattle.run_workers.specs.Crews.{IsCrew};
+ghost use Rattle.whole_run.specs.Accounts.{AreGiven};
+ghost use Rattle.whole_run.specs.Desks.{ComeBack};
 
 use crate::desks::put_own;
 use crate::front::LinesFront;
@@ -15,7 +17,7 @@ use exec_recv::{Item, Stepper};
 use op_table::Hand;
 use record_loop::RecordSource;
 use record_operations::OnTable;
-use run_workers::{Crew, Desk, run_beside};
+use run_workers::{Arrangement, Crew, Desk, Given, run_beside};
 use std::alloc::Global;
 use std::mem;
 use std::sync::Wait;
@@ -23,8 +25,8 @@ use std::thread::Threads;
 
 /// Runs a source's records on hand 0 of a table, the first of the hands, beside the workers of a
 /// crew on the others. Hand 0 has the last desk, and the others have one each, where there are any.
-/// All hands come back, hand 0's last, and all desks, each in its place. `B` tells which table it
-/// is, and which desk hand 0 has.
+/// All hands come back, hand 0's last, and all desks, each in its place, and it tells which
+/// backends were given out. `B` tells which table it is, and which desk hand 0 has.
 pub(crate) fn run_on_table<
     'a,
     'b,
@@ -39,6 +41,7 @@ pub(crate) fn run_on_table<
     crew: Crew,
     hands: &mut Vec<Hand<Item>>,
     desks: &mut Vec<Desk>,
+    given: &mut Option<Given>,
     front: LinesFront<'a, 'b, B, T, S, K>,
 ) -> LinesFront<'a, 'b, B, T, S, K>
     requires sync { IsSync R.row }
@@ -47,7 +50,7 @@ pub(crate) fn run_on_table<
         (T.plan front.on.stepper.now) }
     requires count { front.on.table.now.frame.hands ≡ crew.workers + 1 }
     requires hands { AreFreshHands front.on.table.now (crew.workers + 1) hands.old.items }
-    requires marked { IsMarkedBy B.is B.claimed B.deck B.post front.on.table.now
+    requires marked { IsMarkedBy B.is B.claimed B.desk front.on.table.now
         (last_desk desks.old.items) }
     ensures source { result.records.ghost_name ≡ front.entry.records.ghost_name }
     ensures sink { result.out.ghost_name ≡ front.entry.out.ghost_name }
@@ -57,7 +60,8 @@ pub(crate) fn run_on_table<
         (streams_of S.told S.reads K.told result)
         result.came.now (claimed_by hands.new.items) }
     ensures back { AreBack front.entry.on.table.now hands.new.items }
-    ensures desks { AreSameDesks desks.old.items desks.new.items }
+    ensures desks { ComeBack desks.old.items desks.new.items }
+    ensures given { AreGiven crew.order (vec_len crew.backends) crew.workers given.new }
 {
     let mut others = mem::replace(hands, Vec::new(alloc));
     let mut theirs = mem::replace(desks, Vec::new(alloc));
@@ -68,14 +72,16 @@ pub(crate) fn run_on_table<
         order,
         backends,
     } = crew;
+    let backends = Arrangement::of(backends, others.len(), order);
     let table = front.on.table;
     let stepper = front.on.stepper;
-    let (left, last, mut all, mut kept, own) = run_beside(
-        rt, alloc, table, stepper, order, backends, theirs, others, hand, own, front,
+    let (left, last, mut all, mut kept, own, told) = run_beside(
+        rt, alloc, table, stepper, backends, theirs, others, hand, own, front,
     );
     all.push_reserved(last);
     put_own(&mut kept, own);
     *hands = all;
     *desks = kept;
+    *given = Some(told);
     left
 }

@@ -1,6 +1,7 @@
 //! The desks of a run, from their opening to their closing.
 ghost use Rattle.std.specs.Prelude.{◌≡◌, ◌<◌, IfOk, IfSome, vec_capacity, vec_len};
 ghost use Rattle.run_workers.specs.Crews.{IsWith};
+ghost use Rattle.whole_run.specs.DeskEnds.{ClosedSo};
 ghost use Rattle.whole_run.specs.Desks.{AreDesksOf, CanClose, Closes, HasDesks};
 
 use deck_relay::{Deck, Relay};
@@ -26,7 +27,7 @@ pub struct DeskEnd {
 
 impl Model for DeskEnd {
     ghost use Rattle.std.specs.Coded.{codes};
-    ghost use Rattle.steal_pool.specs.contracts.desk.Desk as desk;
+    ghost use Rattle.deck_relay.specs.contracts.desk.Desk as desk;
     ghost use Rattle.whole_run.specs.DeskEnds.{ClosedDesks, ClosedSo};
 
     ghost Value = { ClosedDesks };
@@ -43,7 +44,8 @@ impl Model for DeskEnd {
 impl DeskEnd {
     /// How many names were left in the decks, as far as the number counts.
     pub fn names(&self) -> u32
-        ensures { result ≡ self.now.names }
+        ensures count { result ≡ self.now.names }
+        ensures so { ClosedSo self.now }
     {
         self.names
     }
@@ -112,6 +114,7 @@ impl DeskRoom {
     fn close<R: Wait>(self, rt: &R, desks: Vec<Desk>) -> DeskEnd
         requires all { AreDesksOf self desks.items }
         ensures desks { result.desks ≡ desks.items }
+        ensures so { ClosedSo result }
     {
         let DeskRoom {
             queue,
@@ -128,11 +131,14 @@ impl DeskRoom {
         }
         let names = Relay::close(rt, decks);
         let entries = LoopQueue::close(rt, queue, posts);
-        DeskEnd {
+        let end = DeskEnd {
             names,
             entries,
             desks: back,
-        }
+        };
+        // Asked for the laws, which hold of it.
+        let _ = end.names();
+        end
     }
 }
 

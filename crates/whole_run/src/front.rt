@@ -6,7 +6,6 @@
 //! scope is joined, for which workers wait. The run helps the pool where no worker serves it.
 ghost use Rattle.std.specs.Prelude.{◌≡◌};
 
-use crate::owning::{own_of, parts_of};
 use crate::working::{Came, Tabled, give_up};
 use exec_io::Sink;
 use exec_recv::{Item, Stepper};
@@ -19,8 +18,8 @@ use std::marker::PhantomData;
 use std::sync::Wait;
 
 /// What the work of a run over a source's records has beside its hand: of the caller's (`'a`) the
-/// records, the sink and the plan, and of the run's own (`'b`) the rest. `B` tells which table,
-/// deck and post they are. No hand, loop or list is in it, and no struct with facts of its own:
+/// records, the sink and the plan, and of the run's own (`'b`) the rest. `B` tells which table
+/// and desk they are. No hand, loop or list is in it, and no struct with facts of its own:
 /// what was written behind its references would be known no more.
 #[derive(Drop)]
 pub struct LinesFront<'a, 'b, B: OnTable, T: Stepper, S: RecordSource, K: Sink> {
@@ -39,7 +38,7 @@ impl<'a, 'b, B: OnTable, T: Stepper, S: RecordSource, K: Sink> Front
     ghost needs = { λ front hand desk.
         MayBeginOn front.on.table.now front.on.plan.now front.on.window
         (T.plan front.on.stepper.now) hand
-        × IsMarkedBy B.is B.claimed B.deck B.post front.on.table.now desk };
+        × IsMarkedBy B.is B.claimed B.desk front.on.table.now desk };
 
     ghost leaves = { LeavesLines S.told S.reads K.told };
 
@@ -56,7 +55,7 @@ impl<'a, 'b, B: OnTable, T: Stepper, S: RecordSource, K: Sink> Front
         let stepper = self.on.stepper;
         let window = self.on.window;
         let form = self.on.form;
-        let own = own_of(hand, desk);
+        let own = Own { hand, desk };
         let opened: Result<TableRun<'_, T, B>, Own> = TableRun::open(
             alloc, plan, table, stepper, own, window,
         );
@@ -76,11 +75,13 @@ impl<'a, 'b, B: OnTable, T: Stepper, S: RecordSource, K: Sink> Front
                 );
                 let tally = run.tally();
                 *self.came = Came { answer, tally };
-                parts_of(run.end(rt, alloc))
+                let Own { hand, desk } = run.end(rt, alloc);
+                (hand, desk)
             }
             Err(back) => {
                 *self.came = Came::none();
-                parts_of(give_up::<B, R>(rt, table, back))
+                let Own { hand, desk } = give_up::<B, R>(rt, table, back);
+                (hand, desk)
             }
         }
     }

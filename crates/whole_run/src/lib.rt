@@ -7,7 +7,7 @@
 //!      +--close_desks---> Relay::close, LoopQueue::close --> DeskEnd
 //!      +--close_table---> Closing: no hand has anything, each block is back
 //!      |
-//!     Account: the ending, the tally, Closing, DeskEnd
+//!     Account: the ending, the tally, Closing, DeskEnd, Given
 //!
 //! It stands on record_loop, which runs records over a layer of operations, and on that layer:
 //! record_operations over the steps of node_stepper, with the workers of run_workers beside it. It
@@ -23,7 +23,10 @@
 //! and of a queue (loop_queue), on which nothing that is promised of lines rests. With 1 to 16
 //! workers there is a desk for each hand, and all are closed, by calls that have their laws: of the
 //! decks, that each name was taken and is left, together, exactly as often as it was offered or
-//! pushed. The names that are left are of a table on which all operations are over.
+//! pushed; and of the posts, of which hand 0's alone drains, that what was drained and what is left
+//! is of each post what it posted, in order. The names that are left are of a table on which all
+//! operations are over. Each worker takes names of a backend, which was arranged in the order of
+//! the crew before the worker began: the account shows it by what only an arrangement makes.
 #![tactic(auto)]
 
 mod account;
@@ -33,7 +36,6 @@ mod front;
 mod joining;
 mod lines;
 mod opened;
-mod owning;
 mod working;
 
 pub use account::Account;

@@ -3,7 +3,7 @@ ghost use Rattle.std.specs.Prelude.{◌<◌, ◌≤◌, IfOk, OnErr, vec_len};
 ghost use Rattle.std.specs.Thread.{IsSync};
 ghost use Rattle.life_rules.specs.declared.limits.TheConstants.{MOST_BLOCKS};
 ghost use Rattle.plan_kinds.specs.Reached.{KindsMatch};
-ghost use Rattle.whole_run.specs.Accounts.{EndsRun, IsClosedFor};
+ghost use Rattle.whole_run.specs.Accounts.{EndsRun, IsClosedFor, AreGiven};
 ghost use Rattle.whole_run.specs.Desks.{AreClosedFor};
 ghost use Rattle.whole_run.specs.Endings.{IsUnbegun, streams};
 ghost use Rattle.run_workers.specs.Crews.{IsCrew};
@@ -33,8 +33,9 @@ use std::thread::Threads;
 ///
 /// Afterwards: what `run_records` promises. Each line is told by the operation that was collected
 /// for its record from the table that the account tells of, which was closed with its scope joined
-/// and each block given back. The desks of the hands were closed. Where there is no memory to begin
-/// with, nothing was read and nothing written.
+/// and each block given back. The desks of the hands were closed. Of the crew's backends one was
+/// given out to each worker, arranged in the crew's order. Where there is no memory to begin with,
+/// nothing was read and nothing written.
 pub fn run_lines<'a, G: Gate + Sync, R: Threads + Wait + Sync, S: RecordSource, K: Sink>(
     rt: &R,
     alloc: Global,
@@ -57,6 +58,8 @@ pub fn run_lines<'a, G: Gate + Sync, R: Threads + Wait + Sync, S: RecordSource, 
         (streams (S.told records.new) (S.reads records.new) (K.told out.new))) }
     ensures closed { IfOk result (λ a. IsClosedFor plan.now window a.tally a.closing) }
     ensures desked { IfOk result (λ a. AreClosedFor crew.workers a.desks) }
+    ensures given { IfOk result (λ a.
+        AreGiven crew.order (vec_len crew.backends) crew.workers a.given) }
     ensures unbegun { OnErr result (IsUnbegun
         (streams (S.told records.old) (S.reads records.old) (K.told out.old))
         (streams (S.told records.new) (S.reads records.new) (K.told out.new))) }
@@ -83,8 +86,9 @@ pub fn run_lines<'a, G: Gate + Sync, R: Threads + Wait + Sync, S: RecordSource, 
         },
         brand: PhantomData,
     };
+    let mut given = None;
     let left = run_on_table::<Brand, NodeSteps<'_, G>, R, S, K>(
-        rt, alloc, crew, &mut hands, &mut desks, front,
+        rt, alloc, crew, &mut hands, &mut desks, &mut given, front,
     );
     left.clear();
     let desks = close_desks(rt, room, desks);
@@ -95,5 +99,6 @@ pub fn run_lines<'a, G: Gate + Sync, R: Threads + Wait + Sync, S: RecordSource, 
         tally,
         closing,
         desks,
+        given,
     })
 }

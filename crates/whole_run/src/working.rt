@@ -1,8 +1,8 @@
 //! What a run works with, and what it comes to.
 ghost use Rattle.std.specs.Prelude.{◌≡◌, IsErr};
+ghost use Rattle.deck_relay.specs.Desks.{KeepsOwn};
 ghost use Rattle.run_workers.specs.Crews.{IsSpare};
 ghost use Rattle.record_operations.specs.Ends.{IsEnded};
-ghost use Rattle.record_operations.specs.Owns.{KeepsBoth};
 
 use crate::joining::join_idle;
 use exec_recv::{Item, Stepper};
@@ -47,20 +47,15 @@ impl Came {
 /// that sleep are woken, so that they see it.
 pub(crate) fn give_up<B: OnTable, R: Wait>(rt: &R, table: &OpTable<Item>, own: Own) -> Own
     requires on { B.is table.now }
-    requires deck { B.deck ≡ own.deck }
-    requires post { B.post ≡ own.post }
+    requires desk { B.desk ≡ own.desk }
     requires spare { IsSpare table.now own.hand }
     ensures ended { IsEnded B.is result.hand }
-    ensures both { KeepsBoth B.deck B.post result.deck result.post }
+    ensures desk { KeepsOwn B.desk result.desk }
 {
-    let Own { hand, deck, post } = own;
+    let Own { hand, desk } = own;
     let last = join_idle(rt, table, hand);
-    if let Some(deck) = &deck {
-        deck.wake_all();
+    if let Some(desk) = &desk {
+        desk.deck.wake_all();
     }
-    Own {
-        hand: last,
-        deck,
-        post,
-    }
+    Own { hand: last, desk }
 }

@@ -1,4 +1,5 @@
 use Rattle.std.proofs.Common.{Option, List, refl, ap, inl}
+use Rattle.std.specs.Prelude.{vec_len}
 use Rattle.exec_io.specs.Views.{SourceView}
 use Rattle.plan_rules.specs.declared.settings.Settings.{Settings}
 use Rattle.record_loop.specs.Generated.{steady_view}
@@ -6,7 +7,7 @@ use Rattle.record_loop.specs.ReadStarts.{ReadStart}
 use Rattle.whole_run.specs.Endings.{streams}
 use Rattle.exec_status.specs.declared.status.Status.TheVariants.{NoMemory}
 use Rattle.exec_engine.specs.Surroundings.{surroundings}
-use Rattle.exec_engine.proofs.ClosesLaws.{source-runs, generated-runs}
+use Rattle.exec_engine.proofs.ClosesLaws.{source-runs, generated-runs, new-ordered, takes-ordered}
 use Rattle.exec_engine.proofs.EndsLaws.{run-ends, missed-ends}
 use Rattle.exec_engine.proofs.running.run_task.Goals as goal
 
@@ -40,10 +41,12 @@ returns-in-Source g c =
       no_memory = c.take.ensures.no_memory;
     })
     answer.ensures.ends answer.ensures.closed answer.ensures.unbegun in
+    let ordered = takes-ordered c.args.task (vec_len c.args.backends) _ answer.result c.args.tally.now c.take.new.self c.requires.pool c.workers_for.ensures.most
+    answer.ensures.given c.requires.new c.take.ensures.closing c.take.ensures.given c.take.ensures.same in
     run-ends c.args.task
     (surroundings (g.F.Shelf.told c.args.system.now.shelf) (told c.args.system.now.records) (reads c.args.system.now.records) (out c.args.system.now.out) (g.N.Sink.told c.args.system.now.notes))
     (surroundings (g.F.Shelf.told c.open_plan.new.shelf) (told answer.new.records) (reads answer.new.records) (out answer.new.out) (g.N.Sink.told c.conclude.new.notes))
-    c.take.new.self c.take.result c.conclude.result c.in-Ok.ensures.plan runs c.conclude.ensures.concludes
+    c.take.new.self c.take.result c.conclude.result ordered c.in-Ok.ensures.plan runs c.conclude.ensures.concludes
     c.in-Ok.ensures.reads c.conclude.ensures.later
 
 pub returns-in_default : goal.returns-in_default
@@ -54,7 +57,7 @@ returns-in_default g c =
     run-ends c.args.task
     (surroundings (g.F.Shelf.told c.args.system.now.shelf) told reads out (g.N.Sink.told c.args.system.now.notes))
     (surroundings (g.F.Shelf.told c.open_plan.new.shelf) told reads out (g.N.Sink.told c.conclude-in_default.new.notes))
-    c.args.tally.now NoMemory c.conclude-in_default.result c.in-Ok.ensures.plan
+    c.args.tally.now NoMemory c.conclude-in_default.result (new-ordered c.args.task c.args.tally.now c.requires.new) c.in-Ok.ensures.plan
     (inl (record { is = refl; unbegun = record { untouched = record { source_same = refl; sink_same = refl }; unread = refl }; uncounted = c.requires.new }))
     c.conclude-in_default.ensures.concludes c.in-Ok.ensures.reads c.conclude-in_default.ensures.later
 
@@ -80,8 +83,10 @@ returns g c =
     })
     (record { lines = c.new.ensures.lines; within = c.new.ensures.within })
     (ap steady_view c.in-Ok-new.ensures.text) refl answer.ensures.ends answer.ensures.closed answer.ensures.unbegun in
+    let ordered = takes-ordered c.args.task (vec_len c.args.backends) _ answer.result c.args.tally.now took.new.self c.requires.pool c.workers_for.ensures.most
+    answer.ensures.given c.requires.new took.ensures.closing took.ensures.given took.ensures.same in
     run-ends c.args.task
     (surroundings (g.F.Shelf.told c.args.system.now.shelf) told reads (out c.args.system.now.out) (g.N.Sink.told c.args.system.now.notes))
     (surroundings (g.F.Shelf.told c.open_plan.new.shelf) told reads (out answer.new.out) (g.N.Sink.told c.conclude-in-Generated.new.notes))
-    took.new.self took.result c.conclude-in-Generated.result c.in-Ok.ensures.plan runs c.conclude-in-Generated.ensures.concludes
+    took.new.self took.result c.conclude-in-Generated.result ordered c.in-Ok.ensures.plan runs c.conclude-in-Generated.ensures.concludes
     c.in-Ok.ensures.reads c.conclude-in-Generated.ensures.later

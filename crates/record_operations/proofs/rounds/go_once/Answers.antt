@@ -27,3 +27,7 @@ returns-clause-both g c =
           c.take_all.ensures.deck;
       same_post = c.drain.ensures.post;
     }
+
+pub returns-clause-served : goal.returns-clause-served
+returns-clause-served g c =
+    record { between = c.drain.new.looped; learns = c.drain.ensures.learns; takes = c.take_all.ensures.served }

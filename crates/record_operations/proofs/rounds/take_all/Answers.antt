@@ -14,6 +14,9 @@ returns-then-looks-clause-ready g c = rw c.of-site.ensures at c.turn.ensures.rea
 pub returns-then-looks-clause-met : goal.returns-then-looks-clause-met
 returns-then-looks-clause-met g c = rw c.of-site.ensures at c.turn.ensures.met
 
+pub returns-then-looks-clause-served : goal.returns-then-looks-clause-served
+returns-then-looks-clause-served g c = rw c.of-site.ensures at c.turn.ensures.served
+
 pub poll-requires-clause-ready : goal.poll-requires-clause-ready
 poll-requires-clause-ready g c κs within = rw c.of-site.ensures c.requires.ready
 
@@ -26,3 +29,6 @@ returns-else-looks-clause-ready g c = rw c.of-site.ensures at c.poll.ensures.rea
 
 pub returns-else-looks-clause-met : goal.returns-else-looks-clause-met
 returns-else-looks-clause-met g c = rw c.of-site.ensures at c.poll.ensures.met
+
+pub returns-else-looks-clause-served : goal.returns-else-looks-clause-served
+returns-else-looks-clause-served g c = rw c.of-site.ensures at c.poll.ensures.served

@@ -1,11 +1,12 @@
-use Rattle.std.proofs.Common.{ℕ, arith, rules, sym, ap, subst, ◌∙◌}
-use Rattle.std.specs.Prelude.{remove, slice_index_or}
-use Rattle.run_workers.proofs.Kept.{desks-back}
+use Rattle.std.proofs.Common.{◌≡◌, ℕ, arith, rules, sym, ap, subst, ◌∙◌}
+use Rattle.std.specs.Prelude.{remove, slice_index_or, vec_len}
+use Rattle.steal_pool.specs.Arrangements.{HasGiven}
+use Rattle.steal_pool.specs.declared.given.Given.{Given}
 use Rattle.whole_run.specs.Fronts.{CameOut, opening_by, streams_of}
 use Rattle.whole_run.specs.Owns.{IsMarkedBy, last_desk}
 use Rattle.whole_run.proofs.BackLaws.{all-back, all-claimed}
-use Rattle.whole_run.proofs.DeskLaws.{popped-last, popped-with}
-use Rattle.whole_run.proofs.HandLaws.{all-serve, first-fresh, rest-spare, rest-unclaimed}
+use Rattle.whole_run.proofs.DeskLaws.{come-back, popped-last, popped-with}
+use Rattle.whole_run.proofs.HandLaws.{all-serve, first-fresh, rest-count, rest-spare, rest-unclaimed}
 use Rattle.whole_run.proofs.beside.run_on_table.Goals as goal
 
 pub run_beside-left-requires-clause-serve : goal.run_beside-left-requires-clause-serve
@@ -25,7 +26,7 @@ run_beside-left-requires-clause-needs g c κs within =
         fresh = first-fresh front.on.table.now c.args.crew.workers c.args.hands.now.items c.remove-hand.result c.requires.hands
             (c.remove-hand.ensures.value ∙ ap (λ v. slice_index_or v.items 0 c.remove-hand.result) c.replace-others.ensures.value);
       },
-      subst (λ desk. IsMarkedBy g.B.OnTable.is g.B.OnTable.claimed g.B.OnTable.deck g.B.OnTable.post front.on.table.now desk)
+      subst (λ desk. IsMarkedBy g.B.OnTable.is g.B.OnTable.claimed g.B.OnTable.desk front.on.table.now desk)
           (ap last_desk (sym (ap (λ v. v.items) c.replace-theirs.ensures.value)) ∙ last)
           c.requires.marked,
     )
@@ -52,6 +53,16 @@ returns-clause-back g c =
 pub returns-clause-desks : goal.returns-clause-desks
 returns-clause-desks g c =
     let run = c.run_beside-left in
-    desks-back c.pop-own.result run.result.4 c.args.desks.now.items c.pop-own.new.self.items run.result.3.items c.put_own.new.desks.items
+    come-back c.pop-own.result run.result.4 c.args.desks.now.items c.pop-own.new.self.items run.result.3.items c.put_own.new.desks.items
     (popped-with c.pop-own.result c.pop-own.new.self.items c.args.desks.now.items
     (sym (ap (λ v. v.items) c.replace-theirs.ensures.value) ∙ c.pop-own.ensures.items)) c.put_own.ensures.with run.ensures.desks run.ensures.own
+
+pub returns-clause-given : goal.returns-clause-given
+returns-clause-given g c =
+    let crew = c.args.crew in
+    let others = c.remove-hand.new.self in
+    let count = rest-count c.args.front.on.table.now crew.workers c.args.hands.now.items others.items c.requires.hands
+    (c.remove-hand.ensures.items ∙ ap (λ v. remove v.items 0) c.replace-others.ensures.value) in
+    let workers : c.len.result ≡ crew.workers = omega (arith, count, others.ok.0, c.len.ensures) in
+    subst (λ (told : Given). HasGiven crew.order (vec_len crew.backends) crew.workers told) (sym c.run_beside-left.ensures.given)
+    (subst (λ (n : ℕ). HasGiven crew.order (vec_len crew.backends) n c.of-backends.result.told) workers c.of-backends.ensures.told)

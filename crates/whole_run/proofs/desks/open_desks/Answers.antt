@@ -1,6 +1,6 @@
 use Rattle.std.proofs.Common.{◌≡◌, ◌+◌, ◌∙◌, arith, length}
-use Rattle.steal_pool.specs.declared.desk.Desk.{Desk}
-use Rattle.whole_run.proofs.DeskLaws.{all-there, moves, opens}
+use Rattle.deck_relay.specs.declared.desk.Desk.{Desk}
+use Rattle.whole_run.proofs.DeskLaws.{all-there, moves, opens, opens-fresh}
 use Rattle.whole_run.proofs.desks.open_desks.Goals as goal
 
 pub loop-deck-preserved : goal.loop-deck-preserved
@@ -47,3 +47,12 @@ returns-clause-close c =
     (all-there (λ (d : Desk). d.deck) decks c.loop-deck.decks.items turned desks is.decks none c.reverse.ensures.items)
     (all-there (λ (d : Desk). d.post) posts c.loop-deck.posts.items turned desks is.posts no_post c.reverse.ensures.items)
     no_deck no_post (omega (arith, is.decks_fit, c.pop.ensures.capacity)) is.posts_fit
+
+pub returns-clause-count : goal.returns-clause-count
+returns-clause-count c =
+    let is = c.loop-deck.invariant in
+    let posts = c.in_ok-queue.posts.items in
+    let desks = c.reverse.new.self.items in
+    let none : length c.loop-deck.decks.items ≡ 0 = omega (arith, c.in_default.ensures.cases, c.loop-deck.decks.ok.0) in
+    opens-fresh c.args.workers _ posts desks c.in_ok-queue.ensures
+    (all-there (λ (d : Desk). d.post) posts c.loop-deck.posts.items c.loop-deck.desks.items desks is.posts (is.even ∙ none) c.reverse.ensures.items)

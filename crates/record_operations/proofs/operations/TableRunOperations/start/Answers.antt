@@ -1,15 +1,20 @@
-use Rattle.std.proofs.Common.{◌≡◌, ◌+◌, ◌%◌, length, sym, ap, ◌∙◌, subst, arith}
+use Rattle.std.proofs.Common.{◌≡◌, ◌+◌, ◌%◌, List, [], ◌∷◌, length, get_or, refl, sym, ap, ◌∙◌, subst, arith}
 use Rattle.std.specs.Prelude.{Some}
 use Rattle.std.proofs.lemmas.List.{length-set}
+use Rattle.deck_relay.specs.Desks.{deck_in, post_in}
+use Rattle.exec_value.specs.declared.data.Datum.{Datum}
 use Rattle.exec_value.specs.Kinds.{HasKind}
+use Rattle.home_items.specs.Entries.{carried_of}
+use Rattle.exec_recv.specs.Asides.{Aside}
 use Rattle.node_walks.specs.Starts.{CanRun}
 use Rattle.run_loop.specs.Loops.{deck_of}
-use Rattle.record_loop.specs.Works.{BeginsTicket}
+use Rattle.record_loop.specs.Works.{BeginsTicket, KeepsWork}
 use Rattle.record_operations.specs.Runs.{Run, run_of, work_of}
 use Rattle.record_operations.proofs.Changed.{shown-free, shown-start, entered-by, has-entered-sound, has-entered-begins}
 use Rattle.record_operations.proofs.Holding.{deck-on}
 use Rattle.record_operations.proofs.Sounding.{turned-sound}
-use Rattle.record_operations.proofs.Starting.{can-run}
+use Rattle.record_operations.proofs.Starting.{can-run, carries-datum}
+use Rattle.record_operations.proofs.Worked.{keeps-work}
 use Rattle.record_operations.proofs.operations.TableRunOperations.start.Goals as goal
 
 pub enter-requires-clause-start : goal.enter-requires-clause-start
@@ -21,8 +26,8 @@ enter-requires-clause-start g c κs within =
     (can-run inside.plan.now sound.table.over.is_plan c.args.datum c.args.number inside.requested inside.table.now sound.table.over
     (subst (λ (run : Run). HasKind c.args.datum run.plan.settings.input) (sym c.self.view_is) c.requires.kind))
 
-pub invariant_of-self : goal.invariant_of-self
-invariant_of-self g c =
+pub invariant_of-self-in-Ok : goal.invariant_of-self-in-Ok
+invariant_of-self-in-Ok g c =
     let inside = c.self.inside in
     let sound = c.self.invariant.sound in
     let run = run_of inside.table.now inside.plan.now inside.looped inside.operations.items inside.requested inside.futures in
@@ -39,7 +44,7 @@ invariant_of-self g c =
           c.in-Ok.ensures.entered c.put.new.operations.items c.put.ensures)
           ((inside.next + 1) % c.len.result) (omega (arith, count, here));
       spawns_is = c.self.invariant.spawns_is;
-      both = deck-on g.B.OnTable.deck g.B.OnTable.post (deck_of inside.looped) inside.post c.self.invariant.both (deck_of c.enter.new.looped)
+      both = deck-on (deck_in g.B.OnTable.desk) (post_in g.B.OnTable.desk) (deck_of inside.looped) inside.post c.self.invariant.both (deck_of c.enter.new.looped)
           c.in-Ok.ensures.deck;
     }
 
@@ -67,6 +72,27 @@ invariant_of-self-in-Err g c =
           (g.T.Stepper.plan inside.stepper.now) inside.next c.self.invariant.sound c.enter.new.looped c.in-Err.ensures.ready c.in-Err.ensures.counts.tally
           c.in-Err.ensures.same;
       spawns_is = c.self.invariant.spawns_is;
-      both = deck-on g.B.OnTable.deck g.B.OnTable.post (deck_of inside.looped) inside.post c.self.invariant.both (deck_of c.enter.new.looped)
+      both = deck-on (deck_in g.B.OnTable.desk) (post_in g.B.OnTable.desk) (deck_of inside.looped) inside.post c.self.invariant.both (deck_of c.enter.new.looped)
           c.in-Err.ensures.deck;
     }
+
+pub returns-in-Err-clause-refused : goal.returns-in-Err-clause-refused
+returns-in-Err-clause-refused g c =
+    let inside = c.self.inside in
+    let run = run_of inside.table.now inside.plan.now inside.looped inside.operations.items inside.requested inside.futures in
+    let began = shown-start inside.plan.now c.of_record-env.result c.one.result c.args.number c.args.datum inside.requested c.of_record-env.ensures c.one.ensures in
+    let carried : c.into_one.result ∷ [] ≡ c.args.datum ∷ [] =
+    sym c.into_one.ensures ∙ c.into_args.ensures ∙ ap carried_of (c.in-Err.ensures.back ∙ began)
+    ∙ carries-datum inside.plan.now c.self.invariant.sound.table.over.is_plan c.args.datum c.args.number inside.requested in (
+      ap (λ (l : List Datum). get_or l 0 c.args.datum) carried,
+      subst (λ (r : Run). KeepsWork (work_of r) (work_of (record run { looped = c.enter.new.looped }))) c.self.view_is
+          (keeps-work run (record run { looped = c.enter.new.looped })
+          (record {
+            board = refl;
+            plan = refl;
+            operations = refl;
+            requested = refl;
+            tally = c.in-Err.ensures.counts.tally;
+            noted = ap (λ (a : Aside). a.noted) c.in-Err.ensures.same.is;
+          })),
+    )

@@ -1,6 +1,7 @@
 use Rattle.std.proofs.Common.{◌≡◌, ℕ, ◌+◌, get_or, sym, ap, ◌∙◌, subst, arith}
 use Rattle.std.specs.Prelude.{Option, None}
 use Rattle.atomic_table.specs.declared.shared.Seat.{Seat}
+use Rattle.deck_relay.specs.Desks.{deck_in, post_in}
 use Rattle.home_items.specs.declared.entry.Entry.{Entry}
 use Rattle.home_items.specs.declared.item.Item.{Item}
 use Rattle.table_rules.specs.declared.view.View.{View}
@@ -13,7 +14,7 @@ use Rattle.record_operations.specs.Moves.{Clears}
 use Rattle.record_operations.specs.Runs.{Run, begun_by, run_of}
 use Rattle.record_operations.specs.Worked.{HasWorked}
 use Rattle.record_operations.proofs.Cleared.{clears-on, free-more, free-all, ended, worked-for}
-use Rattle.record_operations.proofs.Holding.{deck-on}
+use Rattle.record_operations.proofs.Holding.{both-desk, both-together, deck-on}
 use Rattle.record_operations.proofs.running.TableRun.end.Goals as goal
 
 pub loop-ticket-preserved : goal.loop-ticket-preserved
@@ -77,9 +78,21 @@ returns-clause-worked g c =
     (subst (Clears c.args.self) (sym c.run-2.view_is)
     (clears-on c.args.self run c.clear_spawned.new.self before.clears c.clear_spawned.ensures.clears)))
 
-pub returns-clause-both : goal.returns-clause-both
-returns-clause-both g c =
+-- the parts that the run has when its scope is joined
+pub desk_of-requires : goal.desk_of-requires
+desk_of-requires g c =
     let inside = c.run-2.inside in
-    subst (λ deck. KeepsBoth g.B.OnTable.deck g.B.OnTable.post deck inside.post) (sym c.into_parts-hand.ensures.deck)
-    (deck-on g.B.OnTable.deck g.B.OnTable.post (deck_of inside.looped) inside.post c.run-2.invariant.both (deck_of c.join.new.looped)
-    c.join.ensures.deck)
+    record {
+      together = both-together g.B.OnTable.desk c.into_parts-hand.result.1 inside.post
+          (subst (λ deck. KeepsBoth (deck_in g.B.OnTable.desk) (post_in g.B.OnTable.desk) deck inside.post) (sym c.into_parts-hand.ensures.deck)
+          (deck-on (deck_in g.B.OnTable.desk) (post_in g.B.OnTable.desk) (deck_of inside.looped) inside.post c.run-2.invariant.both
+          (deck_of c.join.new.looped) c.join.ensures.deck));
+    }
+
+pub returns-clause-desk : goal.returns-clause-desk
+returns-clause-desk g c =
+    let inside = c.run-2.inside in
+    both-desk g.B.OnTable.desk c.into_parts-hand.result.1 inside.post c.desk_of.result c.desk_of.ensures.deck c.desk_of.ensures.post
+    (subst (λ deck. KeepsBoth (deck_in g.B.OnTable.desk) (post_in g.B.OnTable.desk) deck inside.post) (sym c.into_parts-hand.ensures.deck)
+    (deck-on (deck_in g.B.OnTable.desk) (post_in g.B.OnTable.desk) (deck_of inside.looped) inside.post c.run-2.invariant.both (deck_of c.join.new.looped)
+    c.join.ensures.deck))

@@ -1,6 +1,8 @@
 use Rattle.std.proofs.Common.{subst}
+use Rattle.deck_relay.specs.Desks.{deck_in, post_in}
 use Rattle.run_loop.specs.Loops.{deck_of}
 use Rattle.run_loop.specs.Turns.{MeetsEach}
+use Rattle.record_operations.specs.Drained.{TakesLearned}
 use Rattle.record_operations.specs.Runs.{Run, run_of}
 use Rattle.record_operations.proofs.Holding.{both-on}
 use Rattle.record_operations.proofs.Sounding.{turned-sound}
@@ -17,7 +19,7 @@ invariant_of-self g c =
           (g.T.Stepper.plan inside.stepper.now) inside.next held.sound went.new.looped went.ensures.ready went.ensures.counts.tally
           (record { is = went.ensures.aside.same; sees = went.ensures.aside.sees });
       spawns_is = held.spawns_is;
-      both = both-on g.B.OnTable.deck g.B.OnTable.post (deck_of inside.looped) inside.post held.both (deck_of went.new.looped) went.new.post
+      both = both-on (deck_in g.B.OnTable.desk) (post_in g.B.OnTable.desk) (deck_of inside.looped) inside.post held.both (deck_of went.new.looped) went.new.post
           went.ensures.both;
     }
 
@@ -25,3 +27,10 @@ pub returns-clause-met : goal.returns-clause-met
 returns-clause-met g c =
     subst (λ (r : Run). MeetsEach g.T.Stepper.does r.board r.looped c.go_once-taken.new.looped) c.self.view_is
     c.go_once-taken.ensures.met
+
+pub returns-clause-served : goal.returns-clause-served
+returns-clause-served g c =
+    let went = c.go_once-taken in (
+      went.result,
+      subst (λ (r : Run). TakesLearned g.T.Stepper.does r.board went.result r.looped went.new.looped) c.self.view_is went.ensures.served,
+    )

@@ -1,4 +1,5 @@
 use Rattle.std.proofs.Common.{◌≡◌, ◌<◌, length, sym, ap, subst}
+use Rattle.deck_relay.specs.Desks.{deck_in, post_in}
 use Rattle.record_operations.specs.Moves.{LeavesRun}
 use Rattle.record_operations.specs.Runs.{Run, run_of}
 use Rattle.record_operations.proofs.Changed.{shown-block, block-listed, left-by, has-left-sound, has-left-run}
@@ -28,7 +29,7 @@ invariant_of-self g c =
           (ap (λ (l : Looped). l.tally) c.in_default.ensures.none.rest)
           (looked-same inside.table.now c.in_ok-block.block inside.looped.hand.me c.collect.new.self.hand.me c.in_default.ensures.none.read);
       spawns_is = c.self.invariant.spawns_is;
-      both = deck-on g.B.OnTable.deck g.B.OnTable.post (deck_of inside.looped) inside.post c.self.invariant.both (deck_of c.collect.new.self)
+      both = deck-on (deck_in g.B.OnTable.desk) (post_in g.B.OnTable.desk) (deck_of inside.looped) inside.post c.self.invariant.both (deck_of c.collect.new.self)
           c.in_default.ensures.deck;
     }
 
@@ -47,7 +48,7 @@ invariant_of-self-2 g c =
           c.collect.new.self c.in-Some.ensures.ready c.in-Some.ensures.collected c.disassociate.new.hand c.disassociate.ensures.stays.hand
           c.disassociate.ensures.left c.take-left.new.operations.items c.take-left.ensures.items);
       spawns_is = c.self.invariant.spawns_is;
-      both = deck-on g.B.OnTable.deck g.B.OnTable.post (deck_of inside.looped) inside.post c.self.invariant.both (deck_of c.collect.new.self)
+      both = deck-on (deck_in g.B.OnTable.desk) (post_in g.B.OnTable.desk) (deck_of inside.looped) inside.post c.self.invariant.both (deck_of c.collect.new.self)
           c.in-Some.ensures.deck;
     }
 

@@ -1,6 +1,7 @@
 use Rattle.std.proofs.Common.{false, sym, ap, ◌∙◌, subst}
 use Rattle.std.specs.Prelude.{Option}
 use Rattle.atomic_table.specs.declared.shared.Seat.{Seat}
+use Rattle.deck_relay.specs.Desks.{deck_in, post_in}
 use Rattle.home_items.specs.declared.entry.Entry.{Entry}
 use Rattle.home_items.specs.declared.item.Item.{Item}
 use Rattle.table_rules.specs.declared.view.View.{View}
@@ -27,6 +28,6 @@ invariant_of-result g c =
           c.requires.scope c.requires.some c.requires.few (subst (IsUnusedHand c.args.table.now) (sym opened.hand_is) c.requires.hand) opened.next opened.tally
           opened.delays c.in-Ok.operations.items c.in-Ok.ensures _ c.in-Ok-open.futures c.in-Ok-open.ensures);
       spawns_is = c.has_ahead-spawns.ensures;
-      both = both-are g.B.OnTable.deck g.B.OnTable.post (deck_of seated.result) c.args.own.post (c.requires.deck ∙ sym seated.ensures.deck)
-          c.requires.post;
+      both = both-are (deck_in g.B.OnTable.desk) (post_in g.B.OnTable.desk) (deck_of seated.result) c.parts_of-deck.result.1
+          (ap deck_in c.requires.desk ∙ sym c.parts_of-deck.ensures.deck ∙ sym seated.ensures.deck) (ap post_in c.requires.desk ∙ sym c.parts_of-deck.ensures.post);
     }

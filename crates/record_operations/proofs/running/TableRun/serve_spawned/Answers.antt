@@ -1,10 +1,11 @@
-use Rattle.std.proofs.Common.{◌≡◌, true, sym, ap, ◌∙◌, subst}
+use Rattle.std.proofs.Common.{◌≡◌, true, [], refl, sym, ap, ◌∙◌, subst}
 use Rattle.std.proofs.lemmas.Bool.{both_ways}
+use Rattle.deck_relay.specs.Desks.{deck_in, post_in}
 use Rattle.exec_recv.specs.Over.{IsOver}
 use Rattle.line_rules.specs.PlanTerms.{has_ahead}
 use Rattle.plan_kinds.specs.Runnable.{IsRunnable}
 use Rattle.plan_shape.specs.Blueprint.{Blueprint}
-use Rattle.record_operations.specs.Moves.{KeepsOperations, ServesAheads}
+use Rattle.record_operations.specs.Moves.{KeepsOperations, ServesAheads, WasTold}
 use Rattle.record_operations.specs.Runs.{Run, run_of}
 use Rattle.run_loop.specs.Loops.{deck_of}
 use Rattle.record_operations.proofs.Holding.{deck-on}
@@ -37,7 +38,7 @@ invariant_of-self g c =
           (g.T.Stepper.plan inside.stepper.now) inside.next c.self.invariant.sound c.serve.new.hand c.tell.new.looped.names c.tell.new.looped
           c.tell.ensures.rest c.serve.new.futures c.serve.ensures.serves (sym c.self.invariant.spawns_is ∙ spawns) c.serve.ensures.keeping;
       spawns_is = c.self.invariant.spawns_is;
-      both = deck-on g.B.OnTable.deck g.B.OnTable.post (deck_of inside.looped) inside.post c.self.invariant.both (deck_of c.tell.new.looped)
+      both = deck-on (deck_in g.B.OnTable.desk) (post_in g.B.OnTable.desk) (deck_of inside.looped) inside.post c.self.invariant.both (deck_of c.tell.new.looped)
           c.tell.ensures.deck;
     }
 
@@ -52,6 +53,8 @@ returns g c =
       serves = subst (λ (r : Run). ServesAheads r (record run { looped = c.tell.new.looped; futures = c.serve.new.futures })) c.self.view_is
           (told-serves run c.serve.new.hand c.tell.new.looped.names c.tell.new.looped c.tell.ensures.rest c.serve.new.futures
           (rw c.self.invariant.sound.table.stepped_is at c.serve.ensures.turned));
+      told = subst (λ (r : Run). WasTold r (record run { looped = c.tell.new.looped; futures = c.serve.new.futures })) c.self.view_is
+          (c.serve.new.posted.list.items, c.tell.ensures.tells);
     }
 
 pub returns-then-not-self-clause-serves : goal.returns-then-not-self-clause-serves
@@ -59,3 +62,6 @@ returns-then-not-self-clause-serves g c ahead =
     absurd
     (both_ways c.self.inside.spawns c.if-not-self.true
     (c.self.invariant.spawns_is ∙ ap (λ (r : Run). has_ahead r.plan) c.self.view_is ∙ ahead))
+
+pub returns-then-not-self-clause-told : goal.returns-then-not-self-clause-told
+returns-then-not-self-clause-told g c = ([], refl)

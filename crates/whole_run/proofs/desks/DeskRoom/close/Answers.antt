@@ -6,7 +6,7 @@ use Rattle.deck_relay.specs.Relays.{CameBack as AreAllDecks, TakenAndLeft}
 use Rattle.loop_queue.specs.declared.post.LoopPost.{LoopPost}
 use Rattle.loop_queue.specs.Law.{ComeAndGoInOrder}
 use Rattle.loop_queue.specs.Posts.{CameBack as AreAllPosts}
-use Rattle.steal_pool.specs.declared.desk.Desk.{Desk}
+use Rattle.deck_relay.specs.declared.desk.Desk.{Desk}
 use Rattle.whole_run.specs.DeskEnds.{ClosedSo, decks_of, posts_of}
 use Rattle.whole_run.proofs.DeskLaws.{all-here, moves, turned-twice}
 use Rattle.whole_run.proofs.desks.DeskRoom.close.Goals as goal
@@ -71,8 +71,8 @@ close-entries-requires g c =
     let here = all-here (λ (d : Desk). d.post) (posts_of c.args.desks.items) c.loop-desk.posts.items c.loop-desk.desks.items c.loop-desk.invariant.posts none in
     record { all = subst (λ (l : List LoopPost). AreAllPosts (arc_value c.args.self.queue) l) (sym here) c.requires.all.all_posts }
 
-pub invariant_of-result : goal.invariant_of-result
-invariant_of-result g c =
+pub invariant_of-end : goal.invariant_of-end
+invariant_of-end g c =
     let is = c.loop-desk.invariant in
     let gone = c.loop-desk.desks.items in
     let none : length gone ≡ 0 = omega (arith, c.in_default.ensures.cases, c.loop-desk.desks.ok.0) in

@@ -2,45 +2,45 @@
 ghost use Rattle.std.specs.Prelude.{◌≡◌};
 ghost use Rattle.std.specs.Thread.{IsSync};
 ghost use Rattle.deck_relay.specs.SameDecks.{KeepsDeck};
+ghost use Rattle.node_walks.specs.Mails.{HearsEach};
+ghost use Rattle.run_loop.specs.Fetches.{HearsName};
 ghost use Rattle.run_loop.specs.Loops.{deck_of};
+ghost use Rattle.record_operations.specs.Later.{HasNoNames};
 
 use life_rules::Name;
 use node_tree::Context;
-use node_walks::Mail;
+use node_walks::{Mail, ReadyNode};
 use run_loop::Loop;
 use std::alloc::Global;
 use std::sync::Wait;
 
-/// A node that is ready, and where.
-#[derive(Clone, Copy, Debug, PartialEq, Eq)]
-struct Ready {
-    name: Name,
-    on: Context,
-}
-
 /// Names of which the loop is told afterwards: each is a hint.
 #[derive(Drop)]
-pub struct Posted {
-    list: Vec<Ready>,
+pub struct LaterMail {
+    list: Vec<ReadyNode>,
     /// There was no memory for a name.
     lost: bool,
 }
 
-impl Posted {
+impl LaterMail {
     /// No names. It takes no memory.
-    pub(crate) fn none(alloc: Global) -> Posted {
-        Posted {
+    pub(crate) fn none(alloc: Global) -> LaterMail
+        ensures none { HasNoNames result }
+    {
+        LaterMail {
             list: Vec::new(alloc),
             lost: false,
         }
     }
 
-    /// Tells the loop of them, as if it had left the nodes ready itself. Where a name was lost each
-    /// hand is woken, and one that looks at each node finds it.
+    /// Tells the loop of them, in their order, as if it had left the nodes ready itself. Where a
+    /// name was lost each hand is woken, and one that looks at each node finds it.
     pub(crate) fn tell<R: Wait + Sync>(&mut self, rt: &R, looped: &mut Loop)
         requires sync { IsSync R.row }
         ensures rest { looped.new ≡ record looped.old { names = looped.new.names } }
         ensures deck { KeepsDeck (deck_of looped.old) (deck_of looped.new) }
+        ensures tells { HearsEach HearsName self.old.list.items looped.old.names looped.new.names }
+        ensures none { HasNoNames self.new }
     {
         for ready in &self.list {
             looped.tell(rt, ready.name, ready.on);
@@ -53,10 +53,13 @@ impl Posted {
     }
 }
 
-impl Mail for Posted {
+impl Mail for LaterMail {
     ghost use Rattle.std.specs.Prelude.{⊤};
+    ghost use Rattle.record_operations.specs.Later.{HearsLater};
 
     ghost keeps = { λ _ _. ⊤ };
+
+    ghost hears = { HearsLater };
 
     ghost none = { λ _. tt };
 
@@ -64,7 +67,7 @@ impl Mail for Posted {
 
     fn ready<R: Wait + Sync>(&mut self, rt: &R, name: Name, on: Context) {
         let _ = rt;
-        match self.list.push(Ready { name, on }) {
+        match self.list.push(ReadyNode { name, on }) {
             Ok(()) => {}
             Err(_) => self.lost = true,
         }
