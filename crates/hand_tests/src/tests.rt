@@ -27,9 +27,11 @@ mod acts;
 struct NoMail;
 
 impl Mail for NoMail {
-    ghost use Rattle.std.specs.Prelude.{⊤};
+    ghost use Rattle.std.specs.Prelude.{◌≡◌, ⊤};
 
     ghost keeps = { λ _ _. ⊤ };
+
+    ghost hears = { λ _ _ old new. new ≡ old };
 
     ghost none = { λ _. tt };
 

@@ -14,6 +14,7 @@ mod decks;
 mod delays;
 mod kinds;
 mod names;
+mod points;
 mod requests;
 mod told;
 mod waits;

@@ -7,10 +7,12 @@ mod aheads;
 mod bodies;
 mod closings;
 mod crews;
+mod delays;
 mod layers;
 mod orders;
 mod races;
 mod reports;
+mod rows;
 mod unlawful;
 
 use life_rules::ScopeState;
@@ -30,7 +32,14 @@ const ADDING: &str = r#"{"do":"then","child":{"do":"input"},"job":{"job":"add","
 fn plan_of(alloc: Global, settings: &str, root: &str) -> Result<Plan, Fail>
     ensures { IfOk result (λ plan. KindsMatch plan.nodes plan.settings.input) }
 {
-    let text = format!(in alloc; r#"{{"version":2,"input":"int",{settings}"root":{root}}}"#)?;
+    plan_over(alloc, "int", settings, root)
+}
+
+/// The same for records of this kind.
+fn plan_over(alloc: Global, input: &str, settings: &str, root: &str) -> Result<Plan, Fail>
+    ensures { IfOk result (λ plan. KindsMatch plan.nodes plan.settings.input) }
+{
+    let text = format!(in alloc; r#"{{"version":2,"input":"{input}",{settings}"root":{root}}}"#)?;
     let plan = read_plan(alloc, text.as_bytes())?;
     check(alloc, &plan)?;
     Ok(plan)

@@ -3,6 +3,7 @@ mod backends;
 mod decks;
 mod queues;
 mod sleeping;
+mod vigils;
 
 use life_rules::Name;
 

@@ -207,3 +207,23 @@ fn an_abandoned_operation_runs_to_its_end(rt: HostRuntime) -> Result<(), Fail> {
     assert!(rt; are_told(&rt, rt.alloc(), root, 2, 2, &acts)?);
     Ok(())
 }
+
+#[test]
+fn the_node_that_is_asked_for_is_served(rt: HostRuntime) -> Result<(), Fail> {
+    let acts = [
+        Act::Spawns(1, Spawn::Spawned),
+        Act::Spawns(2, Spawn::Spawned),
+        Act::Serves(1, 0),
+        Act::Polls(2, Poll::Five),
+        Act::Spawns(3, Spawn::Spawned),
+        Act::Serves(1, 0),
+        Act::Polls(3, Poll::Five),
+        Act::Serves(0, 0),
+        Act::Polls(1, Poll::Five),
+        Act::Polls(2, Poll::Unknown),
+    ];
+    let root =
+        r#"{"do":"then","child":{"do":"schedule","on":"pool"},"job":{"job":"give","values":[5]}}"#;
+    assert!(rt; are_told(&rt, rt.alloc(), root, 2, 2, &acts)?);
+    Ok(())
+}

@@ -28,12 +28,15 @@ fn a_stop_request_reaches_a_delay_that_is_parked(rt: HostRuntime) -> Result<(), 
             4,
         ),
         (
-            r#"{"do":"upon_stopped","child":{"do":"delay","turns":50},"job":{"job":"give","values":[]}}"#,
+            r#"{"do":"upon_stopped","child":{"do":"delay","turns":50},
+                "job":{"job":"give","values":[]}}"#,
             2,
         ),
     ] {
         let root = format!(in alloc;
-            r#"{{"do":"when_all","children":[{delay},{{"do":"starts_on","on":"loop","child":{{"do":"just_error","error":"late"}}}}]}}"#
+            r#"{{"do":"when_all","children":[{delay},
+                    {{"do":"starts_on","on":"loop",
+                        "child":{{"do":"just_error","error":"late"}}}}]}}"#
         )?;
         assert!(rt; completes(&rt, alloc, &root, false, "1 error late\n")?);
         assert!(rt; takes_turns(&rt, alloc, &root, false, turns)?);
@@ -43,8 +46,9 @@ fn a_stop_request_reaches_a_delay_that_is_parked(rt: HostRuntime) -> Result<(), 
 
 #[test]
 fn a_delay_that_was_stopped_completes_stopped(rt: HostRuntime) -> Result<(), Fail> {
-    let root =
-        r#"{"do":"when_all","children":[{"do":"stopped_as_error","child":{"do":"delay","turns":50},"error":"roused"},{"do":"starts_on","on":"loop","child":{"do":"just_stopped"}}]}"#;
+    let root = r#"{"do":"when_all","children":[
+                {"do":"stopped_as_error","child":{"do":"delay","turns":50},"error":"roused"},
+                {"do":"starts_on","on":"loop","child":{"do":"just_stopped"}}]}"#;
     assert!(rt; completes(&rt, rt.alloc(), root, false, "1 error roused\n")?);
     Ok(())
 }

@@ -39,11 +39,13 @@ fn adaptors_take_what_is_on_their_channel(rt: HostRuntime) -> Result<(), Fail> {
             "1 value 6\n",
         ),
         (
-            r#"{"do":"upon_error","child":{"do":"just_error","error":"late"},"job":{"job":"length"}}"#,
+            r#"{"do":"upon_error","child":{"do":"just_error","error":"late"},
+                "job":{"job":"length"}}"#,
             "1 value 4\n",
         ),
         (
-            r#"{"do":"upon_stopped","child":{"do":"just_stopped"},"job":{"job":"give","values":[0]}}"#,
+            r#"{"do":"upon_stopped","child":{"do":"just_stopped"},
+                "job":{"job":"give","values":[0]}}"#,
             "1 value 0\n",
         ),
         (
@@ -77,7 +79,8 @@ fn adaptors_let_the_others_pass(rt: HostRuntime) -> Result<(), Fail> {
             "1 value 5\n",
         ),
         (
-            r#"{"do":"upon_stopped","child":{"do":"just_error","error":"late"},"job":{"job":"give","values":[0]}}"#,
+            r#"{"do":"upon_stopped","child":{"do":"just_error","error":"late"},
+                "job":{"job":"give","values":[0]}}"#,
             "1 error late\n",
         ),
         (
@@ -93,9 +96,12 @@ fn adaptors_let_the_others_pass(rt: HostRuntime) -> Result<(), Fail> {
 #[test]
 fn a_long_name_of_an_error_goes_up_through_a_chain(rt: HostRuntime) -> Result<(), Fail> {
     let alloc = rt.alloc();
-    let root =
-        r#"{"do":"then","child":{"do":"then","child":{"do":"input"},"job":{"job":"fail","error":"a-name-of-sixty-four-letters-that-stands-in-memory-of-its-own-00"}},"job":{"job":"add","n":1}}"#;
+    let root = r#"{"do":"then","child":{"do":"then","child":{"do":"input"},
+                "job":{"job":"fail",
+                    "error":"a-name-of-sixty-four-letters-that-stands-in-memory-of-its-own-00"}},
+            "job":{"job":"add","n":1}}"#;
     let line = "1 error a-name-of-sixty-four-letters-that-stands-in-memory-of-its-own-00\n";
+    assert!(rt; takes_turns(&rt, alloc, root, false, 0)?);
     assert!(rt; completes(&rt, alloc, root, false, line)?);
     Ok(())
 }
@@ -135,15 +141,19 @@ fn lets_run_the_body_that_is_picked(rt: HostRuntime) -> Result<(), Fail> {
     let alloc = rt.alloc();
     for (root, line) in [
         (
-            r#"{"do":"let_value","child":{"do":"input"},"pick":{"job":"sub","n":4},"bodies":[{"do":"just","values":[10]},{"do":"input"}]}"#,
+            r#"{"do":"let_value","child":{"do":"input"},"pick":{"job":"sub","n":4},
+                "bodies":[{"do":"just","values":[10]},{"do":"input"}]}"#,
             "1 value 5\n",
         ),
         (
-            r#"{"do":"let_error","child":{"do":"just_error","error":"late"},"pick":{"job":"give","values":[-1]},"bodies":[{"do":"input"}]}"#,
+            r#"{"do":"let_error","child":{"do":"just_error","error":"late"},
+                "pick":{"job":"give","values":[-1]},"bodies":[{"do":"input"}]}"#,
             "1 value \"late\"\n",
         ),
         (
-            r#"{"do":"let_stopped","child":{"do":"just_stopped"},"pick":{"job":"give","values":[9]},"bodies":[{"do":"just","values":[1]},{"do":"just","values":[2]}]}"#,
+            r#"{"do":"let_stopped","child":{"do":"just_stopped"},
+                "pick":{"job":"give","values":[9]},
+                "bodies":[{"do":"just","values":[1]},{"do":"just","values":[2]}]}"#,
             "1 value 2\n",
         ),
     ] {
@@ -157,15 +167,19 @@ fn all_of_a_when_all_are_awaited(rt: HostRuntime) -> Result<(), Fail> {
     let alloc = rt.alloc();
     for (root, line) in [
         (
-            r#"{"do":"when_all","children":[{"do":"starts_on","on":"pool","child":{"do":"input"}},{"do":"just","values":["x"]}]}"#,
+            r#"{"do":"when_all","children":[
+                    {"do":"starts_on","on":"pool","child":{"do":"input"}},
+                    {"do":"just","values":["x"]}]}"#,
             "1 value 5 \"x\"\n",
         ),
         (
-            r#"{"do":"when_all","children":[{"do":"just_stopped"},{"do":"just_error","error":"b"}]}"#,
+            r#"{"do":"when_all","children":[{"do":"just_stopped"},
+                    {"do":"just_error","error":"b"}]}"#,
             "1 error b\n",
         ),
         (
-            r#"{"do":"when_all","children":[{"do":"schedule","on":"loop"},{"do":"just_error","error":"b"}]}"#,
+            r#"{"do":"when_all","children":[{"do":"schedule","on":"loop"},
+                    {"do":"just_error","error":"b"}]}"#,
             "1 error b\n",
         ),
     ] {
@@ -181,7 +195,8 @@ fn an_ahead_waits_until_it_is_served(rt: HostRuntime) -> Result<(), Fail> {
     let root = r#"{"do":"ahead","first":{"do":"input"},"second":{"do":"just","values":[1]}}"#;
     assert!(rt; takes_turns(&rt, alloc, root, false, MOST_TURNS)?);
     let late =
-        r#"{"do":"then","child":{"do":"ahead","first":{"do":"input"},"second":{"do":"input"}},"job":{"job":"sum"}}"#;
+        r#"{"do":"then","child":{"do":"ahead","first":{"do":"input"},"second":{"do":"input"}},
+            "job":{"job":"sum"}}"#;
     assert!(rt; takes_turns(&rt, alloc, late, true, MOST_TURNS)?);
     Ok(())
 }

@@ -21,9 +21,11 @@ use std::test::Fail;
 struct Nobody;
 
 impl Mail for Nobody {
-    ghost use Rattle.std.specs.Prelude.{⊤};
+    ghost use Rattle.std.specs.Prelude.{◌≡◌, ⊤};
 
     ghost keeps = { λ _ _. ⊤ };
+
+    ghost hears = { λ _ _ old new. new ≡ old };
 
     ghost none = { λ _. tt };
 

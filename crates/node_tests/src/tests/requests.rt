@@ -7,9 +7,17 @@ use std::test::Fail;
 fn a_hop_that_is_taken_after_a_request_is_stopped(rt: HostRuntime) -> Result<(), Fail> {
     let alloc = rt.alloc();
     for root in [
-        r#"{"do":"when_all","children":[{"do":"stopped_as_error","child":{"do":"schedule","on":"loop"},"error":"hopped"},{"do":"just_stopped"}]}"#,
-        r#"{"do":"when_all","children":[{"do":"stopped_as_error","child":{"do":"starts_on","on":"loop","child":{"do":"input"}},"error":"hopped"},{"do":"just_stopped"}]}"#,
-        r#"{"do":"when_all","children":[{"do":"stopped_as_error","child":{"do":"continues_on","on":"loop","child":{"do":"input"}},"error":"hopped"},{"do":"just_stopped"}]}"#,
+        r#"{"do":"when_all","children":[
+                {"do":"stopped_as_error","child":{"do":"schedule","on":"loop"},"error":"hopped"},
+                {"do":"just_stopped"}]}"#,
+        r#"{"do":"when_all","children":[
+                {"do":"stopped_as_error","error":"hopped",
+                    "child":{"do":"starts_on","on":"loop","child":{"do":"input"}}},
+                {"do":"just_stopped"}]}"#,
+        r#"{"do":"when_all","children":[
+                {"do":"stopped_as_error","error":"hopped",
+                    "child":{"do":"continues_on","on":"loop","child":{"do":"input"}}},
+                {"do":"just_stopped"}]}"#,
     ] {
         assert!(rt; completes(&rt, alloc, root, false, "1 error hopped\n")?);
     }
@@ -18,16 +26,21 @@ fn a_hop_that_is_taken_after_a_request_is_stopped(rt: HostRuntime) -> Result<(),
 
 #[test]
 fn a_stop_token_tells_of_a_sibling_s_request(rt: HostRuntime) -> Result<(), Fail> {
-    let root =
-        r#"{"do":"when_all","children":[{"do":"just_stopped"},{"do":"then","child":{"do":"read_env","query":"stop"},"job":{"job":"within","lo":0,"hi":0}}]}"#;
+    let root = r#"{"do":"when_all","children":[{"do":"just_stopped"},
+                {"do":"then","child":{"do":"read_env","query":"stop"},
+                    "job":{"job":"within","lo":0,"hi":0}}]}"#;
     assert!(rt; completes(&rt, rt.alloc(), root, false, "1 error out-of-range\n")?);
     Ok(())
 }
 
 #[test]
 fn a_nested_when_all_passes_a_request_on(rt: HostRuntime) -> Result<(), Fail> {
-    let root =
-        r#"{"do":"when_all","children":[{"do":"when_all","children":[{"do":"stopped_as_error","child":{"do":"delay","turns":50},"error":"roused"},{"do":"input"}]},{"do":"starts_on","on":"loop","child":{"do":"just_stopped"}}]}"#;
+    let root = r#"{"do":"when_all","children":[
+                {"do":"when_all","children":[
+                        {"do":"stopped_as_error","child":{"do":"delay","turns":50},
+                            "error":"roused"},
+                        {"do":"input"}]},
+                {"do":"starts_on","on":"loop","child":{"do":"just_stopped"}}]}"#;
     assert!(rt; completes(&rt, rt.alloc(), root, false, "1 error roused\n")?);
     Ok(())
 }

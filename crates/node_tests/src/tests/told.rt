@@ -17,7 +17,8 @@ use std::test::Fail;
 
 /// Two children, each of which waits in the loop.
 const ROOT: &str =
-    r#"{"do":"when_all","children":[{"do":"starts_on","on":"loop","child":{"do":"input"}},{"do":"starts_on","on":"loop","child":{"do":"input"}}]}"#;
+    r#"{"do":"when_all","children":[{"do":"starts_on","on":"loop","child":{"do":"input"}},
+            {"do":"starts_on","on":"loop","child":{"do":"input"}}]}"#;
 
 /// The nodes that wait there.
 const FIRST: u32 = 1;

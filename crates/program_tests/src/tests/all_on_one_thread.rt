@@ -14,8 +14,8 @@ use std::thread::yield_now;
 const MOST_LOOKS: u32 = 1_000_000;
 
 /// Adds one to each record, on the pool.
-const ON_POOL: &str =
-    r#"{"do":"starts_on","on":"pool","child":{"do":"then","child":{"do":"input"},"job":{"job":"add","n":1}}}"#;
+const ON_POOL: &str = r#"{"do":"starts_on","on":"pool",
+        "child":{"do":"then","child":{"do":"input"},"job":{"job":"add","n":1}}}"#;
 
 /// No stop rule; and rules whose event never comes, so that no record may be stopped.
 const RULES: [&str; 3] = ["", r#""stop_after":3,"#, r#""on_error":"stop","#];

@@ -6,16 +6,28 @@ use exec_engine::Status;
 use std::test::Fail;
 
 /// Of two children one makes one hop, and the other begins eight parts.
-const PLAN_G: &str =
-    r#"{"version":1,"input":"int","root":{"do":"continues_on","on":"loop","child":{"do":"then","job":{"job":"sum"},"child":{"do":"when_all","children":[{"do":"starts_on","on":"pool","child":{"do":"then","child":{"do":"input"},"job":{"job":"mul","n":2}}},{"do":"let_value","child":{"do":"input"},"pick":{"job":"pass"},"bodies":[{"do":"just","values":[9]},{"do":"then","job":{"job":"sum"},"child":{"do":"bulk","child":{"do":"just","values":[[1,2,3]]},"job":{"job":"index"}}}]}]}}}}"#;
+const PLAN_G: &str = r#"{"version":1,"input":"int",
+        "root":{"do":"continues_on","on":"loop",
+            "child":{"do":"then","job":{"job":"sum"},
+                "child":{"do":"when_all","children":[
+                        {"do":"starts_on","on":"pool",
+                            "child":{"do":"then","child":{"do":"input"},
+                                "job":{"job":"mul","n":2}}},
+                        {"do":"let_value","child":{"do":"input"},"pick":{"job":"pass"},
+                            "bodies":[{"do":"just","values":[9]},
+                                {"do":"then","job":{"job":"sum"},
+                                    "child":{"do":"bulk",
+                                        "child":{"do":"just","values":[[1,2,3]]},
+                                        "job":{"job":"index"}}}]}]}}}}"#;
 
 /// A row of numbers, to each of which one is added.
-const ROWS: &str =
-    r#"{"version":1,"input":"row","root":{"do":"bulk","child":{"do":"input"},"job":{"job":"add","n":1}}}"#;
+const ROWS: &str = r#"{"version":1,"input":"row",
+        "root":{"do":"bulk","child":{"do":"input"},"job":{"job":"add","n":1}}}"#;
 
 /// A text, behind which another is put.
-const TEXTS: &str =
-    r#"{"version":1,"input":"text","root":{"do":"then","child":{"do":"input"},"job":{"job":"append","text":" and more than is kept in place"}}}"#;
+const TEXTS: &str = r#"{"version":1,"input":"text",
+        "root":{"do":"then","child":{"do":"input"},
+            "job":{"job":"append","text":" and more than is kept in place"}}}"#;
 
 /// A schedule of which `TRACE` is made.
 const SCHEDULE: &str = "exec 2 1 1 counting 1\nnode 1 plain\nnode - plain\n\

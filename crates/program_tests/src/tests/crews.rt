@@ -11,16 +11,29 @@ use std::test::Fail;
 use std::thread::Threads;
 
 /// A plan that adds one to each record, on the pool.
-const ON_POOL: &str =
-    r#"{"version":1,"input":"int","root":{"do":"starts_on","on":"pool","child":{"do":"then","child":{"do":"input"},"job":{"job":"add","n":1}}}}"#;
+const ON_POOL: &str = r#"{"version":1,"input":"int",
+        "root":{"do":"starts_on","on":"pool",
+            "child":{"do":"then","child":{"do":"input"},"job":{"job":"add","n":1}}}}"#;
 
 /// A plan whose body goes on with what came from the pool.
-const PICKED: &str =
-    r#"{"version":1,"input":"int","root":{"do":"let_value","child":{"do":"starts_on","on":"pool","child":{"do":"input"}},"pick":{"job":"give","values":[0]},"bodies":[{"do":"input"}]}}"#;
+const PICKED: &str = r#"{"version":1,"input":"int",
+        "root":{"do":"let_value","child":{"do":"starts_on","on":"pool","child":{"do":"input"}},
+            "pick":{"job":"give","values":[0]},"bodies":[{"do":"input"}]}}"#;
 
 /// A plan with a hop, and with parts on the pool.
-const PLAN_G: &str =
-    r#"{"version":1,"input":"int","root":{"do":"continues_on","on":"loop","child":{"do":"then","job":{"job":"sum"},"child":{"do":"when_all","children":[{"do":"starts_on","on":"pool","child":{"do":"then","child":{"do":"input"},"job":{"job":"mul","n":2}}},{"do":"let_value","child":{"do":"input"},"pick":{"job":"pass"},"bodies":[{"do":"just","values":[9]},{"do":"then","job":{"job":"sum"},"child":{"do":"bulk","child":{"do":"just","values":[[1,2,3]]},"job":{"job":"index"}}}]}]}}}}"#;
+const PLAN_G: &str = r#"{"version":1,"input":"int",
+        "root":{"do":"continues_on","on":"loop",
+            "child":{"do":"then","job":{"job":"sum"},
+                "child":{"do":"when_all","children":[
+                        {"do":"starts_on","on":"pool",
+                            "child":{"do":"then","child":{"do":"input"},
+                                "job":{"job":"mul","n":2}}},
+                        {"do":"let_value","child":{"do":"input"},"pick":{"job":"pass"},
+                            "bodies":[{"do":"just","values":[9]},
+                                {"do":"then","job":{"job":"sum"},
+                                    "child":{"do":"bulk",
+                                        "child":{"do":"just","values":[[1,2,3]]},
+                                        "job":{"job":"index"}}}]}]}}}}"#;
 
 /// A call with these words over two values, an error and a bad record.
 fn called<R: Threads + Wait + Sync>(

@@ -13,12 +13,14 @@ use std::test::Fail;
 use std::thread::Threads;
 
 /// A plan that adds one to each record.
-pub const ADD_ONE: &str =
-    r#"{"version":1,"input":"int","root":{"do":"then","child":{"do":"input"},"job":{"job":"add","n":1}}}"#;
+pub const ADD_ONE: &str = r#"{"version":1,"input":"int",
+        "root":{"do":"then","child":{"do":"input"},"job":{"job":"add","n":1}}}"#;
 
 /// A first child that runs as an operation of its own.
-pub const AHEAD: &str =
-    r#"{"version":2,"input":"int","root":{"do":"ahead","first":{"do":"starts_on","on":"pool","child":{"do":"then","child":{"do":"input"},"job":{"job":"mul","n":2}}},"second":{"do":"then","child":{"do":"input"},"job":{"job":"add","n":1}}}}"#;
+pub const AHEAD: &str = r#"{"version":2,"input":"int",
+        "root":{"do":"ahead","first":{"do":"starts_on","on":"pool",
+                "child":{"do":"then","child":{"do":"input"},"job":{"job":"mul","n":2}}},
+            "second":{"do":"then","child":{"do":"input"},"job":{"job":"add","n":1}}}}"#;
 
 /// A trace that is taken.
 pub const TRACE: &str = "exec 2 1 1 counting 1\nnode 1 plain\nnode - plain\n\

@@ -6,20 +6,22 @@ ghost use Rattle.record_lines.specs.declared.limits.TheConstants.{MOST_RECORDS};
 
 use super::crews::{Trial, crew_of, writes};
 use super::unlawful::Way;
-use exec_recv::OpenGate;
+use exec_recv::{Gate, OpenGate, Point};
 use std::alloc::Global;
 use std::process::Abort;
 use std::sync::Wait;
+use std::sync::atomic::{AtomicU64, Ordering};
 use std::test::Fail;
 use std::thread::Threads;
 
 /// Twice the record on the pool, and one more than the record where the operation was started.
-const BOTH: &str =
-    r#"{"do":"ahead","first":{"do":"starts_on","on":"pool","child":{"do":"then","child":{"do":"input"},"job":{"job":"mul","n":2}}},"second":{"do":"then","child":{"do":"input"},"job":{"job":"add","n":1}}}"#;
+const BOTH: &str = r#"{"do":"ahead","first":{"do":"starts_on","on":"pool",
+            "child":{"do":"then","child":{"do":"input"},"job":{"job":"mul","n":2}}},
+        "second":{"do":"then","child":{"do":"input"},"job":{"job":"add","n":1}}}"#;
 
 /// The second fails: the first is abandoned, while it waits for many turns.
-const ABANDONED: &str =
-    r#"{"do":"ahead","first":{"do":"delay","turns":40},"second":{"do":"starts_on","on":"pool","child":{"do":"just_error","error":"e"}}}"#;
+const ABANDONED: &str = r#"{"do":"ahead","first":{"do":"delay","turns":40},
+        "second":{"do":"starts_on","on":"pool","child":{"do":"just_error","error":"e"}}}"#;
 
 /// Whether the plan gives these lines with so many workers and this window, and these backends.
 fn is_so<R: Threads + Wait + Abort + Sync>(
@@ -89,5 +91,41 @@ fn a_backend_that_is_not_lawful_loses_no_future(rt: HostRuntime) -> Result<(), F
         };
         assert!(rt; is_so(&rt, alloc, trial, 4, way, line)?);
     }
+    Ok(())
+}
+
+/// A gate that counts how often the `ahead`, which is node 2, is taken.
+#[derive(Drop)]
+struct Takes {
+    count: AtomicU64,
+}
+
+impl Gate for Takes {
+    fn pass(&self, point: Point) {
+        if let Point::Take(name) = point {
+            if name.node == 2 {
+                let _before = self.count.fetch_add(1, Ordering::SeqCst);
+            }
+        }
+    }
+}
+
+// It is taken to spawn its first child, to begin its second, to see both done, and to complete.
+#[test]
+fn an_ahead_is_taken_past_the_gate(rt: HostRuntime) -> Result<(), Fail> {
+    let alloc = rt.alloc();
+    let line = "records 1 values 1 errors 0 stopped 0 out-of-memory 0 bad 0 sum 7937\n";
+    let gate = Takes {
+        count: AtomicU64::new(0),
+    };
+    let trial = Trial {
+        settings: "",
+        root: r#"{"do":"ahead","first":{"do":"input"},"second":{"do":"just","values":[1]}}"#,
+        window: 1,
+        count: 1,
+    };
+    let crew = crew_of(alloc, 0, Way::None)?;
+    assert!(rt; writes(&rt, alloc, trial, crew, &gate, &[line])?);
+    assert_eq!(rt; gate.count.load(Ordering::SeqCst), 4);
     Ok(())
 }

@@ -37,8 +37,9 @@ impl Gate for Counting {
 #[test]
 fn picked_body(rt: HostRuntime) -> Result<(), Fail> {
     let alloc = rt.alloc();
-    let root =
-        r#"{"do":"let_value","child":{"do":"input"},"pick":{"job":"pass"},"bodies":[{"do":"just","values":[10]},{"do":"just","values":[20]},{"do":"then","child":{"do":"input"},"job":{"job":"mul","n":100}}]}"#;
+    let root = r#"{"do":"let_value","child":{"do":"input"},"pick":{"job":"pass"},
+            "bodies":[{"do":"just","values":[10]},{"do":"just","values":[20]},
+                {"do":"then","child":{"do":"input"},"job":{"job":"mul","n":100}}]}"#;
     let plan = plan_of(alloc, "", root)?;
     assert!(rt; may_run(plan.settings()));
     let gate = Counting {

@@ -29,8 +29,8 @@ pub(super) const RUNS: u32 = 50;
 pub(super) const MOST_LOOKS: u32 = 1_000_000;
 
 /// One more than the record, on the pool.
-const ON_POOL: &str =
-    r#"{"do":"starts_on","on":"pool","child":{"do":"then","child":{"do":"input"},"job":{"job":"add","n":1}}}"#;
+const ON_POOL: &str = r#"{"do":"starts_on","on":"pool",
+        "child":{"do":"then","child":{"do":"input"},"job":{"job":"add","n":1}}}"#;
 
 /// Two records of it at once.
 const TWO_ON_POOL: Trial<'static> = Trial {
@@ -41,12 +41,25 @@ const TWO_ON_POOL: Trial<'static> = Trial {
 };
 
 /// Five hops, between the pool and the loop.
-const HOPS: &str =
-    r#"{"do":"continues_on","on":"pool","child":{"do":"continues_on","on":"loop","child":{"do":"continues_on","on":"pool","child":{"do":"continues_on","on":"loop","child":{"do":"starts_on","on":"pool","child":{"do":"then","child":{"do":"input"},"job":{"job":"add","n":1}}}}}}}"#;
+const HOPS: &str = r#"{"do":"continues_on","on":"pool",
+        "child":{"do":"continues_on","on":"loop",
+            "child":{"do":"continues_on","on":"pool",
+                "child":{"do":"continues_on","on":"loop",
+                    "child":{"do":"starts_on","on":"pool",
+                        "child":{"do":"then","child":{"do":"input"},
+                            "job":{"job":"add","n":1}}}}}}}"#;
 
 /// Of two children one makes one hop, and the other begins eight parts.
-const PLAN_G: &str =
-    r#"{"do":"continues_on","on":"loop","child":{"do":"then","job":{"job":"sum"},"child":{"do":"when_all","children":[{"do":"starts_on","on":"pool","child":{"do":"then","child":{"do":"input"},"job":{"job":"mul","n":2}}},{"do":"let_value","child":{"do":"input"},"pick":{"job":"pass"},"bodies":[{"do":"just","values":[9]},{"do":"then","job":{"job":"sum"},"child":{"do":"bulk","child":{"do":"just","values":[[1,2,3]]},"job":{"job":"index"}}}]}]}}}"#;
+const PLAN_G: &str = r#"{"do":"continues_on","on":"loop",
+        "child":{"do":"then","job":{"job":"sum"},
+            "child":{"do":"when_all","children":[
+                    {"do":"starts_on","on":"pool",
+                        "child":{"do":"then","child":{"do":"input"},"job":{"job":"mul","n":2}}},
+                    {"do":"let_value","child":{"do":"input"},"pick":{"job":"pass"},
+                        "bodies":[{"do":"just","values":[9]},
+                            {"do":"then","job":{"job":"sum"},
+                                "child":{"do":"bulk","child":{"do":"just","values":[[1,2,3]]},
+                                    "job":{"job":"index"}}}]}]}}}"#;
 
 /// So many workers, each with a backend that isn't lawful in this way, and how many names all of
 /// them were submitted.

@@ -65,35 +65,44 @@ const CASES: [(&str, &str); 26] = [
     ),
     (
         "",
-        r#"{"do":"let_value","child":{"do":"input"},"pick":{"job":"pass"},"bodies":[{"do":"input"},{"do":"just","values":[1]}]}"#,
+        r#"{"do":"let_value","child":{"do":"input"},"pick":{"job":"pass"},
+            "bodies":[{"do":"input"},{"do":"just","values":[1]}]}"#,
     ),
     (
         "",
-        r#"{"do":"let_error","child":{"do":"just_error","error":"odd"},"pick":{"job":"length"},"bodies":[{"do":"just","values":[1]}]}"#,
+        r#"{"do":"let_error","child":{"do":"just_error","error":"odd"},"pick":{"job":"length"},
+            "bodies":[{"do":"just","values":[1]}]}"#,
     ),
     (
         "",
-        r#"{"do":"let_stopped","child":{"do":"just_stopped"},"pick":{"job":"give","values":[9]},"bodies":[{"do":"just","values":[1]}]}"#,
+        r#"{"do":"let_stopped","child":{"do":"just_stopped"},"pick":{"job":"give","values":[9]},
+            "bodies":[{"do":"just","values":[1]}]}"#,
     ),
     (
         "",
-        r#"{"do":"when_all","children":[{"do":"starts_on","on":"pool","child":{"do":"input"}},{"do":"read_env","query":"record"}]}"#,
+        r#"{"do":"when_all","children":[{"do":"starts_on","on":"pool","child":{"do":"input"}},
+                {"do":"read_env","query":"record"}]}"#,
     ),
     (
         "",
-        r#"{"do":"ahead","first":{"do":"starts_on","on":"pool","child":{"do":"then","child":{"do":"input"},"job":{"job":"mul","n":2}}},"second":{"do":"then","child":{"do":"input"},"job":{"job":"add","n":1}}}"#,
+        r#"{"do":"ahead","first":{"do":"starts_on","on":"pool",
+                "child":{"do":"then","child":{"do":"input"},"job":{"job":"mul","n":2}}},
+            "second":{"do":"then","child":{"do":"input"},"job":{"job":"add","n":1}}}"#,
     ),
     (
         "",
-        r#"{"do":"ahead","first":{"do":"just_error","error":"a"},"second":{"do":"just","values":[1]}}"#,
+        r#"{"do":"ahead","first":{"do":"just_error","error":"a"},
+            "second":{"do":"just","values":[1]}}"#,
     ),
     (
         r#""on_error":"stop","#,
-        r#"{"do":"ahead","first":{"do":"delay","turns":9},"second":{"do":"just_error","error":"e"}}"#,
+        r#"{"do":"ahead","first":{"do":"delay","turns":9},
+            "second":{"do":"just_error","error":"e"}}"#,
     ),
     (
         r#""stop_after":1,"#,
-        r#"{"do":"ahead","first":{"do":"read_env","query":"stop"},"second":{"do":"read_env","query":"record"}}"#,
+        r#"{"do":"ahead","first":{"do":"read_env","query":"stop"},
+            "second":{"do":"read_env","query":"record"}}"#,
     ),
     (
         "",
@@ -101,7 +110,10 @@ const CASES: [(&str, &str); 26] = [
     ),
     (
         "",
-        r#"{"do":"let_value","child":{"do":"ahead","first":{"do":"input"},"second":{"do":"just","values":[2]}},"pick":{"job":"sum"},"bodies":[{"do":"ahead","first":{"do":"just","values":["x"]},"second":{"do":"starts_on","on":"pool","child":{"do":"input"}}}]}"#,
+        r#"{"do":"let_value","child":{"do":"ahead","first":{"do":"input"},
+                "second":{"do":"just","values":[2]}},"pick":{"job":"sum"},
+            "bodies":[{"do":"ahead","first":{"do":"just","values":["x"]},
+                    "second":{"do":"starts_on","on":"pool","child":{"do":"input"}}}]}"#,
     ),
 ];
 

@@ -11,7 +11,14 @@ use std::thread::yield_now;
 /// A job of each record on the pool, and one on the loop.
 const TRIAL: Trial<'static> = Trial {
     settings: "",
-    root: r#"{"do":"then","job":{"job":"sum"},"child":{"do":"when_all","children":[{"do":"starts_on","on":"pool","child":{"do":"then","child":{"do":"input"},"job":{"job":"give","values":[1]}}},{"do":"starts_on","on":"loop","child":{"do":"then","child":{"do":"input"},"job":{"job":"give","values":[2]}}}]}}"#,
+    root: r#"{"do":"then","job":{"job":"sum"},
+        "child":{"do":"when_all","children":[
+                {"do":"starts_on","on":"pool",
+                    "child":{"do":"then","child":{"do":"input"},
+                        "job":{"job":"give","values":[1]}}},
+                {"do":"starts_on","on":"loop",
+                    "child":{"do":"then","child":{"do":"input"},
+                        "job":{"job":"give","values":[2]}}}]}}"#,
     window: 8,
     count: 8,
 };

@@ -14,7 +14,10 @@ use std::thread::Threads;
 /// A delay that isn't due in a run, one that is due in the turn in which it is seen, and a job that
 /// fails on the pool: then the callbacks of both delays are to run, in this order.
 const ROOT: &str =
-    r#"{"do":"when_all","children":[{"do":"delay","turns":1000000},{"do":"delay","turns":0},{"do":"starts_on","on":"pool","child":{"do":"then","child":{"do":"input"},"job":{"job":"fail","error":"late"}}}]}"#;
+    r#"{"do":"when_all","children":[{"do":"delay","turns":1000000},{"do":"delay","turns":0},
+            {"do":"starts_on","on":"pool",
+                "child":{"do":"then","child":{"do":"input"},
+                    "job":{"job":"fail","error":"late"}}}]}"#;
 
 /// The nodes of the two delays.
 const LATE: u32 = 0;

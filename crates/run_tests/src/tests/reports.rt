@@ -10,7 +10,9 @@ use std::thread::yield_now;
 /// The first of two records is started before a stop is requested, and the second after it.
 const TRIAL: Trial<'static> = Trial {
     settings: r#""stop_after":2,"#,
-    root: r#"{"do":"then","child":{"do":"when_all","children":[{"do":"starts_on","on":"pool","child":{"do":"input"}},{"do":"just","values":[1]}]},"job":{"job":"sum"}}"#,
+    root: r#"{"do":"then","child":{"do":"when_all",
+            "children":[{"do":"starts_on","on":"pool","child":{"do":"input"}},
+                {"do":"just","values":[1]}]},"job":{"job":"sum"}}"#,
     window: 2,
     count: 2,
 };
