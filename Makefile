@@ -3,7 +3,8 @@
 # four free cores well over half an hour, seconds later.
 # `make test` is the gate: everything is proved, and the proved program is tested.
 # `make stress` runs the proved program some thousand times with 1 to 16 workers, for at most half an hour.
-# `make bench` measures the proved program, with mawk, jq and mlr beside it where they are installed (bench/measure.py).
+# `make bench` measures the proved program, with mawk, jq and mlr beside it where they are installed (bench/measure.py),
+# and one hop at a time (bench/hops.py).
 # `make growth` measures how its time and memory grow: with the records, the nodes and the workers (bench/growth.py).
 # `make docs` writes docs/PLANS.md, docs/exec_plan.5, docs/plan.schema.json, and the page and picture of the crates
 # (docs/make_rooms.py) again.
@@ -51,6 +52,7 @@ stress: $(PROGRAM)
 
 bench: $(PROGRAM)
 	bench/measure.py $(PROGRAM)
+	bench/hops.py $(PROGRAM)
 
 growth: $(PROGRAM)
 	bench/growth.py $(PROGRAM)
