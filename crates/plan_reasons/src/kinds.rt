@@ -86,8 +86,8 @@ impl<'a> Signed<'a> {
         bodies: &[NodeId],
     ) -> Result<String, AllocError>
         requires { HasAll self }
-        ensures { IfOk result
-            (λ text. string_bytes text ≡ bodies_mismatch self.entry.sigs.now front.now bodies.now) }
+        ensures { IfOk result (λ text. string_bytes text
+            ≡ bodies_mismatch self.entry.sigs.now front.now bodies.now) }
     {
         let wanted = self.joint(front, bodies)?;
         match self.body_mismatch(alloc, giver_of(front), &wanted, bodies)? {
@@ -108,7 +108,8 @@ impl<'a> Signed<'a> {
     ) -> Result<String, AllocError>
         requires { HasAll self }
         ensures { IfOk result (λ text. string_bytes text
-            ≡ let_mismatch self.entry.sigs.now pick.now giver.now shape.now front.now bodies.now) }
+            ≡ let_mismatch self.entry.sigs.now pick.now giver.now shape.now front.now
+            bodies.now) }
     {
         if !takes_value(pick, shape) {
             return job_takes(alloc, pick, giver, shape);
@@ -124,7 +125,8 @@ impl<'a> Signed<'a> {
     /// Why the kinds of a node with a job don't match.
     fn job_mismatch(self, alloc: Global, node: &Node) -> Result<String, AllocError>
         requires { HasAll self }
-        ensures { IfOk result (λ text. string_bytes text ≡ mismatch self.entry.sigs.now node.now) }
+        ensures { IfOk result
+            (λ text. string_bytes text ≡ mismatch self.entry.sigs.now node.now) }
     {
         match node {
             Node::Then { child, job } => {
