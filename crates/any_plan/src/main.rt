@@ -38,6 +38,7 @@ fn main(rt: HostRuntime) -> Result<()> {
     }
     let crew = Crew {
         workers: WORKERS,
+        helps: true,
         order: Order::Fifo,
         backends,
     };

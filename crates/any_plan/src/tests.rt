@@ -24,6 +24,7 @@ fn crew(alloc: Global) -> Result<Crew, AllocError>
     }
     Ok(Crew {
         workers: WORKERS,
+        helps: true,
         order: Order::Fifo,
         backends,
     })

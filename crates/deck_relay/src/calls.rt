@@ -48,23 +48,32 @@ impl Deck {
         }
     }
 
-    /// Adds the name to the deck's own deque, or to the shared queue where the deque can't grow,
-    /// and wakes a hand that sleeps. It goes on to the shared queue only where as many names had
-    /// come into the deque as its newest ring has slots. The name comes back only where, besides,
-    /// the shared queue was full at a step of this call.
-    pub fn push<R: Wait>(&mut self, rt: &R, name: Name) -> Result<(), Name>
+    /// Adds the name to the deck's own deque, and wakes nobody; or where the deque can't grow to
+    /// the shared queue, as `offer` does. It goes on to the shared queue only where as many names
+    /// had come into the deque as its newest ring has slots. The name comes back only where,
+    /// besides, the shared queue was full at a step of this call.
+    pub fn put<R: Wait>(&mut self, rt: &R, name: Name) -> Result<(), Name>
         ensures same { IsSameDeck self.old self.new }
         ensures pushed { IfOk result (λ _. Pushes name self.old self.new) }
         ensures back { IfErr result (HandsBack name self.old self.new) }
         ensures full { IfErr result (λ _. IsOwnFull self.old) }
     {
         match self.own.push_as::<Joins>(name) {
-            Ok(()) => {
-                self.sleeper.wake_one();
-                Ok(())
-            }
+            Ok(()) => Ok(()),
             Err(back) => self.offer(rt, back),
         }
+    }
+
+    /// Adds the name as `put` does, and wakes a hand that sleeps.
+    pub fn push<R: Wait>(&mut self, rt: &R, name: Name) -> Result<(), Name>
+        ensures same { IsSameDeck self.old self.new }
+        ensures pushed { IfOk result (λ _. Pushes name self.old self.new) }
+        ensures back { IfErr result (HandsBack name self.old self.new) }
+        ensures full { IfErr result (λ _. IsOwnFull self.old) }
+    {
+        self.put(rt, name)?;
+        self.sleeper.wake_one();
+        Ok(())
     }
 
     /// Takes a name from the deck's own deque, else from the shared queue, else by one round of

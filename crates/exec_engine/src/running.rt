@@ -59,6 +59,7 @@ pub fn run_task<
     let window = at_once(&plan, task.window as usize);
     let crew = Crew {
         workers: workers_for(&plan, task.workers),
+        helps: true,
         order: task.order,
         backends,
     };

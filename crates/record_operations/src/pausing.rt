@@ -28,12 +28,6 @@ impl Pause {
         }
     }
 
-    /// From now on it never sleeps.
-    pub(crate) fn stay_awake(&mut self, looped: &Loop) {
-        self.stir(looped);
-        self.vigil = None;
-    }
-
     /// What comes before a round: where hand 0 lay down and nothing was ready since, it sleeps.
     /// Whether the round is to look at each node.
     pub(crate) fn begin<R: Wait>(&mut self, rt: &R, looped: &Loop) -> bool {

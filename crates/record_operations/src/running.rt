@@ -183,14 +183,12 @@ impl<'a, T: Stepper, B: OnTable> TableRun<'a, T, B> {
     }
 
     /// Whether turns from now on take nodes that are ready in the pool, too. Where no worker serves
-    /// the pool they must: nobody else takes these.
+    /// the pool they must: nobody else takes these. Beside workers they do so by names of the deck
+    /// where nothing is ready in the loop, and it sleeps as before.
     pub fn help_pool(&mut self, helps: bool)
         ensures { self.new ≡
             record self.old { looped = record self.old.looped { helps = helps } } }
     {
         self.looped.help_pool(helps);
-        if helps {
-            self.pause.stay_awake(&self.looped);
-        }
     }
 }

@@ -1,18 +1,19 @@
 -- Names that a loop takes of its hand's deck, and those that it is told of.
-use Rattle.std.proofs.Common.{◌≡◌, ℕ, suc, ◌+◌, sym, subst}
+use Rattle.std.proofs.Common.{◌≡◌, ◌≢◌, List, [], ◌∷◌, length, refl, sym, ap, subst, arith}
 use Rattle.std.specs.Prelude.{Option, Some, None, IfSome, IfNone}
-use Rattle.std.proofs.Math.Numerals.{add-one}
 use Rattle.life_rules.specs.declared.event.Name.{Name}
 use Rattle.deck_relay.specs.declared.deck.Deck.{Deck}
 use Rattle.deck_relay.specs.Moves.{FindsNone, Takes}
 use Rattle.run_loop.specs.declared.loop_mail.LoopMail.{LoopMail}
-use Rattle.run_loop.specs.Fetches.{FetchesMany, FetchesOne, FindsNoneOf, IsNameListed, IsPushed, IsShared, TakesOf}
+use Rattle.run_loop.specs.Fetches.{FindsNoneOf, IsNameListed, IsPushed, IsShared, TakesOf}
 
--- one name more
-pub fetch-more : (count : ℕ) (old between new : LoopMail) → FetchesMany count old between → FetchesOne between new → FetchesMany (count + 1) old new
-fetch-more count old between new before one =
-    let all : FetchesMany (suc count) old new = record { between = between; before = before; one = one } in
-    subst (λ n. FetchesMany n old new) (sym (add-one count)) all
+-- a list of no names is empty, and one of some isn't
+pub is-empty : (names : List Name) → length names ≡ 0 → names ≡ []
+is-empty [] none = refl
+is-empty (name ∷ names) none = absurd (omega (arith, none))
+
+pub has-some : (names : List Name) → (length names ≡ 0 → ⊥) → names ≢ []
+has-some names some is = some (ap length is)
 
 -- where there is a deck
 module _ (o o' : Option Deck) (deck deck' : Deck) (is : o ≡ Some deck) (is' : o' ≡ Some deck') where

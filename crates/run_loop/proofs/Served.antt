@@ -1,5 +1,5 @@
 -- Nodes that were taken and stepped, one after the other, and the names that their steps left.
-use Rattle.std.proofs.Common.{◌≡◌, ℕ, zero, suc, ◌+◌, ◌-◌, ◌^◌, ◌≤◌, min, true, false, arith, refl, sym, ◌∙◌, subst}
+use Rattle.std.proofs.Common.{◌≡◌, ℕ, zero, suc, ◌+◌, ◌-◌, ◌^◌, ◌≤◌, min, true, false, arith, refl, ◌∙◌, subst}
 use Rattle.std.proofs.lemmas.Bool.{both_ways}
 use Rattle.std.specs.Prelude.{Option, Some, None, IfSome, IfNone, is_some}
 use Rattle.life_rules.specs.declared.event.Name.{Name}

@@ -1,5 +1,5 @@
 -- What a loop takes of its hand's deck, and what it is told of.
-use Rattle.std.specs.Prelude.{◌≡◌, ◌≤◌, ◌⊎◌, ℕ, zero, suc, Bool, true, false, List, [], ◌∷◌, ◌++◌, Option, Some, None, ⊤, vec_capacity, vec_len}
+use Rattle.std.specs.Prelude.{◌≡◌, ◌≢◌, ◌≤◌, ◌⊎◌, Bool, true, false, [], ◌∷◌, ◌++◌, Option, Some, None, ⊤, vec_capacity, vec_len}
 use Rattle.life_rules.specs.declared.event.Name.{Name}
 use Rattle.node_tree.specs.declared.context.Context.{Context}
 use Rattle.node_tree.specs.declared.context.Context.TheVariants.{Loop, Pool}
@@ -35,23 +35,11 @@ pub record FetchesNone (old new : LoopMail) : Type 0 where
   pub cause : FindsNoneOf old.deck new.deck
       ⊎ ((vec_capacity old.list ≤ vec_len old.list) × (new.deck ≡ old.deck))
 
--- One did after this.
-pub record FetchesAfter (Before : LoopMail → Type 0) (new : LoopMail) : Type 0 where
-  pub between : LoopMail
-  pub before : Before between
-  pub one : FetchesOne between new
-
--- So many did, one after the other.
-abbrev pub FetchesMany : ℕ → LoopMail → LoopMail → Type 0
-FetchesMany zero old new = new ≡ old
-FetchesMany (suc count) old new = FetchesAfter (λ between. FetchesMany count old between) new
-
--- 256 did, or as many as were found, or as there was room for.
-pub record Fetches (old new : LoopMail) : Type 0 where
-  pub count : ℕ
-  pub last : LoopMail
-  pub many : FetchesMany count old last
-  pub stops : ((count ≡ 256) × (new ≡ last)) ⊎ FetchesNone last new
+-- The list was empty, and a name went there, or none did; or it had names, and nothing was done.
+abbrev pub Fetches : LoopMail → LoopMail → Type 0
+Fetches old new =
+    ((old.list.items ≡ []) × (FetchesOne old new ⊎ FetchesNone old new))
+    ⊎ ((old.list.items ≢ []) × (new ≡ old))
 
 -- So it was where the loop helps the pool; else nothing was done.
 abbrev pub FetchesWhere : Bool → LoopMail → LoopMail → Type 0

@@ -17,10 +17,11 @@ use Rattle.run_loop.specs.declared.looped.Loop.{Loop as Looped}
 use Rattle.run_loop.specs.declared.delay_node.DelayNode.{DelayNode}
 use Rattle.run_loop.specs.DelayNodes.{AreDelaysOf, nodes_of, place_count}
 
--- The list of parked delays has room for one in each place, and these are the plan's delays.
+-- These are the plan's delays. Where there is any, the list of parked ones has room for one in each
+-- place.
 pub record HasDelays (board : Board Blueprint) (list : DelayList) (nodes : List DelayNode)
     : Type 0 where
-  pub room : place_count board ≤ places list
+  pub room : 1 ≤ length nodes → place_count board ≤ places list
   pub are : AreDelaysOf (nodes_of board) nodes
 
 -- No delay waits, and no turn is over.

@@ -73,8 +73,8 @@ module _ (does : Does) (board : Board Blueprint) (may : Taking) where
 
 -- A loop took and stepped so many nodes, one after the other, each of which might be. Nothing else
 -- was done, but looks. The number counts up to 2 ^ 32 - 1. First the names that the loop was told
--- of made room, with those that it took of its deck. Then it took note of each node that these
--- steps left ready, in their order, and of nothing else.
+-- of made room, or where there were none that which it took of its deck. Then it took note of each
+-- node that these steps left ready, in their order, and of nothing else.
 pub record ServesAll (does : Does) (board : Board Blueprint) (may : Taking) (count : ℕ)
     (old new : Looped) : Type 0 where
   pub fetched : LoopMail

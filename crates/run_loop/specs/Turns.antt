@@ -158,7 +158,8 @@ pub record MeetsEach (does : Does) (board : Board Blueprint) (old new : Looped) 
   pub longer : AreMoreNames (told old) names
   pub meets : MeetsList does board names old new
 
--- The names that the loop was told of were, and after them those that it took of its hand's deck.
+-- The names that the loop was told of were; where there were none, that which it took of its hand's
+-- deck.
 pub record MeetsAll (does : Does) (board : Board Blueprint) (old new : Looped) : Type 0 where
   pub names : LoopMail
   pub fetches : FetchesWhere old.helps old.names names
@@ -173,8 +174,8 @@ MissesAll board old new = AreAllLeft board old.hand.me new.hand.me old.helps (to
 abbrev pub FindsNothing : Board Blueprint → Looped → Looped → Type 0
 FindsNothing board old new = TakesNothing board old.hand.me new.hand.me old.helps
 
--- The names that the loop was told of were met, and after them those that it took of its hand's
--- deck. It did nothing else.
+-- The names that the loop was told of were met; where there were none, that which it took of its
+-- hand's deck. It did nothing else.
 pub record OnlyMeets (does : Does) (board : Board Blueprint) (old new : Looped) : Type 0 where
   pub names : LoopMail
   pub fetches : FetchesWhere old.helps old.names names

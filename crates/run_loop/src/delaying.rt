@@ -70,7 +70,7 @@ fn look_through(
 )
     requires hand { IsHandOf table.now hand.old }
     requires over { IsOver table.now table.now.frame.over.value }
-    requires places { place_count table.now ≤ places delays.old }
+    requires places { 1 ≤ length nodes.now → place_count table.now ≤ places delays.old }
     requires block { block < table.now.frame.layout.blocks }
     requires nodes { AreDelaysOf (nodes_of table.now) nodes.now }
     requires rests { IsAtRest (knows hand.old) }
@@ -94,7 +94,7 @@ fn look_round(
 )
     requires hand { IsHandOf table.now hand.old }
     requires over { IsOver table.now table.now.frame.over.value }
-    requires places { place_count table.now ≤ places delays.old }
+    requires places { 1 ≤ length nodes.now → place_count table.now ≤ places delays.old }
     requires nodes { AreDelaysOf (nodes_of table.now) nodes.now }
     requires rests { IsAtRest (knows hand.old) }
     ensures stays { Stays table.now hand.old hand.new }
@@ -195,7 +195,7 @@ pub fn serve_delays<T: Stepper, R: Wait + Sync>(
     requires site { IsSite site.now }
     requires first { (knows hand.old).number ≡ 0 }
     requires rests { IsAtRest (knows hand.old) }
-    requires places { place_count site.now ≤ places delays.old }
+    requires places { 1 ≤ length nodes.now → place_count site.now ≤ places delays.old }
     requires nodes { AreDelaysOf (nodes_of site.now) nodes.now }
     ensures stays { Stays site.now hand.old hand.new }
     ensures rests { IsAtRest (knows hand.new) }

@@ -1,5 +1,5 @@
-//! What a loop lists when it is opened: the plan's delays, and how many places the table has.
-ghost use Rattle.std.specs.Prelude.{◌≡◌, ◌≤◌, IfOk};
+//! What a loop lists when it is opened: the plan's delays, and for how many there must be room.
+ghost use Rattle.std.specs.Prelude.{◌≡◌, ◌≤◌, IfOk, length};
 ghost use Rattle.timer_wheel.specs.declared.limits.TheConstants.{MOST_PLACES};
 ghost use Rattle.run_loop.specs.DelayNodes.{AreDelaysOf, place_count};
 
@@ -27,11 +27,15 @@ pub fn delays_of(alloc: Global, plan: &Plan) -> Result<Vec<DelayNode>, AllocErro
     Ok(list)
 }
 
-/// Room for each place of the table, and for one at least.
-pub fn room_of(table: &OpTable<Item>) -> u32
+/// For how many parked delays there must be room, where the plan has these: for one in each place
+/// of the table, and where it has none for one, which is the least that a list takes.
+pub fn room_of(table: &OpTable<Item>, delays: &[DelayNode]) -> u32
     ensures some { 1 ≤ result }
     ensures few { result ≤ MOST_PLACES }
-    ensures all { place_count table.now ≤ result }
+    ensures all { 1 ≤ length delays.now → place_count table.now ≤ result }
 {
+    if delays.is_empty() {
+        return 1;
+    }
     (table.blocks() * table.tree().size()).max(1)
 }

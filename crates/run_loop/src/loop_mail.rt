@@ -12,9 +12,6 @@ use node_walks::Mail;
 use std::alloc::{AllocError, Global};
 use std::sync::Wait;
 
-/// How many names of the deck a poll serves at most.
-const MOST_FETCHED: u32 = 256;
-
 /// Names in the order in which they came, and the deck of the loop's hand, where it has one. Each
 /// name is a hint: whoever takes the node finds out whether it is ready.
 #[derive(Drop)]
@@ -22,6 +19,8 @@ pub struct LoopMail {
     pub list: Vec<Name>,
     /// Where names of nodes go that are ready in the pool.
     pub deck: Option<Deck>,
+    /// The next name that goes to the deck is the loop's own: nobody is woken for it.
+    keeps_next: bool,
     /// The node of roots: a root that is ready awaits `collect`, and nobody need be told of it.
     root: u32,
 }
@@ -37,6 +36,7 @@ impl LoopMail {
         Ok(LoopMail {
             list: Vec::with_capacity(alloc, room as usize)?,
             deck: None,
+            keeps_next: false,
             root: nodes - 1,
         })
     }
@@ -69,13 +69,14 @@ impl LoopMail {
     }
 
     // Moves a name of the deck to the back of the list. False where none was found, or there is no
-    // memory for one: then none is taken.
+    // memory for one: then none is taken. From then on the next that goes to the deck is its own.
     fn fetch_one<R: Wait>(&mut self, rt: &R) -> bool
         ensures one { result ≡ true → FetchesOne self.old self.new }
         ensures none { result ≡ false → FetchesNone self.old self.new }
         ensures more { AreMoreNames self.old.list.items self.new.list.items }
         ensures deck { KeepsDeck self.old.deck self.new.deck }
     {
+        self.keeps_next = true;
         if self.list.reserve(1).is_err() {
             return false;
         }
@@ -86,8 +87,13 @@ impl LoopMail {
         true
     }
 
-    /// Where the loop helps the pool: moves names of the deck to the back of the list, until none
-    /// is found, there is no memory for more, or 256 were moved.
+    /// Where the loop helps the pool, and has no other names: moves one of the deck to the list.
+    ///
+    /// From then on the first name that goes to the deck is the loop's own: it wakes nobody, since
+    /// a later call of this one finds it. So while no hand was woken since the deck was empty it
+    /// has one name at most, and the loop comes to it: it takes a name in each poll that finds the
+    /// list empty, and sleeps only after such a poll and a look at each node. Each further name
+    /// wakes a hand, which takes names of the deck until it finds none.
     pub fn fetch<R: Wait>(&mut self, rt: &R, helps: bool)
         ensures fetches { FetchesWhere helps self.old self.new }
         ensures more { AreMoreNames self.old.list.items self.new.list.items }
@@ -96,11 +102,10 @@ impl LoopMail {
         if !helps {
             return;
         }
-        for _fetched in 0..MOST_FETCHED {
-            if !self.fetch_one(rt) {
-                return;
-            }
+        if !self.list.is_empty() {
+            return;
         }
+        self.fetch_one(rt);
     }
 
     // Adds a name at the back, but of a root. Without memory it is lost, and a scan finds its node.
@@ -120,9 +125,11 @@ impl LoopMail {
         ensures root { self.new.root ≡ self.old.root }
         ensures deck { KeepsDeck self.old.deck self.new.deck }
     {
+        let keeps = self.keeps_next;
+        self.keeps_next = false;
         match &mut self.deck {
             None => self.list_name(name),
-            Some(deck) => push(rt, deck, name),
+            Some(deck) => push(rt, deck, keeps, name),
         }
     }
 
@@ -146,14 +153,21 @@ impl LoopMail {
     }
 }
 
-// Pushes a name to the deck. Where that hands it back each hand is woken, and a look at each node
-// finds it.
-fn push<R: Wait>(rt: &R, deck: &mut Deck, name: Name)
+// Wakes a hand that sleeps, unless the loop keeps the name.
+fn wake_unless(deck: &Deck, keeps: bool) {
+    if !keeps {
+        deck.sleeper().wake_one();
+    }
+}
+
+// Pushes a name to the deck, and where it isn't kept wakes a hand. Where the deck hands it back
+// each hand is woken, and a look at each node finds it.
+fn push<R: Wait>(rt: &R, deck: &mut Deck, keeps: bool, name: Name)
     ensures pushed { IsPushed name deck.old deck.new }
     ensures same { IsSameDeck deck.old deck.new }
 {
-    match deck.push(rt, name) {
-        Ok(()) => {}
+    match deck.put(rt, name) {
+        Ok(()) => wake_unless(deck, keeps),
         Err(_) => deck.wake_all(),
     }
 }

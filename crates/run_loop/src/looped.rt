@@ -67,7 +67,7 @@ impl Loop {
         let Ok(delay_nodes) = delays_of(alloc, plan) else {
             return Err(hand);
         };
-        let Ok(delays) = Delays::open(alloc, room_of(table)) else {
+        let Ok(delays) = Delays::open(alloc, room_of(table, &delay_nodes)) else {
             return Err(hand);
         };
         Ok(Loop {
@@ -100,11 +100,10 @@ impl Loop {
         self.helps = helps;
     }
 
-    /// Lets other threads run, where a turn took so many nodes, which were none, and the loop
-    /// doesn't help the pool: what it waits for its workers do, and where cores are busy they wait
-    /// for one.
+    /// Lets other threads run, where a turn took so many nodes, which were none, and other hands
+    /// may serve the pool: what it waits for they do, and where cores are busy they wait for one.
     pub fn give_way(&self, taken: u32) {
-        if taken == 0 && !self.helps {
+        if taken == 0 && (!self.helps || self.names.deck.is_some()) {
             yield_now();
         }
     }

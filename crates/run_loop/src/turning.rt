@@ -108,7 +108,7 @@ fn serve_each<T: Stepper, R: Wait + Sync>(
 
 impl Loop {
     // Takes the nodes of the names that it was told of, and goes on with each. Where it helps the
-    // pool, names of its deck come after them.
+    // pool and was told of none, it takes a name of its deck.
     fn poll_names<T: Stepper, R: Wait + Sync>(&mut self, site: &Site<R, T>) -> u32
         requires sync { IsSync R.row }
         requires ready { IsReady site.now self.old }
@@ -146,13 +146,13 @@ impl Loop {
     /// leave ready is told for the next call. Each node that it was told of, but of roots, is taken
     /// and stepped, in the order in which they were told, or its word, at its own step of this
     /// call, said that it isn't ready at the name's generation in the loop, nor where the loop
-    /// helps in the pool. A loop that helps the pool does so with names of its deck, too, which it
-    /// takes before all else, and which come after the others. The answer is how many it took, as
-    /// far as it can be counted, each of which the stepper stepped: what was ready in the loop,
-    /// where it helps in the pool, and what was parked where it was due. Beside these it moved no
-    /// word. 0 only where the word of each node that it was told of, but of roots, at its own step
-    /// of this call, said that it isn't ready at the name's generation in the loop, nor where the
-    /// loop helps in the pool.
+    /// helps in the pool. A loop that helps the pool and was told of none takes a name of its deck,
+    /// before all else, and does so with that. The answer is how many it took, as far as it can be
+    /// counted, each of which the stepper stepped: what was ready in the loop, where it helps in
+    /// the pool, and what was parked where it was due. Beside these it moved no word. 0 only where
+    /// the word of each node that it was told of, but of roots, at its own step of this call, said
+    /// that it isn't ready at the name's generation in the loop, nor where the loop helps in the
+    /// pool.
     ///
     /// Step: those of `take` for each name; for each delay of the plan in each block one load of
     /// its control word, and that of `take_parked` where it is due; and those of the steps of its

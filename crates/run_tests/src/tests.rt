@@ -65,6 +65,7 @@ fn nobody(alloc: Global) -> Crew
 {
     Crew {
         workers: 0,
+        helps: false,
         order: Order::Fifo,
         backends: Vec::new(alloc),
     }

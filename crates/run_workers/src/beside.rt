@@ -6,15 +6,16 @@ ghost use Rattle.table_steps.specs.Closings.{claimed_by};
 ghost use Rattle.run_workers.specs.Crews.{AreLeft, CanServe, GivesBack, HasServed, IsWith};
 
 use crate::front::Front;
+use crate::ground::Ground;
 use crate::serving::{Served, serve};
+use crate::staff::Staff;
 use exec_recv::{Item, Stepper};
 use op_slot::{Hand, OpTable};
-use std::alloc::Global;
 use std::snapshot::Snapshot;
 use std::sync::Wait;
 use std::thread;
 use std::thread::{Scope, Threads};
-use steal_pool::{Arrangement, Desk, Given};
+use steal_pool::{Desk, Given};
 
 // Takes the last hand, where there is one.
 fn take_hand<T: Stepper>(
@@ -63,40 +64,42 @@ fn put_desk(desks: &mut Vec<Desk>, desk: Option<Desk>)
 // true until a thread was started.
 fn work_beside<'s, E, W: Front, T: Stepper + Sync, R: Threads + Wait + Sync>(
     scope: &'s Scope<'s, E>,
-    rt: &'s R,
-    alloc: Global,
-    table: &'s OpTable<Item>,
-    stepper: &'s T,
-    hands: &mut Vec<Hand<Item>>,
-    backends: &mut Arrangement,
-    desks: &mut Vec<Desk>,
+    ground: Ground<'s, T, R>,
+    staff: &mut Staff,
     hand: Hand<Item>,
     own: Option<Desk>,
     front: &mut W,
     helps: bool,
 ) -> (Hand<Item>, Option<Desk>)
     requires sync { IsSync R.row }
-    requires serve { All (CanServe table.now (T.plan stepper.now)) hands.old.items }
-    requires each { vec_len backends.old.backends ≡ vec_len hands.old }
+    requires serve { All (CanServe ground.table.now (T.plan ground.stepper.now))
+        staff.old.hands.items }
+    requires each { vec_len staff.old.backends.backends ≡ vec_len staff.old.hands }
     requires needs { W.needs front.old hand own }
     ensures leaves { W.leaves front.old front.new result.0 }
-    ensures served { All (HasServed table.now) hands.new.items }
-    ensures claims { claimed_by hands.new.items ≡ claimed_by hands.old.items }
-    ensures length { vec_len hands.new ≡ vec_len hands.old }
-    ensures room { vec_capacity hands.old ≤ vec_capacity hands.new }
-    ensures told { backends.new.told ≡ backends.old.told }
-    ensures given { vec_len backends.new.backends ≡ 0 }
-    ensures same { AreLeft OnlyPosts desks.old.items desks.new.items }
-    ensures shelf { vec_capacity desks.old ≤ vec_capacity desks.new }
+    ensures served { All (HasServed ground.entry.table.now) staff.new.hands.items }
+    ensures claims { claimed_by staff.new.hands.items ≡ claimed_by staff.old.hands.items }
+    ensures length { vec_len staff.new.hands ≡ vec_len staff.old.hands }
+    ensures room { vec_capacity staff.old.hands ≤ vec_capacity staff.new.hands }
+    ensures told { staff.new.backends.told ≡ staff.old.backends.told }
+    ensures given { vec_len staff.new.backends.backends ≡ 0 }
+    ensures same { AreLeft OnlyPosts staff.old.desks.items staff.new.desks.items }
+    ensures shelf { vec_capacity staff.old.desks ≤ vec_capacity staff.new.desks }
     ensures own { KeepsOwn own result.1 }
 {
-    let Some(next) = take_hand(table, stepper, hands) else {
+    let Ground {
+        rt,
+        alloc,
+        table,
+        stepper,
+    } = ground;
+    let Some(next) = take_hand(table, stepper, &mut staff.hands) else {
         return front.work(rt, alloc, hand, own, helps);
     };
-    let Some(backend) = backends.give() else {
+    let Some(backend) = staff.backends.give() else {
         unreachable!()
     };
-    let desk = take_desk(desks);
+    let desk = take_desk(&mut staff.desks);
     let promise = Served {
         table: Snapshot::of(table),
         hand: Snapshot::of(&next),
@@ -110,23 +113,25 @@ fn work_beside<'s, E, W: Front, T: Stepper + Sync, R: Threads + Wait + Sync>(
             ensures { GivesBack table.entry.now next desk result.0 result.1 }
         { serve(rt, alloc, table, stepper, next, backend, desk) },
     );
+    let ground = Ground {
+        rt,
+        alloc,
+        table,
+        stepper,
+    };
     match started {
         Ok(child) => {
-            let last = work_beside(
-                scope, rt, alloc, table, stepper, hands, backends, desks, hand, own, front, false,
-            );
+            let last = work_beside(scope, ground, staff, hand, own, front, false);
             let (back, same) = child.join(rt);
-            hands.push_reserved(back);
-            put_desk(desks, same);
+            staff.hands.push_reserved(back);
+            put_desk(&mut staff.desks, same);
             last
         }
         Err(refused) => {
-            let last = work_beside(
-                scope, rt, alloc, table, stepper, hands, backends, desks, hand, own, front, helps,
-            );
+            let last = work_beside(scope, ground, staff, hand, own, front, helps);
             let (served, again) = (refused.value)();
-            hands.push_reserved(served);
-            put_desk(desks, again);
+            staff.hands.push_reserved(served);
+            put_desk(&mut staff.desks, again);
             last
         }
     }
@@ -145,14 +150,9 @@ fn work_beside<'s, E, W: Front, T: Stepper + Sync, R: Threads + Wait + Sync>(
 /// scope is joined, and claimed no block; a backend was given out to it, in the order of the
 /// arrangement. Each desk is the same, in its place, and nothing was drained through its post.
 /// Hand 0's is the same.
-pub fn run_beside<W: Front, T: Stepper + Sync, R: Threads + Wait + Sync>(
-    rt: &R,
-    alloc: Global,
-    table: &OpTable<Item>,
-    stepper: &T,
-    mut backends: Arrangement,
-    mut desks: Vec<Desk>,
-    mut hands: Vec<Hand<Item>>,
+pub fn run_beside<'a, W: Front, T: Stepper + Sync, R: Threads + Wait + Sync>(
+    ground: Ground<'a, T, R>,
+    mut staff: Staff,
     hand: Hand<Item>,
     own: Option<Desk>,
     mut front: W,
@@ -165,22 +165,22 @@ pub fn run_beside<W: Front, T: Stepper + Sync, R: Threads + Wait + Sync>(
     Given,
 )
     requires sync { IsSync R.row }
-    requires serve { All (CanServe table.now (T.plan stepper.now)) hands.items }
-    requires each { vec_len backends.backends ≡ vec_len hands }
+    requires serve { All (CanServe ground.table.now (T.plan ground.stepper.now)) staff.hands.items }
+    requires each { vec_len staff.backends.backends ≡ vec_len staff.hands }
     requires needs { W.needs front hand own }
     ensures leaves { W.leaves front result.0 result.1 }
-    ensures served { All (HasServed table.now) result.2.items }
-    ensures claims { claimed_by result.2.items ≡ claimed_by hands.items }
-    ensures length { vec_len result.2 ≡ vec_len hands }
-    ensures room { vec_capacity hands ≤ vec_capacity result.2 }
-    ensures desks { AreLeft OnlyPosts desks.items result.3.items }
-    ensures shelf { vec_capacity desks ≤ vec_capacity result.3 }
+    ensures served { All (HasServed ground.entry.table.now) result.2.items }
+    ensures claims { claimed_by result.2.items ≡ claimed_by staff.hands.items }
+    ensures length { vec_len result.2 ≡ vec_len staff.hands }
+    ensures room { vec_capacity staff.hands ≤ vec_capacity result.2 }
+    ensures desks { AreLeft OnlyPosts staff.desks.items result.3.items }
+    ensures shelf { vec_capacity staff.desks ≤ vec_capacity result.3 }
     ensures own { KeepsOwn own result.4 }
-    ensures given { result.5 ≡ backends.told }
+    ensures given { result.5 ≡ staff.backends.told }
 {
     thread::scope(
         thread::scope_env(),
-        rt,
+        ground.rt,
         move |scope| -> (
             W,
             Hand<Item>,
@@ -190,32 +190,25 @@ pub fn run_beside<W: Front, T: Stepper + Sync, R: Threads + Wait + Sync>(
             Given,
         )
             requires { IsSync R.row × IsSync T.row
-                × All (CanServe table.now (T.plan stepper.now)) hands.items
-                × (vec_len backends.backends ≡ vec_len hands) × W.needs front hand own }
+                × All (CanServe ground.table.now (T.plan ground.stepper.now)) staff.hands.items
+                × (vec_len staff.backends.backends ≡ vec_len staff.hands)
+                × W.needs front hand own }
             ensures { W.leaves front result.0 result.1
-                × All (HasServed table.entry.now) result.2.items
-                × (claimed_by result.2.items ≡ claimed_by hands.items)
-                × (vec_len result.2 ≡ vec_len hands)
-                × (vec_capacity hands ≤ vec_capacity result.2)
-                × AreLeft OnlyPosts desks.items result.3.items
-                × (vec_capacity desks ≤ vec_capacity result.3)
+                × All (HasServed ground.entry.table.now) result.2.items
+                × (claimed_by result.2.items ≡ claimed_by staff.hands.items)
+                × (vec_len result.2 ≡ vec_len staff.hands)
+                × (vec_capacity staff.hands ≤ vec_capacity result.2)
+                × AreLeft OnlyPosts staff.desks.items result.3.items
+                × (vec_capacity staff.desks ≤ vec_capacity result.3)
                 × KeepsOwn own result.4
-                × (result.5 ≡ backends.told) }
+                × (result.5 ≡ staff.backends.told) }
         {
-            let last = work_beside(
-                scope,
-                rt,
-                alloc,
-                table,
-                stepper,
-                &mut hands,
-                &mut backends,
-                &mut desks,
-                hand,
-                own,
-                &mut front,
-                true,
-            );
+            let last = work_beside(scope, ground, &mut staff, hand, own, &mut front, true);
+            let Staff {
+                backends,
+                hands,
+                desks,
+            } = staff;
             (front, last.0, hands, desks, last.1, backends.end())
         },
     )

@@ -7,6 +7,8 @@ use pool_backends::{Backend, Order};
 #[derive(Drop)]
 pub struct Crew {
     pub workers: u32,
+    /// Hand 0 helps them, where nothing is ready for it alone.
+    pub helps: bool,
     pub order: Order,
     pub backends: Vec<Box<dyn Backend + Send>>,
 }

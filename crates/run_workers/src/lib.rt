@@ -20,12 +20,16 @@
 mod beside;
 mod crew;
 mod front;
+mod ground;
 mod serving;
+mod staff;
 
 pub use beside::run_beside;
 pub use crew::Crew;
 pub use exec_recv::{Item, Stepper};
 pub use front::Front;
+pub use ground::Ground;
 pub use op_slot::{Hand, OpTable};
 pub use pool_backends::{Backend, Order};
+pub use staff::Staff;
 pub use steal_pool::{Arrangement, Desk, Given};

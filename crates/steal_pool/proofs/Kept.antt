@@ -1,5 +1,5 @@
 -- A desk that stays, and names that it was given.
-use Rattle.std.proofs.Common.{◌≡◌, ◌⊎◌, inl, inr, refl, sym, subst}
+use Rattle.std.proofs.Common.{◌≡◌, ◌⊎◌, inr, refl, sym, subst}
 use Rattle.std.specs.Prelude.{Bool, true, false, Option, Some, None, Result, Ok, Err, IfErr, IfOk}
 use Rattle.life_rules.specs.declared.event.Name.{Name}
 use Rattle.deck_relay.specs.declared.desk.Desk.{Desk}

@@ -17,7 +17,7 @@ use exec_recv::{Item, Stepper};
 use op_table::Hand;
 use record_loop::RecordSource;
 use record_operations::OnTable;
-use run_workers::{Arrangement, Crew, Desk, Given, run_beside};
+use run_workers::{Arrangement, Crew, Desk, Given, Ground, Staff, run_beside};
 use std::alloc::Global;
 use std::mem;
 use std::sync::Wait;
@@ -69,15 +69,23 @@ pub(crate) fn run_on_table<
     let own = theirs.pop();
     let Crew {
         workers: _,
+        helps: _,
         order,
         backends,
     } = crew;
     let backends = Arrangement::of(backends, others.len(), order);
-    let table = front.on.table;
-    let stepper = front.on.stepper;
-    let (left, last, mut all, mut kept, own, told) = run_beside(
-        rt, alloc, table, stepper, backends, theirs, others, hand, own, front,
-    );
+    let ground = Ground {
+        rt,
+        alloc,
+        table: front.on.table,
+        stepper: front.on.stepper,
+    };
+    let staff = Staff {
+        backends,
+        hands: others,
+        desks: theirs,
+    };
+    let (left, last, mut all, mut kept, own, told) = run_beside(ground, staff, hand, own, front);
     all.push_reserved(last);
     put_own(&mut kept, own);
     *hands = all;

@@ -3,7 +3,8 @@
 //!
 //! Between the opening of a table and its closing no call returns early: where there is no memory
 //! for the run, or none for the loop over its records, the hand comes back all the same, and the
-//! scope is joined, for which workers wait. The run helps the pool where no worker serves it.
+//! scope is joined, for which workers wait. The run helps the pool where no worker serves it, and
+//! beside workers where the crew says so.
 ghost use Rattle.std.specs.Prelude.{◌≡◌};
 
 use crate::working::{Came, Tabled, give_up};
@@ -28,6 +29,12 @@ pub struct LinesFront<'a, 'b, B: OnTable, T: Stepper, S: RecordSource, K: Sink> 
     pub(crate) came: &'b mut Came,
     pub(crate) on: Tabled<'a, 'b, T>,
     pub(crate) brand: PhantomData<B>,
+}
+
+// Whether hand 0 takes what is ready in the pool: it is alone, or it helps, and has a deck in which
+// it finds the names.
+fn takes_pool(alone: bool, helps: bool, desk: &Option<Desk>) -> bool {
+    alone || helps && desk.is_some()
 }
 
 impl<'a, 'b, B: OnTable, T: Stepper, S: RecordSource, K: Sink> Front
@@ -55,13 +62,14 @@ impl<'a, 'b, B: OnTable, T: Stepper, S: RecordSource, K: Sink> Front
         let stepper = self.on.stepper;
         let window = self.on.window;
         let form = self.on.form;
+        let takes = takes_pool(helps, self.on.helps, &desk);
         let own = Own { hand, desk };
         let opened: Result<TableRun<'_, T, B>, Own> = TableRun::open(
             alloc, plan, table, stepper, own, window,
         );
         match opened {
             Ok(mut run) => {
-                run.help_pool(helps);
+                run.help_pool(takes);
                 let settings = *plan.settings();
                 let answer = run_records(
                     rt,

@@ -83,6 +83,7 @@ pub fn run_lines<'a, G: Gate + Sync, R: Threads + Wait + Sync, S: RecordSource, 
             table: &table,
             window,
             form,
+            helps: crew.helps,
         },
         brand: PhantomData,
     };

@@ -14,7 +14,8 @@ use std::alloc::AllocError;
 use std::sync::Wait;
 
 /// What a run works with beside its hand: a plan, what steps its nodes, the table on which they
-/// run, how many records are worked on at once, and the form in which outcomes are written.
+/// run, how many records are worked on at once, the form in which outcomes are written, and whether
+/// hand 0 helps the workers.
 #[derive(Drop)]
 pub(crate) struct Tabled<'a, 'b, T: Stepper> {
     pub(crate) plan: &'a Plan,
@@ -22,6 +23,7 @@ pub(crate) struct Tabled<'a, 'b, T: Stepper> {
     pub(crate) table: &'b OpTable<Item>,
     pub(crate) window: usize,
     pub(crate) form: Form,
+    pub(crate) helps: bool,
 }
 
 /// What a run came to: how it ended, and which operations it collected.

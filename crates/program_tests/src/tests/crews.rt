@@ -117,15 +117,30 @@ fn each_worker_is_in_the_order_of_the_words(rt: HostRuntime) -> Result<(), Fail>
     Ok(())
 }
 
+/// Whether a run of this plan by four workers, in the order fifo, submits a name to a backend. Hand
+/// 0 helps them, so that a short run may end before they come to a name: then a longer one is made.
+fn submits<R: Threads + Wait + Sync>(rt: &R, alloc: Global, plan: &str) -> Result<bool, AllocError>
+    requires { IsSync R.row }
+{
+    for records in ["100", "1000", "10000", "100000"] {
+        let ran = called(rt, alloc, &["gen", "plan.json", records], plan)?;
+        if ran.fifo != 4 || ran.lifo != 0 {
+            return Ok(false);
+        }
+        if ran.submitted != 0 {
+            return Ok(true);
+        }
+    }
+    Ok(false)
+}
+
 #[test]
 fn each_run_with_work_on_the_pool_submits_names_to_its_backends(
     rt: HostRuntime,
 ) -> Result<(), Fail> {
-    // Four workers, in the order fifo, where no word says otherwise.
     for plan in [PICKED, PLAN_G] {
         for _run in 0..50 {
-            let ran = called(&rt, rt.alloc(), &["run", "plan.json"], plan)?;
-            assert!(rt; ran.submitted != 0 && ran.fifo == 4 && ran.lifo == 0);
+            assert!(rt; submits(&rt, rt.alloc(), plan)?);
         }
     }
     Ok(())

@@ -61,8 +61,8 @@ const PLAN_G: &str = r#"{"do":"continues_on","on":"loop",
                                 "child":{"do":"bulk","child":{"do":"just","values":[[1,2,3]]},
                                     "job":{"job":"index"}}}]}]}}}"#;
 
-/// So many workers, each with a backend that isn't lawful in this way, and how many names all of
-/// them were submitted.
+/// So many workers that hand 0 doesn't help, each with a backend that isn't lawful in this way, and
+/// how many names all of them were submitted.
 pub(super) fn watched(
     alloc: Global,
     workers: u32,
@@ -82,6 +82,7 @@ pub(super) fn watched(
     }
     let crew = Crew {
         workers,
+        helps: false,
         order: Order::Fifo,
         backends,
     };
@@ -213,6 +214,20 @@ fn hand_0_runs_no_job_of_the_pool_where_a_worker_serves(rt: HostRuntime) -> Resu
     Ok(())
 }
 
+// The job that is held is the worker's or hand 0's, and the other runs the other job: by its name,
+// or where the worker has both names by a look at its node.
+#[test]
+fn hand_0_runs_a_job_of_the_pool_where_it_helps(rt: HostRuntime) -> Result<(), Fail> {
+    let alloc = rt.alloc();
+    let line = "records 2 values 2 errors 0 stopped 0 out-of-memory 0 bad 0 sum 23793\n";
+    let gate = Holding::new(MOST_LOOKS);
+    let mut crew = crew_of(alloc, 1, Way::None)?;
+    crew.helps = true;
+    let written = writes(&rt, alloc, TWO_ON_POOL, crew, &gate, &[line])?;
+    assert!(rt; written && gate.met.load(Ordering::SeqCst) == 1);
+    Ok(())
+}
+
 /// The ways that a backend may not go.
 const UNLAWFUL: [Way; 4] = [Way::Drops, Way::Repeats, Way::Invents, Way::Keeps];
 
@@ -272,7 +287,10 @@ fn seventeen_workers_give_the_lines_that_sixteen_give(rt: HostRuntime) -> Result
 #[test]
 fn one_record_at_a_time_makes_its_hops(rt: HostRuntime) -> Result<(), Fail> {
     let alloc = rt.alloc();
-    let crew = crew_of(alloc, 4, Way::None)?;
-    assert!(rt; agree_with(&rt, alloc, ("", HOPS), 1, 50, crew)?);
+    for helps in [false, true] {
+        let mut crew = crew_of(alloc, 4, Way::None)?;
+        crew.helps = helps;
+        assert!(rt; agree_with(&rt, alloc, ("", HOPS), 1, 50, crew)?);
+    }
     Ok(())
 }

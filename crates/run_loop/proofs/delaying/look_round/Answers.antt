@@ -1,4 +1,4 @@
-use Rattle.std.proofs.Common.{eqb-true, sym, ◌∙◌}
+use Rattle.std.proofs.Common.{eqb-true, sym, ◌∙◌, arith}
 use Rattle.op_slot.proofs.Staying.{stays-here, stays-on}
 use Rattle.node_walks.proofs.Read.{looks-here, looks-on}
 use Rattle.run_loop.proofs.Looking.{below-none, below-empty, below-more}
@@ -38,3 +38,9 @@ returns-then-is_empty c =
       looks = below-empty c.args.table.now c.requires.over c.args.nodes.now c.requires.nodes c.args.table.now.frame.layout.blocks old.me
           c.args.delays.now (eqb-true _ 0 (sym c.is_empty.ensures ∙ c.if-is_empty.true));
     }
+
+pub look_through-requires-clause-places : goal.look_through-requires-clause-places
+look_through-requires-clause-places c some =
+    let places = c.loop-block.invariant.looks.places_are in
+    let room = c.requires.places some in
+    omega (arith, places, room)

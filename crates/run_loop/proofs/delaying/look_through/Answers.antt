@@ -25,7 +25,8 @@ loop-delay-preserved c =
     let looks = c.look_at.ensures.looks in
     let only = look-only board c.args.block _ between.me new.me c.loop-delay.delays c.look_at.new.delays looks in
     let places = before.looks.places_are in
-    let room = c.requires.places in
+    let below = c.loop-delay-test.true in
+    let room = c.requires.places (omega (arith, below)) in
     record {
       stays = stays-on board old between new before.stays c.look_at.ensures.stays;
       rests = look-rests board c.args.block _ between.me new.me c.loop-delay.delays c.look_at.new.delays looks before.rests;
@@ -35,3 +36,10 @@ loop-delay-preserved c =
           (slice_get-get_or c.args.nodes.now c.loop-delay.delay-index _ c.loop-delay-test.true) c.requires.block
           (omega (arith, places, room)) before.looks looks before.only.aside only.aside;
     }
+
+pub look_at-requires-clause-places : goal.look_at-requires-clause-places
+look_at-requires-clause-places c =
+    let places = c.loop-delay.invariant.looks.places_are in
+    let below = c.loop-delay-test.true in
+    let room = c.requires.places (omega (arith, below)) in
+    omega (arith, places, room)

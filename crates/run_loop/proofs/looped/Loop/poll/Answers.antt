@@ -16,13 +16,12 @@ pub returns-clause-ready : goal.returns-clause-ready
 returns-clause-ready g c =
     let ready = c.poll_names-taken.ensures.ready in
     let places = c.serve_delays.ensures.places in
-    let room = ready.delays.room in
     record {
       hand = c.serve_delays.ensures.stays.hand;
       first = ap (λ (a : Aside). a.number) c.serve_delays.ensures.aside.same ∙ ready.first;
       rests = c.serve_delays.ensures.rests;
       next = ready.next;
-      delays = record { room = omega (arith, places, room); are = ready.delays.are };
+      delays = record { room = λ some. let room = ready.delays.room some in omega (arith, places, room); are = ready.delays.are };
     }
 
 pub returns-clause-aside : goal.returns-clause-aside

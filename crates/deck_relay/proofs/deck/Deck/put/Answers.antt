@@ -1,6 +1,6 @@
 use Rattle.std.proofs.Common.{inl, refl}
 use Rattle.deck_relay.proofs.Balances.{gives}
-use Rattle.deck_relay.proofs.deck.Deck.push.Goals as goal
+use Rattle.deck_relay.proofs.deck.Deck.put.Goals as goal
 
 pub push_as-requires-clause-pushes : goal.push_as-requires-clause-pushes
 push_as-requires-clause-pushes g c = gives _ _ _ c.args.self.now.part
