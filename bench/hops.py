@@ -7,8 +7,7 @@ Nothing is done at the same time, so what is measured is how a hand that waits l
 lets others run, or sleeps and is woken. In three places: on all cores with nothing beside it, on one core, and beside
 eight busy processes on all cores. Each program, and each other that takes the same words, runs five times (or --rounds)
 in each place, all in turn: medians of seconds by the clock, the least and the greatest in brackets, and medians of the
-processor's seconds, of all threads, user and system. All must print the same. With busy processes beside it a tenth of
-the records are run.
+processor's seconds, of all threads, user and system. All must print the same.
 """
 import argparse
 import json
@@ -25,11 +24,11 @@ from measure import PROGRAM
 HOP = {"do": "then", "child": {"do": "input"}, "job": {"job": "add", "n": 1}}
 PLAN = {"version": 1, "input": "int", "root": {"do": "starts_on", "on": "pool", "child": HOP}}
 BUSY = [sys.executable, "-c", "while True: pass"]
-# where it runs, what stands before the command, how many processes are busy, and by how much there are fewer records
+# where it runs, what stands before the command, and how many processes are busy
 PLACES = [
-    ("all cores", [], 0, 1),
-    ("one core", ["taskset", "-c", "0"], 0, 1),
-    ("beside eight busy processes", [], 8, 10),
+    ("all cores", [], 0),
+    ("one core", ["taskset", "-c", "0"], 0),
+    ("beside eight busy processes", [], 8),
 ]
 
 
@@ -57,9 +56,8 @@ def times_of(programs, before, words, rounds):
 
 
 def measure(programs, plan, given):
-    for place, before, busy, fewer in PLACES:
-        count = max(1, given.records // fewer)
-        words = ["gen", plan, str(count), "--window", "1", "--workers", "1"]
+    words = ["gen", plan, str(given.records), "--window", "1", "--workers", "1"]
+    for place, before, busy in PLACES:
         beside = [subprocess.Popen(BUSY) for _ in range(busy)]
         try:
             times = times_of(programs, before, words, given.rounds)
@@ -71,7 +69,7 @@ def measure(programs, plan, given):
             seconds, processor = ([row[k] for row in taken] for k in (0, 1))
             range_ = f"({min(seconds):.3f} to {max(seconds):.3f})"
             middle, spent = statistics.median(seconds), statistics.median(processor)
-            print(f"{place:28} {name:12} {count:9,} {middle:8.3f} {range_:>20} {spent:10.3f}", flush=True)
+            print(f"{place:28} {name:12} {given.records:9,} {middle:8.3f} {range_:>20} {spent:10.3f}", flush=True)
 
 
 def main():
