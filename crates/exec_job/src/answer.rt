@@ -44,7 +44,7 @@ fn apply_to(alloc: Global, job: &Job, operands: &[Datum]) -> Result<Completion, 
     ensures { Gives (apply_of job.now operands.now) result }
 {
     match job {
-        Job::Fail(name) => Ok(Completion::Error(name.clone()?)),
+        Job::Fail(name) => Ok(Completion::error(name.clone()?)),
         Job::Iota => iota(alloc, only_int(operands)),
         Job::Sum => Ok(int_ending(alloc, sum(operands))),
         Job::Append(text) => append(alloc, only_text(operands), text),
@@ -82,7 +82,7 @@ fn int_ending(alloc: Global, answer: Result<i64, JobFault>) -> Completion
 pub fn fault_ending(alloc: Global, fault: JobFault) -> Completion
     ensures { result ≡ ending (int_answer (Err fault)) }
 {
-    Completion::Error(Txt::short(alloc, fault.name()))
+    Completion::error(Txt::short(alloc, fault.name()))
 }
 
 /// An equal datum. One that stands in place wants no memory.
@@ -99,7 +99,7 @@ fn parse(alloc: Global, text: &Txt) -> Completion
 {
     match read_int(text.as_bytes()) {
         Some(number) => one(alloc, Datum::Int(number)),
-        None => Completion::Error(Txt::short(alloc, "not-a-number")),
+        None => Completion::error(Txt::short(alloc, "not-a-number")),
     }
 }
 

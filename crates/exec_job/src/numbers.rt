@@ -15,7 +15,7 @@ pub(crate) fn iota(alloc: Global, x: i64) -> Result<Completion, AllocError>
     ensures { Gives (iota x) result }
 {
     if x < 0 || x > NUMBERS as i64 {
-        return Ok(Completion::Error(Txt::short(alloc, "out-of-range")));
+        return Ok(Completion::error(Txt::short(alloc, "out-of-range")));
     }
     let count = x as usize;
     let mut numbers = Vec::with_capacity(alloc, count)?;

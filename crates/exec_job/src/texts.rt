@@ -72,5 +72,5 @@ fn text_ending(alloc: Global, text: Txt) -> Completion
 fn too_long(alloc: Global) -> Completion
     ensures { result ≡ ending (Err (codes "too-long")) }
 {
-    Completion::Error(Txt::short(alloc, "too-long"))
+    Completion::error(Txt::short(alloc, "too-long"))
 }

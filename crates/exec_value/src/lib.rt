@@ -6,6 +6,7 @@
 #![tactic(auto)]
 
 mod data;
+mod error_text;
 mod fault;
 mod kinds;
 mod law;
@@ -20,6 +21,7 @@ mod sum;
 mod txt;
 
 pub use data::{Data, Datum, copy_data};
+pub use error_text::ErrorText;
 pub use fault::RecordFault;
 pub use kinds::Kind;
 pub use law::limits_are;

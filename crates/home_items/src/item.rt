@@ -11,6 +11,7 @@ ghost use Rattle.home_items.specs.Starts.{IsStart};
 use crate::entry::Entry;
 use crate::env::Env;
 use crate::parcel::{Label, Parcel};
+use crate::placing::{empty_args, put_in_place};
 use crate::shown::{Shown, Shows};
 use exec_value::{Completion, Data};
 use plan_rules::NodeId;
@@ -171,7 +172,7 @@ impl Item {
         } = parcel;
         self.state = State::Kept;
         self.saw = saw;
-        self.completion = completion;
+        put_in_place(&mut self.completion, completion);
         self.from = shown;
     }
 
@@ -196,14 +197,15 @@ impl Item {
         }
     }
 
-    /// Takes out what the node completed with. What stays is worth nothing: the home is emptied
-    /// next.
+    /// Takes out what the node completed with. What stays is worth nothing, and keeps nothing
+    /// elsewhere in memory: the home is emptied next.
     #[inline(always)]
-    pub fn take_done(&mut self) -> Parcel
+    pub fn take_done(&mut self, alloc: Global) -> Parcel
         requires { HasCompleted self.old }
         ensures taken { self.old ≡ Done result }
         ensures lawful { IsDelivery result }
     {
+        empty_args(&mut self.args, alloc);
         Parcel {
             completion: mem::replace(&mut self.completion, Completion::NoMemory),
             saw: self.saw,
@@ -212,14 +214,19 @@ impl Item {
     }
 
     /// Moves out what the node completed with, in place of what is no more wanted. What is answered
-    /// says the rest. What stays is worth nothing: the home is emptied next.
+    /// says the rest. What stays is worth nothing, and keeps nothing elsewhere in memory: the home
+    /// is emptied next.
     #[inline(always)]
-    pub fn give_done(&mut self, done: &mut Completion) -> Label
+    pub fn give_done(&mut self, alloc: Global, done: &mut Completion) -> Label
         requires { HasCompleted self.old }
         ensures taken { self.old ≡ Done (delivery_of result done.new) }
         ensures lawful { IsDelivery (delivery_of result done.new) }
     {
-        *done = mem::replace(&mut self.completion, Completion::NoMemory);
+        empty_args(&mut self.args, alloc);
+        put_in_place(
+            done,
+            mem::replace(&mut self.completion, Completion::NoMemory),
+        );
         Label {
             saw: self.saw,
             shown: Shown::of(&self.from),
@@ -240,7 +247,10 @@ impl Item {
         self.state = State::Done;
         self.saw = saw;
         self.from = Shown::of(&self.shown);
-        mem::swap(&mut self.completion, done);
+        put_in_place(
+            &mut self.completion,
+            mem::replace(done, Completion::Stopped),
+        );
         failed
     }
 
@@ -256,7 +266,8 @@ impl Item {
         self.state = State::Done;
         self.saw = false;
         self.from = Shown::of(&self.shown);
-        self.completion = Completion::Value(mem::replace(&mut self.args, Data::empty(alloc)));
+        let args = mem::replace(&mut self.args, Data::empty(alloc));
+        put_in_place(&mut self.completion, Completion::Value(args));
     }
 
     /// The environment of a node that goes on, and what it keeps of its child.

@@ -18,6 +18,7 @@ mod env;
 mod item;
 mod law;
 mod parcel;
+mod placing;
 mod shown;
 
 pub use entry::Entry;

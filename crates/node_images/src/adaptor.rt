@@ -111,7 +111,7 @@ pub fn stopped_as_error(name: &Txt, done: &mut Completion) -> Result<(), AllocEr
     ensures { Makes (as_error name.now done.old) done.new result }
 {
     if let Completion::Stopped = done {
-        put(done, Completion::Error(name.clone()?));
+        put(done, Completion::error(name.clone()?));
     }
     Ok(())
 }

@@ -37,7 +37,7 @@ fn each(alloc: Global, job: &Job, numbers: &[i64]) -> Result<Completion, AllocEr
     for (index, number) in numbers.iter().enumerate() {
         match apply_at(job, index as u32, *number) {
             Ok(number) => made.push_reserved(number),
-            Err(fault) => return Ok(Completion::Error(error_at(alloc, fault, index as u32)?)),
+            Err(fault) => return Ok(Completion::error(error_at(alloc, fault, index as u32)?)),
         }
     }
     let row = Datum::Row(Nums::from_vec(made)?);

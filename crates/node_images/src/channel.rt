@@ -3,16 +3,27 @@
 ghost use Rattle.std.specs.Prelude.{◌≡◌, IfNone};
 ghost use Rattle.plan_rules.specs.Images.{error_data, stopped_data, value_data};
 
-use exec_value::{Completion, Data, Datum, Txt};
+use exec_value::{Completion, Data, Datum};
 use std::alloc::Global;
 use std::mem;
 
-/// Puts a completion in its place. What stood there is dropped by a call: where a value is assigned
-/// over another, each kind of the other is dropped in that place.
+// Drops what stands there, out of the way: where it is assigned over, each kind of it is dropped in
+// that place.
+#[inline(never)]
+fn clear(done: &mut Completion) {
+    *done = Completion::Stopped;
+}
+
+/// Puts a completion in its place. What stood there is dropped, where it isn't stopped: of that
+/// there is nothing to drop, and it isn't read.
+#[inline(always)]
 pub(crate) fn put(done: &mut Completion, made: Completion)
     ensures { done.new ≡ made }
 {
-    drop(mem::replace(done, made));
+    if !matches!(done, Completion::Stopped) {
+        clear(done);
+    }
+    mem::forget(mem::replace(done, made));
 }
 
 /// The one in place of the other, which is dropped by a call.
@@ -40,10 +51,7 @@ pub fn take_error(alloc: Global, done: &mut Completion) -> Option<Data>
     ensures stays { IfNone result (done.new ≡ done.old) }
 {
     match done {
-        Completion::Error(name) => {
-            let name = mem::replace(name, Txt::empty(alloc));
-            Some(Data::one(alloc, Datum::Text(name)))
-        }
+        Completion::Error(name) => Some(Data::one(alloc, Datum::Text(name.take_text(alloc)))),
         _ => None,
     }
 }

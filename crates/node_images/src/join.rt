@@ -36,7 +36,8 @@ pub fn join_child(together: &mut Together, done: &mut Completion)
 {
     let next = mem::replace(done, Completion::Stopped);
     let front = mem::replace(together, Ok(Completion::Stopped));
-    drop(mem::replace(together, and_then(front, next)));
+    // what stands in between has nothing to drop
+    mem::forget(mem::replace(together, and_then(front, next)));
 }
 
 /// Puts what all children complete with in its place, where there was room for it.

@@ -21,7 +21,7 @@ pub fn put_value(alloc: Global, values: &Data, done: &mut Completion) -> Result<
 pub fn put_error(name: &Txt, done: &mut Completion) -> Result<(), AllocError>
     ensures { Makes (Completion.Error name.now) done.new result }
 {
-    put(done, Completion::Error(name.clone()?));
+    put(done, Completion::error(name.clone()?));
     Ok(())
 }
 

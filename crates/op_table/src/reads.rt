@@ -1,6 +1,7 @@
 //! What a hand reads of a node that it holds, and notes.
 ghost use Rattle.std.specs.Prelude.{◌≡◌};
 ghost use Rattle.life_rules.specs.Words.{is_idle};
+ghost use Rattle.table_words.specs.Controls.{callback_read};
 ghost use Rattle.table_steps.specs.Views.{IsHandOf, IsPlaceIn, aim_at, Stays, knows};
 ghost use Rattle.table_steps.specs.Readings.{above_it, says_begun, says_phase, HoldsAbove, Holds, IsBegunAs, IsIdleStill, IsPhaseAs};
 
@@ -29,10 +30,19 @@ pub(crate) fn says_phase(generation: u32, word: u64) -> CallbackPhase
     ensures { result ≡ says_phase generation word }
 {
     if stamp(word) == generation {
-        read_callback(word)
+        phase_in(word)
     } else {
         CallbackPhase::Never
     }
+}
+
+// The phase that the word says, out of the way: most nodes never register a callback, and their
+// words are of another generation.
+#[inline(never)]
+fn phase_in(word: u64) -> CallbackPhase
+    ensures { result ≡ callback_read word }
+{
+    read_callback(word)
 }
 
 impl<P: Cargo> OpTable<P> {

@@ -27,7 +27,7 @@ fn each_line_counts_under_its_own_name(rt: HostRuntime) {
     count(&mut summary, Outcome::Done(Completion::Stopped));
     count(&mut summary, least(alloc));
     let overflow = Txt::short(alloc, "overflow");
-    count(&mut summary, Outcome::Done(Completion::Error(overflow)));
+    count(&mut summary, Outcome::Done(Completion::error(overflow)));
     count(&mut summary, Outcome::Done(Completion::NoMemory));
     count(&mut summary, Outcome::BadRecord);
     let mut sink = MemSink::new(alloc, 4096, Vec::new(alloc));

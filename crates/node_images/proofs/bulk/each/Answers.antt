@@ -13,7 +13,7 @@ returns-in-Err c =
     let name = c.in_ok-error_at-in-Err.ensures.exact in
     let fails = done-fault c.args.job.now c.args.numbers.now c.loop-index.made.items c.loop-index.index
     (pos 0) c.loop-index.invariant.done c.loop-index-test.true c.in-Err.fault applied in
-    ap (λ (e : List _). Error e) name ∙ sym (ap row_ending fails)
+    c.error.ensures ∙ ap (λ (e : List _). Error e) name ∙ sym (ap row_ending fails)
 
 pub loop-index-preserved : goal.loop-index-preserved
 loop-index-preserved c =
