@@ -36,6 +36,6 @@ pub(crate) fn complete_named<R: Wait, G: Gate>(
     requires may { MayEnd site.now taken (Error error.now) saw hand.old }
     ensures { Completes site.now taken (Error error.now) saw result hand.old hand.new }
 {
-    let mut done = Completion::Error(copy_name(site.rt, error));
+    let mut done = Completion::error(copy_name(site.rt, error));
     complete(site, hand, taken, &mut done, saw)
 }

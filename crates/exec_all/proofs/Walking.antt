@@ -12,7 +12,7 @@ use Rattle.node_images.specs.declared.join.NoRoom.TheVariants.{Memory, Limit}
 use Rattle.plan_rules.specs.Settle.{and_then}
 use Rattle.start_laws.specs.AllEnds.{is_failure, fails_late, joins_where, first_ends, late_ends, all_ends, saw_together}
 use Rattle.exec_all.specs.declared.joining.Joining.{Joining}
-use Rattle.exec_all.specs.Joined.{is_want, some_want, NoneWants, IsJoined, Fronts, TellsAll}
+use Rattle.exec_all.specs.Joined.{is_want, are_nothing, some_want, NoneWants, IsJoined, Fronts, TellsAll}
 
 -- no data, or a failure
 abbrev IsLate : Completion → Type 0
@@ -122,6 +122,19 @@ all-merged : (ends : ℕ → Delivery) (n : ℕ) → NoneWants ends n →
     all_ends ends n ≡ and_then (first_ends ends n) (late_ends ends n (Value []))
 all-merged ends n none = merged ends n (first_ends ends n) (first-made ends n none)
 
+-- where none failed late, the first walk is all
+pub alone : (ends : ℕ → Delivery) (n : ℕ) (front : Result Completion NoRoom) (saw first : Bool) →
+    Fronts ends n front (Value []) saw first → Tells front (and_then (first_ends ends n) (Value []))
+alone ends n front saw first is = subst (Tells front) (sym (behind-none (first_ends ends n) (first-made ends n is.none))) is.front_is
+
+pub nothing-is : (all : Result Completion NoRoom) → are_nothing all ≡ true → all ≡ Ok (Value [])
+nothing-is (Ok (Value [])) is = refl
+nothing-is (Ok (Value (x ∷ xs))) is = cc
+nothing-is (Ok (Error e)) is = cc
+nothing-is (Ok Stopped) is = cc
+nothing-is (Ok NoMemory) is = cc
+nothing-is (Err why) is = cc
+
 -- who wants memory
 want-is : (c : Completion) → is_want c ≡ false → c ≡ NoMemory → ⊥
 want-is c none e = both_ways (is_want c) none (ap is_want e)
@@ -178,11 +191,9 @@ module _ (joining : Joining) (ends : ℕ → Delivery) (n : ℕ) (is : IsJoined 
 
 module _ (ends : ℕ → Delivery) (n : ℕ) (front : Result Completion NoRoom) (late : Completion) (saw first : Bool)
     (is : Fronts ends n front late saw first) (both : Result Completion NoRoom)
-    (joined : (c : Completion) → Tells front c → Tells both (and_then c late)) where
+    (joined : Tells both (and_then (first_ends ends n) late)) where
   both-is : Tells both (all_ends ends n)
-  both-is =
-      subst (Tells both) (ap (and_then (first_ends ends n)) is.late_is ∙ sym (all-merged ends n is.none))
-      (joined (first_ends ends n) is.front_is)
+  both-is = subst (Tells both) (ap (and_then (first_ends ends n)) is.late_is ∙ sym (all-merged ends n is.none)) joined
 
   pub both-err : (why : NoRoom) → both ≡ Err why → TellsAll ends n (Err why)
   both-err why e = record { ok = tt; err = subst (λ r. Tells r (all_ends ends n)) e both-is }

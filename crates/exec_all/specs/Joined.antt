@@ -1,5 +1,5 @@
 -- What the parcels of a `when_all`'s children come to, one after the other.
-use Rattle.std.specs.Prelude.{◌≡◌, ◌≢◌, ◌&&◌, ◌||◌, not, ℕ, zero, suc, ◌<◌, Bool, true, false, [], Result, Err, IfOk, IfErr}
+use Rattle.std.specs.Prelude.{◌≡◌, ◌≢◌, ◌&&◌, ◌||◌, not, ℕ, zero, suc, ◌<◌, Bool, true, false, [], Result, Ok, Err, IfOk, IfErr}
 use Rattle.exec_value.specs.declared.outcome.Completion.{Completion}
 use Rattle.exec_value.specs.declared.outcome.Completion.TheVariants.{Value, NoMemory}
 use Rattle.home_items.specs.Parcels.{Delivery}
@@ -11,6 +11,11 @@ use Rattle.exec_all.specs.declared.joining.Joining.{Joining}
 abbrev pub is_want : Completion → Bool
 is_want NoMemory = true
 is_want done = false
+
+-- they complete with no data
+abbrev pub are_nothing : Result Completion NoRoom → Bool
+are_nothing (Ok (Value [])) = true
+are_nothing all = false
 
 -- some of the first n children want memory
 abbrev pub some_want : (ℕ → Delivery) → ℕ → Bool

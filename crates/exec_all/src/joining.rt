@@ -1,13 +1,14 @@
 //! How what the children of a `when_all` delivered comes together ([exec.when.all]).
-ghost use Rattle.std.specs.Prelude.{◌≡◌, ◌&&◌, ℕ};
-ghost use Rattle.home_items.specs.Parcels.{Delivery};
+ghost use Rattle.std.specs.Prelude.{◌≡◌, ◌&&◌, ℕ, []};
+ghost use Rattle.exec_value.specs.declared.outcome.Completion.TheVariants.{Value};
+ghost use Rattle.home_items.specs.Parcels.{Delivery, delivery_of};
 ghost use Rattle.start_laws.specs.AllEnds.{is_failure};
-ghost use Rattle.exec_all.specs.Joined.{is_want, TellsSeen, Notes, IsJoined, Adds, FinishesFront, Finishes};
+ghost use Rattle.exec_all.specs.Joined.{is_want, are_nothing, TellsSeen, Notes, IsJoined, Adds, FinishesFront, Finishes};
 
 use exec_value::Completion;
 use node_images::{NoRoom, Together, join_child, no_children, put_together};
 use std::alloc::Global;
-use step_parts::Parcel;
+use step_parts::Label;
 
 /// What the parcels of some children come to.
 #[derive(Drop)]
@@ -79,6 +80,29 @@ fn finish_front(
     }
 }
 
+// The same, where none failed late.
+fn finish_alone(front: Together, saw: bool, first: bool) -> Result<(Completion, bool), NoRoom>
+    ensures { FinishesFront front (Value []) saw first result }
+{
+    match front {
+        Ok(done) => {
+            let saw = saw_together(&done, saw, first);
+            Ok((done, saw))
+        }
+        Err(no_room) => Err(no_room),
+    }
+}
+
+// They complete with no data.
+fn are_nothing(all: &Together) -> bool
+    ensures { result ≡ are_nothing all.now }
+{
+    match all {
+        Ok(Completion::Value(values)) => matches!(values.as_slice(), []),
+        _ => false,
+    }
+}
+
 impl Joining {
     /// No parcel yet.
     pub(crate) fn none(alloc: Global) -> Joining
@@ -102,20 +126,19 @@ impl Joining {
         self.want = self.want || want;
     }
 
-    /// One parcel more.
-    pub(crate) fn add(&mut self, parcel: Parcel)
-        ensures { Adds self.old self.new parcel }
+    /// One parcel more, whose completion is taken from its place.
+    pub(crate) fn add(&mut self, label: &Label, done: &mut Completion)
+        ensures { Adds self.old self.new (delivery_of label.now done.old) }
     {
-        let saw = parcel.saw();
-        let mut done = parcel.into_completion();
-        let failed = is_failure(&done);
-        let want = is_want(&done);
+        let saw = label.saw();
+        let failed = is_failure(done);
+        let want = is_want(done);
         self.note(saw, failed, want);
         if both(saw, failed) {
-            join_child(&mut self.late, &mut done);
+            join_child(&mut self.late, done);
             return;
         }
-        join_child(&mut self.front, &mut done);
+        join_child(&mut self.front, done);
     }
 
     /// Some wants memory.
@@ -137,6 +160,10 @@ impl Joining {
             first,
             want: _,
         } = self;
+        if are_nothing(&late) {
+            drop(late);
+            return finish_alone(front, saw, first);
+        }
         let mut done = Completion::Stopped;
         match put_together(late, &mut done) {
             Ok(()) => finish_front(front, done, saw, first),

@@ -6,9 +6,10 @@ ghost use Rattle.step_parts.specs.Takes.{IsOpen};
 ghost use Rattle.exec_all.specs.Opens.{AddsOne, TakesAll};
 
 use crate::joining::{Joining, both};
+use exec_value::Completion;
 use op_slot::Hand;
 use plan_rules::NodeId;
-use step_parts::{Item, Site, Taken, take_child};
+use step_parts::{Item, Site, Taken, take_child_into};
 
 // Takes the child's parcel out of its home, and joins it to those before it. False where none lay
 // there.
@@ -24,9 +25,10 @@ fn add_one<R, G>(
     requires opened { IsOpen site.now taken.now hand.old }
     ensures { AddsOne site.now taken.now child all.old all.new result hand.old hand.new }
 {
-    match take_child(site, hand, taken, child) {
-        Some(parcel) => {
-            all.add(parcel);
+    let mut done = Completion::Stopped;
+    match take_child_into(site, hand, taken, child, &mut done) {
+        Some(label) => {
+            all.add(&label, &mut done);
             true
         }
         None => false,

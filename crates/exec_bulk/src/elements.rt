@@ -81,7 +81,7 @@ fn make_each<E: Element>(
         let index = first + place as u32;
         match element.at(index, *number) {
             Ok(number) => made.push_reserved(number),
-            Err(fault) => return Ok(Completion::Error(error_at(alloc, fault, index)?)),
+            Err(fault) => return Ok(Completion::error(error_at(alloc, fault, index)?)),
         }
     }
     let row = Datum::Row(Nums::from_vec(made)?);
@@ -104,7 +104,7 @@ fn make_one<E: Element>(
             let row = Datum::Row(Nums::one(number));
             Ok(Completion::Value(Data::one(alloc, row)))
         }
-        Err(fault) => Ok(Completion::Error(error_at(alloc, fault, first)?)),
+        Err(fault) => Ok(Completion::error(error_at(alloc, fault, first)?)),
     }
 }
 
@@ -123,7 +123,7 @@ fn fail_first<E: Element>(
         let index = first + place as u32;
         match element.at(index, *number) {
             Ok(_) => {}
-            Err(fault) => return Ok(Completion::Error(error_at(alloc, fault, index)?)),
+            Err(fault) => return Ok(Completion::error(error_at(alloc, fault, index)?)),
         }
     }
     Err(AllocError)

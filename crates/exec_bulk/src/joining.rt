@@ -4,7 +4,7 @@ ghost use Rattle.exec_job.specs.declared.job.Job.{Job};
 ghost use Rattle.exec_bulk.specs.Made.{IsFrontMade, AddsShare, AddsPart, WantsAfter, JoinsTo, JoinsInPlace};
 
 use crate::rows::numbers_at;
-use exec_value::{Completion, Data, Datum, NUMBERS, Nums, Txt};
+use exec_value::{Completion, Data, Datum, ErrorText, NUMBERS, Nums};
 use std::alloc::{AllocError, Global};
 use step_parts::Parcel;
 
@@ -15,7 +15,7 @@ pub(crate) enum Made {
     /// them.
     Numbers(Option<Vec<i64>>),
     /// The error of the first that failed.
-    Failed(Txt),
+    Failed(ErrorText),
     /// A part wanted memory, or isn't done.
     Want,
 }

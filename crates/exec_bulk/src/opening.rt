@@ -38,11 +38,13 @@ fn take_part<R, G>(
     requires opened { IsOpen site.now taken.now hand.old }
     ensures { TakesPart site.now taken.now part count made result hand.old hand.new }
 {
-    let found = take_child(site, hand, taken, first_part(taken.name().node) + part);
+    let child = first_part(taken.name().node) + part;
     if part < count {
+        let found = take_child(site, hand, taken, child);
         return made.add(found);
     }
-    drop(found);
+    // nothing lies there
+    drop(take_child(site, hand, taken, child));
     made
 }
 

@@ -22,7 +22,12 @@ use Rattle.step_parts.specs.Stepping.{Stepping}
 use Rattle.step_parts.specs.Takes.{IsFoundBelow, IsOpen, IsOpenWith, TakesChild}
 use Rattle.step_parts.specs.Several.{emptied}
 use Rattle.step_parts.proofs.Several.{emptied-else, emptied-in, empties-here, empties-more}
-use Rattle.exec_let.specs.Opens.{first_of, IsOfBody, TakesBodies}
+use Rattle.exec_let.specs.Opens.{IsOfBody, TakesBodies}
+
+-- the one parcel, where there is one, else the other
+abbrev pub first_of : Option Delivery → Option Delivery → Option Delivery
+first_of (Some parcel) other = Some parcel
+first_of None other = other
 
 none-some : {G : Type 0} (item : Item) → None ≡ Some item → G
 none-some item e = cc
@@ -114,29 +119,25 @@ module _ (board : Board Blueprint) (t : Stepping) where
         lay = emptied-fewer bodies kid n (Done parcel) (lay ∙ ap (option_map Done) e);
       }
 
-      of-either : (one other : Option Delivery) → below ≡ other → IfSome one (IsOfBody board t bodies kid middle.me) →
+      of-either : (one other : Option Delivery) → below ≡ one → IfSome other (IsOfBody board t bodies kid middle.me) →
           IfSome (first_of one other) (IsOfBody board t (bodies ++ n ∷ []) kid new.me)
-      of-either (Some parcel) other e earlier = of-earlier parcel earlier
+      of-either (Some parcel) other e earlier = of-this parcel e
       of-either None None e earlier = tt
-      of-either None (Some parcel) e earlier = of-this parcel e
+      of-either None (Some parcel) e earlier = of-earlier parcel earlier
 
-      more-nothing : first_of found below ≡ None → All (λ k. kid k ≡ None) (bodies ++ n ∷ [])
+      more-nothing : first_of below found ≡ None → All (λ k. kid k ≡ None) (bodies ++ n ∷ [])
       more-nothing none =
-          let parts = first-none found below none in
-          let earlier = was.nothing inside kid is parts.0 in
+          let parts = first-none below found none in
+          let earlier = was.nothing inside kid is parts.1 in
           All-push (λ k. kid k ≡ None) bodies n earlier
-          (emptied-back bodies kid n earlier (lay ∙ ap (option_map Done) parts.1))
+          (emptied-back bodies kid n earlier (lay ∙ ap (option_map Done) parts.0))
 
-    pub takes-more : TakesBodies board t (bodies ++ n ∷ []) (first_of found below) old new
+    pub takes-more : TakesBodies board t (bodies ++ n ∷ []) (first_of below found) old new
     takes-more = record {
       empties = empties-more board t bodies old middle was.empties n below new next;
-      found = λ inside kid is. of-either inside kid is found below refl (was.found inside kid is);
+      found = λ inside kid is. of-either inside kid is below found refl (was.found inside kid is);
       nothing = more-nothing;
     }
-
-pub first-alone : (one : Option Delivery) → first_of one None ≡ one
-first-alone (Some parcel) = refl
-first-alone None = refl
 
 -- the step goes on
 pub child-opened : (board : Board Blueprint) (t : Stepping) (n : ℕ) (below : Option Delivery) (old new : HandSeat) →

@@ -140,21 +140,17 @@ module _ (board : Board Blueprint) (t : Stepping) (node : Node) (parcel : Delive
       (image-allowed (let-names_none node may.is_let parcel.completion values on none)))
 
   -- by what the pick names
-  module _ (done : Completion) (same : done ≡ parcel.completion) (picked : Picked) (picks : picked ≡ picked_for node (channel_of node done)) where
-    here : picked ≡ picked_for node (channel_of node parcel.completion)
-    here = picks ∙ ap (λ (c : Completion). picked_for node (channel_of node c)) same
-
-    pub answer-may : (answer : Completion) → picked ≡ Answer answer → (saw : Bool) → saw ≡ parcel.saw → MayEnd board t answer saw hand
-    answer-may answer is saw same_saw =
-        let named = picks-answer node (channel_of node parcel.completion) answer (sym here ∙ is) in
-        subst (λ (s : Bool). MayEnd board t answer s hand) (sym same_saw)
+  module _ (picked : Picked) (picks : picked ≡ picked_for node (channel_of node parcel.completion)) (saw : Bool) (same : saw ≡ parcel.saw) where
+    pub answer-may : (answer : Completion) → picked ≡ Answer answer → MayEnd board t answer saw hand
+    answer-may answer is =
+        let named = picks-answer node (channel_of node parcel.completion) answer (sym picks ∙ is) in
+        subst (λ (s : Bool). MayEnd board t answer s hand) (sym same)
         (subst (λ (c : Completion). MayEnd board t c parcel.saw hand) (sym named.3) (answer-ends named.0 named.1 named.2))
 
-    pub pass-may : picked ≡ Passes → (into : Completion) → into ≡ parcel.completion → (saw : Bool) → saw ≡ parcel.saw → MayEnd board t into saw hand
-    pass-may is into same_done saw same_saw =
-        subst (λ (s : Bool). MayEnd board t into s hand) (sym same_saw)
-        (subst (λ (c : Completion). MayEnd board t c parcel.saw hand) (sym same_done)
-        (pass-ends (picks-passes node (channel_of node parcel.completion) (sym here ∙ is))))
+    pub pass-may : picked ≡ Passes → MayEnd board t parcel.completion saw hand
+    pass-may is =
+        subst (λ (s : Bool). MayEnd board t parcel.completion s hand) (sym same)
+        (pass-ends (picks-passes node (channel_of node parcel.completion) (sym picks ∙ is)))
 
 -- A body has completed, and a look was made.
 pub body-ends : (board : Board Blueprint) (t : Stepping) (parcel : Delivery) (old new : HandSeat) → MayEndAsBody board t parcel old →

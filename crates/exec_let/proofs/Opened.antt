@@ -129,7 +129,7 @@ module _ (board : Board Blueprint) (t : Stepping) (node : Node) (below body : Op
 pub opens-below : (board : Board Blueprint) (t : Stepping) (node : Node) (old : HandSeat) → MayOpen board t node old →
     (parcel : Delivery) (below body : Option Delivery) (middle new : HandSeat) → TakesChild board t (let_child node) below old middle →
     TakesBodies board t (bodies_of node) body middle new → below ≡ Some parcel →
-    Opens board t node (record { child = Some parcel; body = body }) old new
+    Opens board t node (Some parcel) body old new
 opens-below board t node old may parcel below body middle new next took is =
     let e : HasEmptied board t node below body old new =
     record { may = may; middle = middle; next = next; last = new; took = took; since = changes-here board t.name new took.empties.keeps.stays.hand } in
@@ -150,7 +150,7 @@ opens-below board t node old may parcel below body middle new next took is =
 pub opens-kept : (board : Board Blueprint) (t : Stepping) (node : Node) (old : HandSeat) → MayOpen board t node old →
     (below body kept : Option Delivery) (middle last new : HandSeat) → TakesChild board t (let_child node) below old middle →
     TakesBodies board t (bodies_of node) body middle last → below ≡ None → TakesKept board t kept last new →
-    Opens board t node (record { child = kept; body = body }) old new
+    Opens board t node kept body old new
 opens-kept board t node old may below body kept middle last new next took none takes =
     let e : HasEmptied board t node below body old new =
     record { may = may; middle = middle; next = next; last = last; took = took; since = takes.keeps } in

@@ -1,5 +1,5 @@
 -- How a let goes on when its child has completed, or a body ([exec.let]).
-use Rattle.std.specs.Prelude.{◌≡◌, ◌≢◌, ◌⊎◌, ℕ, Bool, true, false, List, Some, None}
+use Rattle.std.specs.Prelude.{◌≡◌, ◌≢◌, ◌⊎◌, ℕ, Bool, true, false, List, Some, None, Option}
 use Rattle.exec_value.specs.declared.data.Datum.{Datum}
 use Rattle.exec_value.specs.declared.outcome.Completion.TheVariants.{NoMemory}
 use Rattle.exec_value.specs.Place.{AreInPlace}
@@ -26,7 +26,6 @@ use Rattle.step_parts.specs.Leaves.{LeavesAt}
 use Rattle.step_parts.specs.Starts.{Begins as BeginsWith, StartsAgain, StartsChild}
 use Rattle.step_parts.specs.Stepping.{Stepping}
 use Rattle.step_parts.specs.Takes.{TakesNew, TakesState}
-use Rattle.exec_let.specs.declared.opening.Opened.{Opened}
 use Rattle.exec_let.specs.declared.picking.Picked.{Picked}
 use Rattle.exec_let.specs.declared.picking.Picked.TheVariants.{Answer, Body, Passes}
 use Rattle.exec_let.specs.Kinds.{IsLet, is_small, let_child}
@@ -81,14 +80,15 @@ module _ (board : Board Blueprint) (t : Stepping) where
   -- Of a let that has begun: where a body has completed it completes so; where the child has, it
   -- goes on by that; and else the child is started.
   pub record StepsBegun (node : Node) (next : Next) (old new : HandSeat) : Type 0 where
-    pub opened : Opened
+    pub below : Option Delivery
+    pub over : Option Delivery
     pub middle : HandSeat
-    pub opens : Opens board t node opened old middle
-    pub body : (parcel : Delivery) → opened.body ≡ Some parcel →
+    pub opens : Opens board t node below over old middle
+    pub body : (parcel : Delivery) → over ≡ Some parcel →
         EndsAsBody board t next parcel middle new
-    pub child : (parcel : Delivery) → opened.body ≡ None → opened.child ≡ Some parcel →
+    pub child : (parcel : Delivery) → over ≡ None → below ≡ Some parcel →
         GoesOn node parcel next middle new
-    pub again : opened.body ≡ None → opened.child ≡ None →
+    pub again : over ≡ None → below ≡ None →
         StartsAgain board t (let_child node) next middle new
 
 module _ (board : Board Blueprint) (x : Name) (next : Next) (old new : HandSeat) where

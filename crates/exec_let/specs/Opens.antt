@@ -19,13 +19,7 @@ use Rattle.step_parts.specs.Midway.{Ready}
 use Rattle.step_parts.specs.Several.{Empties}
 use Rattle.step_parts.specs.Stepping.{Stepping}
 use Rattle.step_parts.specs.Takes.{HasParcel, IsFoundBelow, IsOpen, IsOpenWith, IsTaken}
-use Rattle.exec_let.specs.declared.opening.Opened.{Opened}
 use Rattle.exec_let.specs.Kinds.{IsLet, let_child}
-
--- the one parcel, where there is one, else the other
-abbrev pub first_of : Option Delivery → Option Delivery → Option Delivery
-first_of (Some parcel) other = Some parcel
-first_of None other = other
 
 -- the parcel in the child's home, and else the one that the let kept
 abbrev pub newest_in : Option Item → Item → Option Delivery
@@ -67,13 +61,14 @@ module _ (board : Board Blueprint) (t : Stepping) where
 
   -- The let has the parcel of its child at hand, as it lay in the child's home, or as the let kept
   -- it; and that of a body, as it lay in the body's. The homes of its children are empty.
-  pub record Opens (node : Node) (opened : Opened) (old new : HandSeat) : Type 0 where
+  pub record Opens (node : Node) (below over : Option Delivery) (old new : HandSeat) :
+      Type 0 where
     pub taken : IsTaken board t new
-    pub child : IfSome opened.child (HasParcel board t new.me)
-    pub body : IfSome opened.body (HasBody node new.me)
+    pub child : IfSome below (HasParcel board t new.me)
+    pub body : IfSome over (HasBody node new.me)
     pub child_is : (inside : Item) (kid : ℕ → Option Item) → IsOpenWith board t inside kid old →
-        opened.child ≡ newest_in (kid (let_child node)) inside
+        below ≡ newest_in (kid (let_child node)) inside
     pub body_is : (inside : Item) (kid : ℕ → Option Item) → IsOpenWith board t inside kid old →
-        IfSome opened.body (IsOfBody (bodies_of node) kid new.me)
+        IfSome over (IsOfBody (bodies_of node) kid new.me)
     pub none_is : (inside : Item) (kid : ℕ → Option Item) → IsOpenWith board t inside kid old →
-        opened.body ≡ None → All (λ n. kid n ≡ None) (bodies_of node)
+        over ≡ None → All (λ n. kid n ≡ None) (bodies_of node)

@@ -26,7 +26,7 @@ pub(crate) enum Picked {
 }
 
 // What the pick names for these data.
-#[inline(always)]
+#[inline(never)]
 fn pick_for(alloc: Global, node: &Node, values: &Data) -> Result<Picked, AllocError>
     requires may { CanPick node.now (Some values.now) }
     ensures picks { IfOk result (Picks node.now (Some values.now)) }
@@ -65,7 +65,7 @@ fn pick<R, G: Gate>(
         },
         Node::LetError { .. } => match done {
             Completion::Error(name) => {
-                let values = Data::one(site.alloc, Datum::Text(name.clone()?));
+                let values = Data::one(site.alloc, Datum::Text(name.as_text().clone()?));
                 pass(site, taken);
                 pick_for(site.alloc, node, &values)
             }

@@ -1,4 +1,5 @@
 //! The step of a let.
+ghost use Rattle.home_items.specs.Parcels.{delivery_of};
 ghost use Rattle.exec_recv.specs.Sites.{Steps};
 ghost use Rattle.exec_let.specs.Ends.{MayGoOn};
 ghost use Rattle.exec_let.specs.Lets.{GoesOn, StepsBegun};
@@ -9,6 +10,7 @@ use crate::ending::end_as_body;
 use crate::opening::{Opened, open};
 use crate::parts::let_child;
 use crate::picking::{Picked, pick_or_wait};
+use exec_value::Completion;
 use home_items::State;
 use life_rules::Name;
 use op_slot::Hand;
@@ -16,7 +18,7 @@ use plan_rules::Node;
 use std::alloc::AllocError;
 use std::sync::Wait;
 use step_parts::{
-    Gate, Item, Kind, Next, Parcel, Site, Taken, complete, start_again, start_child, take_up,
+    Gate, Item, Kind, Label, Next, Site, Taken, complete, start_again, start_child, take_up,
     want_memory,
 };
 
@@ -66,14 +68,16 @@ fn step_begun<R: Wait, G: Gate>(
     ensures steps { Steps site.now taken.name result taken.from hand.new }
     ensures begun { StepsBegun site.now taken node.now result hand.old hand.new }
 {
-    let Opened { child, body } = open(site, hand, &taken, node);
+    let mut below = Completion::Stopped;
+    let mut over = Completion::Stopped;
+    let Opened { child, body } = open(site, hand, &taken, node, &mut below, &mut over);
     match body {
-        Some(parcel) => {
+        Some(label) => {
             drop(child);
-            end_as_body(site, hand, taken, parcel)
+            end_as_body(site, hand, taken, label, &mut over)
         }
         None => match child {
-            Some(parcel) => go_on(site, hand, taken, node, parcel),
+            Some(label) => go_on(site, hand, taken, node, label, &mut below),
             None => {
                 let asked = taken.asked();
                 start_again(site, hand, taken, let_child(node), asked)
@@ -90,27 +94,29 @@ fn go_on<R: Wait, G: Gate>(
     hand: &mut Hand<Item>,
     taken: Taken,
     node: &Node,
-    parcel: Parcel,
+    label: Label,
+    done: &mut Completion,
 ) -> Next
-    requires may { MayGoOn site.now taken node.now parcel hand.old }
+    requires may { MayGoOn site.now taken node.now (delivery_of label done.old) hand.old }
     ensures steps { Steps site.now taken.name result taken.from hand.new }
-    ensures goes { GoesOn site.now taken node.now parcel result hand.old hand.new }
+    ensures goes { GoesOn site.now taken node.now (delivery_of label done.old) result
+        hand.old hand.new }
 {
-    match pick_or_wait(site, &taken, node, parcel.completion()) {
-        Ok(Picked::Body(body)) => begin_body(site, hand, taken, node, parcel, body),
+    match pick_or_wait(site, &taken, node, done) {
+        Ok(Picked::Body(body)) => begin_body(site, hand, taken, node, label, done, body),
         Ok(Picked::Answer(answer)) => {
-            let saw = parcel.saw();
-            drop(parcel);
+            let saw = label.saw();
+            drop(label);
             let mut answer = answer;
             complete(site, hand, taken, &mut answer, saw)
         }
         Ok(Picked::Passes) => {
-            let saw = parcel.saw();
-            let mut done = parcel.into_completion();
-            complete(site, hand, taken, &mut done, saw)
+            let saw = label.saw();
+            drop(label);
+            complete(site, hand, taken, done, saw)
         }
         Err(AllocError) => {
-            drop(parcel);
+            drop(label);
             want_memory(site, hand, taken)
         }
     }

@@ -1,5 +1,5 @@
 -- What a delivery did, from the hand that held the node to the hand that goes on.
-use Rattle.std.proofs.Common.{◌≡◌, ℕ, Bool, true, List, [], ◌∷◌, ◌++◌, append_assoc, refl, sym, ap, ◌∙◌}
+use Rattle.std.proofs.Common.{◌≡◌, ℕ, Bool, true, List, [], ◌∷◌, ◌++◌, append_assoc, refl, sym, ap, ◌∙◌, subst}
 use Rattle.std.specs.Prelude.{Option, Some, None}
 use Rattle.std.specs.Option.{option_map_or}
 use Rattle.std.proofs.lemmas.Bool.{cond-true}
@@ -45,7 +45,7 @@ use Rattle.exec_recv.specs.Beginnings.{AllCanStart}
 use Rattle.exec_recv.specs.Deliveries.{CanDeliver, HasTold, Delivers, next_after}
 use Rattle.exec_recv.specs.Seats.{HandSeat}
 use Rattle.exec_recv.specs.Sites.{plan_at}
-use Rattle.exec_recv.specs.Nexts.{IsStepped}
+use Rattle.exec_recv.specs.Nexts.{GoesTo, IsStepped}
 use Rattle.exec_recv.proofs.Acting.{all-more}
 use Rattle.exec_recv.proofs.Moves.{moves-look, moves-control, moves-beside, moves-on}
 use Rattle.exec_recv.proofs.Arriving.{last-homes, last-steps}
@@ -54,10 +54,10 @@ use Rattle.exec_recv.proofs.Failing.{owes-failed}
 use Rattle.exec_recv.proofs.Places.{over-places}
 use Rattle.exec_recv.proofs.Starts.{all-still, owes-no-more}
 
--- the parent is of the same block
-above-block : (x : Name) (parent : Option ℕ) → (option_map_or (λ p. beside x p) parent x).block ≡ x.block
-above-block x None = refl
-above-block x (Some p) = refl
+-- the parent is of the same operation
+above-beside : (x : Name) (parent : Option ℕ) → let above = option_map_or (λ p. beside x p) parent x in beside x above.node ≡ above
+above-beside x None = refl
+above-beside x (Some p) = refl
 
 module _ (board : Board Blueprint) (x : Name) (failed : Bool) (hand : HandSeat) (m2 : Seated Item Entry) (can : CanDeliver board x failed hand)
     (finished : LeavesControl (aim_at board x) (Busy 0) IsDone (FinishesAt ghosts (aim_at board x)) hand.me m2) where
@@ -175,7 +175,7 @@ module _ (board : Board Blueprint) (x : Name) (failed : Bool) (hand : HandSeat) 
       moves-after parent =
           let acts = told.acts in
           let r = report-steps board x m3 m4 report reported in
-          let same_block : above.block ≡ x.block = above-block x (parent_of board.frame.tree x.node) in
+          let same_block : above.block ≡ x.block = ap (λ (y : Name). y.block) (sym (above-beside x (parent_of board.frame.tree x.node))) in
           moves-on board x m m2 m4
           (moves-control board x finished.read finished.left m m2 (finish-steps board x parcel m m2 can.inner home-full can.elsewhere finished))
           (moves-on board x m2 m3 m4
@@ -196,12 +196,13 @@ module _ (board : Board Blueprint) (x : Name) (failed : Bool) (hand : HandSeat) 
                 (last-homes board above x i reported.0 reported.1 m3 m4 did seated starts-before)
                 (λ source is. ap (λ (z : Seated Item Entry). has_source_ref z.0.seen source) did.me_is ∙ is) starts-before;
             owes = owes-no-more board x m m4 (ap (λ (z : Seated Item Entry). z.0.owed) did.me_is ∙ owed-before);
-            goes = record {
-              held = _;
-              holds = ap (λ (z : Seated Item Entry). z.0.held) did.me_is ∙ ap (λ (l : List (Held Entry)). held_as above did.start did.named did.told did.told_children (Some did.lot) ∷ l) held-before;
-              can = last-steps board above x i reported.0 reported.1 m3 m4 did seated starts-before parent
-                  (over-places board (plan_at board) above can.over parent) calm-before unrun-before with_it owes-before below;
-            };
+            goes = subst (GoesTo board x m m4) (sym (above-beside x (parent_of board.frame.tree x.node)))
+                (record {
+                  held = _;
+                  holds = ap (λ (z : Seated Item Entry). z.0.held) did.me_is ∙ ap (λ (l : List (Held Entry)). held_as above did.start did.named did.told did.told_children (Some did.lot) ∷ l) held-before;
+                  can = last-steps board above x i reported.0 reported.1 m3 m4 did seated starts-before parent
+                      (over-places board (plan_at board) above can.over parent) calm-before unrun-before with_it owes-before below;
+                });
           }
       stepped Others reported =
           let is = reported.4 in

@@ -71,7 +71,7 @@ pub record CanDeliver (board : Board Blueprint) (x : Name) (failed : Bool) (hand
 
 -- Go on with the parent where the report was the last.
 abbrev pub next_after : List TreeNode → Name → Report → Next
-next_after tree x Last = Go (above_it tree x)
+next_after tree x Last = Go (above_it tree x).node
 next_after tree x Others = Rest
 
 -- Of these steps one marked the node's source as failed and requested.

@@ -1,9 +1,10 @@
 -- Where a step leaves its node.
 use Rattle.std.specs.Prelude.{◌≡◌, ◌⊎◌, ℕ, true, List, ◌∷◌}
 use Rattle.life_rules.specs.declared.event.Name.{Name}
+use Rattle.life_rules.specs.Views.{beside}
 use Rattle.life_rules.specs.Words.{resting_at}
 use Rattle.life_rules.specs.declared.event.Resting.{Resting}
-use Rattle.life_rules.specs.declared.event.Resting.TheVariants.{Parked as parked}
+use Rattle.life_rules.specs.declared.event.Resting.TheVariants.{Loop as AtLoop, Pool as AtPool, Parked as AtParked}
 use Rattle.listed_words.specs.declared.seen.Seen.{Seen}
 use Rattle.listed_words.specs.Lists.{entry}
 use Rattle.node_tree.specs.Tree.{is_child}
@@ -15,15 +16,20 @@ use Rattle.table_steps.specs.Claims.{Seated}
 use Rattle.table_steps.specs.Lefts.{SaysControl}
 use Rattle.table_steps.specs.Owing.{Owes}
 use Rattle.table_steps.specs.Steps.{control_index}
-use Rattle.table_steps.specs.Takes.{resting_in}
 use Rattle.home_items.specs.declared.entry.Entry.{Entry}
 use Rattle.home_items.specs.declared.item.Item.{Item}
 use Rattle.exec_recv.specs.declared.next.Next.{Next}
-use Rattle.exec_recv.specs.declared.next.Next.TheVariants.{Go, Rest, Ready, Parked}
+use Rattle.exec_recv.specs.declared.next.Next.TheVariants.{Go, Rest, InLoop, InPool, Parked}
 use Rattle.exec_recv.specs.Areas.{MovesWithin}
 use Rattle.exec_recv.specs.Asides.{KeepsAside}
 use Rattle.exec_recv.specs.Beginnings.{AllCanStart}
 use Rattle.exec_recv.specs.Steppable.{CanStep}
+
+-- where the node is found, that was left so
+abbrev pub next_for : Resting → Next
+next_for AtLoop = InLoop
+next_for AtPool = InPool
+next_for AtParked = Parked
 
 module _ (board : Board Blueprint) (x : Name) (m m' : Seated Item Entry) where
   -- the hand holds the node no more, and nothing in its place
@@ -45,11 +51,13 @@ module _ (board : Board Blueprint) (x : Name) (m m' : Seated Item Entry) where
     pub holds : m'.0.held ≡ held ∷ without (λ (e : Held Entry). e.name) m.0.held x
     pub can : CanStep board y m'
 
+  -- the node to go on with is of the same operation as x
   abbrev pub IsNext : Next → Type 0
-  IsNext (Go y) = GoesTo y
+  IsNext (Go n) = GoesTo (beside x n)
   IsNext Rest = LetsGo
-  IsNext (Ready on) = LeftAt (resting_in on)
-  IsNext Parked = LeftAt parked
+  IsNext InLoop = LeftAt AtLoop
+  IsNext InPool = LeftAt AtPool
+  IsNext Parked = LeftAt AtParked
 
   -- the hand owes starts that it owed before, and beside them those of children of x alone
   abbrev pub OwesNewBelow : Type 0

@@ -114,7 +114,7 @@ pub fn deliver<R: Wait, G: Gate>(
     tell_failure(site, hand, parent, failed);
     site.pass(Point::Report(name));
     match site.table.report(hand, name) {
-        Report::Last => Next::Go(parent),
+        Report::Last => Next::Go(parent.node),
         Report::Others => Next::Rest,
     }
 }

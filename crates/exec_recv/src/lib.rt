@@ -9,7 +9,7 @@
 //!     step of a node --deliver--> finished --fail_stop--> reported --Go--> step of its parent
 //!                    |                      (a `when_all` whose child failed)
 //!                    +--> Rest: it awaits children
-//!                    +--> Ready, Parked: it goes on later
+//!                    +--> InLoop, InPool, Parked: it goes on later
 #![tactic(auto)]
 
 mod delivering;

@@ -42,7 +42,7 @@ module _ {M : Type 0} (hears : HearsOf M) (does : Does) (board : Board Blueprint
       HearsEach hears others posted mail' → HearsAll hears mail mail' (WalksOn does board x next first m')
 
   -- so it is at first
-  pub completes-first : (going : Option Name) (m : Seated Item Entry) (posted : M) → LeadsTo board next going first m →
+  pub completes-first : (going : Option Name) (m : Seated Item Entry) (posted : M) → LeadsTo board x next going first m →
       HearsEach hears (ready_after x next) mail posted → Completes going m posted
   completes-first going m posted follows heard m' mail' others walks more =
       record {

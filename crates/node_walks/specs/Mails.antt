@@ -2,15 +2,17 @@
 use Rattle.std.specs.Prelude.{◌≡◌, List, [], ◌∷◌}
 use Rattle.life_rules.specs.declared.event.Name.{Name}
 use Rattle.node_tree.specs.declared.context.Context.{Context}
+use Rattle.node_tree.specs.declared.context.Context.TheVariants.{Loop, Pool}
 use Rattle.exec_recv.specs.declared.next.Next.{Next}
-use Rattle.exec_recv.specs.declared.next.Next.TheVariants.{Go, Rest, Ready, Parked}
+use Rattle.exec_recv.specs.declared.next.Next.TheVariants.{Go, Rest, InLoop, InPool, Parked}
 use Rattle.node_walks.specs.declared.mail.ReadyNode.{ReadyNode}
 
 -- The node that a step of x left ready which ended so, where it left one.
 abbrev pub ready_after : Name → Next → List ReadyNode
-ready_after x (Go y) = []
+ready_after x (Go n) = []
 ready_after x Rest = []
-ready_after x (Ready on) = record { name = x; on = on } ∷ []
+ready_after x InLoop = record { name = x; on = Loop } ∷ []
+ready_after x InPool = record { name = x; on = Pool } ∷ []
 ready_after x Parked = []
 
 -- What a mail does with the name of a node that is ready in a context.

@@ -1,6 +1,7 @@
 -- A hand that steps nodes one after the other, until it is at rest.
 use Rattle.std.specs.Prelude.{◌≡◌, ⊤, List, [], ◌++◌, Option, Some, None}
 use Rattle.life_rules.specs.declared.event.Name.{Name}
+use Rattle.life_rules.specs.Views.{beside}
 use Rattle.plan_shape.specs.Blueprint.{Blueprint}
 use Rattle.table_steps.specs.Views.{Board, aim_at}
 use Rattle.table_steps.specs.Begins.{Begins}
@@ -10,7 +11,7 @@ use Rattle.home_items.specs.contracts.item.ItemCargo.TheImpl.{ghosts}
 use Rattle.home_items.specs.declared.entry.Entry.{Entry}
 use Rattle.home_items.specs.declared.item.Item.{Item}
 use Rattle.exec_recv.specs.declared.next.Next.{Next}
-use Rattle.exec_recv.specs.declared.next.Next.TheVariants.{Go, Rest, Ready, Parked}
+use Rattle.exec_recv.specs.declared.next.Next.TheVariants.{Go, Rest, InLoop, InPool, Parked}
 use Rattle.exec_recv.specs.Nexts.{IsStepped}
 use Rattle.exec_recv.specs.Sites.{Did, Does}
 use Rattle.node_walks.specs.declared.mail.ReadyNode.{ReadyNode}
@@ -41,14 +42,15 @@ pub record GoesWith (y : Name) (going : Option Name) (m m' : Seated Item Entry) 
   pub going_is : going ≡ Some y
   pub same : IsSame m m'
 
--- After a step that ended so the hand goes on with the node that it names, and else with one whose
--- start it owed.
-abbrev pub LeadsTo : Board Blueprint → Next → Option Name → Seated Item Entry → Seated Item Entry →
-    Type 0
-LeadsTo board (Go y) going m m' = GoesWith y going m m'
-LeadsTo board Rest going m m' = FindsOwed board going m m'
-LeadsTo board (Ready on) going m m' = FindsOwed board going m m'
-LeadsTo board Parked going m m' = FindsOwed board going m m'
+-- After a step of x that ended so the hand goes on with the node that it names, of the same
+-- operation, and else with one whose start it owed.
+abbrev pub LeadsTo : Board Blueprint → Name → Next → Option Name → Seated Item Entry →
+    Seated Item Entry → Type 0
+LeadsTo board x (Go n) going m m' = GoesWith (beside x n) going m m'
+LeadsTo board x Rest going m m' = FindsOwed board going m m'
+LeadsTo board x InLoop going m m' = FindsOwed board going m m'
+LeadsTo board x InPool going m m' = FindsOwed board going m m'
+LeadsTo board x Parked going m m' = FindsOwed board going m m'
 
 -- A step of x did what a step of its does, and left these nodes ready: x, or none. The hand goes on
 -- with this node, or with none.
@@ -58,7 +60,7 @@ pub record StepsOnce (does : Does) (board : Board Blueprint) (x : Name) (going :
   pub between : Seated Item Entry
   pub did : Did does board x next m between
   pub stepped : IsStepped board x m between next
-  pub follows : LeadsTo board next going between m'
+  pub follows : LeadsTo board x next going between m'
   pub ready_is : ready ≡ ready_after x next
 
 -- The hand went on with this node, where there is one, and from each step to the next, until it had
@@ -75,7 +77,7 @@ pub record WalksOn (does : Does) (board : Board Blueprint) (x : Name) (next : Ne
     (m m' : Seated Item Entry) (ready : List ReadyNode) : Type 0 where
   pub going : Option Name
   pub found : Seated Item Entry
-  pub follows : LeadsTo board next going m found
+  pub follows : LeadsTo board x next going m found
   pub others : List ReadyNode
   pub walks : Walks does board going found m' others
   pub ready_is : ready ≡ ready_after x next ++ others

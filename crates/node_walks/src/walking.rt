@@ -12,6 +12,7 @@ ghost use Rattle.node_walks.specs.Walks.{FindsOwed, LeadsTo, StepsOnce, WalksOn}
 use crate::mail::Mail;
 use exec_recv::{Item, Next, Site, Stepper};
 use life_rules::Name;
+use node_tree::Context;
 use op_slot::Hand;
 use std::sync::Wait;
 
@@ -47,14 +48,18 @@ fn find_next<T: Stepper, M: Mail, R: Wait + Sync>(
     ensures stays { Stays site.now hand.old hand.new }
     ensures aside { KeepsAside hand.old.me hand.new.me }
     ensures next { GoesOn site.now result hand.new.me }
-    ensures follows { LeadsTo site.now next result hand.old.me hand.new.me }
+    ensures follows { LeadsTo site.now name next result hand.old.me hand.new.me }
     ensures mail { M.keeps mail.old mail.new }
     ensures heard { HearsEach M.hears (ready_after name next) mail.old mail.new }
 {
     match next {
-        Next::Go(next) => Some(next),
-        Next::Ready(on) => {
-            mail.ready(site.rt, name, on);
+        Next::Go(node) => Some(Name { node, ..name }),
+        Next::InLoop => {
+            mail.ready(site.rt, name, Context::Loop);
+            begin_owed(site, hand)
+        }
+        Next::InPool => {
+            mail.ready(site.rt, name, Context::Pool);
             begin_owed(site, hand)
         }
         Next::Rest | Next::Parked => begin_owed(site, hand),

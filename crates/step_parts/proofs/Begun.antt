@@ -171,7 +171,7 @@ module _ (board : Board Blueprint) (t : Stepping) (n : ℕ) (args : List Datum) 
         let did = begins.begins.began.did in
         begun_as board.frame.tree y (start_in puts.starts.begin.item) did.told did.told_children
 
-    stepped : IsStepped board x full.me new.me (Go y)
+    stepped : IsStepped board x full.me new.me (Go n)
     stepped =
         let apart = stays.hand.seated.apart in
         record {
@@ -198,7 +198,7 @@ module _ (board : Board Blueprint) (t : Stepping) (n : ℕ) (args : List Datum) 
           };
         }
 
-    pub awaits-child : (next : Next) → next ≡ Go y → AwaitsChild board t n args asked next full new
+    pub awaits-child : (next : Next) → next ≡ Go n → AwaitsChild board t n args asked next full new
     awaits-child next is =
         record {
           steps = steps-on board t full new stays may.taken next (subst (λ o. IsStepped board x full.me new.me o) (sym is) stepped);

@@ -3,6 +3,7 @@ use Rattle.std.proofs.Common.{◌≡◌, inl, inr, ℕ, ◌≤◌, Bool, true, L
 use Rattle.std.specs.Prelude.{Option, Some, None}
 use Rattle.std.proofs.lemmas.Option.{same_Some}
 use Rattle.life_rules.specs.declared.event.Name.{Name}
+use Rattle.life_rules.specs.declared.event.Resting.{Resting}
 use Rattle.node_tree.specs.Tree.{is_child}
 use Rattle.plan_shape.specs.Blueprint.{Blueprint}
 use Rattle.table_rules.specs.declared.view.Held.{Held}
@@ -18,9 +19,9 @@ use Rattle.home_items.specs.declared.item.Item.{Item}
 use Rattle.home_items.specs.Fits.{FitsHome}
 use Rattle.home_items.specs.Items.{start_in, GoesOn}
 use Rattle.exec_recv.specs.declared.next.Next.{Next}
-use Rattle.exec_recv.specs.declared.next.Next.TheVariants.{Go, Rest, Ready as IsReadyIn, Parked}
+use Rattle.exec_recv.specs.declared.next.Next.TheVariants.{Go, Rest, InLoop, InPool, Parked}
 use Rattle.exec_recv.specs.Family.{AreOwedElsewhere}
-use Rattle.exec_recv.specs.Nexts.{OwesNewBelow, IsNext, IsStepped}
+use Rattle.exec_recv.specs.Nexts.{LeftAt, OwesNewBelow, IsNext, IsStepped}
 use Rattle.exec_recv.specs.Steppable.{IsDoneBelow}
 use Rattle.exec_recv.proofs.Asiding.{aside-here, aside-on}
 use Rattle.exec_recv.proofs.Fitting.{hears-still}
@@ -56,28 +57,24 @@ module _ (board : Board Blueprint) (x : Name) where
 
   -- a step that goes on from there began before
   module _ (m between m' : Seated Item Entry) (first : KeepsOthers board x m between) where
+    left-after : (to : Resting) → LeftAt board x between m' to → LeftAt board x m m' to
+    left-after to is =
+        record {
+          lets_go = is.lets_go ∙ first.others;
+          read = is.read;
+          left = is.left;
+          earlier = is.earlier;
+          steps_are = is.steps_are;
+          says = is.says;
+        }
+
     next-after : (next : Next) → IsNext board x between m' next → IsNext board x m m' next
-    next-after (Go y) is =
+    next-after (Go n) is =
         record { held = is.held; holds = is.holds ∙ ap (λ (l : List (Held Entry)). is.held ∷ l) first.others; can = is.can }
     next-after Rest is = is ∙ first.others
-    next-after (IsReadyIn on) is =
-        record {
-          lets_go = is.lets_go ∙ first.others;
-          read = is.read;
-          left = is.left;
-          earlier = is.earlier;
-          steps_are = is.steps_are;
-          says = is.says;
-        }
-    next-after Parked is =
-        record {
-          lets_go = is.lets_go ∙ first.others;
-          read = is.read;
-          left = is.left;
-          earlier = is.earlier;
-          steps_are = is.steps_are;
-          says = is.says;
-        }
+    next-after InLoop is = left-after _ is
+    next-after InPool is = left-after _ is
+    next-after Parked is = left-after _ is
 
     owes-after : OwesNewBelow board x between m' → OwesNewBelow board x m m'
     owes-after new y owes =

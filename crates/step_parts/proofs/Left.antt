@@ -8,8 +8,6 @@ use Rattle.life_rules.specs.declared.event.Resting.TheVariants.{Loop as InLoop, 
 use Rattle.life_rules.specs.declared.words.ControlWord.TheVariants.{Busy}
 use Rattle.life_rules.specs.Words.{resting_at}
 use Rattle.listed_words.specs.Lists.{entry}
-use Rattle.node_tree.specs.declared.context.Context.{Context}
-use Rattle.node_tree.specs.declared.context.Context.TheVariants.{Loop, Pool}
 use Rattle.plan_shape.specs.Blueprint.{Blueprint}
 use Rattle.plan_kinds.specs.Small.{IsSmall}
 use Rattle.table_rules.specs.ShownViews.{has_source_ref}
@@ -19,7 +17,6 @@ use Rattle.table_steps.specs.Lefts.{LeavesControl}
 use Rattle.table_steps.specs.Rests.{CanRest, RestsAt}
 use Rattle.table_steps.specs.Slots.{slot_of, kept as kept_at, is_of_family, has_seen}
 use Rattle.table_steps.specs.Steps.{control_index}
-use Rattle.table_steps.specs.Takes.{resting_in}
 use Rattle.op_slot.proofs.Kept.{kept-shed}
 use Rattle.op_slot.proofs.Leaving.{GoesOn as GoesOnHeld, tends-rests}
 use Rattle.home_items.specs.contracts.item.ItemCargo.TheImpl.{ghosts}
@@ -32,27 +29,21 @@ use Rattle.home_items.specs.Fits.{FitsHome, KeepsChild, MayRest}
 use Rattle.home_items.specs.Items.{completion_in, saw_in}
 use Rattle.home_items.specs.Parcels.{Delivery}
 use Rattle.exec_recv.specs.declared.next.Next.{Next}
-use Rattle.exec_recv.specs.declared.next.Next.TheVariants.{Ready}
 use Rattle.exec_recv.specs.Asides.{aside_of}
-use Rattle.exec_recv.specs.Nexts.{IsNext, IsStepped, LeftAt}
+use Rattle.exec_recv.specs.Nexts.{next_for, IsNext, IsStepped, LeftAt}
 use Rattle.exec_recv.specs.Seats.{HandSeat}
 use Rattle.exec_recv.proofs.Moves.{moves-control}
 use Rattle.exec_recv.proofs.Asiding.{aside-one}
 use Rattle.exec_recv.proofs.Starts.{KeepsHomes, all-still, owes-no-more}
 use Rattle.step_parts.specs.Changes.{ChangesTo}
 use Rattle.step_parts.specs.Heard.{MaySee}
-use Rattle.step_parts.specs.Leaves.{next_for, MayLeave, LeavesAt}
+use Rattle.step_parts.specs.Leaves.{MayLeave, LeavesAt}
 use Rattle.step_parts.specs.Midway.{IsMidway}
 use Rattle.step_parts.specs.Stepping.{Stepping}
 use Rattle.step_parts.proofs.Changing.{changes-taken, put-midway}
 use Rattle.step_parts.proofs.Completed.{or-right, unheard}
 use Rattle.step_parts.proofs.Ended.{steps-on}
 use Rattle.step_parts.proofs.Swapping.{swap-heard}
-
--- a node that is ready in a context is found there
-pub ready-next : (on : Context) → Ready on ≡ next_for (resting_in on)
-ready-next Loop = refl
-ready-next Pool = refl
 
 -- The node's start lies in its home, with this parcel of its child.
 module _ (board : Board Blueprint) (x : Name) (start : List Entry) (kept : Option Delivery) (least : ℕ) (m : Seated Item Entry)

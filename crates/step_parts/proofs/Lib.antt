@@ -30,3 +30,4 @@ pub mod Begun
 pub mod Puts
 pub mod Several
 pub mod AllStarted
+pub mod Copied

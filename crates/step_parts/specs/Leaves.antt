@@ -2,10 +2,8 @@
 use Rattle.std.specs.Prelude.{◌≡◌, ◌≢◌, Option, Some}
 use Rattle.exec_value.specs.declared.outcome.Completion.TheVariants.{NoMemory}
 use Rattle.life_rules.specs.declared.event.Resting.{Resting}
-use Rattle.life_rules.specs.declared.event.Resting.TheVariants.{Loop as InLoop, Pool as InPool, Parked as IsParked}
 use Rattle.life_rules.specs.declared.words.ControlWord.TheVariants.{Busy}
 use Rattle.life_rules.specs.Words.{resting_at}
-use Rattle.node_tree.specs.declared.context.Context.TheVariants.{Loop, Pool}
 use Rattle.plan_kinds.specs.Small.{IsSmall}
 use Rattle.plan_shape.specs.Blueprint.{Blueprint}
 use Rattle.table_steps.specs.Views.{Board, aim_at}
@@ -22,19 +20,13 @@ use Rattle.home_items.specs.Fits.{KeepsChild, MayRest}
 use Rattle.home_items.specs.Items.{completion_in, saw_in}
 use Rattle.home_items.specs.Parcels.{Delivery}
 use Rattle.exec_recv.specs.declared.next.Next.{Next}
-use Rattle.exec_recv.specs.declared.next.Next.TheVariants.{Ready as IsReadyIn, Parked}
+use Rattle.exec_recv.specs.Nexts.{next_for}
 use Rattle.exec_recv.specs.Seats.{HandSeat}
 use Rattle.exec_recv.specs.Sites.{Steps}
 use Rattle.step_parts.specs.Heard.{MaySee}
 use Rattle.step_parts.specs.Midway.{Ready}
 use Rattle.step_parts.specs.Stepping.{Stepping}
 use Rattle.step_parts.specs.Takes.{IsTaken}
-
--- where the node is found, that was left so
-abbrev pub next_for : Resting → Next
-next_for InLoop = IsReadyIn Loop
-next_for InPool = IsReadyIn Pool
-next_for IsParked = Parked
 
 module _ (board : Board Blueprint) (t : Stepping) (kept : Option Delivery) where
   -- The node may go on later with this parcel of its child.

@@ -1,6 +1,7 @@
 -- How a step starts a child of its node, which the hand goes on with.
 use Rattle.std.specs.Prelude.{◌≡◌, ◌⊎◌, ℕ, ◌≤◌, Bool, true, false, List, [], ◌∷◌, Contains, Some, None, slice_get}
 use Rattle.exec_value.specs.declared.data.Datum.{Datum}
+use Rattle.exec_value.specs.declared.data.Datum.TheVariants.{Int}
 use Rattle.exec_value.specs.Place.{AreInPlace}
 use Rattle.life_rules.specs.Views.{beside}
 use Rattle.node_tree.specs.Tree.{is_child}
@@ -24,12 +25,19 @@ use Rattle.exec_recv.specs.declared.next.Next.{Next}
 use Rattle.exec_recv.specs.declared.next.Next.TheVariants.{Go}
 use Rattle.exec_recv.specs.Seats.{HandSeat}
 use Rattle.exec_recv.specs.Sites.{Steps}
+use Rattle.step_parts.specs.declared.copying.Carried.{Carried}
+use Rattle.step_parts.specs.declared.copying.Carried.TheVariants.{Int as Number, Other}
 use Rattle.step_parts.specs.Leaves.{LeavesAt}
 use Rattle.life_rules.specs.declared.event.Resting.TheVariants.{Loop as InLoop}
 use Rattle.step_parts.specs.Midway.{Ready}
 use Rattle.step_parts.specs.Stepping.{Stepping}
 use Rattle.step_parts.specs.Takes.{IsTaken, Keeps}
 use Rattle.step_parts.specs.Wants.{EndsWanting}
+
+-- the data of which it is a copy
+abbrev pub data_in : Carried → List Datum
+data_in (Number n) = Int n ∷ []
+data_in (Other values) = values
 
 -- the child runs with the arguments of the node that has this start
 abbrev pub RunsBelow : List Entry → ℕ → Type 0
@@ -59,7 +67,7 @@ module _ (board : Board Blueprint) (t : Stepping) (n : ℕ) where
   pub record AwaitsChild (args : List Datum) (asked : Bool) (next : Next)
       (old new : HandSeat) : Type 0 where
     pub steps : Steps board t.name next t.from new
-    pub next_is : next ≡ Go (beside t.name n)
+    pub next_is : next ≡ Go n
     pub begins : BeginsChild ghosts board.frame t.name n (Start (start_with n args asked t.start))
         old.me new.me
 
@@ -67,7 +75,7 @@ module _ (board : Board Blueprint) (t : Stepping) (n : ℕ) where
   pub record Begins (args : List Datum) (asked : Bool) (next : Next)
       (old new : HandSeat) : Type 0 where
     pub steps : Steps board t.name next t.from new
-    pub next_is : next ≡ Go (beside t.name n)
+    pub next_is : next ≡ Go n
     pub full : Seated Item Entry
     pub was : Item
     pub put : IsSwapped board.frame t.name (Some (Rest t.start None)) (Some was) old.me full

@@ -2,15 +2,51 @@
 ghost use Rattle.std.specs.Prelude.{◌≡◌, IfOk, IsOk};
 ghost use Rattle.exec_value.specs.Place.{AreInPlace};
 ghost use Rattle.home_items.specs.Entries.{carried_of};
+ghost use Rattle.step_parts.specs.Starts.{data_in};
 ghost use Rattle.step_parts.specs.Takes.{IsTaken, Keeps};
 
 use crate::taken::Taken;
 use exec_recv::{Item, Site};
-use exec_value::{Data, copy_data};
+use exec_value::{Data, Datum, copy_data};
 use op_slot::Hand;
 use std::alloc::{AllocError, Global};
 use std::sync::Wait;
 use std::thread::yield_now;
+
+/// A copy of a node's arguments. One int is apart: it needs no room in memory until it is put.
+#[derive(Drop)]
+pub(crate) enum Carried {
+    Int(i64),
+    Other(Data),
+}
+
+impl Carried {
+    /// A copy of these data. Where they stand in place, it wants no memory.
+    #[inline(always)]
+    pub(crate) fn of(alloc: Global, values: &Data) -> Result<Carried, AllocError>
+        ensures copies { IfOk result (λ copy. data_in copy ≡ values.now) }
+        ensures in_place { AreInPlace values.now → IsOk result }
+    {
+        match values.one_int() {
+            Some(number) => Ok(Carried::Int(number)),
+            None => match copy_data(alloc, values) {
+                Ok(copy) => Ok(Carried::Other(copy)),
+                Err(AllocError) => Err(AllocError),
+            },
+        }
+    }
+
+    /// The data.
+    #[inline(always)]
+    pub(crate) fn into_data(self, alloc: Global) -> Data
+        ensures { result ≡ data_in self }
+    {
+        match self {
+            Carried::Int(number) => Data::one(alloc, Datum::Int(number)),
+            Carried::Other(values) => values,
+        }
+    }
+}
 
 /// A copy of the node's arguments. Where they stand in place, it wants no memory.
 #[inline(always)]

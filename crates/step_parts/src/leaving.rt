@@ -61,7 +61,7 @@ pub fn leave_at_rest<R, G>(
 {
     let name = rest(site, hand, taken, kept);
     site.table.rest(hand, name, on);
-    Next::Ready(on)
+    Next::ready_in(on)
 }
 
 /// Leaves the node parked. What is said of `leave_at_rest` is said of this.

@@ -44,5 +44,7 @@ pub use origin::Origin;
 pub use settling::settle;
 pub use starting::{begin, start_again, start_child, start_top};
 pub use taken::{Taken, TakenUp};
-pub use taking::{take_back, take_back_into, take_child, take_kept, take_one, take_up};
+pub use taking::{
+    take_back, take_back_into, take_child, take_child_into, take_kept, take_one, take_up,
+};
 pub use wanting::{want_memory, without_memory};

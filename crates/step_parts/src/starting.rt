@@ -6,14 +6,15 @@ ghost use Rattle.table_steps.specs.Readings.{KnowsIdle};
 ghost use Rattle.home_items.specs.Contents.{Rest};
 ghost use Rattle.home_items.specs.Entries.{carried_of, asked_of};
 ghost use Rattle.step_parts.specs.Changes.{LiesAt, ChangesTo};
-ghost use Rattle.step_parts.specs.Starts.{MayBegin, MayRun, AwaitsChild, Begins, StartsChild, StartsAgain, StartsTop};
+ghost use Rattle.step_parts.specs.Starts.{data_in, MayBegin, MayRun, AwaitsChild, Begins, StartsChild, StartsAgain, StartsTop};
 ghost use Rattle.step_parts.specs.Takes.{IsTaken, Keeps};
 
+use crate::copying::Carried;
 use crate::leaving::leave_at_rest;
 use crate::taken::Taken;
 use crate::wanting::without_memory;
 use exec_recv::{Env, Gate, Item, Next, Site};
-use exec_value::{Data, copy_data};
+use exec_value::{Data, Datum};
 use life_rules::Name;
 use node_tree::Context;
 use op_slot::Hand;
@@ -46,24 +47,38 @@ fn go_below<R, G>(
     } = taken;
     site.table
         .begin_child(hand, name, child, Item::starting(below));
-    Next::Go(Name {
-        node: child,
-        ..name
-    })
+    Next::Go(child)
+}
+
+// The same, out of the step's way.
+#[inline(never)]
+fn go_below_apart<R, G>(
+    site: &Site<R, G>,
+    hand: &mut Hand<Item>,
+    taken: Taken,
+    child: NodeId,
+    args: Data,
+    asked: bool,
+) -> Next
+    requires may { MayBegin site.now taken child args asked hand.old }
+    requires lies { LiesAt site.now taken (Rest taken.start None) hand.old.me }
+    ensures { AwaitsChild site.now taken child args asked result hand.old hand.new }
+{
+    go_below(site, hand, taken, child, args, asked)
 }
 
 // A copy of the node's arguments; then the node's start alone lies in its home. None where there is
 // no memory for it, which doesn't come where the arguments stand in place.
 #[inline(always)]
-fn rest_and_copy<R, G>(site: &Site<R, G>, hand: &mut Hand<Item>, taken: &Taken) -> Option<Data>
+fn rest_and_copy<R, G>(site: &Site<R, G>, hand: &mut Hand<Item>, taken: &Taken) -> Option<Carried>
     requires taken { IsTaken site.now taken.now hand.old }
     ensures changes { MatchOption result (Keeps site.now taken.now hand.old hand.new)
         (λ _. ChangesTo site.now taken.now (Rest taken.now.start None) hand.old hand.new) }
-    ensures copies { IfSome result (λ args. args ≡ carried_of taken.now.start) }
+    ensures copies { IfSome result (λ copy. data_in copy ≡ carried_of taken.now.start) }
     ensures in_place { AreInPlace (carried_of taken.now.start) → is_some result ≡ true }
 {
     match hand.item_mut(site.table, taken.name) {
-        Some(item) => match copy_data(site.alloc, item.args()) {
+        Some(item) => match Carried::of(site.alloc, item.args()) {
             Ok(args) => {
                 item.rest();
                 Some(args)
@@ -118,7 +133,11 @@ pub fn start_child<R: Wait, G: Gate>(
     ensures { StartsChild site.now taken child result hand.old hand.new }
 {
     match rest_and_copy(site, hand, &taken) {
-        Some(args) => go_below(site, hand, taken, child, args, asked),
+        Some(Carried::Int(number)) => {
+            let args = Data::one(site.alloc, Datum::Int(number));
+            go_below(site, hand, taken, child, args, asked)
+        }
+        Some(Carried::Other(args)) => go_below_apart(site, hand, taken, child, args, asked),
         None => without_memory(site, hand, taken),
     }
 }
@@ -170,7 +189,10 @@ pub fn start_top<R, G>(
 {
     let asked = taken.asked();
     match rest_and_copy(site, hand, &taken) {
-        Some(args) => go_below(site, hand, taken, child, args, asked),
+        Some(copy) => {
+            let args = copy.into_data(site.alloc);
+            go_below(site, hand, taken, child, args, asked)
+        }
         None => leave_at_rest(site, hand, taken, None, Context::Loop),
     }
 }

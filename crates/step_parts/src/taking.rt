@@ -15,6 +15,7 @@ use home_items::{Shown, State};
 use life_rules::Name;
 use op_slot::Hand;
 use plan_rules::NodeId;
+use std::mem;
 
 /// Takes up the node, whose step begins here. The answer says besides how far the node has come.
 ///
@@ -43,12 +44,12 @@ pub fn take_up<R, G>(site: &Site<R, G>, hand: &mut Hand<Item>, name: Name) -> (T
     }
 }
 
-// Empties the home.
+// Empties the home, whose item keeps nothing elsewhere in memory: there is nothing to drop.
 #[inline(always)]
 fn empty(home: &mut Option<Item>)
     ensures { home.new ≡ None }
 {
-    *home = None;
+    mem::forget(home.take());
 }
 
 /// Takes what lies in the home of a child of the node: the parcel with which the child completed,
@@ -74,9 +75,43 @@ pub fn take_child<R, G>(
     match hand.home_mut(site.table, below) {
         Some(home) => match home {
             Some(item) => {
-                let parcel = item.take_done();
+                let parcel = item.take_done(site.alloc);
                 empty(home);
                 Some(parcel)
+            }
+            None => None,
+        },
+        None => unreachable!(),
+    }
+}
+
+/// The same, where what the child completed with moves in place of what is no more wanted. Where
+/// nothing lay in the home, that stays.
+#[inline(always)]
+pub fn take_child_into<R, G>(
+    site: &Site<R, G>,
+    hand: &mut Hand<Item>,
+    taken: &Taken,
+    child: NodeId,
+    done: &mut Completion,
+) -> Option<Label>
+    requires child { is_child site.now.frame.tree taken.now.name.node child ≡ true }
+    requires opened { IsOpen site.now taken.now hand.old }
+    ensures takes { TakesChild site.now taken.now child
+        (option_map (λ label. delivery_of label done.new) result)
+        hand.old hand.new }
+    ensures stays { result ≡ None → done.new ≡ done.old }
+{
+    let below = Name {
+        node: child,
+        ..taken.name
+    };
+    match hand.home_mut(site.table, below) {
+        Some(home) => match home {
+            Some(item) => {
+                let label = item.give_done(site.alloc, done);
+                empty(home);
+                Some(label)
             }
             None => None,
         },
@@ -138,21 +173,7 @@ pub fn take_back_into<R, G>(
         hand.old hand.new }
     ensures stays { result ≡ None → done.new ≡ done.old }
 {
-    let below = Name {
-        node: child,
-        ..taken.name
-    };
-    match hand.home_mut(site.table, below) {
-        Some(home) => match home {
-            Some(item) => {
-                let label = item.give_done(done);
-                empty(home);
-                Some(label)
-            }
-            None => None,
-        },
-        None => unreachable!(),
-    }
+    take_child_into(site, hand, taken, child, done)
 }
 
 /// Takes up a node that awaits one child at a time, with what its child completed with.

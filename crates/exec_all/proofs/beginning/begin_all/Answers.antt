@@ -1,4 +1,4 @@
-use Rattle.std.proofs.Common.{inl, inr, true, sym, ◌∙◌}
+use Rattle.std.proofs.Common.{inl, inr, sym, ◌∙◌}
 use Rattle.std.proofs.lemmas.Bool.{both_ways}
 use Rattle.common_lemmas.proofs.Bool.{either}
 use Rattle.home_items.specs.Entries.{asked_of, carried_of}

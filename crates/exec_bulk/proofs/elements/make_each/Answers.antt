@@ -25,7 +25,7 @@ returns-in-Err g c =
     let applied = simp to_z-of_z at (sym c.at.ensures ∙ c.in-Err.is) in
     let fails = done-fault job c.args.first numbers c.loop-place.made.items place (pos 0) c.loop-place.invariant.done
     c.loop-place-test.true c.in-Err.fault applied in
-    let name = ap (λ (e : List _). Error e) c.in_ok-error_at-in-Err.ensures.exact in
+    let name = c.error.ensures ∙ ap (λ (e : List _). Error e) c.in_ok-error_at-in-Err.ensures.exact in
     makes-fault job c.args.first numbers (error_at (name_of c.in-Err.fault) (c.args.first + place)) _ fails name
 
 pub returns-in_err-error_at-in-Err : goal.returns-in_err-error_at-in-Err

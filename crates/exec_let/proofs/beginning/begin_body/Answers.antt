@@ -1,8 +1,7 @@
-use Rattle.std.proofs.Common.{Bool, true, false, List, sym, ap, ◌∙◌, subst}
+use Rattle.std.proofs.Common.{Bool, true, false, List, sym, ◌∙◌, subst}
 use Rattle.std.proofs.lemmas.Option.{same_Some}
 use Rattle.exec_value.specs.declared.data.Datum.{Datum}
 use Rattle.home_items.specs.Entries.{asked_of}
-use Rattle.start_laws.specs.Lets.{channel_of}
 use Rattle.step_parts.specs.Starts.{Begins, MayBegin}
 use Rattle.exec_let.proofs.Begun.{body-place, body-above, begun-leaves, idle-begins}
 use Rattle.exec_let.proofs.beginning.begin_body.Goals as goal
@@ -10,20 +9,18 @@ use Rattle.exec_let.proofs.beginning.begin_body.Goals as goal
 pub has_begun-requires-clause-place : goal.has_begun-requires-clause-place
 has_begun-requires-clause-place g c κs =
     rw (c.site.view_is, c.name.ensures)
-    (body-place c.args.site.now c.args.taken c.args.node.now c.args.parcel c.args.body c.args.hand.now c.hear-heard.new.hand c.requires.may
-    c.hear-heard.ensures.keeps c.hear-heard.result c.hear-heard.ensures.looked)
+    (body-place _ _ _ _ _ _ _ c.requires.may c.hear-heard.ensures.keeps c.hear-heard.result c.hear-heard.ensures.looked)
 
 pub has_begun-requires-clause-holds : goal.has_begun-requires-clause-holds
 has_begun-requires-clause-holds g c κs =
     rw (c.site.view_is, c.name.ensures)
-    (body-above c.args.site.now c.args.taken c.args.node.now c.args.parcel c.args.body c.args.hand.now c.hear-heard.new.hand c.requires.may
-    c.hear-heard.ensures.keeps c.hear-heard.result c.hear-heard.ensures.looked)
+    (body-above _ _ _ _ _ _ _ c.requires.may c.hear-heard.ensures.keeps c.hear-heard.result c.hear-heard.ensures.looked)
 
 pub leave_at_rest-requires : goal.leave_at_rest-requires
 leave_at_rest-requires g c = record {
-  may = begun-leaves c.args.site.now c.args.taken c.args.node.now c.args.parcel c.args.body c.args.hand.now c.hear-heard.new.hand c.requires.may
-      c.hear-heard.ensures.keeps c.hear-heard.result c.hear-heard.ensures.looked c.has_begun.new.hand
-      (rw c.site.view_is at c.has_begun.ensures.stays) (rw (c.site.view_is, c.name.ensures) at c.if-has_begun.ensures.begun);
+  may = rw c.parcel-kept.ensures
+      (begun-leaves _ _ _ _ _ _ _ c.requires.may c.hear-heard.ensures.keeps c.hear-heard.result c.hear-heard.ensures.looked c.has_begun.new.hand
+      (rw c.site.view_is at c.has_begun.ensures.stays) (rw (c.site.view_is, c.name.ensures) at c.if-has_begun.ensures.begun));
 }
 
 pub returns-then-has_begun-clause-begins : goal.returns-then-has_begun-clause-begins
@@ -34,25 +31,24 @@ returns-then-has_begun-clause-begins g c = record {
   begun = true;
   middle = c.has_begun.new.hand;
   read = rw (c.site.view_is, c.name.ensures) at c.if-has_begun.ensures.begun;
-  later = λ yes. c.leave_at_rest.ensures;
+  later = λ yes. rw c.parcel-kept.ensures at c.leave_at_rest.ensures;
   begins = λ values on no. cc;
 }
 
 pub begin-requires : goal.begin-requires
 begin-requires g c =
-    let on = ap (channel_of c.args.node.now) (sym c.into_completion-done.ensures) ∙ sym c.take_channel.ensures ∙ c.in-Some.is in
+    let on = sym c.take_channel.ensures ∙ c.in-Some.is in
     record {
       may = subst (λ (asked : Bool). MayBegin c.args.site.now c.args.taken c.args.body c.in-Some.values asked c.has_begun.new.hand)
           (sym c.asked-asked.ensures)
-          (idle-begins c.args.site.now c.args.taken c.args.node.now c.args.parcel c.args.body c.args.hand.now c.hear-heard.new.hand c.requires.may
-          c.hear-heard.ensures.keeps c.hear-heard.result c.hear-heard.ensures.looked c.has_begun.new.hand
+          (idle-begins _ _ _ _ _ _ _ c.requires.may c.hear-heard.ensures.keeps c.hear-heard.result c.hear-heard.ensures.looked c.has_begun.new.hand
           (rw c.site.view_is at c.has_begun.ensures.stays) (rw (c.site.view_is, c.name.ensures) at c.if-has_begun.ensures.begun) c.in-Some.values
           on);
     }
 
 pub returns-clause-begins : goal.returns-clause-begins
 returns-clause-begins g c =
-    let here = ap (channel_of c.args.node.now) (sym c.into_completion-done.ensures) ∙ sym c.take_channel.ensures ∙ c.in-Some.is in
+    let here = sym c.take_channel.ensures ∙ c.in-Some.is in
     record {
       saw = c.hear-heard.result;
       heard = c.hear-heard.new.hand;

@@ -43,7 +43,7 @@ returns-in-Last-clause-steps g c =
     let above = c.parent_of-parent.ensures in
     let told = rw (← c.site.view_is) at c.tell_failure.ensures in
     rw (← c.site.view_is)
-    (subst (λ (y : Name). Steps board c.args.name (Go y) c.args.hand.now c.report.new.hand) (sym above.name)
+    (subst (λ (y : Name). Steps board c.args.name (Go y.node) c.args.hand.now c.report.new.hand) (sym above.name)
     (record {
       stays = stays-on board c.args.hand.now c.finish.new.hand c.report.new.hand c.finish.ensures.stays
           (stays-on board c.finish.new.hand c.tell_failure.new.hand c.report.new.hand told.stays c.report.ensures.stays);
@@ -60,7 +60,7 @@ returns-in-Last-clause-delivers g c =
     let board = c.site.inside.table.now in
     let above = c.parent_of-parent.ensures in
     rw (← c.site.view_is)
-    (subst (λ (y : Name). Delivers board c.args.name (Go y) c.args.hand.now.me c.report.new.hand.me) (sym above.name)
+    (subst (λ (y : Name). Delivers board c.args.name (Go y.node) c.args.hand.now.me c.report.new.hand.me) (sym above.name)
     (delivered board c.args.name c.args.failed c.args.hand.now c.finish.new.hand.me (rw (← c.site.view_is) at c.requires.can)
     c.finish.ensures.finished c.tell_failure.new.hand.me
     (subst (λ (y : Name). HasTold board y c.args.failed c.finish.new.hand.me c.tell_failure.new.hand.me) above.name

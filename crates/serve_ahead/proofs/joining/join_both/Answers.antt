@@ -65,6 +65,16 @@ go_after-requires-clause-after g c κs within =
     has-stepped c.args.site.now c.args.at c.args.taken (Some c.args.parcel) c.args.hand.now c.requires.has c.complete-next.new.hand
     c.complete-next.result c.complete-next.ensures.steps
 
+pub returns-then-not-may_join-clause-joins : goal.returns-then-not-may_join-clause-joins
+returns-then-not-may_join-clause-joins g c = record {
+  heard = c.hear-heard.result;
+  looked = c.hear-heard.new.hand;
+  looks = c.hear-heard.ensures.looked;
+  middle = c.may_join.new.hand;
+  keeps = c.may_join.ensures.keeps;
+  how = inr c.give_up.ensures.serves;
+}
+
 pub returns-in-Some-clause-joins : goal.returns-in-Some-clause-joins
 returns-in-Some-clause-joins g c = record {
   heard = c.hear-heard.result;

@@ -1,5 +1,5 @@
 use Rattle.table_steps.specs.Takes.{resting_in}
-use Rattle.step_parts.proofs.Left.{leave-rests, leaves-at, ready-next}
+use Rattle.step_parts.proofs.Left.{leave-rests, leaves-at}
 use Rattle.step_parts.proofs.leaving.leave_at_rest.Goals as goal
 
 pub rest-requires-clause-needs : goal.rest-requires-clause-needs
@@ -11,4 +11,4 @@ pub returns : goal.returns
 returns g c =
     rw (← c.site.view_is)
     (leaves-at _ _ _ _ _ (rw (← c.site.view_is) at c.requires.may) (rw (← c.site.view_is) at c.rest-name.ensures.changes)
-    (resting_in c.args.on) _ _ (ready-next c.args.on) c.rest.ensures.stays (rw c.rest-name.ensures.name at c.rest.ensures.rests))
+    (resting_in c.args.on) _ _ c.ready_in.ensures c.rest.ensures.stays (rw c.rest-name.ensures.name at c.rest.ensures.rests))

@@ -1,4 +1,4 @@
-use Rattle.std.proofs.Common.{inl, inr}
+use Rattle.std.proofs.Common.{inl, inr, ◌∙◌}
 use Rattle.step_parts.proofs.Started.{run-may, run-starts, run-still}
 use Rattle.step_parts.proofs.Topped.{top-leaves}
 use Rattle.step_parts.proofs.starting.start_top.Goals as goal
@@ -6,7 +6,7 @@ use Rattle.step_parts.proofs.starting.start_top.Goals as goal
 pub go_below-requires-clause-may : goal.go_below-requires-clause-may
 go_below-requires-clause-may g c =
     rw (c.asked-asked.ensures)
-    (run-may _ _ _ _ _ c.requires.may _ c.in-Some.ensures.copies _ c.in-Some.ensures.changes c.requires.idle)
+    (run-may _ _ _ _ _ c.requires.may _ (c.into_data-args.ensures ∙ c.in-Some.ensures.copies) _ c.in-Some.ensures.changes c.requires.idle)
 
 pub leave_at_rest-requires : goal.leave_at_rest-requires
 leave_at_rest-requires g c = record {
@@ -16,7 +16,7 @@ leave_at_rest-requires g c = record {
 
 pub returns-in-Some : goal.returns-in-Some
 returns-in-Some g c =
-    inl (run-starts _ _ _ _ _ c.requires.may _ c.in-Some.ensures.copies _ c.in-Some.ensures.changes _ _
+    inl (run-starts _ _ _ _ _ c.requires.may _ (c.into_data-args.ensures ∙ c.in-Some.ensures.copies) _ c.in-Some.ensures.changes _ _
     (rw (c.asked-asked.ensures) at c.go_below.ensures))
 
 pub returns-in-None : goal.returns-in-None
