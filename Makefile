@@ -1,7 +1,6 @@
 # `make try` runs the sample before any proof, in under a minute on four free cores.
-# `make run` proves exec_run, the libraries below it side by side, and runs the sample: on a new machine less than `make
-# all`, seconds later.
-# `make all` proves exec_show and exec_join, too: from nothing 28 minutes on four free cores, 99 of a processor; later one.
+# `make run` proves the three programs, the libraries below them side by side, and runs the sample: on a new machine with
+# four free cores 28 minutes, 99 of a processor; seconds later.
 # `make test` is the gate: everything is proved, and the proved program is tested.
 # `make stress` runs the proved program some thousand times with 1 to 16 workers, for at most half an hour.
 # `make bench` measures the proved program, with mawk, jq and mlr beside it where they are installed (bench/measure.py),
@@ -9,7 +8,7 @@
 # `make growth` measures how its time and memory grow: with the records, the nodes and the workers (bench/growth.py).
 # `make docs` writes docs/PLANS.md, docs/exec_plan.5, docs/plan.schema.json, and the page and picture of the crates
 # (docs/make_rooms.py) again.
-# `make install` installs the programs that `make all` leaves, their manual pages, their completions in bash, zsh and fish,
+# `make install` installs the programs that `make run` leaves, their manual pages, their completions in bash, zsh and fish,
 # and below share/exec_run the schema of plans and senders.py, which writes plans in Python. All is below PREFIX (below
 # DESTDIR where that is given), and it builds nothing. `make uninstall` takes these files away.
 
@@ -28,21 +27,15 @@ SHARED := docs/plan.schema.json $(wildcard samples/senders.py)
 
 SOURCES := $(wildcard crates/*/src/*.rt crates/*/specs/*.antt)
 
-.PHONY: try run all test stress bench growth docs install uninstall
+.PHONY: try run test stress bench growth docs install uninstall
 try:
 	cd crates/exec_run && rt try --data add_one.json=../../$(PLAN) -- run add_one.json < ../../$(NUMBERS)
 
-run: $(PROGRAM)
+run: $(PROGRAM) $(SHOWS) $(JOINS)
 	$(PROGRAM) run $(PLAN) < $(NUMBERS)
 
-all:
+$(PROGRAM) $(SHOWS) $(JOINS) &: $(SOURCES)
 	tools/prove_programs.py exec_run exec_show exec_join
-
-$(PROGRAM): $(SOURCES)
-	tools/prove_programs.py exec_run
-
-$(SHOWS): $(SOURCES)
-	tools/prove_programs.py exec_show
 
 test:
 	.ci/run
@@ -63,7 +56,7 @@ docs: $(PROGRAM) $(SHOWS)
 
 install:
 	@for it in "$(PROGRAM)" "$(SHOWS)" "$(JOINS)"; do test -x "$$it" || \
-	  { echo "no program at $$it: \`make all\` proves and builds it" >&2; exit 1; }; done
+	  { echo "no program at $$it: \`make run\` proves and builds it" >&2; exit 1; }; done
 	install -D -m 755 "$(PROGRAM)" "$(BIN)/exec_run"
 	install -D -m 755 "$(SHOWS)" "$(BIN)/exec_show"
 	install -D -m 755 "$(JOINS)" "$(BIN)/exec_join"

@@ -148,7 +148,7 @@ def main():
     program = os.path.abspath(given.program)
     for name in NAMES:
         if not os.access(beside(program, name), os.X_OK):
-            sys.exit(f"no program at {beside(program, name)}: `make all` proves and builds it")
+            sys.exit(f"no program at {beside(program, name)}: `make run` proves and builds it")
     print(f"{given.records:,} records in {given.parts} parts\n")
     print(f"| | {' | '.join(TIMED)} | beside one after another |\n|---|{'---:|' * len(TIMED)}---|")
     with Room(program, given.records) as room:

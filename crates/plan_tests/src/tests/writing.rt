@@ -24,8 +24,8 @@ fn a_plan_of_twenty_nodes_comes_back(rt: HostRuntime) -> Result<(), Fail> {
 
 #[test]
 fn what_a_file_leaves_open_is_written(rt: HostRuntime) -> Result<(), Fail> {
-    let text =
-        r#" { "version" : 1, "root": { "values": ["\u0041\/\u00e9 \" \\ \n\u0001"], "do": "just" }, "input": "text" } "#;
+    let text = r#" { "version" : 1, "root": { "values": ["\u0041\/\u00e9 \" \\ \n\u0001"],
+            "do": "just" }, "input": "text" } "#;
     let canonical =
         r#"{"input":"text","on_error":"go","root":{"do":"just","values":["A/é \" \\ \n\u0001"]},"scope":"counting","version":1}"#;
     assert!(rt; is_written(rt.alloc(), text, canonical)?);
