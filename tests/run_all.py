@@ -2,8 +2,8 @@
 """Runs the tables of cases, the streams, spoilt plans and random ones over each build of the program, and over that of
 exec_show beside it; reads its pictures (tests/pictures.py), what it says of refused plans (tests/refusals.py) and of
 refused entries (tests/reasons.py), and its plans as text (tests/notation.py); refuses the program memory
-(tests/refused_memory.py); tries what is handed out beside it (tests/pages.py, tests/completions.py, tests/scale.py,
-tests/engines.py, tests/recorder.py); counts what is hard to read (tests/house.py); and checks the documents:
+(tests/refused_memory.py), and looks at what it keeps (tests/kept_memory.py); tries what is handed out beside it
+(tests/pages.py, tests/completions.py, tests/scale.py, tests/engines.py, tests/recorder.py); counts what is hard to read (tests/house.py); and checks the documents:
 docs/PLANS.md, docs/exec_plan.5 and docs/plan.schema.json must be what docs/make_plans.py writes with that build.
 
     tests/run_all.py [--gate STATUS] [PROGRAM..]
@@ -23,6 +23,7 @@ import check_docs
 import completions
 import engines
 import house
+import kept_memory
 import mutate_plans
 import notation
 import pages
@@ -78,7 +79,7 @@ def main():
             continue
         scripts = (
             run_cases, streams, mutate_plans, random_plans, pictures, refusals, reasons, notation, refused_memory, pages,
-            completions, scale, engines, recorder
+            kept_memory, completions, scale, engines, recorder
         )  # fmt: skip
         found = [it.run(program) for it in scripts]
         found.append(cookbook(program))
