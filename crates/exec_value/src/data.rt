@@ -139,6 +139,17 @@ impl Data {
         }
     }
 
+    // Nothing of the list lies elsewhere in memory, as far as a look tells.
+    #[inline(always)]
+    pub(crate) fn is_in_place(&self) -> bool {
+        match &self.items {
+            Items::None => true,
+            Items::One(Datum::Int(_)) => true,
+            Items::One(Datum::Row(row)) => row.is_in_place(),
+            _ => false,
+        }
+    }
+
     /// The list becomes one int. It takes no memory.
     #[inline(always)]
     pub fn set_int(&mut self, number: i64)
@@ -248,6 +259,7 @@ fn copy_items(alloc: Global, values: &Data) -> Result<Data, AllocError>
 {
     let items = match &values.items {
         Items::None => Items::None,
+        Items::One(Datum::Row(row)) => Items::One(Datum::Row(row.clone()?)),
         Items::One(datum) => Items::One(datum.clone()?),
         Items::Several(data) => Items::Several(Vec::from_clones(alloc, data.as_slice())?),
     };

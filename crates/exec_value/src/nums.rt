@@ -82,6 +82,12 @@ impl Nums {
         })
     }
 
+    // The row is of one number, which stands in place.
+    #[inline(always)]
+    pub(crate) fn is_in_place(&self) -> bool {
+        matches!(self.row, Row::One(_))
+    }
+
     /// The numbers.
     pub fn as_slice(&self) -> &[i64]
         ensures numbers { result.now ≡ self.now }

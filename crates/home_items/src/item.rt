@@ -1,17 +1,17 @@
 //! What lies in a home of a table over a plan.
-ghost use Rattle.std.specs.Prelude.{◌≡◌, true, false, None, Some, IfSome};
+ghost use Rattle.std.specs.Prelude.{◌≡◌, ◌≢◌, true, false, None, Some, IfSome};
 ghost use Rattle.exec_value.specs.declared.outcome.Completion.TheVariants.{Value};
 ghost use Rattle.plan_rules.specs.Allowed.{IsFailure};
 ghost use Rattle.home_items.specs.Contents.{Start, Rest, Done};
 ghost use Rattle.home_items.specs.Entries.{carried_of, record_number, asked_of, child_of};
-ghost use Rattle.home_items.specs.Items.{start_in, parcel_in, GoesOn, HasCompleted, state_of, without_parcel};
+ghost use Rattle.home_items.specs.Items.{start_in, parcel_in, completion_in, saw_in, GoesOn, HasCompleted, state_of, without_parcel};
 ghost use Rattle.home_items.specs.Parcels.{MayDeliver, IsDelivery, delivery_of, parcel_with};
 ghost use Rattle.home_items.specs.Starts.{IsStart};
 
 use crate::entry::Entry;
 use crate::env::Env;
 use crate::parcel::{Label, Parcel};
-use crate::placing::{empty_args, put_in_place};
+use crate::placing::empty_args;
 use crate::shown::{Shown, Shows};
 use exec_value::{Completion, Data};
 use plan_rules::NodeId;
@@ -20,6 +20,18 @@ use std::alloc::Global;
 use std::marker::Model;
 use std::mem;
 use table_rules::Cargo;
+
+/// What the completions of several children come to.
+pub trait Gathers {
+    ghost use Rattle.home_items.specs.Parcels.{Delivery, delivery_of};
+
+    /// How one more is added.
+    ghost adds: { Self → Self → Delivery → Type 0 };
+
+    /// One more, where it lies. What is left there is no more wanted.
+    fn gather(&mut self, label: Label, done: &mut Completion)
+        ensures { adds self.old self.new (delivery_of label done.old) };
+}
 
 /// How far the node of a home has come.
 #[derive(Clone, Copy, Debug, PartialEq, Eq)]
@@ -172,7 +184,21 @@ impl Item {
         } = parcel;
         self.state = State::Kept;
         self.saw = saw;
-        put_in_place(&mut self.completion, completion);
+        self.completion.put(completion);
+        self.from = shown;
+    }
+
+    /// The node goes on later, and keeps what its child completed with, which moves into its home.
+    #[inline(always)]
+    pub fn keep_done(&mut self, label: Label, done: &mut Completion)
+        requires goes_on { GoesOn self.old }
+        requires lawful { IsDelivery (delivery_of label done.old) }
+        ensures { self.new ≡ Rest (start_in self.old) (Some (delivery_of label done.old)) }
+    {
+        let Label { saw, shown } = label;
+        self.state = State::Kept;
+        self.saw = saw;
+        self.completion.put(mem::replace(done, Completion::Stopped));
         self.from = shown;
     }
 
@@ -223,14 +249,46 @@ impl Item {
         ensures lawful { IsDelivery (delivery_of result done.new) }
     {
         empty_args(&mut self.args, alloc);
-        put_in_place(
-            done,
-            mem::replace(&mut self.completion, Completion::NoMemory),
-        );
+        done.put(mem::replace(&mut self.completion, Completion::NoMemory));
         Label {
             saw: self.saw,
             shown: Shown::of(&self.from),
         }
+    }
+
+    /// What the node completed with is gathered where it lies. What stays is worth nothing, and
+    /// keeps nothing elsewhere in memory: the home is emptied next.
+    #[inline(always)]
+    pub fn give_to<A: Gathers>(&mut self, alloc: Global, all: &mut A)
+        requires { HasCompleted self.old }
+        ensures added { IfSome (parcel_in self.old) (A.adds all.old all.new) }
+        ensures lawful { IfSome (parcel_in self.old) IsDelivery }
+    {
+        empty_args(&mut self.args, alloc);
+        let label = Label {
+            saw: self.saw,
+            shown: Shown::of(&self.from),
+        };
+        all.gather(label, &mut self.completion);
+        self.completion.empty();
+    }
+
+    /// What the node keeps of its child.
+    #[inline(always)]
+    pub fn kept(&self) -> &Completion
+        requires { parcel_in self.now ≢ None }
+        ensures { completion_in self.now ≡ Some result.now }
+    {
+        &self.completion
+    }
+
+    /// Whether the child of which the node keeps something saw a request.
+    #[inline(always)]
+    pub fn kept_saw(&self) -> bool
+        requires { parcel_in self.now ≢ None }
+        ensures { result ≡ saw_in self.now }
+    {
+        self.saw
     }
 
     /// The node has completed so: that moves into its home. True where it failed: by an error, or
@@ -247,10 +305,7 @@ impl Item {
         self.state = State::Done;
         self.saw = saw;
         self.from = Shown::of(&self.shown);
-        put_in_place(
-            &mut self.completion,
-            mem::replace(done, Completion::Stopped),
-        );
+        self.completion.put(mem::replace(done, Completion::Stopped));
         failed
     }
 
@@ -267,7 +322,7 @@ impl Item {
         self.saw = false;
         self.from = Shown::of(&self.shown);
         let args = mem::replace(&mut self.args, Data::empty(alloc));
-        put_in_place(&mut self.completion, Completion::Value(args));
+        self.completion.put(Completion::Value(args));
     }
 
     /// The environment of a node that goes on, and what it keeps of its child.

@@ -23,7 +23,7 @@ mod shown;
 
 pub use entry::Entry;
 pub use env::Env;
-pub use item::{Item, State};
+pub use item::{Gathers, Item, State};
 pub use law::{collected_is_allowed, kinds_go_down, shares_make_the_row};
 pub use parcel::{Label, Parcel};
 pub use shown::{Shown, Shows};

@@ -7,7 +7,7 @@ ghost use Rattle.plan_rules.specs.Images.{then_of, upon_error_of, upon_stopped_o
 ghost use Rattle.plan_rules.specs.Images.{some_of, as_optional, as_error};
 ghost use Rattle.node_images.specs.Makes.{Makes};
 
-use crate::channel::{put, take_error, take_stopped, take_value};
+use crate::channel::{take_error, take_stopped, take_value};
 use exec_job::{Job, apply, apply_at, fault_ending};
 use exec_value::{Completion, Data, Datum, Txt};
 use std::alloc::{AllocError, Global};
@@ -26,7 +26,7 @@ pub fn then(alloc: Global, job: &Job, done: &mut Completion) -> Result<(), Alloc
         if let Some(number) = values.one_int() {
             match apply_at(job, 0, number) {
                 Ok(made) => values.set_int(made),
-                Err(fault) => put(done, fault_ending(alloc, fault)),
+                Err(fault) => done.put(fault_ending(alloc, fault)),
             }
         }
     }
@@ -73,7 +73,7 @@ fn apply_on(
     ensures { Makes (applied job.now taken done.old) done.new result }
 {
     if let Some(data) = taken {
-        put(done, apply(alloc, job, data)?);
+        done.put(apply(alloc, job, data)?);
     }
     Ok(())
 }
@@ -90,7 +90,7 @@ pub fn stopped_as_optional(alloc: Global, done: &mut Completion) -> Result<(), A
         Completion::Stopped => Datum::Nothing,
         _ => return Ok(()),
     };
-    put(done, Completion::Value(Data::one(alloc, datum)));
+    done.put(Completion::Value(Data::one(alloc, datum)));
     Ok(())
 }
 
@@ -111,7 +111,7 @@ pub fn stopped_as_error(name: &Txt, done: &mut Completion) -> Result<(), AllocEr
     ensures { Makes (as_error name.now done.old) done.new result }
 {
     if let Completion::Stopped = done {
-        put(done, Completion::error(name.clone()?));
+        done.put(Completion::error(name.clone()?));
     }
     Ok(())
 }

@@ -5,7 +5,6 @@ ghost use Rattle.exec_job.specs.Fault.{name_of};
 ghost use Rattle.exec_job.specs.Takes.{is_element};
 ghost use Rattle.plan_rules.specs.Bulks.{bulk_of, each_of, error_at, row_ending};
 
-use crate::channel::put;
 use exec_job::{Job, JobFault, apply_at};
 use exec_value::{Completion, Data, Datum, Nums, Txt};
 use itoa::Buffer;
@@ -23,7 +22,7 @@ pub fn apply_to_row(alloc: Global, job: &Job, done: &mut Completion) -> Result<(
         },
         _ => return Ok(()),
     };
-    put(done, made);
+    done.put(made);
     Ok(())
 }
 

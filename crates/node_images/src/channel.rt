@@ -7,25 +7,6 @@ use exec_value::{Completion, Data, Datum};
 use std::alloc::Global;
 use std::mem;
 
-// Drops what stands there, out of the way: where it is assigned over, each kind of it is dropped in
-// that place.
-#[inline(never)]
-fn clear(done: &mut Completion) {
-    *done = Completion::Stopped;
-}
-
-/// Puts a completion in its place. What stood there is dropped, where it isn't stopped: of that
-/// there is nothing to drop, and it isn't read.
-#[inline(always)]
-pub(crate) fn put(done: &mut Completion, made: Completion)
-    ensures { done.new ≡ made }
-{
-    if !matches!(done, Completion::Stopped) {
-        clear(done);
-    }
-    mem::forget(mem::replace(done, made));
-}
-
 /// The one in place of the other, which is dropped by a call.
 pub(crate) fn instead<A: Drop, B>(other: A, one: B) -> B
     ensures { result ≡ one }

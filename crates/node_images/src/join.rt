@@ -5,7 +5,7 @@ ghost use Rattle.plan_rules.specs.Images.{value_data};
 ghost use Rattle.plan_rules.specs.Settle.{ahead_of, all_of, and_then};
 ghost use Rattle.node_images.specs.Joined.{Tells};
 
-use crate::channel::{instead, put};
+use crate::channel::instead;
 use exec_value::{Completion, DATA, Data, Datum};
 use std::alloc::{AllocError, Global};
 use std::mem;
@@ -34,6 +34,44 @@ pub fn join_child(together: &mut Together, done: &mut Completion)
     ensures { (c : Completion) → Tells together.old c
         → Tells together.new (and_then c done.old) }
 {
+    if let Ok(Completion::Value(front)) = together {
+        if let Completion::Value(values) = done {
+            match join_to(front, values) {
+                Ok(()) => {}
+                Err(no_room) => *together = Err(no_room),
+            }
+            return;
+        }
+    }
+    join_other(together, done);
+}
+
+/// The values of one child more behind those of the children before it, where there is room for
+/// them. The first values move.
+fn join_to(front: &mut Data, values: &mut Data) -> Result<(), NoRoom>
+    ensures ok { OnOk result (front.new ≡ front.old ++ values.old) }
+    ensures err { IfErr result
+        (λ why. Tells (Err why) (Completion.Value (front.old ++ values.old))) }
+{
+    if front.as_slice().is_empty() {
+        mem::swap(front, values);
+        return Ok(());
+    }
+    if front.as_slice().len() + values.as_slice().len() > DATA {
+        return Err(NoRoom::Limit);
+    }
+    match append_all(front, values) {
+        Ok(()) => Ok(()),
+        Err(AllocError) => Err(NoRoom::Memory),
+    }
+}
+
+/// One child more, where it or one before it has no value.
+#[inline(never)]
+fn join_other(together: &mut Together, done: &mut Completion)
+    ensures { (c : Completion) → Tells together.old c
+        → Tells together.new (and_then c done.old) }
+{
     let next = mem::replace(done, Completion::Stopped);
     let front = mem::replace(together, Ok(Completion::Stopped));
     // what stands in between has nothing to drop
@@ -45,7 +83,7 @@ pub fn put_together(together: Together, done: &mut Completion) -> Result<(), NoR
     ensures ok { OnOk result (together ≡ Ok done.new) }
     ensures err { IfErr result (λ why. together ≡ Err why) }
 {
-    put(done, together?);
+    done.put(together?);
     Ok(())
 }
 

@@ -4,7 +4,6 @@ ghost use Rattle.exec_value.specs.declared.outcome.Completion.{Completion};
 ghost use Rattle.plan_rules.specs.Settle.{shown_of, unless_asked};
 ghost use Rattle.node_images.specs.Makes.{Makes};
 
-use crate::channel::put;
 use exec_value::{Completion, Data, Datum, Txt, copy_data};
 use plan_rules::Query;
 use std::alloc::{AllocError, Global};
@@ -13,7 +12,7 @@ use std::alloc::{AllocError, Global};
 pub fn put_value(alloc: Global, values: &Data, done: &mut Completion) -> Result<(), AllocError>
     ensures { Makes (Completion.Value values.now) done.new result }
 {
-    put(done, Completion::Value(copy_data(alloc, values)?));
+    done.put(Completion::Value(copy_data(alloc, values)?));
     Ok(())
 }
 
@@ -21,7 +20,7 @@ pub fn put_value(alloc: Global, values: &Data, done: &mut Completion) -> Result<
 pub fn put_error(name: &Txt, done: &mut Completion) -> Result<(), AllocError>
     ensures { Makes (Completion.Error name.now) done.new result }
 {
-    put(done, Completion::error(name.clone()?));
+    done.put(Completion::error(name.clone()?));
     Ok(())
 }
 
@@ -29,7 +28,7 @@ pub fn put_error(name: &Txt, done: &mut Completion) -> Result<(), AllocError>
 pub fn put_stopped(done: &mut Completion)
     ensures { done.new ≡ Completion.Stopped }
 {
-    put(done, Completion::Stopped);
+    done.put(Completion::Stopped);
 }
 
 /// What a node completes with that a context takes up: no data, unless a stop was asked.
@@ -37,9 +36,9 @@ pub fn put_scheduled(alloc: Global, asked: bool, done: &mut Completion)
     ensures { done.new ≡ unless_asked asked (Completion.Value []) }
 {
     if asked {
-        put(done, Completion::Stopped);
+        done.put(Completion::Stopped);
     } else {
-        put(done, Completion::Value(Data::empty(alloc)));
+        done.put(Completion::Value(Data::empty(alloc)));
     }
 }
 
@@ -51,5 +50,5 @@ pub fn put_shown(alloc: Global, query: Query, number: u32, asked: bool, done: &m
         Query::Stop => i64::from(asked),
         Query::Record => i64::from(number),
     };
-    put(done, Completion::Value(Data::one(alloc, Datum::Int(shown))));
+    done.put(Completion::Value(Data::one(alloc, Datum::Int(shown))));
 }

@@ -6,7 +6,6 @@ ghost use Rattle.exec_job.specs.Apply.{TakesData, apply_of};
 ghost use Rattle.plan_rules.specs.Allowed.{body_at};
 ghost use Rattle.node_images.specs.Picks.{picked_body};
 
-use crate::channel::put;
 use exec_job::{Job, apply};
 use exec_value::{Completion, Data, Datum, copy_data};
 use plan_rules::NodeId;
@@ -28,7 +27,7 @@ pub fn pick_body(
     ensures in_place { AreInPlace values.now → EndsInPlace (apply_of pick.now values.now)
         → IsOk result }
 {
-    put(done, apply(alloc, pick, copy_data(alloc, values)?)?);
+    done.put(apply(alloc, pick, copy_data(alloc, values)?)?);
     Ok(picked(done, bodies))
 }
 
