@@ -12,7 +12,7 @@ use op_slot::Hand;
 use plan_rules::NodeId;
 use std::sync::Wait;
 use step_parts::{
-    Gate, Item, Kind, Next, Site, Taken, leave_at_rest, start_top, take_kept, take_up,
+    Gate, Item, Kind, Next, Site, Taken, leave_at_rest, start_top, take_kept, take_up_top,
 };
 
 /// The receiver node: it starts the child that its start names, and where that has completed is
@@ -27,14 +27,12 @@ impl Kind for Receivers {
 
     ghost does = { ReceivesTop };
 
-    /// Step: those of `take_up`, and then those of `start_top`; or of `take_child` for each child,
-    /// and of `leave_at_rest`.
+    /// Step: those of `take_up_top`, and then those of `start_top`; or of `take_child` for each
+    /// child, and of `leave_at_rest`.
     #[inline(never)]
     fn step<R: Wait, G: Gate>(site: &Site<R, G>, hand: &mut Hand<Item>, name: Name) -> Next {
-        let (taken, state) = take_up(site, hand, name);
-        let Some(child) = taken.child() else {
-            unreachable!()
-        };
+        let (taken, state, child) = take_up_top(site, hand, name);
+        let Some(child) = child else { unreachable!() };
         match state {
             State::Start => start_top(site, hand, taken, child),
             _ => receive(site, hand, taken, child),

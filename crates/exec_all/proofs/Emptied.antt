@@ -14,11 +14,11 @@ use Rattle.exec_recv.specs.Seats.{HandSeat}
 use Rattle.step_parts.specs.Kids.{AreKids}
 use Rattle.step_parts.specs.Several.{emptied, Empties}
 use Rattle.step_parts.specs.Stepping.{Stepping}
-use Rattle.step_parts.specs.Takes.{IsOpenWith, IsOpen, IsFoundBelow}
+use Rattle.step_parts.specs.Takes.{IsOpenWith, IsOpen, IsFoundBelow, GathersChild}
 use Rattle.step_parts.proofs.Several.{not-before, emptied-else, empties-here, empties-open, empties-more}
 use Rattle.exec_all.specs.declared.joining.Joining.{Joining}
 use Rattle.exec_all.specs.Joined.{IsJoined, Adds}
-use Rattle.exec_all.specs.Opens.{parcel_of, ends_in, HaveEnded, OneIsEmpty, AddsOne, TakesAll}
+use Rattle.exec_all.specs.Opens.{parcel_of, ends_in, HaveEnded, OneIsEmpty, TakesAll}
 
 there : (o : Option Delivery) → is_some o ≡ true → (parcel : Delivery) × (o ≡ Some parcel)
 there None is = cc
@@ -65,7 +65,7 @@ module _ (board : Board Blueprint) (t : Stepping) (children : List ℕ) where
 
   module _ (all found : Bool) (joining next : Joining) (i : ℕ) (old between new : HandSeat) (kids : AreKids board t.name children)
       (inside : i < length children) (was : IsTaking all joining i old between)
-      (one : AddsOne board t (get_or children i 0) joining next found between new) where
+      (one : GathersChild board t Adds (get_or children i 0) joining next found between new) where
     abbrev n : ℕ
     n = get_or children i 0
 
@@ -123,7 +123,7 @@ module _ (board : Board Blueprint) (t : Stepping) (children : List ℕ) where
         joined-more =
             let at : suc i ≡ i + 1 = omega arith in
             subst (IsJoined next (ends_in kid children)) at
-            (subst (λ (o : Option Delivery). IfSome o (Adds joining next)) answer.1 one.adds (ends_in kid children) i end-here before.1)
+            (subst (λ (o : Option Delivery). IfSome o (Adds joining next)) answer.1 one.gathered (ends_in kid children) i end-here before.1)
 
       -- none lay there, or none in one before
       one-empty : (all && found) ≡ false → OneIsEmpty kid children (i + 1)

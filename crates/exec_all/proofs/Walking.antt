@@ -1,6 +1,6 @@
 -- What the parcels of a `when_all`'s children come to: the second walk is made apart, and put behind the first.
 use Rattle.std.proofs.Common.{◌≡◌, ◌≢◌, inl, inr, ℕ, zero, suc, Bool, true, false, not, ◌&&◌, [], ◌∷◌, arith, refl, sym, ap, ◌∙◌, subst}
-use Rattle.std.specs.Prelude.{⊤, Ok, Err, Result}
+use Rattle.std.specs.Prelude.{⊤, Result, Ok, Err, OnOk, IfErr}
 use Rattle.std.proofs.lemmas.Bool.{or_parts, or_from, both_ways, cases_eq}
 use Rattle.std.proofs.lemmas.List.{append-nil}
 use Rattle.exec_value.specs.declared.outcome.Completion.{Completion}
@@ -11,8 +11,7 @@ use Rattle.node_images.specs.declared.join.NoRoom.{NoRoom}
 use Rattle.node_images.specs.declared.join.NoRoom.TheVariants.{Memory, Limit}
 use Rattle.plan_rules.specs.Settle.{and_then}
 use Rattle.start_laws.specs.AllEnds.{is_failure, fails_late, joins_where, first_ends, late_ends, all_ends, saw_together}
-use Rattle.exec_all.specs.declared.joining.Joining.{Joining}
-use Rattle.exec_all.specs.Joined.{is_want, are_nothing, some_want, NoneWants, IsJoined, Fronts, TellsAll}
+use Rattle.exec_all.specs.Joined.{is_want, some_want, NoneWants, PutsAll, TellsAll}
 
 -- no data, or a failure
 abbrev IsLate : Completion → Type 0
@@ -123,17 +122,23 @@ all-merged : (ends : ℕ → Delivery) (n : ℕ) → NoneWants ends n →
 all-merged ends n none = merged ends n (first_ends ends n) (first-made ends n none)
 
 -- where none failed late, the first walk is all
-pub alone : (ends : ℕ → Delivery) (n : ℕ) (front : Result Completion NoRoom) (saw first : Bool) →
-    Fronts ends n front (Value []) saw first → Tells front (and_then (first_ends ends n) (Value []))
-alone ends n front saw first is = subst (Tells front) (sym (behind-none (first_ends ends n) (first-made ends n is.none))) is.front_is
+pub alone : (ends : ℕ → Delivery) (n : ℕ) (front : Result Completion NoRoom) → NoneWants ends n → Tells front (first_ends ends n) →
+    late_ends ends n (Value []) ≡ Value [] → Tells front (all_ends ends n)
+alone ends n front none tells nothing =
+    subst (Tells front)
+    (sym (all-merged ends n none ∙ ap (and_then (first_ends ends n)) nothing ∙ behind-none (first_ends ends n) (first-made ends n none))) tells
 
-pub nothing-is : (all : Result Completion NoRoom) → are_nothing all ≡ true → all ≡ Ok (Value [])
-nothing-is (Ok (Value [])) is = refl
-nothing-is (Ok (Value (x ∷ xs))) is = cc
-nothing-is (Ok (Error e)) is = cc
-nothing-is (Ok Stopped) is = cc
-nothing-is (Ok NoMemory) is = cc
-nothing-is (Err why) is = cc
+-- else what failed late is put behind it
+pub behind : (ends : ℕ → Delivery) (n : ℕ) (late : Completion) (all : Result Completion NoRoom) → NoneWants ends n →
+    late ≡ late_ends ends n (Value []) → Tells all (and_then (first_ends ends n) late) → Tells all (all_ends ends n)
+behind ends n late all none is joined =
+    subst (Tells all) (ap (and_then (first_ends ends n)) is ∙ sym (all-merged ends n none)) joined
+
+-- what tells all was put in place
+pub put-all : (ends : ℕ → Delivery) (n : ℕ) (all : Result Completion NoRoom) (done : Completion) (result : Result (Unit {0}) NoRoom) →
+    Tells all (all_ends ends n) → OnOk result (all ≡ Ok done) → IfErr result (λ why. all ≡ Err why) → PutsAll ends n done result
+put-all ends n all done (Ok unit) tells ok err = record { ok = subst (λ r. Tells r (all_ends ends n)) ok tells; err = tt }
+put-all ends n all done (Err why) tells ok err = record { ok = tt; err = subst (λ r. Tells r (all_ends ends n)) err tells }
 
 -- who wants memory
 want-is : (c : Completion) → is_want c ≡ false → c ≡ NoMemory → ⊥
@@ -173,32 +178,10 @@ late-room Limit (Error e) is more = more
 late-room Limit Stopped is more = more
 late-room Limit NoMemory is more = more
 
-module _ (joining : Joining) (ends : ℕ → Delivery) (n : ℕ) (is : IsJoined joining ends n) where
-  pub late-there : {G : Type 0} (why : NoRoom) → joining.late ≡ Err why → G
-  late-there why e =
-      absurd (late-room why (late_ends ends n (Value [])) (late-is ends n)
-      (subst (λ r. Tells r (late_ends ends n (Value []))) e is.late))
+pub late-there : {G : Type 0} (ends : ℕ → Delivery) (n : ℕ) (why : NoRoom) → Tells (Err why) (late_ends ends n (Value [])) → G
+late-there ends n why more = absurd (late-room why (late_ends ends n (Value [])) (late-is ends n) more)
 
-  -- what failed late is there
-  pub fronts : NoneWants ends n → (late : Completion) → joining.late ≡ Ok late → Fronts ends n joining.front late joining.saw joining.first
-  fronts none late e =
-      record {
-        none = none;
-        front_is = is.front;
-        late_is = subst (λ r. Tells r (late_ends ends n (Value []))) e is.late;
-        sees = is.sees;
-      }
-
-module _ (ends : ℕ → Delivery) (n : ℕ) (front : Result Completion NoRoom) (late : Completion) (saw first : Bool)
-    (is : Fronts ends n front late saw first) (both : Result Completion NoRoom)
-    (joined : Tells both (and_then (first_ends ends n) late)) where
-  both-is : Tells both (all_ends ends n)
-  both-is = subst (Tells both) (ap (and_then (first_ends ends n)) is.late_is ∙ sym (all-merged ends n is.none)) joined
-
-  pub both-err : (why : NoRoom) → both ≡ Err why → TellsAll ends n (Err why)
-  both-err why e = record { ok = tt; err = subst (λ r. Tells r (all_ends ends n)) e both-is }
-
-  pub both-ok : (done : Completion) (seen : Bool) → both ≡ Ok done → seen ≡ saw_together done ends n → TellsAll ends n (Ok (done, seen))
-  both-ok done seen e seen_is =
-      let same : done ≡ all_ends ends n = subst (λ r. Tells r (all_ends ends n)) e both-is in
-      record { ok = (same, seen_is ∙ ap (λ c. saw_together c ends n) same); err = tt }
+-- what all complete with, and whether a request was seen
+pub tells-ok : (ends : ℕ → Delivery) (n : ℕ) (done : Completion) (saw : Bool) → done ≡ all_ends ends n → saw ≡ saw_together done ends n →
+    TellsAll ends n done (Ok saw)
+tells-ok ends n done saw is seen = record { ok = (is, seen ∙ ap (λ c. saw_together c ends n) is); err = tt }

@@ -1,21 +1,17 @@
 -- What the parcels of a `when_all`'s children come to, one after the other.
-use Rattle.std.specs.Prelude.{◌≡◌, ◌≢◌, ◌&&◌, ◌||◌, not, ℕ, zero, suc, ◌<◌, Bool, true, false, [], Result, Ok, Err, IfOk, IfErr}
+use Rattle.std.specs.Prelude.{◌≡◌, ◌≢◌, ◌&&◌, ◌||◌, not, ℕ, zero, suc, ◌<◌, Bool, true, false, [], Option, Some, None, Result, Err, IfOk, OnOk, IfErr}
 use Rattle.exec_value.specs.declared.outcome.Completion.{Completion}
 use Rattle.exec_value.specs.declared.outcome.Completion.TheVariants.{Value, NoMemory}
 use Rattle.home_items.specs.Parcels.{Delivery}
 use Rattle.node_images.specs.Joined.{Tells}
 use Rattle.node_images.specs.declared.join.NoRoom.{NoRoom}
+use Rattle.plan_rules.specs.Settle.{and_then}
 use Rattle.start_laws.specs.AllEnds.{first_ends, late_ends, all_ends, some_saw, some_first, saw_together, all_saw}
 use Rattle.exec_all.specs.declared.joining.Joining.{Joining}
 
 abbrev pub is_want : Completion → Bool
 is_want NoMemory = true
 is_want done = false
-
--- they complete with no data
-abbrev pub are_nothing : Result Completion NoRoom → Bool
-are_nothing (Ok (Value [])) = true
-are_nothing all = false
 
 -- some of the first n children want memory
 abbrev pub some_want : (ℕ → Delivery) → ℕ → Bool
@@ -30,21 +26,18 @@ pub record Sees (ends : ℕ → Delivery) (n : ℕ) (saw first : Bool) : Type 0 
   pub saw_is : saw ≡ some_saw ends n
   pub first_is : first ≡ some_first ends n
 
+-- those that failed late complete with this; with no data, where there are none
+abbrev pub TellsLate : Option (Result Completion NoRoom) → Completion → Type 0
+TellsLate None c = c ≡ Value []
+TellsLate (Some late) c = Tells late c
+
 -- What the first n of these parcels come to: the two walks apart, of which the second begins with
 -- no data.
 pub record IsJoined (joining : Joining) (ends : ℕ → Delivery) (n : ℕ) : Type 0 where
   pub front : Tells joining.front (first_ends ends n)
-  pub late : Tells joining.late (late_ends ends n (Value []))
+  pub late : TellsLate joining.late (late_ends ends n (Value []))
   pub sees : Sees ends n joining.saw joining.first
   pub want : joining.want ≡ some_want ends n
-
--- so it is of the first n, none of which wants memory, and those that failed late make this
-pub record Fronts (ends : ℕ → Delivery) (n : ℕ) (front : Result Completion NoRoom)
-    (late : Completion) (saw first : Bool) : Type 0 where
-  pub none : NoneWants ends n
-  pub front_is : Tells front (first_ends ends n)
-  pub late_is : late ≡ late_ends ends n (Value [])
-  pub sees : Sees ends n saw first
 
 -- a parcel was noted that saw a request, failed or wants memory
 pub record Notes (saw failed want : Bool) (before after : Joining) : Type 0 where
@@ -54,12 +47,10 @@ pub record Notes (saw failed want : Bool) (before after : Joining) : Type 0 wher
   pub first_is : after.first ≡ (before.first || (not saw && failed))
   pub want_is : after.want ≡ (before.want || want)
 
--- what the first n complete with together, and whether a request was seen; or values for which
--- there is no room
-pub record TellsAll (ends : ℕ → Delivery) (n : ℕ)
-    (result : Result (Completion × Bool) NoRoom) : Type 0 where
-  pub ok : IfOk result (λ all. (all.0 ≡ all_ends ends n) × (all.1 ≡ all_saw ends n))
-  pub err : IfErr result (λ why. Tells (Err why) (all_ends ends n))
+-- this was joined to those that failed late, and nothing else changed
+pub record AddsLate (done : Completion) (before after : Joining) : Type 0 where
+  pub late : (c : Completion) → TellsLate before.late c → TellsLate after.late (and_then c done)
+  pub rest : after ≡ record before { late = after.late }
 
 -- the parcel was joined to those before it
 abbrev pub Adds : Joining → Joining → Delivery → Type 0
@@ -72,14 +63,29 @@ abbrev pub TellsSeen : Completion → Bool → Bool → Bool → Type 0
 TellsSeen done saw first answer =
     (ends : ℕ → Delivery) (n : ℕ) → Sees ends n saw first → answer ≡ saw_together done ends n
 
--- the answer is what all come to, where those that failed late make this
-abbrev pub FinishesFront : Result Completion NoRoom → Completion → Bool → Bool →
-    Result (Completion × Bool) NoRoom → Type 0
-FinishesFront front late saw first answer =
-    (ends : ℕ → Delivery) (n : ℕ) → Fronts ends n front late saw first → TellsAll ends n answer
+-- what the first n complete with together was put in its place; or it is values for which there is
+-- no room
+pub record PutsAll (ends : ℕ → Delivery) (n : ℕ) (done : Completion)
+    (result : Result (Unit {0}) NoRoom) : Type 0 where
+  pub ok : OnOk result (done ≡ all_ends ends n)
+  pub err : IfErr result (λ why. Tells (Err why) (all_ends ends n))
 
--- the answer is what all come to, none of which wants memory
-abbrev pub Finishes : Joining → Result (Completion × Bool) NoRoom → Type 0
-Finishes joining answer =
+-- so it was, where the two walks make these, and none wants memory
+abbrev pub PutsBoth : Result Completion NoRoom → Option (Result Completion NoRoom) → Completion →
+    Result (Unit {0}) NoRoom → Type 0
+PutsBoth front late done result =
+    (ends : ℕ → Delivery) (n : ℕ) → NoneWants ends n → Tells front (first_ends ends n) →
+    TellsLate late (late_ends ends n (Value [])) → PutsAll ends n done result
+
+-- what the first n complete with together was put in its place, and the answer is whether a request
+-- was seen; or it is values for which there is no room
+pub record TellsAll (ends : ℕ → Delivery) (n : ℕ) (done : Completion)
+    (result : Result Bool NoRoom) : Type 0 where
+  pub ok : IfOk result (λ saw. (done ≡ all_ends ends n) × (saw ≡ all_saw ends n))
+  pub err : IfErr result (λ why. Tells (Err why) (all_ends ends n))
+
+-- this and the answer are what all come to, none of which wants memory
+abbrev pub Finishes : Joining → Completion → Result Bool NoRoom → Type 0
+Finishes joining done result =
     (ends : ℕ → Delivery) (n : ℕ) → IsJoined joining ends n → NoneWants ends n →
-    TellsAll ends n answer
+    TellsAll ends n done result

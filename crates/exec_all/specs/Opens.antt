@@ -1,5 +1,5 @@
 -- What a `when_all` that has begun finds in the homes of its children.
-use Rattle.std.specs.Prelude.{◌≡◌, ◌≢◌, ℕ, ◌<◌, Bool, true, false, List, [], length, slice_index, Option, Some, None, is_some, IfSome}
+use Rattle.std.specs.Prelude.{◌≡◌, ◌≢◌, ℕ, ◌<◌, Bool, true, false, List, [], length, slice_index, Option, Some, None, IfSome}
 use Rattle.exec_value.specs.declared.outcome.Completion.TheVariants.{Stopped}
 use Rattle.plan_rules.specs.declared.node.Node.TheVariants.{WhenAll}
 use Rattle.plan_shape.specs.Blueprint.{Blueprint}
@@ -18,9 +18,9 @@ use Rattle.exec_recv.specs.Sites.{node_at, MayStep}
 use Rattle.step_parts.specs.Heard.{has_heard}
 use Rattle.step_parts.specs.Several.{Empties}
 use Rattle.step_parts.specs.Stepping.{Stepping}
-use Rattle.step_parts.specs.Takes.{IsOpenWith, TakesChild, TakesState}
+use Rattle.step_parts.specs.Takes.{IsOpenWith, TakesState}
 use Rattle.exec_all.specs.declared.joining.Joining.{Joining}
-use Rattle.exec_all.specs.Joined.{IsJoined, Adds}
+use Rattle.exec_all.specs.Joined.{IsJoined}
 
 -- the parcel that lies in a home
 abbrev pub parcel_of : Option Item → Delivery
@@ -54,14 +54,6 @@ module _ (board : Board Blueprint) (t : Stepping) where
     pub up : TakesState board t.name t state t.from hand
     pub begun : state ≢ Begins
     pub node_is : node_at board t.name ≡ Some (WhenAll children)
-
-  -- the child's home was emptied, and the parcel that lay there was joined
-  pub record AddsOne (n : ℕ) (before after : Joining) (found : Bool) (old new : HandSeat) :
-      Type 0 where
-    pub answer : Option Delivery
-    pub takes : TakesChild board t n answer old new
-    pub found_is : found ≡ is_some answer
-    pub adds : IfSome answer (Adds before after)
 
   -- the homes of these children were emptied. Where a parcel lay in each, this is what they come
   -- to; else one was empty

@@ -3,6 +3,7 @@ ghost use Rattle.exec_recv.specs.Sites.{Steps};
 ghost use Rattle.exec_all.specs.Ends.{MayEndAll, EndsAll};
 
 use crate::joining::Joining;
+use exec_value::Completion;
 use node_images::NoRoom;
 use op_slot::Hand;
 use std::sync::Wait;
@@ -26,11 +27,9 @@ pub(crate) fn end_all<R: Wait, G: Gate>(
         drop(joining);
         return want_memory(site, hand, taken);
     }
-    match joining.finish() {
-        Ok((done, saw)) => {
-            let mut done = done;
-            complete(site, hand, taken, &mut done, saw)
-        }
+    let mut done = Completion::Stopped;
+    match joining.finish(&mut done) {
+        Ok(saw) => complete(site, hand, taken, &mut done, saw),
         Err(NoRoom::Memory) => want_memory(site, hand, taken),
         Err(NoRoom::Limit) => unreachable!(),
     }

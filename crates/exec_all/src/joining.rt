@@ -1,11 +1,11 @@
 //! How what the children of a `when_all` delivered comes together ([exec.when.all]).
-ghost use Rattle.std.specs.Prelude.{◌≡◌, ◌&&◌, ℕ, []};
-ghost use Rattle.exec_value.specs.declared.outcome.Completion.TheVariants.{Value};
-ghost use Rattle.home_items.specs.Parcels.{Delivery, delivery_of};
+ghost use Rattle.std.specs.Prelude.{◌≡◌, ◌&&◌, ℕ, Some};
+ghost use Rattle.home_items.specs.Parcels.{Delivery};
 ghost use Rattle.start_laws.specs.AllEnds.{is_failure};
-ghost use Rattle.exec_all.specs.Joined.{is_want, are_nothing, TellsSeen, Notes, IsJoined, Adds, FinishesFront, Finishes};
+ghost use Rattle.exec_all.specs.Joined.{is_want, TellsSeen, Notes, IsJoined, AddsLate, Adds, Finishes, PutsBoth};
 
 use exec_value::Completion;
+use home_items::Gathers;
 use node_images::{NoRoom, Together, join_child, no_children, put_together};
 use std::alloc::Global;
 use step_parts::Label;
@@ -13,10 +13,11 @@ use step_parts::Label;
 /// What the parcels of some children come to.
 #[derive(Drop)]
 pub(crate) struct Joining {
+    alloc: Global,
     /// Those with a value, and those that failed without having seen a request.
     front: Together,
     /// Those that failed and had seen one.
-    late: Together,
+    late: Option<Together>,
     /// Some saw a request.
     saw: bool,
     /// Some failed without having seen one.
@@ -56,50 +57,26 @@ fn saw_together(done: &Completion, saw: bool, first: bool) -> bool
     }
 }
 
-// The same, where this is what those make that failed late.
-fn finish_front(
-    front: Together,
-    late: Completion,
-    saw: bool,
-    first: bool,
-) -> Result<(Completion, bool), NoRoom>
-    ensures { FinishesFront front late saw first result }
+// Puts what all complete with together in its place, where some failed late: these are joined
+// behind the others.
+#[cold]
+#[inline(never)]
+fn put_late(front: Together, late: Together, done: &mut Completion) -> Result<(), NoRoom>
+    ensures { PutsBoth front (Some late) done.new result }
 {
     let mut front = front;
-    let mut done = late;
-    join_child(&mut front, &mut done);
-    match put_together(front, &mut done) {
+    let mut behind = Completion::Stopped;
+    match put_together(late, &mut behind) {
         Ok(()) => {
-            let saw = saw_together(&done, saw, first);
-            Ok((done, saw))
+            join_child(&mut front, &mut behind);
+            drop(behind);
+            put_together(front, done)
         }
         Err(no_room) => {
-            drop(done);
+            drop(behind);
+            drop(front);
             Err(no_room)
         }
-    }
-}
-
-// The same, where none failed late.
-fn finish_alone(front: Together, saw: bool, first: bool) -> Result<(Completion, bool), NoRoom>
-    ensures { FinishesFront front (Value []) saw first result }
-{
-    match front {
-        Ok(done) => {
-            let saw = saw_together(&done, saw, first);
-            Ok((done, saw))
-        }
-        Err(no_room) => Err(no_room),
-    }
-}
-
-// They complete with no data.
-fn are_nothing(all: &Together) -> bool
-    ensures { result ≡ are_nothing all.now }
-{
-    match all {
-        Ok(Completion::Value(values)) => matches!(values.as_slice(), []),
-        _ => false,
     }
 }
 
@@ -109,8 +86,9 @@ impl Joining {
         ensures { (ends : ℕ → Delivery) → IsJoined result ends 0 }
     {
         Joining {
+            alloc,
             front: no_children(alloc),
-            late: no_children(alloc),
+            late: None,
             saw: false,
             first: false,
             want: false,
@@ -126,19 +104,20 @@ impl Joining {
         self.want = self.want || want;
     }
 
-    /// One parcel more, whose completion is taken from its place.
-    pub(crate) fn add(&mut self, label: &Label, done: &mut Completion)
-        ensures { Adds self.old self.new (delivery_of label.now done.old) }
+    // One parcel more of a child that failed late.
+    #[cold]
+    #[inline(never)]
+    fn add_late(&mut self, done: &mut Completion)
+        ensures { AddsLate done.old self.old self.new }
     {
-        let saw = label.saw();
-        let failed = is_failure(done);
-        let want = is_want(done);
-        self.note(saw, failed, want);
-        if both(saw, failed) {
-            join_child(&mut self.late, done);
-            return;
+        match &mut self.late {
+            Some(late) => join_child(late, done),
+            None => {
+                let mut late = no_children(self.alloc);
+                join_child(&mut late, done);
+                self.late = Some(late);
+            }
         }
-        join_child(&mut self.front, done);
     }
 
     /// Some wants memory.
@@ -148,30 +127,43 @@ impl Joining {
         self.want
     }
 
-    /// What all complete with together, and whether a request was seen; or why there is no room for
-    /// it. None of them wants memory.
-    pub(crate) fn finish(self) -> Result<(Completion, bool), NoRoom>
-        ensures { Finishes self result }
+    /// Puts what all complete with together in its place, and tells whether a request was seen; or
+    /// why there is no room for it. None of them wants memory.
+    #[inline(always)]
+    pub(crate) fn finish(self, done: &mut Completion) -> Result<bool, NoRoom>
+        ensures { Finishes self done.new result }
     {
         let Joining {
+            alloc: _,
             front,
             late,
             saw,
             first,
             want: _,
         } = self;
-        if are_nothing(&late) {
-            drop(late);
-            return finish_alone(front, saw, first);
+        match late {
+            None => put_together(front, done)?,
+            Some(late) => put_late(front, late, done)?,
         }
-        let mut done = Completion::Stopped;
-        match put_together(late, &mut done) {
-            Ok(()) => finish_front(front, done, saw, first),
-            Err(no_room) => {
-                drop(done);
-                drop(front);
-                Err(no_room)
-            }
+        Ok(saw_together(done, saw, first))
+    }
+}
+
+impl Gathers for Joining {
+    ghost adds = { Adds };
+
+    // One parcel more, whose completion is taken from its place.
+    #[inline(always)]
+    fn gather(&mut self, label: Label, done: &mut Completion) {
+        let saw = label.saw();
+        drop(label);
+        let failed = is_failure(done);
+        let want = is_want(done);
+        self.note(saw, failed, want);
+        if both(saw, failed) {
+            self.add_late(done);
+            return;
         }
+        join_child(&mut self.front, done);
     }
 }

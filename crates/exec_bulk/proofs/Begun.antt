@@ -8,6 +8,7 @@ use Rattle.common_lemmas.proofs.Bool.{either}
 use Rattle.exec_value.specs.declared.data.Datum.{Datum}
 use Rattle.exec_value.specs.declared.data.Datum.TheVariants.{Row}
 use Rattle.exec_value.specs.declared.outcome.Completion.TheVariants.{Value}
+use Rattle.life_rules.specs.declared.event.Name.{Name}
 use Rattle.life_rules.specs.Views.{beside}
 use Rattle.node_tree.specs.Tree.{is_child}
 use Rattle.plan_rules.specs.declared.node.Node.{Node}
@@ -96,11 +97,12 @@ module _ (board : Board Blueprint) (t : Stepping) (parcel : Delivery) (hand : Ha
   pub parts-behind : BULK_PARTS ≤ t.name.node
   parts-behind = bulk-behind (plan_at board) on.taken.site.over.is_plan t.name.node on.child on.job on.node_is
 
-  -- so many of the eight nodes are the parts that are begun
-  pub parts-are : (nodes : List ℕ) (from many : ℕ) → nodes ≡ range_with_len from BULK_PARTS → from ≡ first → many ≡ count →
-      take many nodes ≡ parts
-  parts-are nodes from many nodes_is from_is many_is =
-      ap (take many) (nodes_is ∙ ap (λ a. range_with_len a BULK_PARTS) from_is) ∙ ap (λ k. take k (range_with_len first BULK_PARTS)) many_is
+  -- so many of the eight nodes before the bulk's are the parts that are begun
+  pub parts-are : (name : Name) (from many : ℕ) (nodes : List ℕ) → name ≡ t.name → from ≡ first_part name.node → many ≡ count →
+      nodes ≡ range_with_len from BULK_PARTS → take many nodes ≡ parts
+  parts-are name from many nodes name_is from_is many_is nodes_is =
+      let from_first : from ≡ first = from_is ∙ ap (λ (y : Name). first_part y.node) name_is in
+      ap (take many) (nodes_is ∙ ap (λ a. range_with_len a BULK_PARTS) from_first) ∙ ap (λ k. take k (range_with_len first BULK_PARTS)) many_is
       ∙ take-range count BULK_PARTS first few
 
   pub row-rests : lot_of (Rest t.start (Some parcel)) ≡ row_lot numbers
@@ -185,9 +187,9 @@ module _ (board : Board Blueprint) (t : Stepping) (parcel : Delivery) (hand : Ha
 
 -- Where the child saw a request the node looked, and read one.
 pub may-start : (board : Board Blueprint) (t : Stepping) (parcel : Delivery) (old : HandSeat) → MayBegin board t parcel old → (new : HandSeat)
-    (answer : Bool) → Looks board t parcel.saw answer old new → answer ≡ true → (row : List Datum) → row ≡ Row (numbers_in parcel.completion) ∷ [] →
-    MayStart board t parcel row new
-may-start board t parcel old may new answer looks is row row_is =
+    (answer : Bool) → Looks board t parcel.saw answer old new → answer ≡ true → (shown : List Datum) → shown ≡ Row (numbers_in parcel.completion) ∷ [] →
+    MayStart board t parcel shown new
+may-start board t parcel old may new answer looks is shown shown_is =
     let on = may.goes_on in
     record {
       may = record {
@@ -200,7 +202,7 @@ may-start board t parcel old may new answer looks is row row_is =
         };
         some = may.some;
       };
-      row_is = row_is;
+      row_is = shown_is;
       seen = λ saw. (looks.looked saw).yes is;
     }
 

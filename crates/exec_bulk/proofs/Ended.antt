@@ -78,9 +78,9 @@ module _ (board : Board Blueprint) (t : Stepping) (parcel : Delivery) (hand : Ha
   passed-ends done saw same same_saw = rw (same, same_saw) pass-ends
 
 -- the parts are done
-module _ (board : Board Blueprint) (t : Stepping) (kept : Delivery) (made : Made) (hand : HandSeat) (may : MayEndParts board t kept made hand) where
+module _ (board : Board Blueprint) (t : Stepping) (saw : Bool) (made : Made) (hand : HandSeat) (may : MayEndParts board t saw made hand) where
   abbrev whole : List ℤ
-  whole = numbers_in kept.completion
+  whole = numbers_in may.kept.completion
 
   abbrev ending : Completion
   ending = row_ending (each_of may.job 0 whole)
@@ -88,29 +88,29 @@ module _ (board : Board Blueprint) (t : Stepping) (kept : Delivery) (made : Made
   its : IsStartOf t.start (Bulk may.child may.job)
   its = taken-of board t hand may.taken (Bulk may.child may.job) may.node_is
 
-  row : kept.completion ≡ Value (Row whole ∷ [])
-  row = row-is kept.completion may.some
+  row : may.kept.completion ≡ Value (Row whole ∷ [])
+  row = row-is may.kept.completion may.some
 
-  row-ends : MayEnd board t ending kept.saw hand
+  row-ends : MayEnd board t ending may.kept.saw hand
   row-ends =
-      let done = parcel_with t.start ending kept.saw in
-      let rests = least-kept may.child may.job t.start kept its whole row in
+      let done = parcel_with t.start ending may.kept.saw in
+      let rests = least-kept may.child may.job t.start may.kept its whole row in
       let few : least_of (Done done) ≤ parts_for whole =
       subst (λ o. least_when_done o ending ≤ parts_for whole) (sym its.node_is) (least-row may.job may.child whole may.some) in
       record {
         taken = may.taken;
         inner = taken-inner board t hand may.taken (Bulk may.child may.job) may.node_is;
-        allowed = subst (λ (c : Completion). MayDeliver t.start kept.saw c) (ap (bulk_of may.job) row)
-            (images-allowed t.start (Bulk may.child may.job) its kept may.from.delivers may.from.child tt tt);
-        few = ready-less board t.name t.start hand.me (least_of (Rest t.start (Some kept))) (least_of (Done done)) (omega (arith, rests, few))
+        allowed = subst (λ (c : Completion). MayDeliver t.start may.kept.saw c) (ap (bulk_of may.job) row)
+            (images-allowed t.start (Bulk may.child may.job) its may.kept may.from.delivers may.from.child tt tt);
+        few = ready-less board t.name t.start hand.me (least_of (Rest t.start (Some may.kept))) (least_of (Done done)) (omega (arith, rests, few))
             may.ready;
         sees = may.from.saw;
         small = λ small. absurd (bulk-large t.start may.child may.job its small);
       }
 
   -- what came together is that
-  pub made-ends : (done : Completion) (saw : Bool) → done ≡ row_ending (front_made may.job whole (parts_for whole)) → saw ≡ kept.saw →
-      MayEnd board t done saw hand
-  made-ends done saw same same_saw =
+  pub made-ends : (done : Completion) → done ≡ row_ending (front_made may.job whole (parts_for whole)) → MayEnd board t done saw hand
+  made-ends done same =
       let is : done ≡ ending = same ∙ ap row_ending (whole-made may.job whole) in
-      rw (is, same_saw) row-ends
+      let saw_is = may.saw_is in
+      rw (is, saw_is) row-ends

@@ -1,9 +1,11 @@
 -- What is made of a row, share by share.
 use Rattle.std.proofs.Common.{◌≡◌, inl, inr, Bool, true, false, ◌==◌, ℕ, suc, ◌+◌, ◌*◌, ◌<◌, ◌≤◌, min, ℤ, List, [], ◌∷◌, ◌++◌, length, take, take_all, Some, None, Result, Ok, Err, refl, sym, ap, ap₂, ◌∙◌, subst, arith}
-use Rattle.std.specs.Prelude.{◌/◌, ◌%◌, ⊤, IsOk}
+use Rattle.std.specs.Prelude.{◌/◌, ◌%◌, ◌⊎◌, ⊤, IsOk, Vec}
+use Rattle.std.specs.declared.alloc.Global.{Global}
 use Rattle.std.proofs.lemmas.Bool.{cases_lt, both_ways, eq-eqb, eqb-true}
 use Rattle.std.proofs.lemmas.List.Elements.{All-head}
 use Rattle.exec_value.specs.Place.{IsInPlace}
+use Rattle.exec_value.specs.declared.data.Datum.{Datum}
 use Rattle.exec_value.specs.declared.data.Datum.TheVariants.{Row}
 use Rattle.exec_value.specs.declared.outcome.Completion.{Completion}
 use Rattle.exec_value.specs.declared.outcome.Completion.TheVariants.{Value, Error, Stopped, NoMemory}
@@ -22,7 +24,7 @@ use Rattle.start_laws.specs.BulkLaws.{share_made, front_made, made_behind}
 use Rattle.start_laws.proofs.Rows.{shares-made}
 use Rattle.exec_bulk.specs.declared.joining.Made.{Made}
 use Rattle.exec_bulk.specs.declared.joining.Made.TheVariants.{Numbers, Failed, Want}
-use Rattle.exec_bulk.specs.Made.{IsFrontMade}
+use Rattle.exec_bulk.specs.Made.{AddsShare, IsFrontMade, IsOfShare, one_missing, without_numbers}
 use Rattle.exec_bulk.specs.Rows.{numbers_in, parts_for}
 
 -- the name of an error
@@ -99,6 +101,49 @@ module _ (job : Job) (whole : List ℤ) (part : ℕ) (within : part < BULK_PARTS
   pub fault-stays : (name : List ℕ) → front_made job whole part ≡ Err name → front_made job whole (part + 1) ≡ Err name
   fault-stays name before =
       shares-made.goes_on job whole part within ∙ ap (λ front. made_behind front (share_made job whole part)) before
+
+-- what is made of one share more: its numbers are appended
+pub more-adds : (joined more : Vec ℤ Global) (values : List Datum) → more.items ≡ joined.items ++ numbers_in (Value values) →
+    AddsShare (Numbers (Some joined)) (Value values) (Numbers (Some more))
+more-adds joined more values pushed =
+    record {
+      made = λ job whole part within share is.
+          numbers-more job whole part within joined.items (numbers_in (Value values)) is
+          (row-of (Value values) (share_made job whole part) (λ name e. cc) (share (λ e. cc)))
+          ∙ ap (λ (l : List ℤ). Ok l) (sym pushed);
+      wants = λ e. cc;
+    }
+
+-- or they can't be
+none-made : (before : Made) (done : Completion) (job : Job) (whole : List ℤ) (part : ℕ) → part < BULK_PARTS → IsOfShare job whole part done →
+    IsFrontMade before job whole part → IsFrontMade (without_numbers before done) job whole (part + 1)
+none-made (Numbers made) (Value values) job whole part within share is =
+    ok-more job whole part within (numbers_in (Value values)) (front-ok (Numbers made) job whole part tt is)
+    (row-of (Value values) (share_made job whole part) (λ name e. cc) (share (λ e. cc)))
+none-made (Numbers made) (Error name) job whole part within share is =
+    fault-more job whole part within name (front-ok (Numbers made) job whole part tt is) (sym (share (λ e. cc)))
+none-made (Numbers made) Stopped job whole part within share is = absurd (stopped-none (share_made job whole part) (share (λ e. cc)))
+none-made (Numbers made) NoMemory job whole part within share is = tt
+none-made (Failed name) done job whole part within share is = fault-stays job whole part within name is
+none-made Want done job whole part within share is = tt
+
+none-wants : (before : Made) (done : Completion) → without_numbers before done ≡ Want → (before ≡ Want) ⊎ (done ≡ NoMemory)
+none-wants (Numbers made) (Value values) is = cc
+none-wants (Numbers made) (Error name) is = cc
+none-wants (Numbers made) Stopped is = cc
+none-wants (Numbers made) NoMemory is = inr refl
+none-wants (Failed name) done is = cc
+none-wants Want done is = inl refl
+
+pub none-adds : (before : Made) (done : Completion) → AddsShare before done (without_numbers before done)
+none-adds before done = record { made = none-made before done; wants = none-wants before done }
+
+-- or the part isn't done
+pub missing-made : (before : Made) (job : Job) (whole : List ℤ) (part : ℕ) → part < BULK_PARTS → IsFrontMade before job whole part →
+    IsFrontMade (one_missing before) job whole (part + 1)
+missing-made (Numbers made) job whole part within is = tt
+missing-made (Failed name) job whole part within is = fault-stays job whole part within name is
+missing-made Want job whole part within is = tt
 
 -- a row shorter than eight has shares of one number each
 first-few : (n : ℕ) → n < BULK_PARTS → first_index n n ≡ n

@@ -1,16 +1,22 @@
 -- How the step of a bulk that has begun goes on from what lies in the homes.
-use Rattle.std.proofs.Common.{◌≡◌, inl, inr, ℕ, ◌+◌, ◌<◌, ◌≤◌, min, true, ◌==◌, ℤ, List, length, Option, Some, None, refl, sym, ap, ◌∙◌, subst, arith}
-use Rattle.std.specs.Prelude.{is_some, slice_get}
+use Rattle.std.proofs.Common.{◌≡◌, ◌≢◌, inl, inr, ℕ, ◌+◌, ◌<◌, ◌≤◌, min, true, false, ◌==◌, List, ℤ, [], length, Option, Some, None, refl, sym, ap, ◌∙◌, subst}
+use Rattle.std.specs.Prelude.{IfSome, slice_get}
+use Rattle.std.specs.Borrow.{MutBor}
 use Rattle.std.specs.List.{list_any}
+use Rattle.std.specs.Option.{option_copied_mut, option_map, option_map_or}
+use Rattle.std.proofs.lemmas.Option.{same_Some}
 use Rattle.common_lemmas.proofs.Bool.{either}
+use Rattle.exec_value.specs.declared.outcome.Completion.{Completion}
 use Rattle.node_tree.specs.Tree.{is_child}
 use Rattle.plan_rules.specs.declared.node.Node.{Node}
 use Rattle.plan_rules.specs.declared.node.Node.TheVariants.{Bulk}
 use Rattle.plan_shape.specs.Blueprint.{Blueprint}
 use Rattle.plan_shape.specs.declared.limits.TheConstants.{BULK_PARTS}
 use Rattle.plan_kinds.specs.Runnable.{IsRunnable}
-use Rattle.table_steps.specs.Slots.{held_at}
-use Rattle.table_steps.specs.Views.{Board}
+use Rattle.table_steps.specs.Slots.{home_at}
+use Rattle.table_steps.specs.Swaps.{IsSwapped}
+use Rattle.table_steps.specs.Views.{Board, Stays}
+use Rattle.op_slot.proofs.Staying.{stays-on}
 use Rattle.home_items.specs.declared.entry.Entry.{Entry}
 use Rattle.home_items.specs.declared.item.Item.{Item}
 use Rattle.home_items.specs.declared.item.State.TheVariants.{Kept, Rest as Rests}
@@ -18,43 +24,41 @@ use Rattle.home_items.specs.Bounds.{least_of}
 use Rattle.home_items.specs.Contents.{Start, Rest, Done}
 use Rattle.home_items.specs.Entries.{node_of, no_row, row_lot}
 use Rattle.home_items.specs.Fits.{IsItemOf}
-use Rattle.home_items.specs.Items.{GoesOn, lot_for, lot_of, parcel_in, saw_in, start_in, state_of, without_parcel}
-use Rattle.home_items.specs.Parcels.{Delivery}
+use Rattle.home_items.specs.Items.{completion_in, lot_for, lot_of, parcel_in, saw_in, start_in, state_of, without_parcel}
+use Rattle.home_items.specs.Parcels.{Delivery, IsDelivery}
 use Rattle.exec_recv.specs.Seats.{HandSeat}
 use Rattle.exec_recv.specs.Sites.{node_at, plan_at}
 use Rattle.exec_recv.specs.Steppable.{CanStep}
 use Rattle.start_laws.specs.Nodes.{IsStartOf}
-use Rattle.step_parts.specs.Heard.{has_heard}
-use Rattle.step_parts.specs.Several.{emptied}
+use Rattle.step_parts.specs.Several.{emptied, Empties}
 use Rattle.step_parts.specs.Stepping.{Stepping}
-use Rattle.step_parts.specs.Takes.{IsOpenWith}
+use Rattle.step_parts.specs.Takes.{IsOpen, IsOpenWith, TakesKept}
+use Rattle.step_parts.proofs.Changing.{turned-keeps}
 use Rattle.step_parts.proofs.Ended.{open-none, open-taken}
-use Rattle.step_parts.proofs.Frames.{named-at}
+use Rattle.step_parts.proofs.Frames.{named-at, others-on}
 use Rattle.step_parts.proofs.Several.{emptied-else, emptied-in}
+use Rattle.step_parts.proofs.Swapping.{swap-changes}
 use Rattle.step_parts.proofs.Telling.{kept-from}
-use Rattle.exec_bulk.specs.declared.opening.Opened.{Opened}
+use Rattle.exec_bulk.specs.declared.joining.Made.{Made}
+use Rattle.exec_bulk.specs.declared.joining.Made.TheVariants.{Want}
+use Rattle.exec_bulk.specs.declared.opening.KeptRow.{KeptRow}
 use Rattle.exec_bulk.specs.Ends.{MayEndParts}
 use Rattle.exec_bulk.specs.Kinds.{IsBulkNode}
 use Rattle.exec_bulk.specs.Made.{IsFrontMade}
-use Rattle.exec_bulk.specs.Opens.{HasDrawn, HasTakenUp, MayOpen, MayTakeBack, OpensParts, names_of_parts}
+use Rattle.exec_bulk.specs.Opens.{HasDrawn, HasTakenUp, HaveDelivered, LooksAtRow, MayLook, MayTakeBack, TakesParts, names_of_parts}
 use Rattle.exec_bulk.specs.Rows.{first_part, numbers_in, parts_for}
+use Rattle.exec_bulk.specs.Steps.{HaveAllDelivered}
 use Rattle.exec_bulk.proofs.Drawn.{child-empty, part-empty, part-share}
 use Rattle.exec_bulk.proofs.Making.{lot-row}
 use Rattle.exec_bulk.proofs.Places.{bulk-kids}
 use Rattle.exec_bulk.proofs.Ranges.{range-named}
 
--- what lies in the home of a node that keeps a parcel, or has none
-item-kept : (item : Item) (kept : Delivery) → GoesOn item → parcel_in item ≡ Some kept → item ≡ Rest (start_in item) (Some kept)
-item-kept (Start start) kept on is = cc
-item-kept (Rest start None) kept on is = cc
-item-kept (Rest start (Some parcel)) kept on is = ap (λ (o : Option Delivery). Rest start o) is
-item-kept (Done parcel) kept on is = absurd (on tt)
-
-keeps-some : (item : Item) → Kept ≡ state_of item → is_some (parcel_in item) ≡ true
-keeps-some (Start start) is = cc
-keeps-some (Rest start None) is = cc
-keeps-some (Rest start (Some parcel)) is = refl
-keeps-some (Done parcel) is = cc
+-- what lies in the home of a node that keeps a parcel
+pub kept-of : (item : Item) → Kept ≡ state_of item → (kept : Delivery) × (item ≡ Rest (start_in item) (Some kept))
+kept-of (Start start) is = cc
+kept-of (Rest start None) is = cc
+kept-of (Rest start (Some parcel)) is = (parcel, refl)
+kept-of (Done parcel) is = cc
 
 rests-bare : (item : Item) → Rests ≡ state_of item → lot_of item ≡ no_row
 rests-bare (Start start) is = cc
@@ -78,6 +82,47 @@ opened-of board t inside kid hand lies node at =
       node_is = ap (λ (b : Blueprint). slice_get b.nodes (node_of t.start)) is.key ∙ ap (slice_get (plan_at board).nodes) is.node ∙ at;
     }
 
+-- One thing lies in the home of a node that is open.
+pub open-one : (board : Board Blueprint) (t : Stepping) (hand : HandSeat) (inside other : Item) (kid kid_other : ℕ → Option Item) →
+    IsOpenWith board t inside kid hand → IsOpenWith board t other kid_other hand → inside ≡ other
+open-one board t hand inside other kid kid_other lies is =
+    same_Some inside other (same_Some (Some inside) (Some other) (sym lies.midway.tends.own ∙ is.midway.tends.own))
+
+-- What was lent of its home lies there,
+pub lent-one : (board : Board Blueprint) (t : Stepping) (hand : HandSeat) (inside : Item) (kid : ℕ → Option Item) →
+    IsOpenWith board t inside kid hand → (lent : Option (MutBor Item)) →
+    home_at board.frame.layout hand.me t.name ≡ Some (option_copied_mut lent) → (item : MutBor Item) → lent ≡ Some item → item.now ≡ inside
+lent-one board t hand inside kid lies lent value item there =
+    same_Some item.now inside
+    (sym (ap (λ o. option_copied_mut o) there)
+    ∙ same_Some (option_copied_mut lent) (Some inside) (sym value ∙ lies.midway.tends.own))
+
+-- and shows what the node keeps of its child.
+module _ (item inside : Item) (same : item ≡ inside) (kept : Delivery) (keeps : parcel_in inside ≡ Some kept) where
+  pub shown-done : (done : Completion) → completion_in item ≡ Some done → done ≡ kept.completion
+  shown-done done shows =
+      same_Some done kept.completion
+      (sym shows ∙ ap completion_in same ∙ ap (option_map (λ (parcel : Delivery). parcel.completion)) keeps)
+
+  pub shown-saw : saw_in item ≡ kept.saw
+  shown-saw = ap saw_in same ∙ ap (λ o. option_map_or (λ (parcel : Delivery). parcel.saw) o false) keeps
+
+-- It is open still where it was only looked at what lies there.
+pub looked-on : (board : Board Blueprint) (t : Stepping) (item : Item) (old new : HandSeat) → Stays board old new →
+    IsSwapped board.frame t.name (Some item) (Some item) old.me new.me → Empties board t [] old new
+looked-on board t item old new stays put =
+    let changes = swap-changes board t.name t.name (Some item) (Some item) old new stays put in
+    record {
+      keeps = changes;
+      left = λ inside kid is. record {
+        site = is.site;
+        stays = stays-on board t.from old new is.stays stays;
+        start_is = is.start_is;
+        beside = others-on board t.name t.from.me old.me new.me is.beside changes.beside;
+        midway = (turned-keeps board t.name item old.me new.me put).midway t.start inside (least_of inside) kid is.midway;
+      };
+    }
+
 -- A bulk was taken up that keeps a parcel of its child.
 module _ (board : Board Blueprint) (t : Stepping) (child : ℕ) (up : HandSeat) (has : HasTakenUp board t child Kept up) where
   abbrev can : CanStep board t.name has.before.me
@@ -89,111 +134,128 @@ module _ (board : Board Blueprint) (t : Stepping) (child : ℕ) (up : HandSeat) 
   abbrev bulk : Node
   bulk = Bulk child has.job
 
-  pub may-open : MayOpen board t up
-  may-open = record {
+  abbrev pub kept : Delivery
+  kept = (kept-of can.item (has.takes.state_is can)).0
+
+  item-is : can.item ≡ Rest t.start (Some kept)
+  item-is = (kept-of can.item (has.takes.state_is can)).1 ∙ ap (λ (s : List Entry). Rest s (Some kept)) lies.midway.inside_is
+
+  pub kept-is : (inside : Item) (kid : ℕ → Option Item) → IsOpenWith board t inside kid up → parcel_in inside ≡ Some kept
+  kept-is inside kid is = ap parcel_in (open-one board t up inside can.item kid can.kid is lies ∙ item-is)
+
+  pub may-look : MayLook board t up
+  may-look = record {
     inside = can.item;
     kid = can.kid;
     opened = lies;
-    kind = subst IsBulkNode (sym has.node_is) tt;
-    keeps = keeps-some can.item (has.takes.state_is can);
+    keeps = λ none. let wrong = sym (ap parcel_in item-is) ∙ none in cc;
   }
 
-  module _ (found : Opened) (new : HandSeat) (opens : OpensParts board t found up new) where
-    abbrev kept : Delivery
-    kept = found.kept
+  pub is-bulk : IsBulkNode (node_at board t.name)
+  is-bulk = subst IsBulkNode (sym has.node_is) tt
 
+  module _ (row : KeptRow) (seen : HandSeat) (looks : LooksAtRow board t row up seen) where
     abbrev numbers : List ℤ
     numbers = numbers_in kept.completion
 
-    its : IsStartOf t.start bulk
-    its = opened-of board t can.item can.kid up lies bulk has.node_is
+    pub room-is : row.room ≡ length numbers
+    room-is = (looks.shows can.item can.kid lies kept (ap parcel_in item-is)).0
 
-    kept-is : parcel_in can.item ≡ Some kept
-    kept-is = opens.keeps.lay can.item can.kid lies
+    seen-lies : IsOpenWith board t can.item can.kid seen
+    seen-lies = looks.still.left can.item can.kid lies
 
-    item-is : can.item ≡ Rest t.start (Some kept)
-    item-is =
-        item-kept can.item kept can.goes_on kept-is ∙ ap (λ (s : List Entry). Rest s (Some kept)) lies.midway.inside_is
+    pub saw-is : row.saw ≡ kept.saw
+    saw-is = (looks.shows can.item can.kid lies kept (ap parcel_in item-is)).1
 
-    lot-is : lot_of can.item ≡ lot_for (Some bulk) kept.completion
-    lot-is = ap lot_of item-is ∙ ap (λ (o : Option Node). lot_for o kept.completion) its.node_is
+    pub seen-open : IsOpen board t seen
+    seen-open = record { inside = can.item; kid = can.kid; is = seen-lies }
 
-    abbrev bare : Item
-    bare = without_parcel can.item
+    module _ (count : ℕ) (made : Made) (new : HandSeat) (takes : TakesParts board t BULK_PARTS count made seen new) where
+      abbrev gone : ℕ → Option Item
+      gone = emptied (names_of_parts t.name.node) can.kid
 
-    kept-lies : IsOpenWith board t bare can.kid opens.middle
-    kept-lies = opens.keeps.left can.item can.kid lies
+      left : IsOpenWith board t can.item gone new
+      left = takes.empties.left can.item can.kid seen-lies
 
-    left : IsOpenWith board t bare (emptied (names_of_parts t.name.node) can.kid) new
-    left = opens.takes.empties.left bare can.kid kept-lies
+      pub left-open : IsOpen board t new
+      left-open = record { inside = can.item; kid = gone; is = left }
 
-    part-gone : (part : ℕ) → part < BULK_PARTS → emptied (names_of_parts t.name.node) can.kid (first_part t.name.node + part) ≡ None
-    part-gone part within =
-        emptied-in (names_of_parts t.name.node) can.kid (first_part t.name.node + part) (range-named (first_part t.name.node) BULK_PARTS part within)
+      part-gone : (part : ℕ) → part < BULK_PARTS → gone (first_part t.name.node + part) ≡ None
+      part-gone part within =
+          emptied-in (names_of_parts t.name.node) can.kid (first_part t.name.node + part)
+          (range-named (first_part t.name.node) BULK_PARTS part within)
 
-    -- where it keeps no numbers, it goes on by its child
-    pub opened-back : MayTakeBack board t child new
-    opened-back = record {
-      inside = bare;
-      kid = emptied (names_of_parts t.name.node) can.kid;
-      opened = left;
-      job = has.job;
-      node_is = has.node_is;
-      none = part-gone;
-    }
+      -- where it keeps no numbers, it goes on by its child
+      pub opened-back : MayTakeBack board t child new
+      opened-back = record { inside = can.item; kid = gone; opened = left; job = has.job; node_is = has.node_is; none = part-gone }
 
-    holds-same : held_at new.me.0 t.name ≡ Some can.held
-    holds-same = opens.takes.empties.keeps.same_held ∙ opens.keeps.keeps.same_held ∙ has.takes.keeps.same_held ∙ can.tends.holds
+      -- where it keeps some, all homes are empty
+      module _ (some : 1 ≤ length numbers) (count_is : count ≡ min BULK_PARTS row.room) where
+        its : IsStartOf t.start bulk
+        its = opened-of board t can.item can.kid up lies bulk has.node_is
 
-    heard-same : has_heard board t.name new.me ≡ has_heard board t.name up.me
-    heard-same = opens.takes.empties.keeps.heard ∙ opens.keeps.keeps.heard
+        row-is : lot_of can.item ≡ row_lot numbers
+        row-is =
+            ap lot_of item-is ∙ ap (λ (o : Option Node). lot_for o kept.completion) its.node_is ∙ lot-row child has.job kept.completion some
 
-    -- where it keeps some, all homes are empty
-    module _ (some : 1 ≤ length numbers) where
-      row-is : lot_of can.item ≡ row_lot numbers
-      row-is = lot-is ∙ lot-row child has.job kept.completion some
+        all-gone : (n : ℕ) → is_child board.frame.tree t.name.node n ≡ true → gone n ≡ None
+        all-gone n is =
+            elim (bulk-kids board t.name child has.job lies.site has.node_is n is) [
+              | inl first ↦
+                  emptied-none (names_of_parts t.name.node) can.kid n
+                  (ap can.kid first ∙ child-empty board t.name child has.job lies.site has.node_is has.before.me can numbers row-is)
+              | inr part ↦ ap gone part.2 ∙ part-gone part.0 part.1
+            ]
 
-      all-gone : (n : ℕ) → is_child board.frame.tree t.name.node n ≡ true → emptied (names_of_parts t.name.node) can.kid n ≡ None
-      all-gone n is =
-          elim (bulk-kids board t.name child has.job lies.site has.node_is n is) [
-            | inl first ↦
-                emptied-none (names_of_parts t.name.node) can.kid n
-                (ap can.kid first ∙ child-empty board t.name child has.job lies.site has.node_is has.before.me can numbers row-is)
-            | inr part ↦ ap (emptied (names_of_parts t.name.node) can.kid) part.2 ∙ part-gone part.0 part.1
-          ]
+        drawn : HasDrawn board t has.job numbers seen
+        drawn = record {
+          inside = can.item;
+          kid = can.kid;
+          opened = seen-lies;
+          makes = λ part parcel within full lawful.
+              part-share board t.name child has.job lies.site has.node_is has.before.me can part within numbers row-is
+              (subst (λ (s : List Entry). IsStartOf s bulk) (sym lies.midway.inside_is ∙ can.shows) its) parcel full lawful;
+        }
 
-      drawn : HasDrawn board t has.job numbers (parts_for numbers) opens.middle
-      drawn = record {
-        few = omega arith;
-        inside = bare;
-        kid = can.kid;
-        opened = kept-lies;
-        makes = λ part parcel within full lawful.
-            part-share board t.name child has.job lies.site has.node_is has.before.me can part (omega (arith, within)) numbers row-is
-            (subst (λ (s : List Entry). IsStartOf s bulk) (sym lies.midway.inside_is ∙ can.shows) its) parcel full lawful;
-      }
+        all : count ≡ parts_for numbers
+        all = count_is ∙ ap (min BULK_PARTS) room-is
 
-      pub opened-ends : MayEndParts board t kept found.made new
-      opened-ends =
-          let all : min BULK_PARTS (parts_for numbers) ≡ parts_for numbers = omega arith in
-          let least = least_of (Rest t.start (Some kept)) in
-          let named : least ≤ can.held.named = subst (λ (i : Item). least_of i ≤ can.held.named) item-is can.bound in
-          let none = open-none board t bare (emptied (names_of_parts t.name.node) can.kid) new left all-gone in
-          record {
-            taken = open-taken board t bare new none;
-            child = child;
-            job = has.job;
-            node_is = has.node_is;
-            ready = record {
-              inside = bare;
-              is = named-at board t.name t.start bare new.me (least_of bare) least (λ _. None) can.held holds-same named none.midway;
-            };
-            from = kept-from board t new.me kept (subst (λ (i : Item). IsItemOf i t.name.node) item-is (has.takes.of can))
-                opens.keeps.lawful
-                (λ silent. sym (ap saw_in item-is) ∙ has.takes.saw can (sym heard-same ∙ silent));
-            some = some;
-            made_is = subst (λ k. IsFrontMade found.made has.job numbers k) all (opens.takes.made_is has.job numbers drawn);
-          }
+        pub all-made : IsFrontMade made has.job numbers (parts_for numbers)
+        all-made = subst (λ k. IsFrontMade made has.job numbers k) all (takes.made_is has.job numbers drawn)
+
+        pub opened-ends : (answer : Option Delivery) (last : HandSeat) → TakesKept board t answer new last →
+            MayEndParts board t row.saw made last
+        opened-ends answer last unkept =
+            let bare : Item = without_parcel can.item in
+            let least = least_of (Rest t.start (Some kept)) in
+            let none = open-none board t bare gone last (unkept.left can.item gone left) all-gone in
+            let is : answer ≡ Some kept = sym (unkept.lay can.item gone left) ∙ ap parcel_in item-is in
+            let heard = unkept.keeps.heard ∙ takes.empties.keeps.heard ∙ looks.still.keeps.heard in
+            record {
+              taken = open-taken board t bare last none;
+              child = child;
+              job = has.job;
+              node_is = has.node_is;
+              kept = kept;
+              saw_is = saw-is;
+              ready = record {
+                inside = bare;
+                is = named-at board t.name t.start bare last.me (least_of bare) least (λ _. None) left.midway.held
+                    (unkept.keeps.same_held ∙ left.midway.tends.holds)
+                    (subst (λ (i : Item). least_of i ≤ left.midway.held.named) item-is left.midway.named) none.midway;
+              };
+              from = kept-from board t last.me kept (subst (λ (i : Item). IsItemOf i t.name.node) item-is (has.takes.of can))
+                  (subst (λ (o : Option Delivery). IfSome o IsDelivery) is unkept.lawful)
+                  (λ silent. sym (ap saw_in item-is) ∙ has.takes.saw can (sym heard ∙ silent));
+              some = some;
+              made_is = all-made;
+            }
+
+        -- where all parts have delivered, none wants memory
+        pub all-able : HaveAllDelivered board t child numbers up → made ≢ Want
+        all-able have is =
+            takes.wants have.inside have.kid (looks.still.left have.inside have.kid have.opened) is
+            (subst (λ k. HaveDelivered (first_part t.name.node) k have.kid) (sym all) have.have)
 
 -- A bulk that was taken up at rest: nothing lies in the homes of its parts.
 pub rests-back : (board : Board Blueprint) (t : Stepping) (child : ℕ) (up : HandSeat) → HasTakenUp board t child Rests up →

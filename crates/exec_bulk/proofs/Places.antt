@@ -1,7 +1,7 @@
 -- Where a bulk and its parts stand in the plan and in the table's tree.
 use Rattle.std.specs.Prelude.{IsTrue, slice_get}
 use Rattle.std.specs.List.{range_with_len}
-use Rattle.std.proofs.Common.{◌≡◌, ◌⊎◌, inl, inr, ℕ, ◌+◌, ◌<◌, ◌≤◌, true, false, [], ◌∷◌, Option, Some, None, refl, arith}
+use Rattle.std.proofs.Common.{◌≡◌, ◌⊎◌, inl, inr, ℕ, ◌+◌, ◌<◌, ◌≤◌, true, false, [], ◌∷◌, Option, Some, None, refl, sym, ap, ◌∙◌, subst, arith}
 use Rattle.std.proofs.lemmas.List.Elements.{All-head, Contains-append_cases, Contains-append_left, Contains-append_right}
 use Rattle.exec_job.specs.Takes.{is_element}
 use Rattle.exec_job.specs.declared.job.Job.{Job}
@@ -110,3 +110,16 @@ pub part-kids : (board : Board Blueprint) (x : Name) (bulk part : ℕ) → IsSit
 part-kids board x bulk part site at k below =
     let both = ((node-shown board (plan_at board) x (Part bulk part) site.over at).children k).0 below in
     no-member k both.0
+
+-- of a node of the kind, by a name and a first part that are said otherwise
+module _ (board : Board Blueprint) (x y : Name) (same : y ≡ x) (kind : IsBulkNode (node_at board x)) (site : IsSite board) where
+  pub kind-behind : BULK_PARTS ≤ y.node
+  kind-behind =
+      let bulk = bulk-of (node_at board x) kind in
+      subst (λ (z : Name). BULK_PARTS ≤ z.node) (sym same) (bulk-behind (plan_at board) site.over.is_plan x.node bulk.0 bulk.1 bulk.2)
+
+  pub kind-parts : (first part : ℕ) → first ≡ first_part y.node → part < BULK_PARTS → is_child board.frame.tree x.node (first + part) ≡ true
+  kind-parts first part is within =
+      let bulk = bulk-of (node_at board x) kind in
+      subst (λ (n : ℕ). is_child board.frame.tree x.node (n + part) ≡ true) (sym (is ∙ ap (λ (z : Name). first_part z.node) same))
+      (bulk-parts board x bulk.0 bulk.1 site bulk.2 part within)

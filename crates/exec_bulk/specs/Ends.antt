@@ -1,5 +1,5 @@
 -- From where in its step a bulk completes.
-use Rattle.std.specs.Prelude.{◌≡◌, ℕ, ◌≤◌, [], length, Some}
+use Rattle.std.specs.Prelude.{◌≡◌, ℕ, ◌≤◌, Bool, [], length, Some}
 use Rattle.exec_job.specs.declared.job.Job.{Job}
 use Rattle.plan_rules.specs.declared.node.Node.TheVariants.{Bulk}
 use Rattle.plan_shape.specs.Blueprint.{Blueprint}
@@ -25,12 +25,15 @@ module _ (board : Board Blueprint) (t : Stepping) where
     pub goes_on : MayGoOn board t parcel hand
     pub none : numbers_in parcel.completion ≡ []
 
-  -- It kept this parcel of its child, a row with numbers, and its parts come to this.
-  pub record MayEndParts (kept : Delivery) (made : Made) (hand : HandSeat) : Type 0 where
+  -- It kept a row with numbers of its child, which saw a request or didn't, and its parts come to
+  -- this.
+  pub record MayEndParts (saw : Bool) (made : Made) (hand : HandSeat) : Type 0 where
     pub taken : IsTaken board t hand
     pub child : ℕ
     pub job : Job
     pub node_is : node_at board t.name ≡ Some (Bulk child job)
+    pub kept : Delivery
+    pub saw_is : saw ≡ kept.saw
     pub ready : Ready board t.name t.start (least_of (Rest t.start (Some kept))) hand.me
     pub from : IsFromBelow t.start kept (has_heard board t.name hand.me)
     pub some : 1 ≤ length (numbers_in kept.completion)

@@ -1,7 +1,7 @@
 -- What the parts of a bulk come to, one after the other.
-use Rattle.std.specs.Prelude.{◌≡◌, ◌≢◌, ◌⊎◌, ⊤, ℕ, ◌+◌, ◌<◌, ℤ, List, Option, Some, None, Ok, Err, IsOk, IsSome, IfSome}
+use Rattle.std.specs.Prelude.{◌≡◌, ◌≢◌, ◌⊎◌, ⊤, ℕ, ◌+◌, ◌<◌, Bool, true, ℤ, List, Some, None, Ok, Err, IsOk}
 use Rattle.exec_value.specs.declared.outcome.Completion.{Completion}
-use Rattle.exec_value.specs.declared.outcome.Completion.TheVariants.{NoMemory}
+use Rattle.exec_value.specs.declared.outcome.Completion.TheVariants.{Error, NoMemory}
 use Rattle.exec_job.specs.declared.job.Job.{Job}
 use Rattle.node_images.specs.Makes.{CompletesInPlace}
 use Rattle.plan_rules.specs.Bulks.{row_ending}
@@ -24,32 +24,43 @@ abbrev pub IsOfShare : Job → List ℤ → ℕ → Completion → Type 0
 IsOfShare job whole part done =
     done ≢ NoMemory → done ≡ row_ending (share_made job whole part)
 
--- one part more, which completed with this, was added to these
-abbrev pub AddsShare : Made → Completion → Made → Type 0
-AddsShare before done after =
-    (job : Job) (whole : List ℤ) (part : ℕ) → part < BULK_PARTS → IsOfShare job whole part done →
-    IsFrontMade before job whole part → IsFrontMade after job whole (part + 1)
+-- One part more, which completed with this, was added to these. Where they want memory then, they
+-- wanted it before, or this one does.
+pub record AddsShare (before : Made) (done : Completion) (after : Made) : Type 0 where
+  pub made : (job : Job) (whole : List ℤ) (part : ℕ) → part < BULK_PARTS →
+      IsOfShare job whole part done → IsFrontMade before job whole part →
+      IsFrontMade after job whole (part + 1)
+  pub wants : after ≡ Want → (before ≡ Want) ⊎ (done ≡ NoMemory)
 
--- the next part was added: its parcel, where it is done
-abbrev pub AddsPart : Option Delivery → Made → Made → Type 0
-AddsPart found before after =
-    (job : Job) (whole : List ℤ) (part : ℕ) → part < BULK_PARTS →
-    IfSome found (λ parcel. IsOfShare job whole part parcel.completion) →
-    IsFrontMade before job whole part → IsFrontMade after job whole (part + 1)
+abbrev pub AddsParcel : Made → Made → Delivery → Type 0
+AddsParcel before after parcel = AddsShare before parcel.completion after
 
--- and where a part wants memory then, one wanted it before, or this one does, or isn't done
-abbrev pub WantsAfter : Option Delivery → Made → Made → Type 0
-WantsAfter found before after =
-    after ≡ Want → (before ≡ Want) ⊎ IfSome found (λ parcel. parcel.completion ≡ NoMemory)
+-- no part was added yet
+pub record HasNoPart (made : Made) : Type 0 where
+  pub made_is : (job : Job) (whole : List ℤ) → IsFrontMade made job whole 0
+  pub able : made ≢ Want
 
--- this is what these complete with together, of whatever job and row they are
-abbrev pub JoinsTo : Made → Option Completion → Type 0
-JoinsTo made answer =
+-- what these come to with one part more that completed with this, where its numbers can't be
+-- appended; the error of the first that failed stays
+abbrev pub without_numbers : Made → Completion → Made
+without_numbers (Numbers made) (Error name) = Failed name
+without_numbers (Numbers made) NoMemory = Want
+without_numbers (Numbers made) done = Numbers None
+without_numbers made done = made
+
+-- and with one more that isn't done
+abbrev pub one_missing : Made → Made
+one_missing (Numbers made) = Want
+one_missing made = made
+
+-- of whatever job and row these are, this is put in its place: what they complete with together
+abbrev pub JoinsTo : Made → Bool → Completion → Type 0
+JoinsTo made put done =
     (job : Job) (whole : List ℤ) (part : ℕ) → IsFrontMade made job whole part →
-    IfSome answer (λ done. done ≡ row_ending (front_made job whole part))
+    put ≡ true → done ≡ row_ending (front_made job whole part)
 
--- and it is there, where it stands in place and no part wants memory
-abbrev pub JoinsInPlace : Made → Option Completion → Type 0
-JoinsInPlace made answer =
+-- and it is, where it stands in place and no part wants memory
+abbrev pub JoinsInPlace : Made → Bool → Type 0
+JoinsInPlace made put =
     (job : Job) (whole : List ℤ) (part : ℕ) → IsFrontMade made job whole part → made ≢ Want →
-    CompletesInPlace (row_ending (front_made job whole part)) → IsSome answer
+    CompletesInPlace (row_ending (front_made job whole part)) → put ≡ true

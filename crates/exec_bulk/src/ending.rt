@@ -1,11 +1,13 @@
 //! How a bulk completes ([exec.bulk]).
+ghost use Rattle.home_items.specs.Parcels.{delivery_of};
 ghost use Rattle.exec_bulk.specs.Ends.{MayPass, MayEndParts};
 ghost use Rattle.exec_bulk.specs.Steps.{Passes, EndsAsMade};
 
 use crate::joining::Made;
+use exec_value::Completion;
 use op_slot::Hand;
 use std::sync::Wait;
-use step_parts::{Gate, Item, Next, Parcel, Site, Taken, complete, want_memory};
+use step_parts::{Gate, Item, Label, Next, Site, Taken, complete, want_memory};
 
 /// Completes as the child did, which completed with no row, or with an empty one.
 #[inline(always)]
@@ -13,14 +15,15 @@ pub(crate) fn pass_on<R: Wait, G: Gate>(
     site: &Site<R, G>,
     hand: &mut Hand<Item>,
     taken: Taken,
-    parcel: Parcel,
+    label: Label,
+    done: &mut Completion,
 ) -> Next
-    requires may { MayPass site.now taken parcel hand.old }
-    ensures { Passes site.now taken parcel result hand.old hand.new }
+    requires may { MayPass site.now taken (delivery_of label done.old) hand.old }
+    ensures { Passes site.now taken (delivery_of label done.old) result hand.old hand.new }
 {
-    let saw = parcel.saw();
-    let mut done = parcel.into_completion();
-    complete(site, hand, taken, &mut done, saw)
+    let saw = label.saw();
+    drop(label);
+    complete(site, hand, taken, done, saw)
 }
 
 /// Completes with what the parts make of the row that was kept: the row of what the job made of
@@ -30,19 +33,15 @@ pub(crate) fn end_parts<R: Wait, G: Gate>(
     site: &Site<R, G>,
     hand: &mut Hand<Item>,
     taken: Taken,
-    kept: Parcel,
+    saw: bool,
     made: Made,
 ) -> Next
-    requires may { MayEndParts site.now taken kept made hand.old }
-    ensures { EndsAsMade site.now taken made kept.saw result hand.old hand.new }
+    requires may { MayEndParts site.now taken saw made hand.old }
+    ensures { EndsAsMade site.now taken made saw result hand.old hand.new }
 {
-    let saw = kept.saw();
-    drop(kept);
-    match made.finish(site.alloc) {
-        Some(done) => {
-            let mut done = done;
-            complete(site, hand, taken, &mut done, saw)
-        }
-        None => want_memory(site, hand, taken),
+    let mut done = Completion::Stopped;
+    if made.finish(site.alloc, &mut done) {
+        return complete(site, hand, taken, &mut done, saw);
     }
+    want_memory(site, hand, taken)
 }

@@ -1,12 +1,13 @@
 //! How what the parts of a bulk delivered comes together ([exec.bulk]).
-ghost use Rattle.std.specs.Prelude.{ℤ, List, [], ◌∷◌, ◌≡◌, ◌≢◌};
-ghost use Rattle.exec_job.specs.declared.job.Job.{Job};
-ghost use Rattle.exec_bulk.specs.Made.{IsFrontMade, AddsShare, AddsPart, WantsAfter, JoinsTo, JoinsInPlace};
+ghost use Rattle.std.specs.Prelude.{◌≡◌};
+ghost use Rattle.exec_bulk.specs.Made.{AddsParcel, AddsShare, HasNoPart, JoinsTo, JoinsInPlace, one_missing, without_numbers};
 
 use crate::rows::numbers_at;
 use exec_value::{Completion, Data, Datum, ErrorText, NUMBERS, Nums};
+use home_items::Gathers;
 use std::alloc::{AllocError, Global};
-use step_parts::Parcel;
+use std::mem;
+use step_parts::Label;
 
 /// What the parts so far come to, in the order of the row.
 #[derive(Drop)]
@@ -20,42 +21,26 @@ pub(crate) enum Made {
     Want,
 }
 
-// The numbers with those of one part more. None where there is no memory for them.
-fn append(numbers: Option<Vec<i64>>, more: &[i64]) -> Option<Vec<i64>>
-    ensures { let done = Completion.Value (Datum.Row more.now ∷ []) in
-        AddsShare (Made.Numbers numbers) done (Made.Numbers result) }
-{
-    match numbers {
-        Some(mut joined) => match joined.extend_from_slice(more) {
-            Ok(()) => Some(joined),
-            Err(_) => None,
-        },
-        None => None,
-    }
-}
+impl Gathers for Made {
+    ghost adds = { AddsParcel };
 
-// The numbers with what one part more completed with. No part completes stopped.
-fn behind(numbers: Option<Vec<i64>>, done: Completion) -> Made
-    ensures made { AddsShare (Made.Numbers numbers) done result }
-    ensures wants { result ≡ Made.Want → done ≡ Completion.NoMemory }
-{
-    match done {
-        Completion::Value(values) => {
-            let made = append(numbers, numbers_at(values.as_slice()));
-            drop(values);
-            Made::Numbers(made)
-        }
-        Completion::Error(name) => {
-            drop(numbers);
-            Made::Failed(name)
-        }
-        Completion::Stopped => {
-            drop(numbers);
-            Made::Numbers(None)
-        }
-        Completion::NoMemory => {
-            drop(numbers);
-            Made::Want
+    // One part more. The error of the first that failed stays.
+    #[inline(always)]
+    fn gather(&mut self, label: Label, done: &mut Completion) {
+        drop(label);
+        match self {
+            Made::Numbers(Some(joined)) => match done {
+                Completion::Value(values) => {
+                    match joined.extend_from_slice(numbers_at(values.as_slice())) {
+                        Ok(()) => {}
+                        Err(_) => self.fail(done),
+                    }
+                }
+                _ => self.fail(done),
+            },
+            Made::Numbers(None) => self.fail(done),
+            Made::Failed(_) => {}
+            Made::Want => {}
         }
     }
 }
@@ -63,8 +48,7 @@ fn behind(numbers: Option<Vec<i64>>, done: Completion) -> Made
 impl Made {
     /// No part yet, of a row of so many numbers.
     pub(crate) fn none(alloc: Global, room: usize) -> Made
-        ensures made { (job : Job) (whole : List ℤ) → IsFrontMade result job whole 0 }
-        ensures able { result ≢ Made.Want }
+        ensures { HasNoPart result }
     {
         match Vec::with_capacity(alloc, room) {
             Ok(numbers) => Made::Numbers(Some(numbers)),
@@ -72,46 +56,62 @@ impl Made {
         }
     }
 
-    /// One part more: its parcel, where it is done. The error of the first that failed stays.
-    pub(crate) fn add(self, found: Option<Parcel>) -> Made
-        ensures adds { AddsPart found self result }
-        ensures wants { WantsAfter found self result }
+    // One part more, where there are no numbers to append. No part completes stopped.
+    #[cold]
+    #[inline(never)]
+    fn fail(&mut self, done: &mut Completion)
+        ensures { self.new ≡ without_numbers self.old done.old }
     {
-        match self {
-            Made::Numbers(numbers) => match found {
-                Some(parcel) => behind(numbers, parcel.into_completion()),
-                None => Made::Want,
-            },
-            Made::Failed(name) => {
-                drop(found);
-                Made::Failed(name)
-            }
-            Made::Want => {
-                drop(found);
-                Made::Want
-            }
+        let Made::Numbers(_) = self else {
+            return;
+        };
+        let made = match mem::replace(done, Completion::Stopped) {
+            Completion::Value(_) => Made::Numbers(None),
+            Completion::Error(name) => Made::Failed(name),
+            Completion::Stopped => Made::Numbers(None),
+            Completion::NoMemory => Made::Want,
+        };
+        *self = made;
+    }
+
+    /// One part more, which isn't done.
+    #[cold]
+    #[inline(never)]
+    pub(crate) fn want(&mut self)
+        ensures { self.new ≡ one_missing self.old }
+    {
+        if let Made::Numbers(_) = self {
+            *self = Made::Want;
         }
     }
 
-    /// What they complete with together: the row of the numbers, or the error. None where a part
-    /// wants memory, or there is none for the row. An error is at hand, and wants none.
-    pub(crate) fn finish(self, alloc: Global) -> Option<Completion>
-        ensures made { JoinsTo self result }
+    /// Puts what they complete with together in its place: the row of the numbers, or the error.
+    /// False where a part wants memory, or there is none for the row. An error is at hand, and
+    /// wants none.
+    #[inline(always)]
+    pub(crate) fn finish(self, alloc: Global, done: &mut Completion) -> bool
+        ensures made { JoinsTo self result done.new }
         ensures in_place { JoinsInPlace self result }
     {
         match self {
-            Made::Numbers(None) => None,
             Made::Numbers(Some(numbers)) => {
                 if numbers.len() > NUMBERS {
-                    return None;
+                    return false;
                 }
                 match Nums::from_vec(numbers) {
-                    Ok(row) => Some(Completion::Value(Data::one(alloc, Datum::Row(row)))),
-                    Err(_) => None,
+                    Ok(row) => {
+                        done.put(Completion::Value(Data::one(alloc, Datum::Row(row))));
+                        true
+                    }
+                    Err(_) => false,
                 }
             }
-            Made::Failed(name) => Some(Completion::Error(name)),
-            Made::Want => None,
+            Made::Numbers(None) => false,
+            Made::Failed(name) => {
+                done.put(Completion::Error(name));
+                true
+            }
+            Made::Want => false,
         }
     }
 }

@@ -1,86 +1,89 @@
-//! What a bulk whose parts have run finds in their homes.
-ghost use Rattle.std.specs.Prelude.{◌<◌};
+//! What a bulk whose parts have run finds in the homes.
+ghost use Rattle.std.specs.Prelude.{◌≤◌, ◌<◌};
 ghost use Rattle.plan_shape.specs.declared.limits.TheConstants.{BULK_PARTS};
 ghost use Rattle.exec_recv.specs.Sites.{node_at};
 ghost use Rattle.step_parts.specs.Takes.{IsOpen};
 ghost use Rattle.exec_bulk.specs.Kinds.{IsBulkNode};
-ghost use Rattle.exec_bulk.specs.Opens.{MayOpen, OpensParts, TakesPart, TakesParts};
-ghost use Rattle.exec_bulk.specs.Rows.{parts_for};
+ghost use Rattle.exec_bulk.specs.Made.{HasNoPart};
+ghost use Rattle.exec_bulk.specs.Opens.{MayLook, LooksAtRow, GathersPart, TakesParts};
 
 use crate::joining::Made;
-use crate::rows::{first_part, numbers_of, parts_for};
+use crate::rows::{first_part, numbers_of};
 use op_slot::Hand;
 use plan_shape::BULK_PARTS;
-use step_parts::{Item, Parcel, Site, Taken, take_child, take_kept};
+use step_parts::{Item, Site, Taken, gather_child, take_child};
 
-/// What a bulk whose parts have run has at hand.
-#[derive(Drop)]
-pub(crate) struct Opened {
-    /// The child's parcel, with the row, which the node kept while its parts ran.
-    pub(crate) kept: Parcel,
-    /// What the parts that were begun for the row come to.
-    pub(crate) made: Made,
+/// What a bulk keeps of its child.
+#[derive(Clone, Copy)]
+pub(crate) struct KeptRow {
+    /// How many numbers the row has.
+    pub(crate) room: usize,
+    /// Whether the child saw a request.
+    pub(crate) saw: bool,
 }
 
-// Takes the parcel of the part of this number out of its home. Where it is one of the first so
-// many, it is added to those before it.
+/// Looks at the row that the bulk keeps of its child, which stays where it lies.
+///
+/// Step: one load of the node's control word, by which the hand turns to its home.
+/// Needs: the bulk keeps a parcel of its child.
 #[inline(always)]
-fn take_part<R, G>(
+pub(crate) fn look_row<R, G>(site: &Site<R, G>, hand: &mut Hand<Item>, taken: &Taken) -> KeptRow
+    requires may { MayLook site.now taken.now hand.old }
+    ensures { LooksAtRow site.now taken.now result hand.old hand.new }
+{
+    match hand.item_mut(site.table, taken.name()) {
+        Some(item) => KeptRow {
+            room: numbers_of(item.kept()).len(),
+            saw: item.kept_saw(),
+        },
+        None => unreachable!(),
+    }
+}
+
+// Adds the parcel of the part of this number where it lies, and empties the part's home.
+#[inline(always)]
+fn gather_part<R, G>(
     site: &Site<R, G>,
     hand: &mut Hand<Item>,
     taken: &Taken,
     part: u32,
-    count: u32,
-    made: Made,
-) -> Made
+    made: &mut Made,
+)
     requires part { part < BULK_PARTS }
     requires kind { IsBulkNode (node_at site.now taken.now.name) }
     requires opened { IsOpen site.now taken.now hand.old }
-    ensures { TakesPart site.now taken.now part count made result hand.old hand.new }
+    ensures { GathersPart site.now taken.now part made.old made.new hand.old hand.new }
 {
     let child = first_part(taken.name().node) + part;
-    if part < count {
-        let found = take_child(site, hand, taken, child);
-        return made.add(found);
+    if !gather_child(site, hand, taken, child, made) {
+        made.want();
     }
-    // nothing lies there
-    drop(take_child(site, hand, taken, child));
-    made
 }
 
-// Takes the parcels of the parts out of their homes, and adds up those that were begun for the row.
+/// Takes the parcels of the parts out of their homes, and adds up those of the first so many, which
+/// were begun, where they lie.
+///
+/// Step: those of `gather_child`, or of `take_child`, for each part.
 #[inline(always)]
-fn take_parts<R, G>(
+pub(crate) fn take_parts<R, G>(
     site: &Site<R, G>,
     hand: &mut Hand<Item>,
     taken: &Taken,
-    numbers: &[i64],
-) -> Made
+    count: u32,
+    made: &mut Made,
+)
+    requires few { count ≤ BULK_PARTS }
+    requires none { HasNoPart made.old }
     requires kind { IsBulkNode (node_at site.now taken.now.name) }
     requires opened { IsOpen site.now taken.now hand.old }
-    ensures { TakesParts site.now taken.now BULK_PARTS (parts_for numbers.now) result
-        hand.old hand.new }
+    ensures { TakesParts site.now taken.now BULK_PARTS count made.new hand.old hand.new }
 {
-    let count = parts_for(numbers);
-    let mut made = Made::none(site.alloc, numbers.len());
-    for part in 0..BULK_PARTS {
-        made = take_part(site, hand, taken, part, count, made);
+    for part in 0..count {
+        gather_part(site, hand, taken, part, made);
     }
-    made
-}
-
-/// Takes what the bulk keeps of its child, and the parcels of its parts.
-///
-/// Step: those of `take_kept`, and of `take_child` for each part.
-/// Needs: the bulk keeps a parcel of its child.
-#[inline(always)]
-pub(crate) fn open_parts<R, G>(site: &Site<R, G>, hand: &mut Hand<Item>, taken: &Taken) -> Opened
-    requires may { MayOpen site.now taken.now hand.old }
-    ensures { OpensParts site.now taken.now result hand.old hand.new }
-{
-    let Some(kept) = take_kept(site, hand, taken) else {
-        unreachable!()
-    };
-    let made = take_parts(site, hand, taken, numbers_of(kept.completion()));
-    Opened { kept, made }
+    // nothing lies in the homes of the others
+    for other in count..BULK_PARTS {
+        let child = first_part(taken.name().node) + other;
+        drop(take_child(site, hand, taken, child));
+    }
 }

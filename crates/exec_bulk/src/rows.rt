@@ -1,5 +1,5 @@
 //! The row that a bulk cuts into parts.
-ghost use Rattle.std.specs.Prelude.{◌≡◌, ◌<◌, ◌≤◌, [], ◌∷◌, length};
+ghost use Rattle.std.specs.Prelude.{◌≡◌, ◌<◌, ◌≤◌, min, [], ◌∷◌, length};
 ghost use Rattle.std.specs.List.{range_with_len};
 ghost use Rattle.exec_value.specs.declared.limits.TheConstants.{NUMBERS};
 ghost use Rattle.plan_shape.specs.declared.limits.TheConstants.{BULK_PARTS};
@@ -46,8 +46,15 @@ pub(crate) fn numbers_of(done: &Completion) -> &[i64]
 pub(crate) fn parts_for(numbers: &[i64]) -> u32
     ensures { result ≡ parts_for numbers.now }
 {
-    if numbers.len() < BULK_PARTS as usize {
-        numbers.len() as u32
+    parts_of(numbers.len())
+}
+
+/// The same for a row of so many numbers.
+pub(crate) fn parts_of(room: usize) -> u32
+    ensures { result ≡ min BULK_PARTS room }
+{
+    if room < BULK_PARTS as usize {
+        room as u32
     } else {
         BULK_PARTS
     }

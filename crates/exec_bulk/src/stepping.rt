@@ -1,4 +1,5 @@
 //! The step of a bulk ([exec.bulk]).
+ghost use Rattle.home_items.specs.Parcels.{delivery_of};
 ghost use Rattle.home_items.specs.declared.item.State.TheVariants.{Kept};
 ghost use Rattle.exec_bulk.specs.Begins.{MayGoOn};
 ghost use Rattle.exec_bulk.specs.Opens.{HasTakenUp, MayTakeBack};
@@ -6,15 +7,18 @@ ghost use Rattle.exec_bulk.specs.Steps.{CutsRow, GoesOnBack, JoinsParts};
 
 use crate::beginning::begin_parts;
 use crate::ending::{end_parts, pass_on};
-use crate::opening::{Opened, open_parts};
-use crate::rows::numbers_of;
+use crate::joining::Made;
+use crate::opening::{KeptRow, look_row, take_parts};
+use crate::rows::{numbers_of, parts_of};
+use exec_value::Completion;
 use home_items::State;
 use life_rules::Name;
 use op_slot::Hand;
 use plan_rules::{Node, NodeId};
 use std::sync::Wait;
 use step_parts::{
-    Gate, Item, Kind, Next, Parcel, Site, Taken, start_again, start_child, take_child, take_up,
+    Gate, Item, Kind, Label, Next, Site, Taken, start_again, start_child, take_child_into,
+    take_kept, take_up,
 };
 
 /// Each bulk.
@@ -65,13 +69,15 @@ fn join_parts<R: Wait, G: Gate>(
     requires up { HasTakenUp site.now taken child Kept hand.old }
     ensures { JoinsParts site.now taken child result hand.old hand.new }
 {
-    let Opened { kept, made } = open_parts(site, hand, &taken);
-    if numbers_of(kept.completion()).is_empty() {
+    let KeptRow { room, saw } = look_row(site, hand, &taken);
+    let mut made = Made::none(site.alloc, room);
+    take_parts(site, hand, &taken, parts_of(room), &mut made);
+    if room == 0 {
         drop(made);
-        drop(kept);
         return step_begun(site, hand, taken, child);
     }
-    end_parts(site, hand, taken, kept, made)
+    drop(take_kept(site, hand, &taken));
+    end_parts(site, hand, taken, saw, made)
 }
 
 // Steps a bulk whose child has begun, and none of its parts.
@@ -85,8 +91,9 @@ fn step_begun<R: Wait, G: Gate>(
     requires may { MayTakeBack site.now taken child hand.old }
     ensures { GoesOnBack site.now taken child result hand.old hand.new }
 {
-    match take_child(site, hand, &taken, child) {
-        Some(parcel) => go_on(site, hand, taken, parcel),
+    let mut done = Completion::Stopped;
+    match take_child_into(site, hand, &taken, child, &mut done) {
+        Some(label) => go_on(site, hand, taken, label, &mut done),
         None => {
             let asked = taken.asked();
             start_again(site, hand, taken, child, asked)
@@ -101,13 +108,14 @@ fn go_on<R: Wait, G: Gate>(
     site: &Site<R, G>,
     hand: &mut Hand<Item>,
     taken: Taken,
-    parcel: Parcel,
+    label: Label,
+    done: &mut Completion,
 ) -> Next
-    requires may { MayGoOn site.now taken parcel hand.old }
-    ensures { CutsRow site.now taken parcel result hand.old hand.new }
+    requires may { MayGoOn site.now taken (delivery_of label done.old) hand.old }
+    ensures { CutsRow site.now taken (delivery_of label done.old) result hand.old hand.new }
 {
-    if numbers_of(parcel.completion()).is_empty() {
-        return pass_on(site, hand, taken, parcel);
+    if numbers_of(done).is_empty() {
+        return pass_on(site, hand, taken, label, done);
     }
-    begin_parts(site, hand, taken, parcel)
+    begin_parts(site, hand, taken, label, done)
 }

@@ -3,15 +3,16 @@ ghost use Rattle.exec_hop.specs.Ends.{MayGoOn};
 ghost use Rattle.exec_hop.specs.Hops.{Lands};
 
 use crate::ending::{pass_unless_stopped, start_unless_stopped};
-use crate::hopping::hop;
+use crate::hopping::hop_keeping;
+use exec_value::Completion;
 use home_items::State;
 use life_rules::Name;
 use op_slot::Hand;
 use plan_rules::{Node, NodeId};
 use std::sync::Wait;
 use step_parts::{
-    Gate, Item, Kind, Next, Site, Taken, complete_stopped, hear, start_child, take_back, take_kept,
-    take_up,
+    Gate, Item, Kind, Next, Site, Taken, complete_stopped, hear, start_child, take_back_into,
+    take_kept, take_up,
 };
 
 /// Each `continues_on`: it starts its child, hops when the child has completed, whatever with, and
@@ -40,10 +41,13 @@ impl Kind for ContinuesOns {
                         }
                         start_child(site, hand, taken, *child, false)
                     }
-                    _ => match take_back(site, hand, &taken, *child) {
-                        Some(parcel) => hop(site, hand, taken, Some(parcel), *on),
-                        None => land(site, hand, taken, *child),
-                    },
+                    _ => {
+                        let mut done = Completion::Stopped;
+                        match take_back_into(site, hand, &taken, *child, &mut done) {
+                            Some(label) => hop_keeping(site, hand, taken, label, &mut done, *on),
+                            None => land(site, hand, taken, *child),
+                        }
+                    }
                 }
             }
             _ => unreachable!(),

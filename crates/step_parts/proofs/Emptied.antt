@@ -1,6 +1,6 @@
 -- How a step takes what lies in the home of a child of its node.
 use Rattle.std.proofs.Common.{◌≡◌, ℕ, ◌<◌, true, false, ◌==◌, List, ◌∷◌, arith, refl, sym, ap, ◌∙◌, subst}
-use Rattle.std.specs.Prelude.{Option, Some, None, IfSome, Contains}
+use Rattle.std.specs.Prelude.{Option, Some, None, is_some, IfSome, Contains}
 use Rattle.std.specs.Option.{option_map, option_map_or}
 use Rattle.std.proofs.lemmas.Bool.{cond-true, cond-false, eq-eqb}
 use Rattle.std.proofs.lemmas.Option.{same_Some}
@@ -24,9 +24,9 @@ use Rattle.op_slot.proofs.Tending.{swapped-old, swapped-kid}
 use Rattle.home_items.specs.declared.entry.Entry.{Entry}
 use Rattle.home_items.specs.declared.item.Item.{Item}
 use Rattle.home_items.specs.Bounds.{least_of}
-use Rattle.home_items.specs.Contents.{Done}
+use Rattle.home_items.specs.Contents.{Start, Rest, Done}
 use Rattle.home_items.specs.Entries.{node_of}
-use Rattle.home_items.specs.Items.{HasCompleted}
+use Rattle.home_items.specs.Items.{HasCompleted, parcel_in}
 use Rattle.home_items.specs.Parcels.{Delivery, IsDelivery}
 use Rattle.home_items.proofs.Reading.{child-fits}
 use Rattle.start_laws.specs.Nodes.{AwaitsOne, plain_children}
@@ -56,6 +56,18 @@ module _ (board : Board Blueprint) (t : Stepping) (n : ℕ) (child : is_child bo
   pub kid-done : (done : Item) → home_at board.frame.layout hand.me (beside t.name n) ≡ Some (Some done) → HasCompleted done
   kid-done done lies =
       (is.is.midway.kids n done child (same_Some (is.kid n) (Some done) (sym (is.is.midway.tends.kids n child) ∙ lies))).ends
+
+-- a completion is the parcel in it
+pub done-parcel : (done : Item) → HasCompleted done → option_map Done (parcel_in done) ≡ Some done
+done-parcel (Done parcel) ends = refl
+done-parcel (Start start) ends = absurd ends
+done-parcel (Rest start kept) ends = absurd ends
+
+-- and so there is one
+pub done-some : (done : Item) → HasCompleted done → true ≡ is_some (parcel_in done)
+done-some (Done parcel) ends = refl
+done-some (Start start) ends = absurd ends
+done-some (Rest start kept) ends = absurd ends
 
 put-less : (n k : ℕ) (kid : ℕ → Option Item) (done : Item) → put_at n None kid k ≡ Some done → kid k ≡ Some done
 put-less n k kid done full =

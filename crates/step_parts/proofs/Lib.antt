@@ -4,6 +4,7 @@ pub mod Swapping
 pub mod Settled
 pub mod Completed
 pub mod Left
+pub mod Lent
 pub mod Opened
 pub mod Emptied
 pub mod Unkept

@@ -1,8 +1,8 @@
 -- What contracts see of a node that a step has taken up.
-use Rattle.std.specs.Prelude.{◌≡◌, ℕ, Bool, true, false, List, Option}
+use Rattle.std.specs.Prelude.{◌≡◌, ℕ, Bool, true, false, List}
 use Rattle.life_rules.specs.declared.event.Name.{Name}
 use Rattle.home_items.specs.declared.entry.Entry.{Entry}
-use Rattle.home_items.specs.Entries.{record_number, asked_of, child_of}
+use Rattle.home_items.specs.Entries.{record_number, asked_of}
 use Rattle.home_items.specs.Starts.{IsStart}
 use Rattle.exec_recv.specs.Seats.{HandSeat}
 use Rattle.step_parts.specs.declared.taken.Mark.{Mark}
@@ -24,10 +24,8 @@ abbrev pub asked_in : Mark → Bool
 asked_in (Asked number) = true
 asked_in (Calm number) = false
 
--- the start has this record number, `asked` and child
-pub record IsHead (number : ℕ) (asked : Bool) (child : Option ℕ) (start : List Entry) :
-    Type 0 where
+-- the start has this record number and `asked`
+pub record IsHead (number : ℕ) (asked : Bool) (start : List Entry) : Type 0 where
   pub start_is : IsStart start
   pub number_is : record_number start ≡ number
   pub asked_is : asked_of start ≡ asked
-  pub child_is : child_of start ≡ child

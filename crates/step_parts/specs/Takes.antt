@@ -1,5 +1,5 @@
 -- How a step takes up its node, and what it has then.
-use Rattle.std.specs.Prelude.{◌≡◌, ◌≢◌, ⊤, ℕ, Bool, true, false, List, ◌∷◌, Contains, Option, Some, None, IfSome}
+use Rattle.std.specs.Prelude.{◌≡◌, ◌≢◌, ⊤, ℕ, Bool, true, false, List, ◌∷◌, Contains, Option, Some, None, is_some, IfSome}
 use Rattle.std.specs.Option.{option_map, option_map_or}
 use Rattle.life_rules.specs.declared.event.Name.{Name}
 use Rattle.life_rules.specs.declared.words.CallbackPhase.TheVariants.{Never}
@@ -130,6 +130,15 @@ module _ (board : Board Blueprint) (t : Stepping) where
     pub left : (inside : Item) (kid : ℕ → Option Item) → IsOpenWith inside kid old →
         IsOpenWith inside (put_at n None kid) new
     pub found : IsOpen old → IfSome answer (IsFoundBelow n new.me)
+
+  -- The hand took what lay in the home of the child n, and gathered it where it was a parcel.
+  pub record GathersChild {A : Type 0} (adds : A → A → Delivery → Type 0) (n : ℕ)
+      (before after : A) (found : Bool) (old new : HandSeat) : Type 0 where
+    pub answer : Option Delivery
+    pub takes : TakesChild n answer old new
+    pub found_is : found ≡ is_some answer
+    pub gathered : IfSome answer (adds before after)
+    pub stays : answer ≡ None → after ≡ before
 
   -- The hand took what the node kept of its child.
   pub record TakesKept (answer : Option Delivery) (old new : HandSeat) : Type 0 where

@@ -32,7 +32,6 @@ pub fn complete<R: Wait, G: Gate>(
     let Taken {
         name,
         mark: _,
-        child: _,
         shown: _,
         origin: _,
     } = taken;
@@ -77,7 +76,6 @@ pub fn complete_with_args<R: Wait, G: Gate>(
     let Taken {
         name,
         mark: _,
-        child: _,
         shown: _,
         origin: _,
     } = taken;

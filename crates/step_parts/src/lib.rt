@@ -6,14 +6,18 @@
 //! the calls here; the step then ends as a step does, and whatever the hand has beside the node is
 //! as it was.
 //!
-//!     take_up, take_one --> Taken --complete, complete_stopped-----> Go(parent), Rest
-//!                             |  \--want_memory, without_memory----> the same, with want of memory
-//!                             |
-//!                             +--start_child, start_again, begin---> Go(child), which it awaits
-//!                             +--await_many----> awaiting --put_start, for each child--> Rest
-//!                             +--leave_at_rest-----> Ready(on)
-//!                             +--leave_parked------> Parked
-//!                             +--take_child, hear, listen--> Taken
+//!     take_up, take_up_top, take_one --> Taken
+//!     Taken --complete, complete_with_args-----------------> Go(parent), Rest
+//!           --complete_stopped-----------------------------> the same, stopped
+//!           --want_memory----------------------------------> the same, with want of memory
+//!           --start_child, start_again, start_top, begin---> Go(child), which it awaits
+//!           --await_many, await_keeping--------------------> awaiting
+//!           --leave_at_rest, leave_keeping-----------------> Ready(on)
+//!           --leave_parked---------------------------------> Parked
+//!           --take_child, take_child_into, gather_child----> Taken
+//!           --take_back, take_back_into, take_kept---------> Taken
+//!           --copy_args, hear, listen, settle--------------> Taken
+//!     awaiting --put_start, for each child-----------------> Rest
 //!
 //! A node's home is changed where it lies: its arguments stay there until it has completed.
 #![tactic(auto)]
@@ -22,6 +26,7 @@ mod awaiting;
 mod completing;
 mod copying;
 mod found;
+mod gathering;
 mod hearing;
 mod leaving;
 mod listening;
@@ -32,13 +37,14 @@ mod taken;
 mod taking;
 mod wanting;
 
-pub use awaiting::{await_many, put_start};
+pub use awaiting::{await_keeping, await_many, put_start};
 pub use completing::{complete, complete_stopped, complete_with_args};
 pub use copying::{copy_args, copy_waiting};
 pub use exec_recv::{Env, Gate, Item, Kind, Label, Next, Parcel, Point, Site};
 pub use found::Found;
+pub use gathering::gather_child;
 pub use hearing::hear;
-pub use leaving::{leave_at_rest, leave_parked};
+pub use leaving::{leave_at_rest, leave_keeping, leave_parked};
 pub use listening::listen;
 pub use origin::Origin;
 pub use settling::settle;
@@ -46,5 +52,6 @@ pub use starting::{begin, start_again, start_child, start_top};
 pub use taken::{Taken, TakenUp};
 pub use taking::{
     take_back, take_back_into, take_child, take_child_into, take_kept, take_one, take_up,
+    take_up_top,
 };
-pub use wanting::{want_memory, without_memory};
+pub use wanting::want_memory;

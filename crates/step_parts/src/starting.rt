@@ -14,7 +14,7 @@ use crate::leaving::leave_at_rest;
 use crate::taken::Taken;
 use crate::wanting::without_memory;
 use exec_recv::{Env, Gate, Item, Next, Site};
-use exec_value::{Data, Datum};
+use exec_value::{Data, Datum, copy_data};
 use life_rules::Name;
 use node_tree::Context;
 use op_slot::Hand;
@@ -41,7 +41,6 @@ fn go_below<R, G>(
     let Taken {
         name,
         mark: _,
-        child: _,
         shown: _,
         origin: _,
     } = taken;
@@ -115,9 +114,11 @@ pub fn begin<R, G>(
 }
 
 /// Begins the only child of a node that has just begun, with the node's own arguments. Where there
-/// is no memory for them, the step ends as `without_memory` says.
+/// is no memory for them, the node completes with want of memory. Where they are one text, it goes
+/// on later in place of that, in the loop.
 ///
-/// Step: one load of the node's control word, and those of `begin_child`, or of `without_memory`.
+/// Step: one load of the node's control word, and those of `begin_child`. Where there is no memory,
+/// two loads of that word, and those of `complete`, or of `leave_at_rest`.
 /// Needs: the node isn't the receiver node. The child runs with its arguments.
 #[inline(always)]
 pub fn start_child<R: Wait, G: Gate>(
@@ -132,13 +133,22 @@ pub fn start_child<R: Wait, G: Gate>(
     requires idle { KnowsIdle taken.name child hand.old.me }
     ensures { StartsChild site.now taken child result hand.old hand.new }
 {
-    match rest_and_copy(site, hand, &taken) {
-        Some(Carried::Int(number)) => {
-            let args = Data::one(site.alloc, Datum::Int(number));
-            go_below(site, hand, taken, child, args, asked)
-        }
-        Some(Carried::Other(args)) => go_below_apart(site, hand, taken, child, args, asked),
-        None => without_memory(site, hand, taken),
+    match hand.item_mut(site.table, taken.name) {
+        Some(item) => match item.args().one_int() {
+            Some(number) => {
+                item.rest();
+                let args = Data::one(site.alloc, Datum::Int(number));
+                go_below(site, hand, taken, child, args, asked)
+            }
+            None => match copy_data(site.alloc, item.args()) {
+                Ok(args) => {
+                    item.rest();
+                    go_below_apart(site, hand, taken, child, args, asked)
+                }
+                Err(AllocError) => without_memory(site, hand, taken),
+            },
+        },
+        None => unreachable!(),
     }
 }
 

@@ -1,6 +1,6 @@
 //! A node that a step has taken up.
 ghost use Rattle.std.specs.Prelude.{◌≡◌};
-ghost use Rattle.home_items.specs.Entries.{record_number, asked_of, child_of};
+ghost use Rattle.home_items.specs.Entries.{record_number, asked_of};
 ghost use Rattle.home_items.specs.Starts.{IsStart};
 ghost use Rattle.step_parts.specs.Stepping.{number_in, asked_in};
 
@@ -8,7 +8,6 @@ use crate::found::Found;
 use crate::origin::Origin;
 use home_items::{Shown, Shows};
 use life_rules::Name;
-use plan_rules::NodeId;
 use std::marker::Model;
 
 /// The number of a record, and whether the scope's request was made before its operation was
@@ -41,7 +40,6 @@ impl Mark {
 pub struct Taken {
     pub(crate) name: Name,
     pub(crate) mark: Mark,
-    pub(crate) child: Option<NodeId>,
     pub(crate) shown: Shown,
     pub(crate) origin: Origin,
 }
@@ -56,7 +54,7 @@ impl Model for Taken {
     ghost view = { λ t. record { name = t.name; start = t.shown.start; from = t.origin.seat } };
 
     ghost invariant = { λ t.
-        IsHead (number_in t.mark) (asked_in t.mark) t.child t.shown.start };
+        IsHead (number_in t.mark) (asked_in t.mark) t.shown.start };
 }
 
 impl Shows for Taken {
@@ -89,14 +87,6 @@ impl Taken {
         ensures { result ≡ asked_of self.now.start }
     {
         matches!(self.mark, Mark::Asked(_))
-    }
-
-    /// The child that the operation runs, where the node is the receiver node; else none.
-    #[inline(always)]
-    pub fn child(&self) -> Option<NodeId>
-        ensures { result ≡ child_of self.now.start }
-    {
-        self.child
     }
 
     /// What every node that was taken up keeps: it shows a start.

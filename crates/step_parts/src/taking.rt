@@ -2,6 +2,7 @@
 ghost use Rattle.std.specs.Option.{option_map};
 ghost use Rattle.std.specs.Prelude.{◌≡◌, true, None, Some, IfSome};
 ghost use Rattle.node_tree.specs.Tree.{is_child};
+ghost use Rattle.home_items.specs.Entries.{child_of};
 ghost use Rattle.home_items.specs.Parcels.{delivery_of};
 ghost use Rattle.exec_recv.specs.Sites.{node_at, MayStep};
 ghost use Rattle.step_parts.specs.Takes.{IsFoundBelow, IsOnlyChild, IsOpen, TakesBack, TakesChild, TakesFound, TakesKept, TakesOne, TakesState, TakesUp};
@@ -34,7 +35,6 @@ pub fn take_up<R, G>(site: &Site<R, G>, hand: &mut Hand<Item>, name: Name) -> (T
             let taken = Taken {
                 name,
                 mark: Mark::for_number(item.number(), item.asked()),
-                child: item.child(),
                 shown: Shown::of(item),
                 origin,
             };
@@ -44,9 +44,37 @@ pub fn take_up<R, G>(site: &Site<R, G>, hand: &mut Hand<Item>, name: Name) -> (T
     }
 }
 
+/// Takes up the node as `take_up` does. The answer says last which child the operation runs, where
+/// the node is the receiver node. Else it says none.
+#[inline(always)]
+pub fn take_up_top<R, G>(
+    site: &Site<R, G>,
+    hand: &mut Hand<Item>,
+    name: Name,
+) -> (Taken, State, Option<NodeId>)
+    requires may { MayStep site.now name hand.old }
+    ensures takes { TakesState site.now name result.0 result.1 hand.old hand.new }
+    ensures child { result.2 ≡ child_of result.0.start }
+{
+    let origin = Origin::of(hand);
+    match hand.item_mut(site.table, name) {
+        Some(item) => {
+            item.known();
+            let taken = Taken {
+                name,
+                mark: Mark::for_number(item.number(), item.asked()),
+                shown: Shown::of(item),
+                origin,
+            };
+            (taken, item.state(), item.child())
+        }
+        None => unreachable!(),
+    }
+}
+
 // Empties the home, whose item keeps nothing elsewhere in memory: there is nothing to drop.
 #[inline(always)]
-fn empty(home: &mut Option<Item>)
+pub(crate) fn empty(home: &mut Option<Item>)
     ensures { home.new ≡ None }
 {
     mem::forget(home.take());
@@ -85,8 +113,9 @@ pub fn take_child<R, G>(
     }
 }
 
-/// The same, where what the child completed with moves in place of what is no more wanted. Where
-/// nothing lay in the home, that stays.
+/// Takes what lies in the home of a child of the node, as `take_child` does. What the child
+/// completed with moves into `done`, in place of what is no more wanted. Where nothing lay in the
+/// home, `done` stays.
 #[inline(always)]
 pub fn take_child_into<R, G>(
     site: &Site<R, G>,
@@ -155,8 +184,9 @@ pub fn take_back<R, G>(
     take_child(site, hand, taken, child)
 }
 
-/// The same, where what the child completed with moves in place of what is no more wanted. Where
-/// nothing lay in the home, that stays.
+/// Takes what lies in the home of the only child, as `take_back` does. What the child completed
+/// with moves into `done`, in place of what is no more wanted. Where nothing lay in the home,
+/// `done` stays.
 #[inline(always)]
 pub fn take_back_into<R, G>(
     site: &Site<R, G>,

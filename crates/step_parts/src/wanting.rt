@@ -38,11 +38,11 @@ fn is_text_alone(values: &Data) -> bool
 /// memory. But where its arguments are one text the plan may be small: then the node goes on later,
 /// in the loop. Copies of one text want no memory, so that this doesn't come.
 ///
-/// Step: those of `complete`, or of `leave_at_rest`.
+/// Step: one load of the node's control word, and those of `complete`, or of `leave_at_rest`.
 /// Needs: as `complete`; and a small plan only where the arguments are one text.
 #[cold]
 #[inline(never)]
-pub fn without_memory<R: Wait, G: Gate>(
+pub(crate) fn without_memory<R: Wait, G: Gate>(
     site: &Site<R, G>,
     hand: &mut Hand<Item>,
     taken: Taken,

@@ -36,7 +36,7 @@ complete-requires g c =
     let none = no-want c.args.site.now c.args.taken c.args.joining c.args.hand.now may c.wants_memory.result c.wants_memory.ensures
     c.if-wants_memory.false in
     record {
-      may = end-tells c.args.site.now c.args.taken c.args.joining c.args.hand.now may none c.in-Ok.done c.in-Ok.saw
+      may = end-tells c.args.site.now c.args.taken c.args.joining c.args.hand.now may none c.finish.new.done c.in-Ok.saw
           (c.in-Ok.ensures may.have.ends (length may.children) may.have.joined none).ok;
     }
 
@@ -77,7 +77,7 @@ returns-in-Ok-clause-ends g c =
           c.if-wants_memory.false want;
       ends = λ may is.
           let none = want-none may.have.ends (length may.children) is in
-          inl (completes-so c.args.site.now c.args.taken may.have.ends (length may.children) c.in-Ok.done c.in-Ok.saw c.complete.result
+          inl (completes-so c.args.site.now c.args.taken may.have.ends (length may.children) c.finish.new.done c.in-Ok.saw c.complete.result
           c.args.hand.now c.complete.new.hand (c.in-Ok.ensures may.have.ends (length may.children) may.have.joined none).ok
           c.complete.ensures);
     }

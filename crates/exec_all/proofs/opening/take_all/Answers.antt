@@ -7,21 +7,21 @@ loop-child-init g c =
     taking-none c.args.site.now c.args.taken.now c.args.children.now c.none-joining.result c.args.hand.now c.requires.opened.is.stays.hand
     c.none-joining.ensures
 
-pub add_one-found-requires-clause-child : goal.add_one-found-requires-clause-child
-add_one-found-requires-clause-child g c = c.requires.kids.each c.loop-child.child-index c.loop-child-test.true
+pub gather_child-found-requires-clause-child : goal.gather_child-found-requires-clause-child
+gather_child-found-requires-clause-child g c = c.requires.kids.each c.loop-child.child-index c.loop-child-test.true
 
-pub add_one-found-requires-clause-opened : goal.add_one-found-requires-clause-opened
-add_one-found-requires-clause-opened g c =
+pub gather_child-found-requires-clause-opened : goal.gather_child-found-requires-clause-opened
+gather_child-found-requires-clause-opened g c =
     taking-open c.args.site.now c.args.taken.now c.args.children.now c.loop-child.all c.loop-child.joining c.loop-child.child-index
     c.args.hand.now c.loop-child.hand c.loop-child.invariant c.requires.opened
 
 pub loop-child-preserved : goal.loop-child-preserved
 loop-child-preserved g c =
-    subst (λ (b : Bool). IsTaking c.args.site.now c.args.taken.now c.args.children.now b c.add_one-found.new.all (c.loop-child.child-index + 1) c.args.hand.now c.add_one-found.new.hand)
+    subst (λ (b : Bool). IsTaking c.args.site.now c.args.taken.now c.args.children.now b c.gather_child-found.new.all (c.loop-child.child-index + 1) c.args.hand.now c.gather_child-found.new.hand)
     (sym c.both-all.ensures)
-    (taking-more c.args.site.now c.args.taken.now c.args.children.now c.loop-child.all c.add_one-found.result c.loop-child.joining
-    c.add_one-found.new.all c.loop-child.child-index c.args.hand.now c.loop-child.hand c.add_one-found.new.hand c.requires.kids
-    c.loop-child-test.true c.loop-child.invariant c.add_one-found.ensures)
+    (taking-more c.args.site.now c.args.taken.now c.args.children.now c.loop-child.all c.gather_child-found.result c.loop-child.joining
+    c.gather_child-found.new.all c.loop-child.child-index c.args.hand.now c.loop-child.hand c.gather_child-found.new.hand c.requires.kids
+    c.loop-child-test.true c.loop-child.invariant c.gather_child-found.ensures)
 
 pub returns-then-not-all : goal.returns-then-not-all
 returns-then-not-all g c =

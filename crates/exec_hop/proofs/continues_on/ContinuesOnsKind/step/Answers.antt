@@ -1,10 +1,11 @@
 use Rattle.std.proofs.Common.{Some, None, false, ◌||◌, refl, sym, ap, ◌∙◌}
 use Rattle.plan_rules.specs.declared.node.Node.{Node}
 use Rattle.plan_rules.specs.declared.node.Node.TheVariants.{ContinuesOn as IsContinuesOn}
+use Rattle.home_items.specs.Parcels.{delivery_of}
 use Rattle.step_parts.proofs.Started.{starts-steps}
 use Rattle.step_parts.proofs.Took.{taken-inner}
 use Rattle.exec_hop.proofs.Did.{hops-back, lands-below}
-use Rattle.exec_hop.proofs.Landed.{hop-stops, hop-runs-child}
+use Rattle.exec_hop.proofs.Landed.{hop-hops, hop-stops, hop-runs-child}
 use Rattle.exec_hop.proofs.Stepped.{lands-steps, goes-steps}
 use Rattle.exec_hop.proofs.Taken.{at-taken, new-taken, new-idle, up-open, up-only, up-one, steps-here, goes-on}
 use Rattle.exec_hop.proofs.continues_on.ContinuesOnsKind.step.Goals as goal
@@ -61,8 +62,8 @@ start_child-requires-clause-idle g c =
     let at = c.node.ensures ∙ ap (λ (n : Node). Some n) c.in-ContinuesOn.is in
     new-idle board x node at tt c.args.hand.now up c.requires.may t state takes c.in-Start.is c.in-ContinuesOn.child refl
 
-pub take_back-requires : goal.take_back-requires
-take_back-requires g c =
+pub take_back_into-requires : goal.take_back_into-requires
+take_back_into-requires g c =
     let board = c.args.site.now in
     let x = c.args.name in
     let t = c.take_up-taken.result.0 in
@@ -77,6 +78,23 @@ take_back-requires g c =
       opened = up-open board x node at tt c.args.hand.now up c.requires.may t state takes;
     }
 
+pub hop_keeping-requires : goal.hop_keeping-requires
+hop_keeping-requires g c =
+    let board = c.args.site.now in
+    let x = c.args.name in
+    let t = c.take_up-taken.result.0 in
+    let up = c.take_up-taken.new.hand in
+    let state = c.take_up-taken.result.1 in
+    let takes = c.take_up-taken.ensures in
+    let node : Node = IsContinuesOn c.in-ContinuesOn.child c.in-ContinuesOn.on in
+    let at = c.node.ensures ∙ ap (λ (n : Node). Some n) c.in-ContinuesOn.is in
+    let back = c.in-Some.ensures.takes in
+    record {
+      may = hop-hops board t c.take_back_into.new.hand back.taken node (at-taken board x node at tt c.args.hand.now up c.requires.may t state takes) tt
+          tt (Some (delivery_of c.in-Some.label c.take_back_into.new.done)) back.parcel;
+      lawful = back.parcel.from.delivers;
+    }
+
 pub land-requires : goal.land-requires
 land-requires g c =
     let board = c.args.site.now in
@@ -88,12 +106,12 @@ land-requires g c =
     let node : Node = IsContinuesOn c.in-ContinuesOn.child c.in-ContinuesOn.on in
     let at = c.node.ensures ∙ ap (λ (n : Node). Some n) c.in-ContinuesOn.is in
     record {
-      may = goes-on board x c.in-ContinuesOn.child c.in-ContinuesOn.on at c.args.hand.now up c.take_back.new.hand c.requires.may t state takes None
+      may = goes-on board x c.in-ContinuesOn.child c.in-ContinuesOn.on at c.args.hand.now up c.take_back_into.new.hand c.requires.may t state takes None
           c.in-None.ensures.takes;
     }
 
-pub returns-else-asked-clause-steps : goal.returns-else-asked-clause-steps
-returns-else-asked-clause-steps g c =
+pub returns-in-Start-clause-steps : goal.returns-in-Start-clause-steps
+returns-in-Start-clause-steps g c =
     let board = c.args.site.now in
     let x = c.args.name in
     let t = c.take_up-taken.result.0 in
@@ -115,15 +133,16 @@ returns-in-Some g c =
     let takes = c.take_up-taken.ensures in
     let node : Node = IsContinuesOn c.in-ContinuesOn.child c.in-ContinuesOn.on in
     let at = c.node.ensures ∙ ap (λ (n : Node). Some n) c.in-ContinuesOn.is in
+    let parcel = delivery_of c.in-Some.label c.take_back_into.new.done in
     record {
-      steps = steps-here board x node at tt c.args.hand.now up c.requires.may t state takes c.hop.result c.hop.new.hand
-          (lands-steps board t c.hop.result c.in-ContinuesOn.on (Some c.in-Some.parcel) c.take_back.new.hand c.hop.new.hand c.hop.ensures);
-      does = hops-back board x t state c.args.hand.now up takes c.in-ContinuesOn.child c.in-ContinuesOn.on at c.hop.result c.in_default-state.not-Start
-          (Some c.in-Some.parcel) c.take_back.new.hand c.hop.new.hand c.in-Some.ensures.takes c.in-Some.parcel refl c.hop.ensures;
+      steps = steps-here board x node at tt c.args.hand.now up c.requires.may t state takes c.hop_keeping.result c.hop_keeping.new.hand
+          (lands-steps board t c.hop_keeping.result c.in-ContinuesOn.on (Some parcel) c.take_back_into.new.hand c.hop_keeping.new.hand c.hop_keeping.ensures);
+      does = hops-back board x t state c.args.hand.now up takes c.in-ContinuesOn.child c.in-ContinuesOn.on at c.hop_keeping.result c.in_default-state.not-Start
+          (Some parcel) c.take_back_into.new.hand c.hop_keeping.new.hand c.in-Some.ensures.takes parcel refl c.hop_keeping.ensures;
     }
 
-pub returns-in-None : goal.returns-in-None
-returns-in-None g c =
+pub returns-in-ContinuesOn : goal.returns-in-ContinuesOn
+returns-in-ContinuesOn g c =
     let board = c.args.site.now in
     let x = c.args.name in
     let t = c.take_up-taken.result.0 in
@@ -134,7 +153,7 @@ returns-in-None g c =
     let at = c.node.ensures ∙ ap (λ (n : Node). Some n) c.in-ContinuesOn.is in
     record {
       steps = steps-here board x node at tt c.args.hand.now up c.requires.may t state takes c.land.result c.land.new.hand
-          (goes-steps board t c.land.result c.in-ContinuesOn.child c.take_back.new.hand c.land.new.hand c.land.ensures);
+          (goes-steps board t c.land.result c.in-ContinuesOn.child c.take_back_into.new.hand c.land.new.hand c.land.ensures);
       does = lands-below board x t state c.args.hand.now up takes c.in-ContinuesOn.child c.in-ContinuesOn.on at c.land.result c.in_default-state.not-Start
-          None c.take_back.new.hand c.land.new.hand c.in-None.ensures.takes refl c.land.ensures;
+          None c.take_back_into.new.hand c.land.new.hand c.in-None.ensures.takes refl c.land.ensures;
     }

@@ -1,0 +1,13 @@
+use Rattle.step_parts.proofs.Many.{many-can, awaits-many}
+use Rattle.step_parts.proofs.awaiting.await_keeping.Goals as goal
+
+pub await_children-requires-clause-needs : goal.await_children-requires-clause-needs
+await_children-requires-clause-needs g c κs =
+    rw c.rest_keeping-parent.ensures.name
+    (many-can _ _ _ _ _ _ (rw (← c.site.view_is) at c.requires.may) (rw (← c.site.view_is) at c.rest_keeping-parent.ensures.changes))
+
+pub returns : goal.returns
+returns g c =
+    rw (← c.site.view_is)
+    (awaits-many _ _ _ _ _ _ (rw (← c.site.view_is) at c.requires.may) (rw (← c.site.view_is) at c.rest_keeping-parent.ensures.changes) _
+    c.await_children.ensures.stays (rw c.rest_keeping-parent.ensures.name at c.await_children.ensures.awaits))

@@ -1,0 +1,18 @@
+use Rattle.std.proofs.Common.{ap, ◌∙◌}
+use Rattle.std.specs.Prelude.{Some}
+use Rattle.home_items.specs.Contents.{Rest}
+use Rattle.home_items.specs.Parcels.{delivery_of}
+use Rattle.op_slot.proofs.Loans.{if-there}
+use Rattle.step_parts.proofs.Changing.{taken-home, lent-changes}
+use Rattle.step_parts.proofs.leaving.rest_keeping.Goals as goal
+
+pub item_mut-requires-clause-home : goal.item_mut-requires-clause-home
+item_mut-requires-clause-home g c κs = taken-home _ _ _ (rw (← c.site.view_is, ← c.taken.view_is) at c.requires.taken)
+
+pub returns-clause-changes : goal.returns-clause-changes
+returns-clause-changes g c =
+    rw (← c.site.view_is, ← c.taken.view_is)
+    (lent-changes _ _ _ (rw (← c.site.view_is, ← c.taken.view_is) at c.requires.taken) c.item_mut.result c.item_mut.ensures.value
+    c.in-Some.item c.in-Some.is c.keep_done.new.self _
+    (λ start. c.keep_done.ensures ∙ ap (λ s. Rest s (Some (delivery_of c.args.label c.args.done.now))) start)
+    _ (if-there _ (c.item_mut.follows.holds c.keep_done.new.self) c.in-Some.is))
