@@ -1,10 +1,10 @@
 -- Each move keeps the rule of a deque, and of the queue.
-use Rattle.std.proofs.Common.{◌≡◌, ◌≢◌, ℕ, ◌+◌, ◌<◌, ◌≤◌, List, [], ◌∷◌, ◌++◌, length, set, sum_by, arith, refl, ap, ◌∙◌, subst, ⊎_elim}
+use Rattle.std.proofs.Common.{◌≡◌, ◌≢◌, ℕ, ◌+◌, ◌<◌, ◌≤◌, List, [], ◌∷◌, ◌++◌, length, set, sum_by, arith, refl, sym, ap, ◌∙◌, subst, ⊎_elim, append_assoc}
 use Rattle.std.proofs.lemmas.List.Sums.{sum_by-append}
 use mathlib.Core.Option.{some}
 use lib.ListN.{get_elem?}
 use Rattle.crossbeam_queue.proofs.Lists.{at_set}
-use Rattle.crossbeam_deque.specs.Tasks.{Takes, Finds, FindsFew, Forks, Merges, Pushes as Joins}
+use Rattle.crossbeam_deque.specs.Tasks.{Takes, TakesBatch, Finds, FindsFew, Forks, Merges, Pushes as Joins, ordered, with_popped}
 use Rattle.crossbeam_queue.specs.Fifo.{Pushes, Pops, Learns}
 use Rattle.life_rules.specs.declared.event.Name.{Name}
 use Rattle.loop_queue.proofs.Views.{each-set, each-more, below, sum-set, sum-more, two-at-most, sum-only}
@@ -58,13 +58,32 @@ gives pass v names part items views h at = (
   refl,
 )
 
-pub takes : (pass : ℕ) (v : Tokens) → 0 < v.share → Takes Balanced pass v 1 (λ names w. w ≡ taking v names)
-takes pass v part names items views _ _ h at = (
+pub takes : (most pass : ℕ) (v : Tokens) → 0 < v.share → Takes Balanced pass v most (λ names w. w ≡ taking v names)
+takes most pass v part names items views _ _ h at = (
   taking v names,
   changes (names ++ items) items views pass v (taking v names) h at refl part
       (λ weight. let a = sum_by-append weight v.taken names in let b = sum_by-append weight names items in omega (arith, a, b)),
   refl,
 )
+
+-- a batch, which may go on
+takes-on : (v u w : Tokens) (first more : List Name) → u ≡ taking v first → w ≡ taking u more → w ≡ taking v (first ++ more)
+takes-on v u w first more one next =
+    next ∙ ap (λ (t : Tokens). taking t more) one ∙ ap (λ (l : List Name). record v { taken = l }) (append_assoc v.taken first more)
+
+pub takes-batch : (most pass : ℕ) (v : Tokens) → 0 < v.share → TakesBatch Balanced pass v most (λ v names w. w ≡ taking v names)
+takes-batch most pass v part = (
+  takes most pass v part,
+  λ first u one.
+      (takes 1 pass u (subst (λ (t : Tokens). 0 < t.share) (sym one) part), λ more w next. takes-on v u w first more one next),
+)
+
+-- both deques are first in, first out
+pub popped : (flavor : ℕ) (name : Name) (more : List Name) → flavor ≡ 0 → with_popped flavor name more ≡ name ∷ more
+popped flavor name more first-in = ap (λ f. with_popped f name more) first-in
+
+pub in-order : (from to : ℕ) (names : List Name) → from ≡ 0 → to ≡ 0 → ordered from to names ≡ names
+in-order from to names first second = λ i. ordered (first i) (second i) names
 
 pub offers : (room pass : ℕ) (v : Tokens) (name : Name) → 0 < v.share → Pushes Balanced room pass v name (λ w. w ≡ giving v (name ∷ []))
 offers room pass v name part items views short h at = gives pass v (name ∷ []) part items views h at

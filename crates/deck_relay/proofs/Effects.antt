@@ -1,17 +1,18 @@
 -- What a deck gave and took after a call, name by name.
 use Rattle.std.proofs.Common.{◌≡◌, List, [], ◌∷◌, ◌++◌, map, ⊎_elim, inr, sym, ap, ◌∙◌, subst}
 use Rattle.std.specs.Prelude.{Option, Some, None, IfSome, IfNone}
+use Rattle.crossbeam_deque.specs.Handles.{worker_view}
 use Rattle.crossbeam_queue.specs.Fifo.{Held}
 use Rattle.life_rules.specs.declared.event.Name.{Name}
 use Rattle.deck_relay.specs.declared.tokens.Tokens.{Tokens}
 use Rattle.deck_relay.specs.declared.thefts.Theft.{Theft}
 use Rattle.deck_relay.specs.declared.deck.Deck.{Deck}
-use Rattle.deck_relay.specs.Rule.{Stood}
+use Rattle.deck_relay.specs.Rule.{Stood, giving}
 use Rattle.deck_relay.specs.Decks.{theft_view, own_view, queue_view, given_of, taken_of, all_taken, stolen_of}
-use Rattle.deck_relay.specs.Steals.{StealsInTurn, AllMissed}
-use Rattle.deck_relay.specs.Moves.{GivesOwn, GivesShared, TakesOwn, TakesShared, TakesStolen, Takes, MovesNothing, FindsNone}
-use Rattle.deck_relay.specs.Laws.{IsOnceMore, GivesOnce, TakesOnce, OwnIsOnce, SharedIsOnce, TakenIsOnce, NothingIsMoved}
-use Rattle.deck_relay.proofs.Weights.{in-first, in-second, before, behind}
+use Rattle.deck_relay.specs.Steals.{AllMissed, BringsHome, Owner, StealsInTurn}
+use Rattle.deck_relay.specs.Moves.{TakesOwn, TakesShared, Takes, FindsNone}
+use Rattle.deck_relay.specs.Laws.{AreMore, IsOnceMore, TakesOnce, OwnIsOnce, SharedIsOnce, TakenIsOnce, StolenIsOnce, NothingIsMoved}
+use Rattle.deck_relay.proofs.Weights.{in-first, in-second, before, all-behind, all-in-first}
 use Rattle.deck_relay.proofs.Rounds.{stolen-once}
 
 once-along : (name : Name) (a b c : List Name) → c ≡ b → IsOnceMore name a b → IsOnceMore name a c
@@ -55,19 +56,20 @@ module _ (name : Name) (old new : Deck) where
         given = λ i. (by.own i).given ++ (by.queue i).given;
       }
 
-  takes-stolen : TakesStolen name old new → TakesOnce name old new
-  takes-stolen by =
-      record {
-        taken = once-along name (taken_of old) (((own_view old).taken ++ (queue_view old).taken) ++ stolen_of new.thefts.items) (taken_of new)
-            (λ i. ((by.own i).taken ++ (by.queue i).taken) ++ stolen_of new.thefts.items)
-            (behind name ((own_view old).taken ++ (queue_view old).taken) (stolen_of old.thefts.items) (stolen_of new.thefts.items)
-            (stolen-once old.place old.thefts.items new.thefts.items name by.steals));
-        given = λ i. (by.own i).given ++ (by.queue i).given;
-      }
-
 pub taken-is-once : TakenIsOnce
-taken-is-once name old new by =
-    ⊎_elim (takes-own name old new) (λ other. ⊎_elim (takes-shared name old new) (takes-stolen name old new) other) by
+taken-is-once name old new by = ⊎_elim (takes-own name old new) (takes-shared name old new) by
+
+-- what moved came to the deck's own deque, and left the other
+pub stolen-is-once : StolenIsOnce
+stolen-is-once name old new by =
+    record {
+      taken = subst (AreMore (name ∷ by.more) (taken_of old))
+          (sym (λ i. ((by.own i).taken ++ (by.queue i).taken) ++ stolen_of new.thefts.items))
+          (all-behind (name ∷ by.more) ((own_view old).taken ++ (queue_view old).taken) (stolen_of old.thefts.items) (stolen_of new.thefts.items)
+          (stolen-once old.place old.thefts.items new.thefts.items name by.more by.steals));
+      given = subst (AreMore by.more (given_of old)) (sym (λ i. (by.own i).given ++ (by.queue i).given))
+          (all-in-first by.more (own_view old).given (queue_view old).given);
+    }
 
 pub nothing-is-moved : NothingIsMoved
 nothing-is-moved old new by = (
@@ -76,35 +78,36 @@ nothing-is-moved old new by = (
 )
 
 -- a round found a name
-pub finds-some : (r : Option Name) (old new : Deck) (was now : List Theft) → Stood (own_view old) [] → Held 0 (Stood (queue_view old)) →
-    own_view new ≡ own_view old → queue_view new ≡ queue_view old →
-    was ≡ old.thefts.items → new.thefts.items ≡ now → IfSome r (StealsInTurn old.place was now) → IfSome r (λ name. Takes name old new)
-finds-some None old new was now empty none own queue before after stolen = tt
-finds-some (Some name) old new was now empty none own queue before after stolen =
+pub finds-some : (r : Option Name) (old new : Deck) (was now : List Theft) (mid is : Owner) → Stood (own_view old) [] → Held 0 (Stood (queue_view old)) →
+    worker_view mid ≡ own_view old → own_view new ≡ worker_view is → queue_view new ≡ queue_view old →
+    was ≡ old.thefts.items → new.thefts.items ≡ now → IfSome r (BringsHome old.place was now mid is) → IfSome r (λ name. Takes name old new)
+finds-some None old new was now mid is empty none own home queue before after stolen = tt
+finds-some (Some name) old new was now mid is empty none own home queue before after stolen =
     inr (inr (record {
       own_empty = empty;
       queue_empty = none;
-      own = own;
+      more = stolen.more;
+      own = home ∙ stolen.own ∙ ap (λ (v : Tokens). giving v stolen.more) own;
       queue = queue;
-      steals = subst (λ (y : List Theft × List Theft). StealsInTurn old.place y.0 y.1 name) (λ j. (before j, sym after j)) stolen;
+      steals = subst (λ (y : List Theft × List Theft). StealsInTurn old.place y.0 y.1 name stolen.more) (λ j. (before j, sym after j)) stolen.steals;
     }))
 
 -- where a round found none, and the deck's deque and the queue were empty
-both-none : (r : Option Name) (A B C : Type 0) → (A → B → C) → IfNone r A → IfNone r B → IfNone r C
-both-none None A B C f a b = f a b
-both-none (Some x) A B C f a b = tt
+all-none : (r : Option Name) (A B C D : Type 0) → (A → B → C → D) → IfNone r A → IfNone r B → IfNone r C → IfNone r D
+all-none None A B C D f a b c = f a b c
+all-none (Some x) A B C D f a b c = tt
 
 abbrev views_of : List Theft → List Tokens
 views_of thefts = map theft_view thefts
 
-pub finds-none : (r : Option Name) (old new : Deck) (was now : List Theft) → Stood (own_view old) [] → Held 0 (Stood (queue_view old)) →
-    own_view new ≡ own_view old → queue_view new ≡ queue_view old → was ≡ old.thefts.items → new.thefts.items ≡ now →
-    IfNone r (views_of now ≡ views_of was) → IfNone r (AllMissed old.place was now) → IfNone r (FindsNone old new)
-finds-none r old new was now empty none own queue before after stolen missed =
-    both-none r (views_of now ≡ views_of was) (AllMissed old.place was now) (FindsNone old new)
-    (λ same others. record {
+pub finds-none : (r : Option Name) (old new : Deck) (was now : List Theft) (mid : Owner) → Stood (own_view old) [] → Held 0 (Stood (queue_view old)) →
+    worker_view mid ≡ own_view old → queue_view new ≡ queue_view old → was ≡ old.thefts.items → new.thefts.items ≡ now →
+    IfNone r (own_view new ≡ worker_view mid) → IfNone r (views_of now ≡ views_of was) → IfNone r (AllMissed old.place was now) → IfNone r (FindsNone old new)
+finds-none r old new was now mid empty none own queue before after kept stolen missed =
+    all-none r (own_view new ≡ worker_view mid) (views_of now ≡ views_of was) (AllMissed old.place was now) (FindsNone old new)
+    (λ home same others. record {
       own = empty;
       queue = none;
       others = subst (λ (y : List Theft × List Theft). AllMissed old.place y.0 y.1) (λ j. (before j, sym after j)) others;
-      nothing = record { own = own; queue = queue; thefts = ap views_of after ∙ same ∙ ap views_of before };
-    }) stolen missed
+      nothing = record { own = home ∙ own; queue = queue; thefts = ap views_of after ∙ same ∙ ap views_of before };
+    }) kept stolen missed

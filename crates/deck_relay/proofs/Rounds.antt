@@ -4,13 +4,15 @@ use Rattle.std.specs.Prelude.{slice_get, Some}
 use Rattle.std.proofs.lemmas.Bool.{cases_eq}
 use Rattle.std.proofs.lemmas.List.{map-set}
 use Rattle.std.proofs.lemmas.List.Sums.{sum_by-append}
+use Rattle.crossbeam_deque.specs.Handles.{worker_view}
 use Rattle.life_rules.specs.declared.event.Name.{Name}
 use Rattle.deck_relay.specs.declared.tokens.Tokens.{Tokens}
 use Rattle.deck_relay.specs.declared.thefts.Theft.{Theft}
-use Rattle.deck_relay.specs.Rule.{taking}
+use Rattle.deck_relay.specs.declared.stealing.TheConstants.{MOST_STOLEN}
+use Rattle.deck_relay.specs.Rule.{giving, taking}
 use Rattle.deck_relay.specs.Decks.{theft_view, theft_deque, all_taken, stolen_of}
-use Rattle.deck_relay.specs.Steals.{Missed, MissedBelow, StealsInTurn}
-use Rattle.deck_relay.specs.Laws.{IsOnceMore}
+use Rattle.deck_relay.specs.Steals.{Missed, MissedBelow, StealsInTurn, Steals, BringsHome, Owner, IsSameOwner}
+use Rattle.deck_relay.specs.Laws.{AreMore}
 use Rattle.deck_relay.proofs.Seats.{got, no-more, map-same, map-got}
 
 module _ {X : Type 0} where
@@ -92,37 +94,40 @@ passes place at old now round is =
       rest = λ k far. round.rest k (far-enough k at far);
     }
 
--- a name that one pass took
-taken-once : (name : Name) (views : List Tokens) (i : ℕ) (v w : Tokens) → slice_get views i ≡ Some v → w ≡ taking v (name ∷ []) →
-    IsOnceMore name (all_taken views) (all_taken (set views i w))
-taken-once name [] i v w here is weight = absurd (no-more v here)
-taken-once name (x ∷ xs) zero v w here is weight =
+-- names that one pass took
+taken-once : (names : List Name) (views : List Tokens) (i : ℕ) (v w : Tokens) → slice_get views i ≡ Some v → w ≡ taking v names →
+    AreMore names (all_taken views) (all_taken (set views i w))
+taken-once names [] i v w here is weight = absurd (no-more v here)
+taken-once names (x ∷ xs) zero v w here is weight =
     let same : x ≡ v = got x v here in
-    let one : sum_by weight w.taken ≡ sum_by weight (v.taken ++ name ∷ []) = ap (λ (u : Tokens). sum_by weight u.taken) is in
-    let two = sum_by-append weight v.taken (name ∷ []) in
+    let one : sum_by weight w.taken ≡ sum_by weight (v.taken ++ names) = ap (λ (u : Tokens). sum_by weight u.taken) is in
+    let two = sum_by-append weight v.taken names in
     let was : sum_by weight x.taken ≡ sum_by weight v.taken = ap (λ (u : Tokens). sum_by weight u.taken) same in
     let a = sum_by-append weight w.taken (all_taken xs) in
     let b = sum_by-append weight x.taken (all_taken xs) in
     omega (arith, one, two, was, a, b)
-taken-once name (x ∷ xs) (suc i) v w here is weight =
-    let later = taken-once name xs i v w here is weight in
+taken-once names (x ∷ xs) (suc i) v w here is weight =
+    let later = taken-once names xs i v w here is weight in
     let a = sum_by-append weight x.taken (all_taken (set xs i w)) in
     let b = sum_by-append weight x.taken (all_taken xs) in
     omega (arith, later, a, b)
 
-pub stolen-once : (place : ℕ) (old new : List Theft) (name : Name) → StealsInTurn place old new name → IsOnceMore name (stolen_of old) (stolen_of new)
-stolen-once place old new name by weight =
+pub stolen-once : (place : ℕ) (old new : List Theft) (name : Name) (more : List Name) → StealsInTurn place old new name more →
+    AreMore (name ∷ more) (stolen_of old) (stolen_of new)
+stolen-once place old new name more by weight =
     let view : Tokens = theft_view by.theft in
-    let once = taken-once name (map theft_view old) by.from view (taking view (name ∷ [])) (map-got theft_view old by.from by.theft by.there) refl weight in
-    let is : sum_by weight (stolen_of new) ≡ sum_by weight (all_taken (set (map theft_view old) by.from (taking view (name ∷ [])))) =
+    let once = taken-once (name ∷ more) (map theft_view old) by.from view (taking view (name ∷ more)) (map-got theft_view old by.from by.theft by.there) refl weight in
+    let is : sum_by weight (stolen_of new) ≡ sum_by weight (all_taken (set (map theft_view old) by.from (taking view (name ∷ more)))) =
     ap (λ l. sum_by weight (all_taken l)) by.views in
     is ∙ once
 
--- the place where a steal gave a name
-pub steals : (place at : ℕ) (old now : List Theft) (before after : Theft) (name : Name) → Round place at old now → at ≢ place → slice_get now at ≡ Some before →
-    theft_view after ≡ taking (theft_view before) (name ∷ []) → StealsInTurn place old (set now at after) name
-steals place at old now before after name round other here is =
+-- the place where a steal gave a name, and more
+stole : (place at : ℕ) (old now : List Theft) (before after : Theft) (name : Name) (more : List Name) → Round place at old now → at ≢ place →
+    slice_get now at ≡ Some before → length more < MOST_STOLEN → theft_view after ≡ taking (theft_view before) (name ∷ more) →
+    StealsInTurn place old (set now at after) name more
+stole place at old now before after name more round other here few is =
     record {
+      few = few;
       from = at;
       other = other;
       theft = before;
@@ -131,6 +136,32 @@ steals place at old now before after name round other here is =
       before = λ k first last below apart was seen.
           round.missed k first last below apart was (sym (got-else now at k after (nearer-than k at below)) ∙ seen);
     }
+
+pub steals : (place at : ℕ) (old now : List Theft) (before after : Theft) (was mid is : Owner) (name : Name) → Round place at old now → at ≢ place →
+    slice_get now at ≡ Some before → worker_view mid ≡ worker_view was → Steals before after mid is name →
+    BringsHome place old (set now at after) was is name
+steals place at old now before after was mid is name round other here own by =
+    record {
+      more = by.more;
+      steals = stole place at old now before after name by.more round other here by.few by.took;
+      own = by.own ∙ ap (λ (v : Tokens). giving v by.more) own;
+    }
+
+-- the thief's own deque, as far as the round has come without a name
+pub record Waits (was is : Owner) : Type 0 where
+  pub same : IsSameOwner was is
+  pub view : worker_view is ≡ worker_view was
+
+pub owner-here : (own : Owner) → Waits own own
+owner-here own = record { same = record { deque = refl; flavor = refl; share = refl }; view = refl }
+
+pub owner-on : (first second third : Owner) → IsSameOwner first second → IsSameOwner second third → IsSameOwner first third
+owner-on first second third one next =
+    record { deque = next.deque ∙ one.deque; flavor = next.flavor ∙ one.flavor; share = next.share ∙ one.share }
+
+pub waits-on : (first second third : Owner) → Waits first second → IsSameOwner second third → worker_view third ≡ worker_view second → Waits first third
+waits-on first second third one same view =
+    record { same = owner-on first second third one.same same; view = view ∙ one.view }
 
 pub keeps-deques : (place at : ℕ) (old now : List Theft) (before after : Theft) → Round place at old now → slice_get now at ≡ Some before →
     theft_deque after ≡ theft_deque before → map theft_deque (set now at after) ≡ map theft_deque old

@@ -2,7 +2,7 @@
 use Rattle.std.proofs.Common.{List, [], ◌∷◌, ◌++◌, arith}
 use Rattle.std.proofs.lemmas.List.Sums.{sum_by-append}
 use Rattle.life_rules.specs.declared.event.Name.{Name}
-use Rattle.deck_relay.specs.Laws.{IsOnceMore}
+use Rattle.deck_relay.specs.Laws.{AreMore, IsOnceMore}
 
 pub in-first : (name : Name) (a b : List Name) → IsOnceMore name (a ++ b) ((a ++ name ∷ []) ++ b)
 in-first name a b weight =
@@ -25,9 +25,17 @@ before name a b c once weight =
     let z = sum_by-append weight a c in
     omega (arith, x, y, z)
 
-pub behind : (name : Name) (a b c : List Name) → IsOnceMore name b c → IsOnceMore name (a ++ b) (a ++ c)
-behind name a b c once weight =
-    let x = once weight in
+-- and such where more stand
+pub all-behind : (names a b c : List Name) → AreMore names b c → AreMore names (a ++ b) (a ++ c)
+all-behind names a b c more weight =
+    let x = more weight in
     let y = sum_by-append weight a b in
     let z = sum_by-append weight a c in
+    omega (arith, x, y, z)
+
+pub all-in-first : (names a b : List Name) → AreMore names (a ++ b) ((a ++ names) ++ b)
+all-in-first names a b weight =
+    let x = sum_by-append weight a names in
+    let y = sum_by-append weight (a ++ names) b in
+    let z = sum_by-append weight a b in
     omega (arith, x, y, z)

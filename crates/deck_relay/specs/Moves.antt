@@ -1,12 +1,11 @@
 -- What a call of a deck does, and why a name comes back or none is found.
-use Rattle.std.specs.Prelude.{◌≡◌, ◌≢◌, ℕ, ◌<◌, ◌≤◌, ◌⊎◌, List, [], ◌∷◌, slice_get, Some}
-use Rattle.crossbeam_deque.specs.Handles.{taken, worker_capacity, worker_index}
+use Rattle.std.specs.Prelude.{◌≡◌, ◌≤◌, ◌⊎◌, List, [], ◌∷◌}
+use Rattle.crossbeam_deque.specs.Handles.{worker_capacity, worker_index}
 use Rattle.crossbeam_queue.specs.Fifo.{Held}
 use Rattle.life_rules.specs.declared.event.Name.{Name}
-use Rattle.deck_relay.specs.declared.thefts.Theft.{Theft}
 use Rattle.deck_relay.specs.declared.deck.Deck.{Deck}
 use Rattle.deck_relay.specs.Rule.{giving, taking, Stood}
-use Rattle.deck_relay.specs.Decks.{theft_view, own_view, queue_view, thefts_view}
+use Rattle.deck_relay.specs.Decks.{own_view, queue_view, thefts_view}
 use Rattle.deck_relay.specs.Steals.{StealsInTurn, AllMissed}
 
 -- The name came in at the back of the deck's own deque, and all else is as before.
@@ -60,14 +59,16 @@ pub record TakesShared (name : Name) (old new : Deck) : Type 0 where
   pub queue : queue_view new ≡ taking (queue_view old) (name ∷ [])
   pub thefts : thefts_view new ≡ thefts_view old
 
--- The deck's deque and the shared queue were empty, each at a step of the call, and then the name
--- was stolen.
+-- The deck's deque and the shared queue were empty, each at a step of the call. Then the name and
+-- these more were stolen. These more came in at the back of the deck's own deque, in the order in
+-- which they left the other.
 pub record TakesStolen (name : Name) (old new : Deck) : Type 0 where
   pub own_empty : Stood (own_view old) []
   pub queue_empty : Held 0 (Stood (queue_view old))
-  pub own : own_view new ≡ own_view old
+  pub more : List Name
+  pub own : own_view new ≡ giving (own_view old) more
   pub queue : queue_view new ≡ queue_view old
-  pub steals : StealsInTurn old.place old.thefts.items new.thefts.items name
+  pub steals : StealsInTurn old.place old.thefts.items new.thefts.items name more
 
 -- The deck took the name: of its own deque, else of the shared queue, else of another deque.
 abbrev pub Takes : Name → Deck → Deck → Type 0

@@ -77,8 +77,11 @@ impl Deck {
     }
 
     /// Takes a name from the deck's own deque, else from the shared queue, else by one round of
-    /// steals. None only where, each at a step of this call, its deque and the shared queue were
-    /// read as empty, and each other deque was read as empty or its steal was lost.
+    /// steals. A steal takes the first name of another deque, and at the same step perhaps names
+    /// behind it, at most seven. These move: they come in together at the back of the deck's own
+    /// deque, in their order, and others may steal them there. None only where, each at a step of
+    /// this call, its deque and the shared queue were read as empty, and each other deque was read
+    /// as empty or its steal was lost. Then no name moved.
     pub fn take<R: Wait>(&mut self, rt: &R) -> Option<Name>
         ensures same { IsSameDeck self.old self.new }
         ensures taken { IfSome result (λ name. Takes name self.old self.new) }
@@ -93,6 +96,6 @@ impl Deck {
             Some(name) => return Some(name),
             None => {}
         }
-        steal_round(self.thefts.as_mut_slice(), self.place)
+        steal_round(self.thefts.as_mut_slice(), &mut self.own, self.place)
     }
 }

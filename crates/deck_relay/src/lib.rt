@@ -6,16 +6,19 @@
 //! takes it, and nothing of a run rests on where its name stands.
 //!
 //!     name --push--> own deque --take--> taken, by its own deck or by another that steals it
-//!       |                |
-//!       |                v handed back: the deque can't grow
+//!       |             |      |
+//!       |             |      +--take--> moved: the names behind one that is stolen go to the own
+//!       |             |                 deque of the deck that steals it, at most seven
+//!       |             v handed back: the deque can't grow
 //!       +--offer----> shared queue --take--> taken
 //!                        |
 //!                        v handed back: the queue was full
 //!
 //! A deck is seen as the names that it offered or pushed, and those that it took; a name that came
-//! back is in neither. The promise, of `Relay::close`: each name was taken and is left, together,
-//! exactly as often as it was offered or pushed. The rule of each deque and of the queue is that
-//! what all passes gave is what all passes took and then what it holds, name by name
+//! back is in neither. A name that moves is in both once more: the deck that moves it takes it from
+//! one deque and gives it to its own. The promise, of `Relay::close`: each name was taken and is
+//! left, together, exactly as often as it was offered or pushed. The rule of each deque and of the
+//! queue is that what all passes gave is what all passes took and then what it holds, name by name
 //! (`specs/Rule.antt`).
 //!
 //! From each deque every deck steals through a pass of its own. So a relay is a square of passes: a

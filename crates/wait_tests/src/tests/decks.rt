@@ -53,6 +53,27 @@ fn a_third_deck_takes_each_name_once(rt: HostRuntime) -> Result<(), Fail> {
     Ok(())
 }
 
+#[test]
+fn names_that_a_steal_moves_are_stolen_again(rt: HostRuntime) -> Result<(), Fail> {
+    let mut decks = Relay::open(rt.alloc(), 2)?;
+    let mut third = decks.pop().expect(&rt, "three decks");
+    let mut second = decks.pop().expect(&rt, "three decks");
+    let mut first = decks.pop().expect(&rt, "three decks");
+    assert!(rt; pushes(&rt, &mut first, 20));
+    // seven names move with the first, and the second deck finds the next one, with which five move
+    assert!(rt; next(&rt, &mut third) == Some(name(0)));
+    assert!(rt; next(&rt, &mut second) == Some(name(8)));
+    // a deck comes to the names that moved before it steals again
+    assert!(rt; next(&rt, &mut third) == Some(name(1)));
+    assert!(rt; next(&rt, &mut second) == Some(name(9)));
+    // the first deck takes those that are left in its own, and then steals what moved
+    for left in 14..20 {
+        assert!(rt; next(&rt, &mut first) == Some(name(left)));
+    }
+    assert!(rt; next(&rt, &mut first) == Some(name(10)));
+    Ok(())
+}
+
 // Whether the deck at the second place takes what the one at the first pushes, and then nothing.
 fn steals<R: Wait>(rt: &R, decks: &mut [Deck], from: u32, to: u32) -> bool {
     let Some(owner) = decks.get_mut(from as usize) else {

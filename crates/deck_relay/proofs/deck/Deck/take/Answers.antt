@@ -7,7 +7,7 @@ use Rattle.deck_relay.proofs.Effects.{finds-some, finds-none}
 use Rattle.deck_relay.proofs.deck.Deck.take.Goals as goal
 
 pub pop_as-requires-clause-fifo : goal.pop_as-requires-clause-fifo
-pop_as-requires-clause-fifo g c = λ _. takes _ _ c.args.self.now.part
+pop_as-requires-clause-fifo g c = λ _. takes 1 _ _ c.args.self.now.part
 
 pub pop_as-requires-clause-empty : goal.pop_as-requires-clause-empty
 pop_as-requires-clause-empty g c = finds _ _
@@ -34,8 +34,8 @@ returns-clause-taken g c =
     let now : List Theft = c.steal_round.new.thefts in
     let long : length now ≡ deck.thefts.len =
     sym (length-map now theft_deque) ∙ ap length c.steal_round.ensures.deques ∙ length-map was theft_deque ∙ c.as_mut_slice.ensures.len in
-    finds-some c.steal_round.result deck _ was now c.in-None.ensures.rule.1 c.in-None-pop_as.ensures.rule.1
-    c.in-None.ensures.rule.0 c.in-None-pop_as.ensures.rule.0
+    finds-some c.steal_round.result deck _ was now c.pop_as.new.self c.steal_round.new.own c.in-None.ensures.rule.1
+    c.in-None-pop_as.ensures.rule.1 c.in-None.ensures.rule.0 refl c.in-None-pop_as.ensures.rule.0
     c.as_mut_slice.ensures.value (with_items_is deck.thefts now long) c.steal_round.ensures.stolen
 
 pub returns-clause-none : goal.returns-clause-none
@@ -45,6 +45,6 @@ returns-clause-none g c =
     let now : List Theft = c.steal_round.new.thefts in
     let long : length now ≡ deck.thefts.len =
     sym (length-map now theft_deque) ∙ ap length c.steal_round.ensures.deques ∙ length-map was theft_deque ∙ c.as_mut_slice.ensures.len in
-    finds-none c.steal_round.result deck _ was now c.in-None.ensures.rule.1 c.in-None-pop_as.ensures.rule.1
+    finds-none c.steal_round.result deck _ was now c.pop_as.new.self c.in-None.ensures.rule.1 c.in-None-pop_as.ensures.rule.1
     c.in-None.ensures.rule.0 c.in-None-pop_as.ensures.rule.0 c.as_mut_slice.ensures.value (with_items_is deck.thefts now long)
-    c.steal_round.ensures.same c.steal_round.ensures.missed
+    c.steal_round.ensures.kept c.steal_round.ensures.same c.steal_round.ensures.missed
