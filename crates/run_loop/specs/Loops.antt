@@ -1,5 +1,5 @@
 -- A loop as its callers see it, and what its calls leave of its hand's view.
-use Rattle.std.specs.Prelude.{◌≡◌, ℕ, ◌+◌, ◌≤◌, false, List, [], ◌∷◌, length, Option, Some, None}
+use Rattle.std.specs.Prelude.{◌≡◌, ℕ, ◌+◌, ◌≤◌, false, List, [], ◌∷◌, length, Option, Some, None, vec_capacity}
 use Rattle.life_rules.specs.declared.event.Name.{Name}
 use Rattle.atomic_table.specs.Seated.{TableId}
 use Rattle.atomic_table.specs.declared.shared.Seat.{Seat}
@@ -37,12 +37,14 @@ abbrev pub decked : Deck → Looped → Looped
 decked deck loop = record loop { names = record loop.names { deck = Some deck } }
 
 -- A new loop on this hand knows no names, has no deck, doesn't help the pool, and has collected
--- nothing. No delay waits, and no turn is over. It leaves out names of roots.
+-- nothing. No delay waits, and no turn is over. It leaves out names of roots. There is room for a
+-- name of each block before it takes memory.
 pub record IsOpened (board : Board Blueprint) (hand : Seat (Option Item) (View Item Entry))
     (loop : Looped)
     : Type 0 where
   pub hand_is : loop.hand ≡ hand
   pub names : loop.names.list.items ≡ []
+  pub room : board.frame.layout.blocks ≤ vec_capacity loop.names.list
   pub next : loop.next ≡ 0
   pub helps : loop.helps ≡ false
   pub tally : loop.tally ≡ []

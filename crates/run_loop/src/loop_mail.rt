@@ -30,6 +30,7 @@ impl LoopMail {
     pub fn with_room(alloc: Global, room: u32, nodes: u32) -> Result<LoopMail, AllocError>
         requires some { 1 ≤ nodes }
         ensures empty { IfOk result (λ names. names.list.items ≡ []) }
+        ensures room { IfOk result (λ names. room ≤ vec_capacity names.list) }
         ensures deck { IfOk result (λ names. names.deck ≡ None) }
         ensures root { IfOk result (λ names. names.root + 1 ≡ nodes) }
     {
@@ -42,6 +43,7 @@ impl LoopMail {
     }
 
     /// Adds a name at the back. Without memory for it all stays as it was.
+    #[inline(always)]
     pub fn add(&mut self, name: Name) -> Result<(), AllocError>
         ensures added { IfOk result
             (λ _. self.new.list.items ≡ self.old.list.items ++ name ∷ []) }
@@ -91,9 +93,10 @@ impl LoopMail {
     ///
     /// From then on the first name that goes to the deck is the loop's own: it wakes nobody, since
     /// a later call of this one finds it. So while no hand was woken since the deck was empty it
-    /// has one name at most, and the loop comes to it: it takes a name in each poll that finds the
-    /// list empty, and sleeps only after such a poll and a look at each node. Each further name
-    /// wakes a hand, which takes names of the deck until it finds none.
+    /// has one such name at most, beside those that a steal moved there, and the loop comes to
+    /// them: it takes a name in each poll that finds the list empty, and sleeps only after such a
+    /// poll and a look at each node. Each further name wakes a hand, which takes names of the deck
+    /// until it finds none.
     pub fn fetch<R: Wait>(&mut self, rt: &R, helps: bool)
         ensures fetches { FetchesWhere helps self.old self.new }
         ensures more { AreMoreNames self.old.list.items self.new.list.items }
