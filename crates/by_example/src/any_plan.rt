@@ -15,7 +15,7 @@ use run_workers::Crew;
 use std::alloc::Global;
 use std::sync::Wait;
 use std::thread::Threads;
-use whole_run::{Account, run_lines};
+use whole_run::{Account, Setup, run_lines};
 
 /// Reads a plan from JSON, runs it for each line of a source, and writes a line for each, in order.
 /// What it promises holds if it returns.
@@ -50,9 +50,11 @@ pub fn run_text<R: Threads + Wait + Sync, S: RecordSource, K: Sink>(
         rt,
         alloc,
         &plan,
-        at_once(&plan, WINDOW),
-        Form::Lines,
-        crew,
+        Setup {
+            window: at_once(&plan, WINDOW),
+            form: Form::Lines,
+            crew,
+        },
         &gate,
         records,
         out,

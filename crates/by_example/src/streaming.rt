@@ -17,7 +17,7 @@ use run_workers::Crew;
 use std::alloc::{AllocError, Global};
 use std::sync::Wait;
 use std::thread::Threads;
-use whole_run::{Account, run_lines};
+use whole_run::{Account, Setup, run_lines};
 
 /// So many lines are worked on at once.
 pub const WINDOW: usize = 64;
@@ -55,9 +55,11 @@ pub fn add_lines<R: Threads + Wait + Sync, S: RecordSource, K: Sink>(
         rt,
         alloc,
         &plan,
-        WINDOW,
-        Form::Lines,
-        crew,
+        Setup {
+            window: WINDOW,
+            form: Form::Lines,
+            crew,
+        },
         &gate,
         records,
         out,

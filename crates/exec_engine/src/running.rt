@@ -23,7 +23,7 @@ use run_workers::Crew;
 use std::alloc::Global;
 use std::sync::Wait;
 use std::thread::Threads;
-use whole_run::run_lines;
+use whole_run::{Setup, run_lines};
 
 /// Opens the plan of a task, works on all its records, and gives the status that this ends with.
 /// Generated records are a source like any other, and then `records` isn't read. The tally, which
@@ -69,9 +69,7 @@ pub fn run_task<
                 rt,
                 alloc,
                 &plan,
-                window,
-                form,
-                crew,
+                Setup { window, form, crew },
                 gate,
                 &mut system.records,
                 &mut system.out,
@@ -86,9 +84,11 @@ pub fn run_task<
                 rt,
                 alloc,
                 &plan,
-                window,
-                Form::Summary,
-                crew,
+                Setup {
+                    window,
+                    form: Form::Summary,
+                    crew,
+                },
                 gate,
                 &mut lines,
                 &mut system.out,

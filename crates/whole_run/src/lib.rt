@@ -36,9 +36,11 @@ mod front;
 mod joining;
 mod lines;
 mod opened;
+mod setup;
 mod working;
 
 pub use account::Account;
 pub use desks::{DeskEnd, MOST_DESKS};
 pub use lines::run_lines;
 pub use record_operations::Tally;
+pub use setup::Setup;

@@ -14,13 +14,13 @@ use crate::beside::run_on_table;
 use crate::desks::close_desks;
 use crate::front::LinesFront;
 use crate::opened::{Opened, open_run};
+use crate::setup::Setup;
 use crate::working::{Came, Tabled};
 use exec_io::Sink;
 use exec_recv::Gate;
 use node_stepper::NodeSteps;
 use plan_shape::Plan;
-use record_loop::{Form, RecordSource};
-use run_workers::Crew;
+use record_loop::RecordSource;
 use std::alloc::{AllocError, Global};
 use std::marker::{Brand, PhantomData};
 use std::sync::Wait;
@@ -40,30 +40,30 @@ pub fn run_lines<'a, G: Gate + Sync, R: Threads + Wait + Sync, S: RecordSource, 
     rt: &R,
     alloc: Global,
     plan: &'a Plan,
-    window: usize,
-    form: Form,
-    crew: Crew,
+    setup: Setup,
     gate: &'a G,
     records: &'a mut S,
     out: &'a mut K,
 ) -> Result<Account, AllocError>
     requires sync { IsSync R.row }
-    requires some { 0 < window }
-    requires few { window ≤ MOST_BLOCKS }
+    requires some { 0 < setup.window }
+    requires few { setup.window ≤ MOST_BLOCKS }
     requires kinds { KindsMatch plan.now.nodes plan.now.settings.input }
     requires may_run { MayRun plan.now.settings }
-    requires crew { IsCrew crew.workers (vec_len crew.backends) }
-    ensures ends { IfOk result (EndsRun plan.now window form
+    requires crew { IsCrew setup.crew.workers (vec_len setup.crew.backends) }
+    ensures ends { IfOk result (EndsRun plan.now setup.window setup.form
         (streams (S.told records.old) (S.reads records.old) (K.told out.old))
         (streams (S.told records.new) (S.reads records.new) (K.told out.new))) }
-    ensures closed { IfOk result (λ a. IsClosedFor plan.now window a.tally a.closing) }
-    ensures desked { IfOk result (λ a. AreClosedFor crew.workers a.desks) }
+    ensures closed { IfOk result (λ a.
+        IsClosedFor plan.now setup.window a.tally a.closing) }
+    ensures desked { IfOk result (λ a. AreClosedFor setup.crew.workers a.desks) }
     ensures given { IfOk result (λ a.
-        AreGiven crew.order (vec_len crew.backends) crew.workers a.given) }
+        AreGiven setup.crew.order (vec_len setup.crew.backends) setup.crew.workers a.given) }
     ensures unbegun { OnErr result (IsUnbegun
         (streams (S.told records.old) (S.reads records.old) (K.told out.old))
         (streams (S.told records.new) (S.reads records.new) (K.told out.new))) }
 {
+    let Setup { window, form, crew } = setup;
     let steps = NodeSteps::of(plan, gate);
     let opened = open_run(alloc, plan, window, crew.workers)?;
     let Opened {

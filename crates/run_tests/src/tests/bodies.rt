@@ -7,7 +7,7 @@ use line_rules::may_run;
 use record_loop::Form;
 use std::sync::atomic::{AtomicU64, Ordering};
 use std::test::Fail;
-use whole_run::run_lines;
+use whole_run::{Setup, run_lines};
 
 /// The node of the job in the third body.
 const THIRD: u32 = 4;
@@ -54,9 +54,11 @@ fn picked_body(rt: HostRuntime) -> Result<(), Fail> {
         &rt,
         alloc,
         &plan,
-        3,
-        form,
-        crew,
+        Setup {
+            window: 3,
+            form,
+            crew,
+        },
         &gate,
         &mut records,
         &mut out,

@@ -13,7 +13,7 @@ use std::process::Abort;
 use std::sync::Wait;
 use std::test::Fail;
 use std::thread::Threads;
-use whole_run::{Account, run_lines};
+use whole_run::{Account, Setup, run_lines};
 
 /// What a run left.
 #[derive(Drop)]
@@ -38,9 +38,11 @@ fn run<R: Threads + Wait + Abort + Sync, S: RecordSource + Drop>(
         rt,
         alloc,
         &plan,
-        2,
-        form,
-        nobody(alloc),
+        Setup {
+            window: 2,
+            form,
+            crew: nobody(alloc),
+        },
         &OpenGate,
         &mut records,
         &mut out,

@@ -20,7 +20,7 @@ use std::sync::atomic::{AtomicU64, Ordering};
 use std::sync::{Arc, Wait};
 use std::test::Fail;
 use std::thread::{Threads, yield_now};
-use whole_run::run_lines;
+use whole_run::{Setup, run_lines};
 
 /// How many runs each test makes of what a race decides.
 pub(super) const RUNS: u32 = 50;
@@ -134,9 +134,11 @@ pub(super) fn writes<G: Gate + Sync, R: Threads + Wait + Abort + Sync>(
         rt,
         alloc,
         &plan,
-        size,
-        Form::Summary,
-        crew,
+        Setup {
+            window: size,
+            form: Form::Summary,
+            crew,
+        },
         gate,
         &mut records,
         &mut out,

@@ -5,7 +5,7 @@ use exec_recv::OpenGate;
 use line_rules::may_run;
 use record_loop::Form;
 use std::test::Fail;
-use whole_run::run_lines;
+use whole_run::{Setup, run_lines};
 
 /// The record `0` has one hop. Of the record `1` the shorter delay stops the longer one; if both
 /// were roused, the longer one would come first, and have its value.
@@ -29,9 +29,11 @@ fn the_end_of_an_operation_rouses_no_delay_of_another(rt: HostRuntime) -> Result
         &rt,
         alloc,
         &plan,
-        2,
-        form,
-        crew,
+        Setup {
+            window: 2,
+            form,
+            crew,
+        },
         &OpenGate,
         &mut records,
         &mut out,

@@ -19,7 +19,7 @@ use std::process::Abort;
 use std::sync::Wait;
 use std::test::Fail;
 use std::thread::Threads;
-use whole_run::run_lines;
+use whole_run::{Setup, run_lines};
 
 /// Further settings and a root, of each kind of node.
 const CASES: [(&str, &str); 26] = [
@@ -184,9 +184,11 @@ pub(super) fn agree_with<R: Threads + Wait + Abort + Sync>(
         rt,
         alloc,
         &plan,
-        size,
-        Form::Lines,
-        crew,
+        Setup {
+            window: size,
+            form: Form::Lines,
+            crew,
+        },
         &OpenGate,
         &mut source,
         &mut out,

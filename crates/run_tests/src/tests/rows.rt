@@ -5,7 +5,7 @@ use exec_recv::OpenGate;
 use line_rules::may_run;
 use record_loop::Form;
 use std::test::Fail;
-use whole_run::run_lines;
+use whole_run::{Setup, run_lines};
 
 #[test]
 fn each_row_completes_with_itself(rt: HostRuntime) -> Result<(), Fail> {
@@ -21,9 +21,11 @@ fn each_row_completes_with_itself(rt: HostRuntime) -> Result<(), Fail> {
         &rt,
         alloc,
         &plan,
-        2,
-        form,
-        crew,
+        Setup {
+            window: 2,
+            form,
+            crew,
+        },
         &OpenGate,
         &mut records,
         &mut out,

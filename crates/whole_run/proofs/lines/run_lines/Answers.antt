@@ -22,12 +22,12 @@ returns-clause-closed g c =
     let run = c.run_on_table-left in
     let closing = c.close_table-closing in
     let hands = run.new.hands.items in
-    closed-for c.args.plan.now c.args.window opened.table hands _ closing.result closing.ensures.board closing.ensures.hands
+    closed-for c.args.plan.now c.args.setup.window opened.table hands _ closing.result closing.ensures.board closing.ensures.hands
     c.in_ok-opened.ensures.for run.ensures.back closing.ensures.scope closing.ensures.counted
     (worked-as c.args.plan.now (claimed_by hands) run.result.came.now c.in_ok-answer.field-0 _ (search rules) (search rules) run.ensures.out.worked)
 
 pub returns-clause-desked : goal.returns-clause-desked
 returns-clause-desked g c =
     let opened = c.in_ok-opened.opened in
-    closed-all c.args.crew.workers opened.room opened.desks.items c.run_on_table-left.new.desks.items c.close_desks-desks.result
+    closed-all c.args.setup.crew.workers opened.room opened.desks.items c.run_on_table-left.new.desks.items c.close_desks-desks.result
     c.in_ok-opened.ensures.seats c.run_on_table-left.ensures.desks c.close_desks-desks.ensures
