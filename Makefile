@@ -1,6 +1,7 @@
 # `make try` runs the sample before any proof, in under a minute on four free cores.
-# `make run` proves the three programs, the libraries below them side by side, and runs the sample: on a new machine with
-# four free cores 28 minutes, 99 of a processor; seconds later.
+# `make run` proves exec_run and the libraries below it, side by side, and runs the sample; seconds later.
+# `make programs` proves exec_show and exec_join besides: for all three, on a new machine with four free cores, 28 minutes
+# by the clock and 99 of a processor when it was measured last (docs/GATE.md).
 # `make test` is the gate: everything is proved, and the proved program is tested.
 # `make stress` runs the proved program some thousand times with 1 to 16 workers, for at most half an hour.
 # `make bench` measures the proved program, with mawk, jq and mlr beside it where they are installed (bench/measure.py),
@@ -8,7 +9,7 @@
 # `make growth` measures how its time and memory grow: with the records, the nodes and the workers (bench/growth.py).
 # `make docs` writes docs/PLANS.md, docs/exec_plan.5, docs/plan.schema.json, and the page and picture of the crates
 # (docs/make_rooms.py) again.
-# `make install` installs the programs that `make run` leaves, their manual pages, their completions in bash, zsh and fish,
+# `make install` installs the programs that `make programs` leaves, their manual pages, their completions in bash, zsh and fish,
 # and below share/exec_run the schema of plans and senders.py, which writes plans in Python. All is below PREFIX (below
 # DESTDIR where that is given), and it builds nothing. `make uninstall` takes these files away.
 
@@ -27,14 +28,19 @@ SHARED := docs/plan.schema.json $(wildcard samples/senders.py)
 
 SOURCES := $(wildcard crates/*/src/*.rt crates/*/specs/*.antt)
 
-.PHONY: try run test stress bench growth docs install uninstall
+.PHONY: try run programs test stress bench growth docs install uninstall
 try:
 	cd crates/exec_run && rt try --data add_one.json=../../$(PLAN) -- run add_one.json < ../../$(NUMBERS)
 
-run: $(PROGRAM) $(SHOWS) $(JOINS)
+run: $(PROGRAM)
 	$(PROGRAM) run $(PLAN) < $(NUMBERS)
 
-$(PROGRAM) $(SHOWS) $(JOINS) &: $(SOURCES)
+$(PROGRAM): $(SOURCES)
+	tools/prove_programs.py exec_run
+
+programs: $(PROGRAM) $(SHOWS) $(JOINS)
+
+$(SHOWS) $(JOINS) &: $(SOURCES)
 	tools/prove_programs.py exec_run exec_show exec_join
 
 test:
@@ -50,13 +56,13 @@ bench: $(PROGRAM)
 growth: $(PROGRAM)
 	bench/growth.py $(PROGRAM)
 
-docs: $(PROGRAM) $(SHOWS)
+docs: programs
 	docs/make_plans.py $(PROGRAM)
 	tests/check_docs.py --write
 
 install:
 	@for it in "$(PROGRAM)" "$(SHOWS)" "$(JOINS)"; do test -x "$$it" || \
-	  { echo "no program at $$it: \`make run\` proves and builds it" >&2; exit 1; }; done
+	  { echo "no program at $$it: \`make programs\` proves and builds it" >&2; exit 1; }; done
 	install -D -m 755 "$(PROGRAM)" "$(BIN)/exec_run"
 	install -D -m 755 "$(SHOWS)" "$(BIN)/exec_show"
 	install -D -m 755 "$(JOINS)" "$(BIN)/exec_join"

@@ -223,7 +223,7 @@ def make_install_builds_nothing(_):
     with tempfile.TemporaryDirectory() as folder:
         ran = made(folder, "install", f"PROGRAM={folder}/none")
         expect("whether it ends well", False, ran.returncode == 0)
-        note = f"no program at {folder}/none: `make run` proves and builds it"
+        note = f"no program at {folder}/none: `make programs` proves and builds it"
         expect("the note's first line", note, ran.stderr.split("\n")[0])
         expect("the files", [], files_below(folder))
 
