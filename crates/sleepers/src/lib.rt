@@ -1,9 +1,9 @@
 //! Hands that sleep while there is nothing to do, and how they are woken.
 //!
 //! Each hand has a sleeper, with a parker of its own. Two words are shared, each on cache lines of
-//! its own: which hands are asleep, a bit for each, and how many search for names. At most one hand
-//! searches: who makes a name ready wakes another only where nobody searches, and takes the bit of
-//! the one that it wakes, which is counted as searching from then on.
+//! its own: which hands are asleep, a bit for each, and how many search for names. A hand begins to
+//! search where at most one does. Who makes a name ready wakes a hand only where nobody searches,
+//! and takes the bit of the one that it wakes, which is counted as searching from then on.
 //!
 //!     awake --try_search--> searching --leave_search--> awake
 //!     awake --lie_down--> asleep --park--> woken --get_up--> awake, or searching

@@ -39,9 +39,11 @@ impl Sleeper {
         self.place
     }
 
-    /// Counts this hand as searching, where nobody searches. The last hand may always look.
+    /// Counts this hand as searching, where at most one other is. The last hand may always look.
     pub fn try_search(&self) -> bool {
-        self.is_last() || self.room.searching.compare_exchange(0, 1).is_ok()
+        self.is_last()
+            || self.room.searching.compare_exchange(0, 1).is_ok()
+            || self.room.searching.compare_exchange(1, 2).is_ok()
     }
 
     // Whether it is the last hand, which isn't counted as searching.

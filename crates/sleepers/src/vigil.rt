@@ -30,7 +30,7 @@ pub enum Stage {
 ///       |                                                                  v
 ///       +---begin: sleeps until it is woken--- Looked <--missed, at all-- Lying
 ///
-///     each of these --found--> Awake          Awake --missed, where another searches--> Tired
+///     each of these --found--> Awake          Awake --missed, where two search------> Tired
 ///
 /// A look stands between `begin`, which says whether it is to be at all, and `found` or `missed`.
 /// From when a hand lies down whoever pushes a name wakes it. So it sleeps only where all that it

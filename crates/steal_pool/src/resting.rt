@@ -3,7 +3,6 @@ ghost use Rattle.std.specs.Prelude.{◌≡◌};
 ghost use Rattle.deck_relay.specs.Desks.{KeepsDesk};
 
 use crate::worker_mail::WorkerMail;
-use life_rules::Name;
 use std::sync::Wait;
 use std::thread::yield_now;
 
@@ -45,29 +44,19 @@ impl WorkerMail {
         }
     }
 
-    /// The worker found a name: it searches no more. Where it did, it looks for one more name, and
-    /// pushes that to its own deck, which wakes a hand for it: one that holds a node starves none.
-    pub fn get_up<R: Wait>(&mut self, rt: &R)
+    /// The worker found a name: it searches no more. Where it did, it wakes a hand: more names may
+    /// stand where that one stood, and hands that pushed them meanwhile woke nobody.
+    pub fn get_up(&mut self)
         ensures { KeepsDesk self.old.desk self.new.desk }
     {
         if !self.leave() {
             return;
         }
-        match self.take_more(rt) {
+        match &self.desk {
             None => {}
-            Some(name) => {
-                let _kept = self.submit(rt, name);
+            Some(desk) => {
+                let _woken = desk.deck.sleeper().wake_one();
             }
-        }
-    }
-
-    // A name of the deck. A steal may be lost while more names are there, so it looks twice.
-    fn take_more<R: Wait>(&mut self, rt: &R) -> Option<Name>
-        ensures { KeepsDesk self.old.desk self.new.desk }
-    {
-        match self.take(rt) {
-            Some(name) => Some(name),
-            None => self.take(rt),
         }
     }
 

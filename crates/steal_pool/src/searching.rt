@@ -54,7 +54,7 @@ fn look_at<T: Stepper, R: Wait + Sync>(
                 *found = true;
                 return None;
             }
-            offers.get_up(site.rt);
+            offers.get_up();
             serve_place(site, hand, offers, block, node, Context::Pool)
         }
     }

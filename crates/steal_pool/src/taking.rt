@@ -86,7 +86,7 @@ pub fn take_next<T: Stepper, R: Wait + Sync>(
     ensures desk { KeepsDesk offers.old.desk offers.new.desk }
 {
     'asked: while let Some(name) = ask(site.rt, offers, asks) {
-        offers.get_up(site.rt);
+        offers.get_up();
         if serve_name(site, hand, offers, name) {
             return Some(name);
         }

@@ -14,14 +14,18 @@ fn three(alloc: Global) -> Result<Option<(Deck, Deck, Deck)>, Fail> {
 }
 
 #[test]
-fn one_hand_searches_at_a_time(rt: HostRuntime) -> Result<(), Fail> {
+fn two_hands_search_at_a_time(rt: HostRuntime) -> Result<(), Fail> {
     let (first, second, _last) = three(rt.alloc())?.expect(&rt, "three decks");
     assert!(rt; first.sleeper().try_search());
+    assert!(rt; second.sleeper().try_search());
     assert!(rt; !second.sleeper().try_search());
+    second.sleeper().leave_search();
     // nobody is woken while one searches
     second.sleeper().lie_down();
     assert!(rt; !first.sleeper().wake_one());
     assert!(rt; second.sleeper().get_up());
+    assert!(rt; second.sleeper().try_search());
+    assert!(rt; !second.sleeper().try_search());
     first.sleeper().leave_search();
     assert!(rt; second.sleeper().try_search());
     Ok(())
@@ -33,7 +37,10 @@ fn a_hand_that_is_woken_searches(rt: HostRuntime) -> Result<(), Fail> {
     assert!(rt; !first.sleeper().wake_one());
     second.sleeper().lie_down();
     assert!(rt; first.sleeper().wake_one());
+    // one more may search beside it
+    assert!(rt; first.sleeper().try_search());
     assert!(rt; !first.sleeper().try_search());
+    first.sleeper().leave_search();
     // its token is there, and another took its bit
     second.sleeper().park(&rt);
     assert!(rt; !second.sleeper().get_up());
@@ -53,7 +60,8 @@ fn the_last_hand_is_woken_for_itself_alone(rt: HostRuntime) -> Result<(), Fail> 
     assert!(rt; first.sleeper().wake_last());
     assert!(rt; !first.sleeper().wake_last());
     last.sleeper().park(&rt);
-    // it isn't counted as searching
+    // it isn't counted as searching, so two others may
+    assert!(rt; first.sleeper().try_search());
     assert!(rt; first.sleeper().try_search());
     Ok(())
 }

@@ -40,7 +40,8 @@ fn a_hand_sleeps_after_it_has_looked_at_all(rt: HostRuntime) -> Result<(), Fail>
     vigil.missed(first.sleeper());
     assert!(rt; !vigil.is_lying());
     assert!(rt; !vigil.begin(&rt, first.sleeper()));
-    // it is counted as searching, until it finds something
+    // it is counted as searching, until it finds something: so one more may search beside it
+    assert!(rt; first.sleeper().try_search());
     assert!(rt; !first.sleeper().try_search());
     assert!(rt; vigil.found(first.sleeper()));
     assert!(rt; first.sleeper().try_search());
@@ -84,9 +85,11 @@ fn the_last_hand_is_not_counted(rt: HostRuntime) -> Result<(), Fail> {
     let mut vigil = Vigil::new();
     vigil.missed(last.sleeper());
     assert!(rt; first.sleeper().try_search());
-    // it ends its own search, and not that of the first
+    assert!(rt; first.sleeper().try_search());
+    // it ends its own search, and none of the two that are counted
     vigil.found(last.sleeper());
     assert!(rt; !first.sleeper().try_search());
+    first.sleeper().leave_search();
     first.sleeper().leave_search();
     looks(&rt, &mut vigil, &last);
     assert!(rt; first.sleeper().wake_last());
