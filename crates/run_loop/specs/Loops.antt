@@ -45,6 +45,7 @@ pub record IsOpened (board : Board Blueprint) (hand : Seat (Option Item) (View I
   pub hand_is : loop.hand ≡ hand
   pub names : loop.names.list.items ≡ []
   pub room : board.frame.layout.blocks ≤ vec_capacity loop.names.list
+  pub served_room : board.frame.layout.blocks ≤ vec_capacity loop.served
   pub next : loop.next ≡ 0
   pub helps : loop.helps ≡ false
   pub tally : loop.tally ≡ []
