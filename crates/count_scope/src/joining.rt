@@ -6,7 +6,7 @@ ghost use Rattle.count_scope.specs.Looks.{Closes};
 
 use crate::seals::{is_settled, seal};
 use life_rules::ScopeWord;
-use op_table::{Cargo, Hand, OpTable};
+use stop_calls::{Cargo, Hand, OpTable};
 
 /// Whether the scope is joined as its join starts.
 #[derive(Clone, Copy, Debug, PartialEq, Eq)]

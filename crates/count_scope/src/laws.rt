@@ -3,7 +3,7 @@
 ghost use Rattle.count_scope.specs.Lasting.{StartedIsEmpty, LeftIsEmpty, AssociatedIsUsed, ClosedStays};
 ghost use Rattle.count_scope.specs.CallLists.{ScopeCallsListTheirSteps};
 
-use op_table::Cargo;
+use stop_calls::Cargo;
 
 /// Laws of every table that keeps the rule and in which some hand still lists the call's steps.
 /// Once `start_join` answered that the scope is joined, or a `disassociate` sealed it, no

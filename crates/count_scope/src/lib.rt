@@ -1,11 +1,11 @@
 //! Counting scopes: who may start work in a scope, and when all of it has ended (P3149,
 //! [exec.counting.scopes]).
 //!
-//! It stands on op_table, whose steps on the scope's word it makes, for a stop request on
-//! stop_calls, and on table_laws, from which it follows what stays so after a call and which steps
-//! it lists. An association is a place in the scope's count, which its holder must give back. It
-//! keeps one promise: where the join of a scope was started, whoever leaves last seals it, and a
-//! sealed scope is joined for good.
+//! It makes op_table's steps on the scope's word. For a stop request it stands on stop_calls, which
+//! hands the table on, and on table_laws, from which it follows what stays so after a call and
+//! which steps it lists. An association is a place in the scope's count, which its holder must give
+//! back. It keeps one promise: where the join of a scope was started, whoever leaves last seals it,
+//! and a sealed scope is joined for good.
 //!
 //!     associate --> Association --> disassociate
 //!     close .. start_join --> Waiting .. the last disassociate seals --> is_joined
@@ -27,6 +27,5 @@ pub use life_rules::{Refused, ScopeState};
 pub use looks::{is_joined, state};
 pub use members::{Association, associate, disassociate};
 pub use node_tree::ScopeKind;
-pub use op_table::{Cargo, Hand, OpTable};
 pub use requesting::request_scope;
-pub use stop_calls::Request;
+pub use stop_calls::{Cargo, Hand, OpTable, Request};

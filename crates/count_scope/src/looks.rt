@@ -4,7 +4,7 @@ ghost use Rattle.table_steps.specs.Views.{IsHandOf, Stays};
 ghost use Rattle.count_scope.specs.Looks.{Reads};
 
 use life_rules::ScopeState;
-use op_table::{Cargo, Hand, OpTable};
+use stop_calls::{Cargo, Hand, OpTable};
 
 /// Whether the scope is joined. If it is, it stays so.
 ///

@@ -6,7 +6,7 @@ ghost use Rattle.count_scope.specs.Associations.{Associates, CountsOne};
 
 use crate::seals::leave;
 use life_rules::{Refused, refusal};
-use op_table::{Cargo, Hand, OpTable};
+use stop_calls::{Cargo, Hand, OpTable};
 
 /// A place in the scope's count. It has no drop: who has it gives it back, by `disassociate`.
 #[must_use]

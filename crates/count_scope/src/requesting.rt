@@ -7,8 +7,7 @@ ghost use Rattle.table_steps.specs.Views.{IsHandOf, Stays, knows};
 ghost use Rattle.stop_calls.specs.Requests.{IsRequested};
 
 use life_rules::SourceRef;
-use op_table::{Cargo, Hand, OpTable};
-use stop_calls::{Request, request_stop};
+use stop_calls::{Cargo, Hand, OpTable, Request, request_stop};
 
 /// Requests a stop on the scope's source. Already exactly where the word that was read says that
 /// one was requested before; else this hand goes through the source's callbacks by the scan.

@@ -14,7 +14,7 @@ ghost use Rattle.count_scope.specs.Seals.{IsFresh, Seals};
 ghost use Rattle.count_scope.specs.Leaves.{is_last, with_one_left, Leaves};
 
 use life_rules::ScopeWord;
-use op_table::{Cargo, Hand, OpTable};
+use stop_calls::{Cargo, Hand, OpTable};
 
 /// No seal is asked of the hand that read this word.
 pub(crate) fn is_settled(word: ScopeWord) -> bool

@@ -16,9 +16,9 @@ use crate::site::Site;
 use home_items::Item;
 use life_rules::Name;
 use op_slot::{Cargo, Hand, OpTable};
-use op_table::Report;
 use std::sync::Wait;
 use stop_calls::{Failure, Request, fail_stop};
+use table_steps::Report;
 
 // The node's parent, where the node isn't the receiver node.
 #[inline(always)]
@@ -113,7 +113,7 @@ pub fn deliver<R: Wait, G: Gate>(
     site.table.finish(hand, name);
     tell_failure(site, hand, parent, failed);
     site.pass(Point::Report(name));
-    match site.table.report(hand, name) {
+    match site.table.report_below(hand, name, parent) {
         Report::Last => Next::Go(parent.node),
         Report::Others => Next::Rest,
     }

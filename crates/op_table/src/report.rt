@@ -75,16 +75,34 @@ impl<P: Cargo> OpTable<P> {
         ensures stays { Stays self.now hand.old hand.new }
         ensures reported { IsReportedAs P.Cargo self.now.frame name result hand.old.me hand.new.me }
     {
-        self.report_to::<Brand, Brand, Brand>(&mut hand.seat, name)
+        let parent = self.parent_of(name);
+        self.report_to::<Brand, Brand, Brand>(&mut hand.seat, name, parent)
+    }
+
+    /// The same, where the node's parent is at hand: it isn't looked up again.
+    #[inline(always)]
+    pub fn report_below(&self, hand: &mut Hand<P>, name: Name, parent: Name) -> Report
+        requires table { IsHandOf self.now hand.old }
+        requires place { IsPlaceIn self.now name }
+        requires above { parent ≡ above_it self.now.frame.tree name }
+        requires within { IsPlaceIn self.now parent }
+        requires needs { CanReport self.now.frame.tree (knows hand.old) name }
+        ensures stays { Stays self.now hand.old hand.new }
+        ensures reported { IsReportedAs P.Cargo self.now.frame name result hand.old.me hand.new.me }
+    {
+        self.report_to::<Brand, Brand, Brand>(&mut hand.seat, name, parent)
     }
 
     fn report_to<K: Subject, J: Subject, L: Keyed<P::Over>>(
         &self,
         seat: &mut SeatOf<P>,
         name: Name,
+        parent: Name,
     ) -> Report
         requires table { IsHandOf self.now seat.old }
         requires place { IsPlaceIn self.now name }
+        requires above { parent ≡ above_it self.now.frame.tree name }
+        requires within { IsPlaceIn self.now parent }
         requires needs { CanReport self.now.frame.tree (knows seat.old) name }
         requires parent { K.aim ≡ aim_at self.now (above_it self.now.frame.tree name) }
         requires child { J.aim ≡ aim_at self.now name }
@@ -93,7 +111,8 @@ impl<P: Cargo> OpTable<P> {
         ensures reported { IsReportedAs P.Cargo self.now.frame name result seat.old.me seat.new.me }
     {
         words_are_exact();
-        let parent = self.parent_of(name);
+        // (the contract alone speaks of it)
+        let _child = name;
         let index = self.frame.layout.control(parent.block, parent.node);
         let word = self.table.fetch_sub::<Reports<K, J, L>>(seat, index, 1);
         report_of(word)

@@ -10,7 +10,7 @@ ghost use Rattle.stop_calls.specs.Armings.{IsSourceAt, IsArmedSo};
 
 use life_rules::{Name, SourceRef};
 use node_tree::{NearestSource, Tree};
-use op_table::{Cargo, Hand, OpTable};
+use op_slot::{Cargo, Hand, OpTable};
 
 /// What was read of the source on which a callback was registered.
 #[derive(Clone, Copy, Debug, PartialEq, Eq)]

@@ -4,7 +4,7 @@ ghost use Rattle.table_steps.specs.Views.{IsHandOf, IsPlaceIn, Stays};
 ghost use Rattle.stop_calls.specs.Removals.{MayEndRun, IsOver};
 
 use life_rules::Name;
-use op_table::{Cargo, Hand, OpTable};
+use op_slot::{Cargo, Hand, OpTable};
 
 /// A callback that this hand runs, since a scan came to it: the caller does what it says, and then
 /// spends it by `finish`.

@@ -1,7 +1,7 @@
 //! What follows for the list of a hand's steps: each call lists the steps that it makes.
 ghost use Rattle.stop_calls.specs.CallLists.{SourcesListTheirSteps, CallbacksListTheirSteps, ScansListTheirSteps};
 
-use op_table::Cargo;
+use op_slot::Cargo;
 
 /// `request_stop`, `fail_stop`, `stop_requested` and `Scan::seal` are one step on the source's
 /// word. `arm` is one on the callback's word, and then one on that of the source that the node

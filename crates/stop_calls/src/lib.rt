@@ -1,7 +1,7 @@
 //! In-place stop sources and stop callbacks ([stopsource.inplace], [stopcallback.inplace]) on a
 //! running table: stops are requested, callbacks registered, run and removed.
 //!
-//! It stands on op_table, whose steps it makes, and on table_laws, from which it follows which
+//! It makes op_table's steps by op_slot, and stands on table_laws, from which it follows which
 //! steps each call lists. It keeps one promise: a callback that was removed never runs afterwards,
 //! and one that is registered when a stop is requested is run, or its registration tells of the
 //! request. No call takes memory or a lock, and only `withdraw` waits.
@@ -33,7 +33,7 @@ mod searching;
 pub use arming::{Armed, arm, source_above, stop_requested};
 pub use dues::Due;
 pub use laws::calls_list_their_steps;
-pub use op_table::{Cargo, Hand, OpTable};
+pub use op_slot::{Cargo, Hand, OpTable};
 pub use removing::{Settled, Withdrawn, try_withdraw, withdraw};
 pub use requesting::{Failure, Request, fail_stop, request_stop};
 pub use scanning::Scan;

@@ -6,7 +6,7 @@ ghost use Rattle.stop_calls.specs.declared.removing.Withdrawn.TheVariants.{Runni
 ghost use Rattle.stop_calls.specs.Removals.{MayWithdraw, IsTried, IsSettled};
 
 use life_rules::{CallbackPhase, Name};
-use op_table::{Cargo, Hand, OpTable};
+use op_slot::{Cargo, Hand, OpTable};
 use std::sync::Wait;
 use std::thread::yield_now;
 

@@ -8,7 +8,7 @@ ghost use Rattle.stop_calls.specs.Requests.{is_answer, IsRequested, IsFailed};
 
 use crate::scanning::Scan;
 use life_rules::{Bits, Name, SourceRef};
-use op_table::{Cargo, Hand, OpTable};
+use op_slot::{Cargo, Hand, OpTable};
 
 /// What a request found.
 #[must_use]

@@ -10,7 +10,7 @@ ghost use Rattle.stop_calls.specs.Searches.{must_read, CanEnter, IsBlockMet};
 use crate::dues::Due;
 use crate::searching::next_place;
 use life_rules::{Name, SourceRef};
-use op_table::{Cargo, Hand, OpTable};
+use op_slot::{Cargo, Hand, OpTable};
 
 /// A scan of a stop source's callbacks, by the hand that made the request. It is spent by `seal`.
 #[must_use]

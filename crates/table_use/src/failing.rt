@@ -10,8 +10,8 @@ use crate::growing::starts;
 use crate::node::{Fault, Table, Worker, beside};
 use crate::passing::scans;
 use life_rules::Name;
-use op_table::Report;
 use stop_calls::{Failure, Request, fail_stop};
+use table_steps::Report;
 
 /// What happened to an operation whose leaf failed.
 #[derive(Clone, Copy, Debug, PartialEq, Eq)]

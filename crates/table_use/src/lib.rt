@@ -1,7 +1,7 @@
 //! Proofs of use: one hand takes operations through their life, by the public contracts of the
 //! table, of its stop calls and of its scope alone.
 //!
-//! It stands on op_table, op_slot, stop_calls and count_scope. Each item shows the entries of its
+//! It stands on op_slot, stop_calls and count_scope. Each item shows the entries of its
 //! node and of all above it, as an engine's does, and all operations have this tree:
 //!
 //!     root 3, with a source

@@ -10,8 +10,9 @@ use crate::cargo::{Env, Item, delivered};
 use crate::node::{Fault, Table, Worker, beside, ends, is_registered, opens};
 use crate::starting::{awaits_one, begins};
 use life_rules::Name;
+use node_tree::Context;
 use op_slot::{Block, Cargo, put_home, release, take_home};
-use op_table::{Context, Report};
+use table_steps::Report;
 
 /// What an operation answered, and for which number.
 #[derive(Clone, Copy, Debug, PartialEq, Eq)]

@@ -27,8 +27,14 @@ tell_failure-requires-clause-failed g c is =
     (may-mark board c.args.name c.args.failed c.args.hand.now c.finish.new.hand.me can c.finish.ensures.finished
     (subst (λ (y : Name). is_child board.frame.tree y.node c.args.name.node ≡ true) above.name above.below) (can.on is)))
 
-pub report-requires-clause-needs : goal.report-requires-clause-needs
-report-requires-clause-needs g c κs =
+pub report_below-requires-clause-above : goal.report_below-requires-clause-above
+report_below-requires-clause-above g c κs = c.parent_of-parent.ensures.name
+
+pub report_below-requires-clause-within : goal.report_below-requires-clause-within
+report_below-requires-clause-within g c κs = c.parent_of-parent.ensures.place
+
+pub report_below-requires-clause-needs : goal.report_below-requires-clause-needs
+report_below-requires-clause-needs g c κs =
     let board = c.site.inside.table.now in
     let above = c.parent_of-parent.ensures in
     can-report board c.args.name c.args.failed c.args.hand.now c.finish.new.hand.me (rw (← c.site.view_is) at c.requires.can)
@@ -43,14 +49,14 @@ returns-in-Last-clause-steps g c =
     let above = c.parent_of-parent.ensures in
     let told = rw (← c.site.view_is) at c.tell_failure.ensures in
     rw (← c.site.view_is)
-    (subst (λ (y : Name). Steps board c.args.name (Go y.node) c.args.hand.now c.report.new.hand) (sym above.name)
+    (subst (λ (y : Name). Steps board c.args.name (Go y.node) c.args.hand.now c.report_below.new.hand) (sym above.name)
     (record {
-      stays = stays-on board c.args.hand.now c.finish.new.hand c.report.new.hand c.finish.ensures.stays
-          (stays-on board c.finish.new.hand c.tell_failure.new.hand c.report.new.hand told.stays c.report.ensures.stays);
+      stays = stays-on board c.args.hand.now c.finish.new.hand c.report_below.new.hand c.finish.ensures.stays
+          (stays-on board c.finish.new.hand c.tell_failure.new.hand c.report_below.new.hand told.stays c.report_below.ensures.stays);
       stepped = stepped board c.args.name c.args.failed c.args.hand.now c.finish.new.hand.me (rw (← c.site.view_is) at c.requires.can)
           c.finish.ensures.finished c.tell_failure.new.hand.me
           (subst (λ (y : Name). HasTold board y c.args.failed c.finish.new.hand.me c.tell_failure.new.hand.me) above.name told.told)
-          c.report.new.hand.me told.stays.hand.seated (subst (IsPlaceIn board) above.name above.place)
+          c.report_below.new.hand.me told.stays.hand.seated (subst (IsPlaceIn board) above.name above.place)
           (subst (λ (y : Name). is_child board.frame.tree y.node c.args.name.node ≡ true) above.name above.below)
           Last c.in-Last.ensures.reported;
     }))
@@ -60,12 +66,12 @@ returns-in-Last-clause-delivers g c =
     let board = c.site.inside.table.now in
     let above = c.parent_of-parent.ensures in
     rw (← c.site.view_is)
-    (subst (λ (y : Name). Delivers board c.args.name (Go y.node) c.args.hand.now.me c.report.new.hand.me) (sym above.name)
+    (subst (λ (y : Name). Delivers board c.args.name (Go y.node) c.args.hand.now.me c.report_below.new.hand.me) (sym above.name)
     (delivered board c.args.name c.args.failed c.args.hand.now c.finish.new.hand.me (rw (← c.site.view_is) at c.requires.can)
     c.finish.ensures.finished c.tell_failure.new.hand.me
     (subst (λ (y : Name). HasTold board y c.args.failed c.finish.new.hand.me c.tell_failure.new.hand.me) above.name
     (rw (← c.site.view_is) at c.tell_failure.ensures.told))
-    c.report.new.hand.me Last c.in-Last.ensures.reported))
+    c.report_below.new.hand.me Last c.in-Last.ensures.reported))
 
 pub returns-in-Others-clause-steps : goal.returns-in-Others-clause-steps
 returns-in-Others-clause-steps g c =
@@ -74,12 +80,12 @@ returns-in-Others-clause-steps g c =
     let told = rw (← c.site.view_is) at c.tell_failure.ensures in
     rw (← c.site.view_is)
     (record {
-      stays = stays-on board c.args.hand.now c.finish.new.hand c.report.new.hand c.finish.ensures.stays
-          (stays-on board c.finish.new.hand c.tell_failure.new.hand c.report.new.hand told.stays c.report.ensures.stays);
+      stays = stays-on board c.args.hand.now c.finish.new.hand c.report_below.new.hand c.finish.ensures.stays
+          (stays-on board c.finish.new.hand c.tell_failure.new.hand c.report_below.new.hand told.stays c.report_below.ensures.stays);
       stepped = stepped board c.args.name c.args.failed c.args.hand.now c.finish.new.hand.me (rw (← c.site.view_is) at c.requires.can)
           c.finish.ensures.finished c.tell_failure.new.hand.me
           (subst (λ (y : Name). HasTold board y c.args.failed c.finish.new.hand.me c.tell_failure.new.hand.me) above.name told.told)
-          c.report.new.hand.me told.stays.hand.seated (subst (IsPlaceIn board) above.name above.place)
+          c.report_below.new.hand.me told.stays.hand.seated (subst (IsPlaceIn board) above.name above.place)
           (subst (λ (y : Name). is_child board.frame.tree y.node c.args.name.node ≡ true) above.name above.below)
           Others c.in-Others.ensures.reported;
     })
@@ -93,4 +99,4 @@ returns-in-Others-clause-delivers g c =
     c.finish.ensures.finished c.tell_failure.new.hand.me
     (subst (λ (y : Name). HasTold board y c.args.failed c.finish.new.hand.me c.tell_failure.new.hand.me) above.name
     (rw (← c.site.view_is) at c.tell_failure.ensures.told))
-    c.report.new.hand.me Others c.in-Others.ensures.reported)
+    c.report_below.new.hand.me Others c.in-Others.ensures.reported)

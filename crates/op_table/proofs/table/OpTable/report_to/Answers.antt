@@ -9,22 +9,22 @@ pub fetch_sub-word-requires : goal.fetch_sub-word-requires
 fetch_sub-word-requires g c =
     let counts = c.self.invariant.2 in
     let within = c.control-index.ensures.within in
-    let p = c.parent_of-parent.result in (
+    let p = c.args.parent in (
       c.requires.table.table_is ∙ sym (ap (λ b. b.table_id) c.self.view_is),
       omega (arith, counts, within),
       reports-above g.P.Cargo c.args.self.now.frame c.self.inside.table.key _ c.args.seat.now.id c.control-index.result
           c.args.name g.J.Subject.aim.name p g.K.Subject.aim g.L.Keyed.overs c.args.seat.now.me c.requires.needs
-          (sym (ap (λ b. b.frame) c.self.view_is) ∙ sym c.self.invariant.0) c.parent_of-parent.ensures.name
+          (sym (ap (λ b. b.frame) c.self.view_is) ∙ sym c.self.invariant.0) c.requires.above
           (c.control-index.ensures.value ∙ ap (λ b. index b.frame.layout (OfControl p.block p.node)) c.self.view_is)
           c.requires.parent (ap (λ a. a.name) c.requires.child) c.requires.key c.words_are_exact.ensures.control c.requires.table.seated.itself,
     )
 
 pub returns-clause-reported : goal.returns-clause-reported
 returns-clause-reported g c =
-    let p = c.parent_of-parent.result in
+    let p = c.args.parent in
     reports-told g.P.Cargo c.args.self.now.frame c.self.inside.table.table_id.slots c.control-index.result c.args.name
     g.J.Subject.aim.name p g.K.Subject.aim g.L.Keyed.overs c.args.seat.now.me c.fetch_sub-word.new.hand.me c.fetch_sub-word.result
-    c.report_of.result c.parent_of-parent.ensures.name
+    c.report_of.result c.requires.above
     (c.control-index.ensures.value ∙ ap (λ b. index b.frame.layout (OfControl p.block p.node)) c.self.view_is)
     c.requires.parent (ap (λ a. a.name) c.requires.child) c.requires.key c.report_of.ensures.last c.report_of.ensures.others
     c.fetch_sub-word.ensures.2.rest
