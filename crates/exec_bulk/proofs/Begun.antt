@@ -28,6 +28,7 @@ use Rattle.home_items.specs.Items.{lot_for, lot_of}
 use Rattle.home_items.specs.Parcels.{Delivery}
 use Rattle.home_items.specs.Shares.{part_args}
 use Rattle.home_items.specs.Starts.{IsStart}
+use Rattle.home_items.proofs.Lots.{part-draws}
 use Rattle.home_items.proofs.Starting.{part-start, starts-below}
 use Rattle.exec_recv.specs.Seats.{HandSeat}
 use Rattle.exec_recv.specs.Sites.{plan_at}
@@ -156,6 +157,7 @@ module _ (board : Board Blueprint) (t : Stepping) (parcel : Delivery) (hand : Ha
         ap drawn_of (part-start n numbers (asked_of t.start) t.start (node_of t.start) left here)
         ∙ ap (λ (s : List Entry). drawn_of (start_below n (part_args numbers left) numbers (asked_of t.start) s)) (sym is)
         ∙ ap (λ o. drawn_by o numbers) (ap (λ (s : List Entry). slice_get (plan_of s).nodes n) is ∙ here)
+        ∙ part-draws (node_of t.start) left numbers (omega (arith, within))
 
     module _ (m : HandSeat) (sees : parcel.saw ≡ true → has_seen board.frame.tree m.me.0 t.name ≡ true) where
       -- a request that the child saw was seen by the hand

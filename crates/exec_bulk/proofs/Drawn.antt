@@ -1,6 +1,6 @@
 -- What lies in the homes below a bulk that may be stepped, by what its last await fixed: with a row at hand nothing in the child's,
 -- without one nothing in the parts'.
-use Rattle.std.proofs.Common.{◌≡◌, inl, inr, ℕ, ◌+◌, ◌<◌, true, ℤ, List, [], ◌∷◌, length, Some, None, refl, sym, ap, ◌∙◌, arith}
+use Rattle.std.proofs.Common.{◌≡◌, inl, inr, ℕ, ◌+◌, ◌<◌, ◌≤◌, true, ℤ, List, [], ◌∷◌, length, Some, None, refl, sym, ap, ◌∙◌, arith}
 use Rattle.std.specs.Prelude.{slice_get}
 use Rattle.std.proofs.lemmas.Option.{same_Some}
 use Rattle.common_lemmas.proofs.Options.{known}
@@ -18,7 +18,7 @@ use Rattle.home_items.specs.Contents.{Done}
 use Rattle.home_items.specs.Entries.{plan_of, node_of, drawn_by, drawn_of, no_row, row_lot, whole_row}
 use Rattle.home_items.specs.Items.{start_in, lot_of}
 use Rattle.home_items.specs.Parcels.{Delivery, IsDelivery}
-use Rattle.home_items.proofs.Lots.{no-row, plain-draws}
+use Rattle.home_items.proofs.Lots.{no-row, part-no-row, part-row, plain-draws}
 use Rattle.home_items.proofs.Reading.{child-fits, held-fits}
 use Rattle.exec_recv.specs.Sites.{node_at, plan_at, IsSite}
 use Rattle.exec_recv.specs.Steppable.{CanStep, IsDoneBelow}
@@ -34,9 +34,6 @@ use Rattle.exec_bulk.proofs.Places.{bulk-child, bulk-large, bulk-parts, child-pl
 
 none-some : (i : Item) → None ≡ Some i → ⊥
 none-some i e = cc
-
-row-same : (a b : List ℤ) → row_lot a ≡ row_lot b → a ≡ b
-row-same a b e = cc
 
 -- below a start a child draws by the plan of that
 draws-by : (e : Entry) (start : List Entry) → (start ≡ [] → ⊥) → drawn_of (e ∷ start) ≡ drawn_by (slice_get (plan_of start).nodes e.node) e.whole
@@ -106,16 +103,35 @@ module _ (board : Board Blueprint) (x : Name) (child : ℕ) (job : Job) (site : 
     here : is_child board.frame.tree x.node n ≡ true
     here = bulk-parts board x child job site at part within
 
-    part-draws : (done : Item) (full : can.kid n ≡ Some done) → lot_of can.item ≡ row_lot (can.kids n done here full).entry.whole
-    part-draws done full =
-        kid-draws board x site m can n here done full
-        ∙ ap (λ o. drawn_by o (can.kids n done here full).entry.whole) (part-at plan site.over.is_plan x.node child job at part within)
+    at-part : slice_get plan.nodes n ≡ Some (Part x.node part)
+    at-part = part-at plan site.over.is_plan x.node child job at part within
+
+    lot-drawn : (done : Item) (full : can.kid n ≡ Some done) →
+        lot_of can.item ≡ drawn_by (Some (Part x.node part)) (can.kids n done here full).entry.whole
+    lot-drawn done full =
+        kid-draws board x site m can n here done full ∙ ap (λ o. drawn_by o (can.kids n done here full).entry.whole) at-part
 
     -- without one nothing lies in a part's
     pub part-empty : lot_of can.item ≡ no_row → can.kid n ≡ None
     part-empty lot =
         known (can.kid n) (λ none. none)
-        (λ done full. absurd (no-row (can.kids n done here full).entry.whole (sym (part-draws done full) ∙ lot)))
+        (λ done full. absurd (part-no-row x.node part (can.kids n done here full).entry.whole (sym (lot-drawn done full) ∙ lot)))
+
+    -- with one the part there shows that row, which has a number for it
+    row-drawn : (whole : List ℤ) → lot_of can.item ≡ row_lot whole → (done : Item) (full : can.kid n ≡ Some done) →
+        ((can.kids n done here full).entry.whole ≡ whole) × (part < length (can.kids n done here full).entry.whole)
+    row-drawn whole lot done full =
+        part-row x.node part (can.kids n done here full).entry.whole whole (sym (lot-drawn done full) ∙ lot)
+
+    -- nothing lies in that of a part for which it has none
+    pub part-over : (whole : List ℤ) → lot_of can.item ≡ row_lot whole → length whole ≤ part → can.kid n ≡ None
+    part-over whole lot past =
+        known (can.kid n) (λ none. none)
+        (λ done full.
+        let drawn = row-drawn whole lot done full in
+        let same : length (can.kids n done here full).entry.whole ≡ length whole = ap (λ (l : List ℤ). length l) drawn.0 in
+        let less = drawn.1 in
+        absurd (omega (arith, same, less, past)))
 
     -- what a part completed with is what the job makes of its share of the row
     pub part-share : (whole : List ℤ) → lot_of can.item ≡ row_lot whole → IsStartOf can.held.start (Bulk child job) →
@@ -125,8 +141,7 @@ module _ (board : Board Blueprint) (x : Name) (child : ℕ) (job : Job) (site : 
         let own : node_of can.held.start ≡ x.node =
         sym (ap node_of can.shows) ∙ (held-fits can.item x.node can.held.told can.fit can.goes_on).node in
         let there : slice_get (plan_of can.held.start).nodes n ≡ Some (Part (node_of can.held.start) part) =
-        ap (λ (b : Blueprint). slice_get b.nodes n) can.key ∙ part-at plan site.over.is_plan x.node child job at part within
-        ∙ ap (λ k. Some (Part k part)) (sym own) in
+        ap (λ (b : Blueprint). slice_get b.nodes n) can.key ∙ at-part ∙ ap (λ k. Some (Part k part)) (sym own) in
         let ended : EndedBelow can.held.start parcel n true =
         record {
           delivers = lawful;
@@ -138,6 +153,6 @@ module _ (board : Board Blueprint) (x : Name) (child : ℕ) (job : Job) (site : 
           saw = λ e. cc;
         } in
         let row : whole_row parcel.start ≡ whole =
-        ap whole_row done.below ∙ row-same done.entry.whole whole (sym (part-draws (Done parcel) full) ∙ lot) in
+        ap whole_row done.below ∙ (row-drawn whole lot (Done parcel) full).0 in
         parts-make can.held.start child job of parcel n true ended part there memory
         ∙ ap (λ row. row_ending (share_made job row part)) row

@@ -18,7 +18,7 @@ use Rattle.step_parts.proofs.Several.{emptied-else, empties-here, empties-more, 
 use Rattle.exec_bulk.specs.declared.joining.Made.{Made}
 use Rattle.exec_bulk.specs.declared.joining.Made.TheVariants.{Want}
 use Rattle.exec_bulk.specs.Made.{AddsParcel, HasNoPart, IsFrontMade, one_missing}
-use Rattle.exec_bulk.specs.Opens.{HaveDelivered, HasDrawn, GathersPart, TakesParts}
+use Rattle.exec_bulk.specs.Opens.{HaveDelivered, HasDrawn, GathersPart, GathersParts}
 use Rattle.exec_bulk.specs.Rows.{first_part}
 use Rattle.exec_bulk.proofs.Making.{missing-made}
 use Rattle.exec_bulk.proofs.Ranges.{range-else, range-more}
@@ -33,7 +33,7 @@ module _ (board : Board Blueprint) (t : Stepping) where
   abbrev first : ℕ
   first = first_part t.name.node
 
-  pub parts-none : (made : Made) (hand : HandSeat) → IsHandOf board hand → HasNoPart made → TakesParts board t 0 0 made hand hand
+  pub parts-none : (made : Made) (hand : HandSeat) → IsHandOf board hand → HasNoPart made → GathersParts board t 0 made hand hand
   parts-none made hand of none =
       record {
         empties = empties-here board t hand of;
@@ -41,7 +41,7 @@ module _ (board : Board Blueprint) (t : Stepping) where
         wants = λ inside kid lies is have. none.able is;
       }
 
-  module _ (n count : ℕ) (made : Made) (old between : HandSeat) (was : TakesParts board t n count made old between) where
+  module _ (n : ℕ) (made : Made) (old between : HandSeat) (was : GathersParts board t n made old between) where
     -- the homes are being emptied still
     pub parts-open : IsOpen board t old → IsOpen board t between
     parts-open lies = empties-open board t (range_with_len first n) old between was.empties lies
@@ -54,13 +54,8 @@ module _ (board : Board Blueprint) (t : Stepping) where
         (subst (λ ns. Empties board t ns old new) (sym (range-more first n))
         (empties-more board t (range_with_len first n) old between was.empties (first + n) answer new takes))
 
-    -- one more was emptied
-    pub parts-rest : (answer : Option Delivery) (new : HandSeat) → TakesChild board t (first + n) answer between new →
-        TakesParts board t (n + 1) count made old new
-    parts-rest answer new takes = record { empties = next-empty answer new takes; made_is = was.made_is; wants = was.wants }
-
-  -- and what lay there was added
-  module _ (part : ℕ) (before after : Made) (old between new : HandSeat) (was : TakesParts board t part part before old between)
+  -- the next is, and what lay there was added
+  module _ (part : ℕ) (before after : Made) (old between new : HandSeat) (was : GathersParts board t part before old between)
       (next : GathersPart board t part before after between new) where
     -- what lay in the part's home lies there until then
     lay-still : (inside : Item) (kid : ℕ → Option Item) → IsOpenWith board t inside kid old →
@@ -86,7 +81,7 @@ module _ (board : Board Blueprint) (t : Stepping) where
 
     module _ (within : part < BULK_PARTS) (job : Job) (whole : List ℤ) (drawn : HasDrawn board t job whole old) where
       open-still : IsOpen board t between
-      open-still = parts-open part part before old between was (record { inside = drawn.inside; kid = drawn.kid; is = drawn.opened })
+      open-still = parts-open part before old between was (record { inside = drawn.inside; kid = drawn.kid; is = drawn.opened })
 
       more-made : IsFrontMade after job whole (part + 1)
       more-made = of next.answer (lay-still drawn.inside drawn.kid drawn.opened) next.adds next.misses (next.takes.found open-still)
@@ -100,10 +95,10 @@ module _ (board : Board Blueprint) (t : Stepping) where
           of (Some parcel) lay adds misses found =
               adds.made job whole part within (drawn.makes part parcel within lay found.lawful) (was.made_is job whole drawn)
 
-    pub parts-more : part < BULK_PARTS → TakesParts board t (part + 1) (part + 1) after old new
+    pub parts-more : part < BULK_PARTS → GathersParts board t (part + 1) after old new
     parts-more within =
         record {
-          empties = next-empty part part before old between was next.answer new next.takes;
+          empties = next-empty part before old between was next.answer new next.takes;
           made_is = more-made within;
           wants = more-wants;
         }

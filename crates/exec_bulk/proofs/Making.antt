@@ -17,7 +17,7 @@ use Rattle.plan_rules.specs.Bulks.{in_front, each_of, row_ending, bulk_of}
 use Rattle.plan_rules.specs.declared.node.Node.TheVariants.{Bulk}
 use Rattle.plan_shape.specs.declared.limits.TheConstants.{BULK_PARTS}
 use Rattle.home_items.specs.Bounds.{least_when_done}
-use Rattle.home_items.specs.Entries.{row_lot}
+use Rattle.home_items.specs.Entries.{no_row, row_lot}
 use Rattle.home_items.specs.Items.{lot_for}
 use Rattle.home_items.specs.Shares.{first_index}
 use Rattle.start_laws.specs.BulkLaws.{share_made, front_made, made_behind}
@@ -229,6 +229,16 @@ row-is NoMemory some = absurd (omega (arith, some))
 pub lot-row : (child : ℕ) (job : Job) (done : Completion) → 1 ≤ length (numbers_in done) →
     lot_for (Some (Bulk child job)) done ≡ row_lot (numbers_in done)
 lot-row child job done some = ap (lot_for (Some (Bulk child job))) (row-is done some)
+
+pub lot-none : (child : ℕ) (job : Job) (done : Completion) → numbers_in done ≡ [] →
+    (lot_for (Some (Bulk child job)) done ≡ no_row) ⊎ (lot_for (Some (Bulk child job)) done ≡ row_lot [])
+lot-none child job (Value []) none = inl refl
+lot-none child job (Value (Row [] ∷ [])) none = inr refl
+lot-none child job (Value (Row (x ∷ xs) ∷ [])) none = cc
+lot-none child job (Value (datum ∷ values)) none = inl refl
+lot-none child job (Error name) none = inl refl
+lot-none child job Stopped none = inl refl
+lot-none child job NoMemory none = inl refl
 
 -- no numbers are none
 pub numbers-none : (numbers : List ℤ) → length numbers ≡ 0 → numbers ≡ []

@@ -1,9 +1,10 @@
 -- How the step of a bulk that has begun goes on from what lies in the homes.
-use Rattle.std.proofs.Common.{◌≡◌, ◌≢◌, inl, inr, ℕ, ◌+◌, ◌<◌, ◌≤◌, min, true, false, ◌==◌, List, ℤ, [], length, Option, Some, None, refl, sym, ap, ◌∙◌, subst}
+use Rattle.std.proofs.Common.{◌≡◌, ◌≢◌, inl, inr, ℕ, ◌+◌, ◌<◌, ◌≤◌, min, true, false, ◌==◌, List, ℤ, [], length, Option, Some, None, refl, sym, ap, ◌∙◌, subst, arith}
 use Rattle.std.specs.Prelude.{IfSome, slice_get}
 use Rattle.std.specs.Borrow.{MutBor}
-use Rattle.std.specs.List.{list_any}
+use Rattle.std.specs.List.{list_any, range_with_len}
 use Rattle.std.specs.Option.{option_copied_mut, option_map, option_map_or}
+use Rattle.std.proofs.lemmas.Bool.{cases_lt}
 use Rattle.std.proofs.lemmas.Option.{same_Some}
 use Rattle.common_lemmas.proofs.Bool.{either}
 use Rattle.exec_value.specs.declared.outcome.Completion.{Completion}
@@ -30,6 +31,7 @@ use Rattle.exec_recv.specs.Seats.{HandSeat}
 use Rattle.exec_recv.specs.Sites.{node_at, plan_at}
 use Rattle.exec_recv.specs.Steppable.{CanStep}
 use Rattle.start_laws.specs.Nodes.{IsStartOf}
+use Rattle.step_parts.specs.Midway.{IsMidway}
 use Rattle.step_parts.specs.Several.{emptied, Empties}
 use Rattle.step_parts.specs.Stepping.{Stepping}
 use Rattle.step_parts.specs.Takes.{IsOpen, IsOpenWith, TakesKept}
@@ -45,11 +47,11 @@ use Rattle.exec_bulk.specs.declared.opening.KeptRow.{KeptRow}
 use Rattle.exec_bulk.specs.Ends.{MayEndParts}
 use Rattle.exec_bulk.specs.Kinds.{IsBulkNode}
 use Rattle.exec_bulk.specs.Made.{IsFrontMade}
-use Rattle.exec_bulk.specs.Opens.{HasDrawn, HasTakenUp, HaveDelivered, LooksAtRow, MayLook, MayTakeBack, TakesParts, names_of_parts}
+use Rattle.exec_bulk.specs.Opens.{HasDrawn, HasTakenUp, HaveDelivered, LooksAtRow, MayLook, MayTakeBack, ShowsRow, GathersParts}
 use Rattle.exec_bulk.specs.Rows.{first_part, numbers_in, parts_for}
 use Rattle.exec_bulk.specs.Steps.{HaveAllDelivered}
-use Rattle.exec_bulk.proofs.Drawn.{child-empty, part-empty, part-share}
-use Rattle.exec_bulk.proofs.Making.{lot-row}
+use Rattle.exec_bulk.proofs.Drawn.{child-empty, part-empty, part-over, part-share}
+use Rattle.exec_bulk.proofs.Making.{lot-none, lot-row}
 use Rattle.exec_bulk.proofs.Places.{bulk-kids}
 use Rattle.exec_bulk.proofs.Ranges.{range-named}
 
@@ -154,108 +156,114 @@ module _ (board : Board Blueprint) (t : Stepping) (child : ℕ) (up : HandSeat) 
   pub is-bulk : IsBulkNode (node_at board t.name)
   is-bulk = subst IsBulkNode (sym has.node_is) tt
 
+  its : IsStartOf t.start bulk
+  its = opened-of board t can.item can.kid up lies bulk has.node_is
+
+  lot-is : lot_of can.item ≡ lot_for (Some bulk) kept.completion
+  lot-is = ap lot_of item-is ∙ ap (λ (o : Option Node). lot_for o kept.completion) its.node_is
+
   module _ (row : KeptRow) (seen : HandSeat) (looks : LooksAtRow board t row up seen) where
     abbrev numbers : List ℤ
     numbers = numbers_in kept.completion
 
-    pub room-is : row.room ≡ length numbers
-    room-is = (looks.shows can.item can.kid lies kept (ap parcel_in item-is)).0
+    pub shows : ShowsRow row kept
+    shows = looks.shows can.item can.kid lies kept (ap parcel_in item-is)
 
     seen-lies : IsOpenWith board t can.item can.kid seen
     seen-lies = looks.still.left can.item can.kid lies
 
-    pub saw-is : row.saw ≡ kept.saw
-    saw-is = (looks.shows can.item can.kid lies kept (ap parcel_in item-is)).1
-
     pub seen-open : IsOpen board t seen
     seen-open = record { inside = can.item; kid = can.kid; is = seen-lies }
 
-    module _ (count : ℕ) (made : Made) (new : HandSeat) (takes : TakesParts board t BULK_PARTS count made seen new) where
-      abbrev gone : ℕ → Option Item
-      gone = emptied (names_of_parts t.name.node) can.kid
-
-      left : IsOpenWith board t can.item gone new
-      left = takes.empties.left can.item can.kid seen-lies
-
-      pub left-open : IsOpen board t new
-      left-open = record { inside = can.item; kid = gone; is = left }
-
-      part-gone : (part : ℕ) → part < BULK_PARTS → gone (first_part t.name.node + part) ≡ None
-      part-gone part within =
-          emptied-in (names_of_parts t.name.node) can.kid (first_part t.name.node + part)
-          (range-named (first_part t.name.node) BULK_PARTS part within)
-
-      -- where it keeps no numbers, it goes on by its child
-      pub opened-back : MayTakeBack board t child new
-      opened-back = record { inside = can.item; kid = gone; opened = left; job = has.job; node_is = has.node_is; none = part-gone }
-
-      -- where it keeps some, all homes are empty
-      module _ (some : 1 ≤ length numbers) (count_is : count ≡ min BULK_PARTS row.room) where
-        its : IsStartOf t.start bulk
-        its = opened-of board t can.item can.kid up lies bulk has.node_is
-
-        row-is : lot_of can.item ≡ row_lot numbers
-        row-is =
-            ap lot_of item-is ∙ ap (λ (o : Option Node). lot_for o kept.completion) its.node_is ∙ lot-row child has.job kept.completion some
-
-        all-gone : (n : ℕ) → is_child board.frame.tree t.name.node n ≡ true → gone n ≡ None
-        all-gone n is =
-            elim (bulk-kids board t.name child has.job lies.site has.node_is n is) [
-              | inl first ↦
-                  emptied-none (names_of_parts t.name.node) can.kid n
-                  (ap can.kid first ∙ child-empty board t.name child has.job lies.site has.node_is has.before.me can numbers row-is)
-              | inr part ↦ ap gone part.2 ∙ part-gone part.0 part.1
-            ]
-
-        drawn : HasDrawn board t has.job numbers seen
-        drawn = record {
+    -- where it keeps no numbers, it goes on by its child
+    pub opened-back : numbers ≡ [] → MayTakeBack board t child seen
+    opened-back none =
+        record {
           inside = can.item;
           kid = can.kid;
           opened = seen-lies;
-          makes = λ part parcel within full lawful.
-              part-share board t.name child has.job lies.site has.node_is has.before.me can part within numbers row-is
-              (subst (λ (s : List Entry). IsStartOf s bulk) (sym lies.midway.inside_is ∙ can.shows) its) parcel full lawful;
+          job = has.job;
+          node_is = has.node_is;
+          none = λ part within. elim (lot-none child has.job kept.completion none) [
+            | inl bare ↦ part-empty board t.name child has.job lies.site has.node_is has.before.me can part within (lot-is ∙ bare)
+            | inr empty ↦
+                part-over board t.name child has.job lies.site has.node_is has.before.me can part within [] (lot-is ∙ empty) (omega arith)
+          ];
         }
 
-        all : count ≡ parts_for numbers
-        all = count_is ∙ ap (min BULK_PARTS) room-is
+    -- where it keeps some, all homes are empty once those of the parts were emptied that were begun
+    module _ (some : 1 ≤ length numbers) (count : ℕ) (count_is : count ≡ min BULK_PARTS row.room) (made : Made) (new : HandSeat)
+        (gathers : GathersParts board t count made seen new) where
+      abbrev begun : List ℕ
+      begun = range_with_len (first_part t.name.node) count
 
-        pub all-made : IsFrontMade made has.job numbers (parts_for numbers)
-        all-made = subst (λ k. IsFrontMade made has.job numbers k) all (takes.made_is has.job numbers drawn)
+      abbrev gone : ℕ → Option Item
+      gone = emptied begun can.kid
 
-        pub opened-ends : (answer : Option Delivery) (last : HandSeat) → TakesKept board t answer new last →
-            MayEndParts board t row.saw made last
-        opened-ends answer last unkept =
-            let bare : Item = without_parcel can.item in
-            let least = least_of (Rest t.start (Some kept)) in
-            let none = open-none board t bare gone last (unkept.left can.item gone left) all-gone in
-            let is : answer ≡ Some kept = sym (unkept.lay can.item gone left) ∙ ap parcel_in item-is in
-            let heard = unkept.keeps.heard ∙ takes.empties.keeps.heard ∙ looks.still.keeps.heard in
-            record {
-              taken = open-taken board t bare last none;
-              child = child;
-              job = has.job;
-              node_is = has.node_is;
-              kept = kept;
-              saw_is = saw-is;
-              ready = record {
-                inside = bare;
-                is = named-at board t.name t.start bare last.me (least_of bare) least (λ _. None) left.midway.held
-                    (unkept.keeps.same_held ∙ left.midway.tends.holds)
-                    (subst (λ (i : Item). least_of i ≤ left.midway.held.named) item-is left.midway.named) none.midway;
-              };
-              from = kept-from board t last.me kept (subst (λ (i : Item). IsItemOf i t.name.node) item-is (has.takes.of can))
-                  (subst (λ (o : Option Delivery). IfSome o IsDelivery) is unkept.lawful)
-                  (λ silent. sym (ap saw_in item-is) ∙ has.takes.saw can (sym heard ∙ silent));
-              some = some;
-              made_is = all-made;
-            }
+      row-is : lot_of can.item ≡ row_lot numbers
+      row-is = lot-is ∙ lot-row child has.job kept.completion some
 
-        -- where all parts have delivered, none wants memory
-        pub all-able : HaveAllDelivered board t child numbers up → made ≢ Want
-        all-able have is =
-            takes.wants have.inside have.kid (looks.still.left have.inside have.kid have.opened) is
-            (subst (λ k. HaveDelivered (first_part t.name.node) k have.kid) (sym all) have.have)
+      all : count ≡ parts_for numbers
+      all = count_is ∙ ap (min BULK_PARTS) shows.room_is
+
+      part-gone : (part : ℕ) → part < BULK_PARTS → gone (first_part t.name.node + part) ≡ None
+      part-gone part within =
+          elim (cases_lt part count) [
+            | inl below ↦ emptied-in begun can.kid (first_part t.name.node + part) (range-named (first_part t.name.node) count part below)
+            | inr past ↦
+                let over : length numbers ≤ part = omega (arith, past, within, all) in
+                emptied-none begun can.kid (first_part t.name.node + part)
+                (part-over board t.name child has.job lies.site has.node_is has.before.me can part within numbers row-is over)
+          ]
+
+      all-gone : (n : ℕ) → is_child board.frame.tree t.name.node n ≡ true → gone n ≡ None
+      all-gone n is =
+          elim (bulk-kids board t.name child has.job lies.site has.node_is n is) [
+            | inl first ↦
+                emptied-none begun can.kid n
+                (ap can.kid first ∙ child-empty board t.name child has.job lies.site has.node_is has.before.me can numbers row-is)
+            | inr part ↦ ap gone part.2 ∙ part-gone part.0 part.1
+          ]
+
+      drawn : HasDrawn board t has.job numbers seen
+      drawn = record {
+        inside = can.item;
+        kid = can.kid;
+        opened = seen-lies;
+        makes = λ part parcel within full lawful.
+            part-share board t.name child has.job lies.site has.node_is has.before.me can part within numbers row-is
+            (subst (λ (s : List Entry). IsStartOf s bulk) (sym lies.midway.inside_is ∙ can.shows) its) parcel full lawful;
+      }
+
+      pub all-made : IsFrontMade made has.job numbers (parts_for numbers)
+      all-made = subst (λ k. IsFrontMade made has.job numbers k) all (gathers.made_is has.job numbers drawn)
+
+      pub opened-ends : MayEndParts board t row.saw made new
+      opened-ends =
+          let none = open-none board t can.item gone new (gathers.empties.left can.item can.kid seen-lies) all-gone in
+          let heard = gathers.empties.keeps.heard ∙ looks.still.keeps.heard in
+          record {
+            taken = open-taken board t can.item new none;
+            child = child;
+            job = has.job;
+            node_is = has.node_is;
+            kept = kept;
+            saw_is = shows.saw_is;
+            ready = record {
+              inside = can.item;
+              is = subst (λ (i : Item). IsMidway board t.name t.start can.item (least_of i) (λ _. None) new.me) item-is none.midway;
+            };
+            from = kept-from board t new.me kept (subst (λ (i : Item). IsItemOf i t.name.node) item-is (has.takes.of can)) shows.lawful
+                (λ silent. sym (ap saw_in item-is) ∙ has.takes.saw can (sym heard ∙ silent));
+            some = some;
+            made_is = all-made;
+          }
+
+      -- where all parts have delivered, none wants memory
+      pub all-able : HaveAllDelivered board t child numbers up → made ≢ Want
+      all-able have is =
+          gathers.wants have.inside have.kid (looks.still.left have.inside have.kid have.opened) is
+          (subst (λ k. HaveDelivered (first_part t.name.node) k have.kid) (sym all) have.have)
 
 -- A bulk that was taken up at rest: nothing lies in the homes of its parts.
 pub rests-back : (board : Board Blueprint) (t : Stepping) (child : ℕ) (up : HandSeat) → HasTakenUp board t child Rests up →

@@ -1,6 +1,7 @@
 -- How the step of a part goes on.
 use Rattle.std.proofs.Common.{◌≡◌, inl, inr, ℕ, ◌+◌, ◌<◌, Bool, true, false, List, [], ◌∷◌, Some, None, refl, sym, ap, ap₂, ◌∙◌, subst, arith}
-use Rattle.std.specs.Prelude.{Contains, IfSome, Option, slice_get}
+use Rattle.std.specs.Prelude.{Contains, IfOk, Result, Ok, Err, slice_get}
+use Rattle.std.specs.declared.alloc.AllocError.{AllocError}
 use Rattle.std.specs.List.{range_with_len}
 use Rattle.std.proofs.lemmas.List.Elements.{Contains-append_right}
 use Rattle.std.proofs.lemmas.Option.{same_Some}
@@ -199,6 +200,6 @@ module _ (board : Board Blueprint) (x : Name) (t : Stepping) (state : State) (ol
   part-leaves = taken-leaves board t up part-taken (Part bulk part) its tt None tt
 
 -- what holds of what was answered holds of the same said otherwise
-pub mapped : (o : Option Completion) (a b : Completion) → a ≡ b → IfSome o (λ done. done ≡ a) → IfSome o (λ done. done ≡ b)
-mapped None a b same is = tt
-mapped (Some done) a b same is = is ∙ same
+pub mapped : (o : Result Completion AllocError) (a b : Completion) → a ≡ b → IfOk o (λ done. done ≡ a) → IfOk o (λ done. done ≡ b)
+mapped (Err none) a b same is = tt
+mapped (Ok done) a b same is = is ∙ same

@@ -24,10 +24,6 @@ use Rattle.exec_bulk.specs.declared.opening.KeptRow.{KeptRow}
 use Rattle.exec_bulk.specs.Made.{AddsParcel, IsFrontMade, IsOfShare, one_missing}
 use Rattle.exec_bulk.specs.Rows.{first_part, numbers_in}
 
--- the parts of this bulk
-abbrev pub names_of_parts : ℕ → List ℕ
-names_of_parts bulk = range_with_len (first_part bulk) BULK_PARTS
-
 -- a parcel lies in this home, and isn't want of memory
 pub record HasDelivered (inside : Option Item) : Type 0 where
   pub parcel : Delivery
@@ -37,6 +33,12 @@ pub record HasDelivered (inside : Option Item) : Type 0 where
 -- so it is of the homes of the first so many nodes from this one on
 abbrev pub HaveDelivered : ℕ → ℕ → (ℕ → Option Item) → Type 0
 HaveDelivered first n kid = (i : ℕ) → i < n → HasDelivered (kid (first + i))
+
+-- what was looked at is the row of this delivery
+pub record ShowsRow (row : KeptRow) (kept : Delivery) : Type 0 where
+  pub room_is : row.room ≡ length (numbers_in kept.completion)
+  pub saw_is : row.saw ≡ kept.saw
+  pub lawful : IsDelivery kept
 
 module _ (board : Board Blueprint) (t : Stepping) where
   -- The step of a bulk of this child has taken it up in this state.
@@ -72,12 +74,12 @@ module _ (board : Board Blueprint) (t : Stepping) where
         kid (first_part t.name.node + part) ≡ Some (Done parcel) → IsDelivery parcel →
         IsOfShare job whole part parcel.completion
 
-  -- It looked at what it keeps of its child, which lies there still.
+  -- It looked at what it keeps of its child, a delivery, which lies there still.
   pub record LooksAtRow (row : KeptRow) (old new : HandSeat) : Type 0 where
     pub still : Empties board t [] old new
     pub shows : (inside : Item) (kid : ℕ → Option Item) → IsOpenWith board t inside kid old →
         (kept : Delivery) → parcel_in inside ≡ Some kept →
-        (row.room ≡ length (numbers_in kept.completion)) × (row.saw ≡ kept.saw)
+        ShowsRow row kept
 
   -- The home of the part of this number was emptied, and what lay there was added to these.
   pub record GathersPart (part : ℕ) (before after : Made) (old new : HandSeat) : Type 0 where
@@ -86,11 +88,11 @@ module _ (board : Board Blueprint) (t : Stepping) where
     pub adds : IfSome answer (AddsParcel before after)
     pub misses : answer ≡ None → after ≡ one_missing before
 
-  -- The homes of the first n parts were emptied, and what lay in the first so many was added up to
-  -- this. Where that wants memory, one of these does, or isn't done.
-  pub record TakesParts (n count : ℕ) (made : Made) (old new : HandSeat) : Type 0 where
+  -- The homes of the first n parts were emptied, and what lay there was added up to this. Where
+  -- that wants memory, one of them does, or isn't done.
+  pub record GathersParts (n : ℕ) (made : Made) (old new : HandSeat) : Type 0 where
     pub empties : Empties board t (range_with_len (first_part t.name.node) n) old new
     pub made_is : (job : Job) (whole : List ℤ) → HasDrawn job whole old →
-        IsFrontMade made job whole count
+        IsFrontMade made job whole n
     pub wants : (inside : Item) (kid : ℕ → Option Item) → IsOpenWith board t inside kid old →
-        made ≡ Want → HaveDelivered (first_part t.name.node) count kid → ⊥
+        made ≡ Want → HaveDelivered (first_part t.name.node) n kid → ⊥

@@ -1,5 +1,6 @@
 -- What the step of a part does ([exec.bulk]).
-use Rattle.std.specs.Prelude.{◌≡◌, ◌≢◌, ◌⊎◌, ℕ, false, Option, Some, None, IfSome, IsSome}
+use Rattle.std.specs.Prelude.{◌≡◌, ◌≢◌, ◌⊎◌, ℕ, false, Some, None, Result, IfOk, IsOk}
+use Rattle.std.specs.declared.alloc.AllocError.{AllocError}
 use Rattle.exec_value.specs.declared.outcome.Completion.{Completion}
 use Rattle.exec_value.specs.declared.outcome.Completion.TheVariants.{NoMemory}
 use Rattle.life_rules.specs.declared.event.Name.{Name}
@@ -30,11 +31,12 @@ module _ (board : Board Blueprint) (t : Stepping) (bulk part : ℕ) where
     pub taken : IsTaken board t hand
     pub node_is : node_at board t.name ≡ Some (Part bulk part)
 
-  -- the job was applied; none is answered where there is no memory for what it makes
-  pub record MakesShare (answer : Option Completion) (old new : HandSeat) : Type 0 where
+  -- the job was applied; an error is answered where there is no memory for what it makes
+  pub record MakesShare (answer : Result Completion AllocError) (old new : HandSeat) :
+      Type 0 where
     pub keeps : Keeps board t old new
-    pub exact : IfSome answer (λ done. done ≡ share_done)
-    pub in_place : CompletesInPlace share_done → IsSome answer
+    pub exact : IfOk answer (λ done. done ≡ share_done)
+    pub in_place : CompletesInPlace share_done → IsOk answer
 
   -- There was no memory for it, and it doesn't stand in place.
   pub record WantsShare (next : Next) (old new : HandSeat) : Type 0 where

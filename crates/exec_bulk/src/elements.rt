@@ -1,5 +1,5 @@
 //! What a part makes of its share.
-ghost use Rattle.std.specs.Prelude.{◌≡◌, ◌<◌, ◌≤◌, [], ◌∷◌, length, IsTrue, IsSome, IfSome};
+ghost use Rattle.std.specs.Prelude.{◌≡◌, ◌<◌, ◌≤◌, [], ◌∷◌, length, IsTrue, IsOk, IfOk};
 ghost use Rattle.exec_value.specs.declared.limits.TheConstants.{NUMBERS};
 ghost use Rattle.exec_job.specs.Takes.{is_element};
 ghost use Rattle.exec_job.specs.declared.job.Job.{Job};
@@ -14,20 +14,25 @@ use exec_value::{Completion, Data, Datum, NUMBERS, Nums};
 use node_images::error_at;
 use std::alloc::{AllocError, Global};
 
-/// What the job makes of the share of this number of the row that a part carries. None where there
-/// is no memory for that.
+/// What the job makes of the share of this number of the row that a part carries. An error where
+/// there is no memory for that.
 #[inline(always)]
-pub(crate) fn end_share(alloc: Global, job: &Job, row: &Data, part: u32) -> Option<Completion>
+pub(crate) fn end_share(
+    alloc: Global,
+    job: &Job,
+    row: &Data,
+    part: u32,
+) -> Result<Completion, AllocError>
     requires element { IsTrue (is_element job.now) }
     requires row { row.now ≡ Datum.Row (row_in row.now) ∷ [] }
     requires part { part < BULK_PARTS }
-    ensures exact { IfSome result (λ done. done ≡ share_ending job.now row.now part) }
-    ensures in_place { CompletesInPlace (share_ending job.now row.now part) → IsSome result }
+    ensures exact { IfOk result (λ done. done ≡ share_ending job.now row.now part) }
+    ensures in_place { CompletesInPlace (share_ending job.now row.now part) → IsOk result }
 {
     match row.as_slice() {
         [Datum::Row(row)] => {
             let Share { numbers, first } = share_of(row.as_slice(), part);
-            make_share(alloc, job, first, numbers).ok()
+            make_share(alloc, job, first, numbers)
         }
         _ => unreachable!(),
     }

@@ -5,13 +5,12 @@ ghost use Rattle.exec_recv.specs.Sites.{node_at};
 ghost use Rattle.step_parts.specs.Takes.{IsOpen};
 ghost use Rattle.exec_bulk.specs.Kinds.{IsBulkNode};
 ghost use Rattle.exec_bulk.specs.Made.{HasNoPart};
-ghost use Rattle.exec_bulk.specs.Opens.{MayLook, LooksAtRow, GathersPart, TakesParts};
+ghost use Rattle.exec_bulk.specs.Opens.{MayLook, LooksAtRow, GathersPart, GathersParts};
 
 use crate::joining::Made;
 use crate::rows::{first_part, numbers_of};
 use op_slot::Hand;
-use plan_shape::BULK_PARTS;
-use step_parts::{Item, Site, Taken, gather_child, take_child};
+use step_parts::{Item, Site, Taken, gather_child};
 
 /// What a bulk keeps of its child.
 #[derive(Clone, Copy)]
@@ -60,12 +59,12 @@ fn gather_part<R, G>(
     }
 }
 
-/// Takes the parcels of the parts out of their homes, and adds up those of the first so many, which
-/// were begun, where they lie.
+/// Takes the parcels of the first `count` parts, which were begun, out of their homes, and adds
+/// them up where they lie. Nothing lies in the homes of the others.
 ///
-/// Step: those of `gather_child`, or of `take_child`, for each part.
+/// Step: those of `gather_child` for each of them.
 #[inline(always)]
-pub(crate) fn take_parts<R, G>(
+pub(crate) fn gather_parts<R, G>(
     site: &Site<R, G>,
     hand: &mut Hand<Item>,
     taken: &Taken,
@@ -76,14 +75,9 @@ pub(crate) fn take_parts<R, G>(
     requires none { HasNoPart made.old }
     requires kind { IsBulkNode (node_at site.now taken.now.name) }
     requires opened { IsOpen site.now taken.now hand.old }
-    ensures { TakesParts site.now taken.now BULK_PARTS count made.new hand.old hand.new }
+    ensures { GathersParts site.now taken.now count made.new hand.old hand.new }
 {
     for part in 0..count {
         gather_part(site, hand, taken, part, made);
-    }
-    // nothing lies in the homes of the others
-    for other in count..BULK_PARTS {
-        let child = first_part(taken.name().node) + other;
-        drop(take_child(site, hand, taken, child));
     }
 }

@@ -9,6 +9,7 @@ use life_rules::Name;
 use node_tree::Context;
 use op_slot::Hand;
 use plan_rules::{Node, NodeId};
+use std::alloc::AllocError;
 use std::sync::Wait;
 use step_parts::{
     Gate, Item, Kind, Next, Point, Site, Taken, complete, leave_at_rest, take_up, want_memory,
@@ -42,7 +43,7 @@ impl Kind for Parts {
     }
 }
 
-// What the bulk's job makes of the part's share of the row in its home. None where there is no
+// What the bulk's job makes of the part's share of the row in its home. An error where there is no
 // memory for it, and it doesn't stand in place.
 #[inline(always)]
 fn make_share<R, G>(
@@ -51,7 +52,7 @@ fn make_share<R, G>(
     taken: &Taken,
     bulk: NodeId,
     part: u32,
-) -> Option<Completion>
+) -> Result<Completion, AllocError>
     requires may { MayRunPart site.now taken.now bulk part hand.old }
     ensures { MakesShare site.now taken.now bulk part result hand.old hand.new }
 {
@@ -84,10 +85,10 @@ fn run_part<R: Wait, G: Gate>(
         node: taken.name().node,
     });
     match make_share(site, hand, &taken, bulk, part) {
-        Some(done) => {
+        Ok(done) => {
             let mut done = done;
             complete(site, hand, taken, &mut done, false)
         }
-        None => want_memory(site, hand, taken),
+        Err(AllocError) => want_memory(site, hand, taken),
     }
 }

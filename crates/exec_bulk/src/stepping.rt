@@ -8,7 +8,7 @@ ghost use Rattle.exec_bulk.specs.Steps.{CutsRow, GoesOnBack, JoinsParts};
 use crate::beginning::begin_parts;
 use crate::ending::{end_parts, pass_on};
 use crate::joining::Made;
-use crate::opening::{KeptRow, look_row, take_parts};
+use crate::opening::{KeptRow, gather_parts, look_row};
 use crate::rows::{numbers_of, parts_of};
 use exec_value::Completion;
 use home_items::State;
@@ -17,8 +17,7 @@ use op_slot::Hand;
 use plan_rules::{Node, NodeId};
 use std::sync::Wait;
 use step_parts::{
-    Gate, Item, Kind, Label, Next, Site, Taken, start_again, start_child, take_child_into,
-    take_kept, take_up,
+    Gate, Item, Kind, Label, Next, Site, Taken, start_again, start_child, take_child_into, take_up,
 };
 
 /// Each bulk.
@@ -70,13 +69,11 @@ fn join_parts<R: Wait, G: Gate>(
     ensures { JoinsParts site.now taken child result hand.old hand.new }
 {
     let KeptRow { room, saw } = look_row(site, hand, &taken);
-    let mut made = Made::none(site.alloc, room);
-    take_parts(site, hand, &taken, parts_of(room), &mut made);
     if room == 0 {
-        drop(made);
         return step_begun(site, hand, taken, child);
     }
-    drop(take_kept(site, hand, &taken));
+    let mut made = Made::none(site.alloc, room);
+    gather_parts(site, hand, &taken, parts_of(room), &mut made);
     end_parts(site, hand, taken, saw, made)
 }
 

@@ -1,6 +1,6 @@
 -- A start, as a list of entries: that of its node, and then those of its parent's start. What is
 -- read of a start is read of its first entry.
-use Rattle.std.specs.Prelude.{ℕ, ◌-◌, ℤ, pos, Bool, false, List, [], ◌∷◌, length, slice_get, Option, Some, None}
+use Rattle.std.specs.Prelude.{ℕ, ◌-◌, nat_lt, if◌then◌else◌, ℤ, pos, Bool, false, List, [], ◌∷◌, length, slice_get, Option, Some, None}
 use Rattle.exec_value.specs.declared.kinds.Kind.TheVariants.{Int}
 use Rattle.exec_value.specs.declared.data.Datum.{Datum}
 use Rattle.exec_value.specs.declared.data.Datum.TheVariants.{Row}
@@ -94,17 +94,21 @@ start_below node args whole asked above = record {
   child = None;
 } ∷ above
 
--- The lot of a row that a bulk cuts into parts, and that of no row. They differ, and neither is
--- empty.
+-- The lot of a row that a bulk cuts into parts, that of no row, and that of a part for which the
+-- row has no number. They differ, and none is empty.
 abbrev pub row_lot : List ℤ → List ℤ
 row_lot row = pos 1 ∷ row
 
 abbrev pub no_row : List ℤ
 no_row = pos 0 ∷ []
 
--- what a child draws: a part the row, every other child none
+abbrev pub no_share : List ℤ
+no_share = pos 2 ∷ []
+
+-- what a child draws: a part the row, where that has a number for it, every other child no row
 abbrev pub drawn_by : Option Node → List ℤ → List ℤ
-drawn_by (Some (Part bulk part)) whole = row_lot whole
+drawn_by (Some (Part bulk part)) whole =
+    if nat_lt part (length whole) then row_lot whole else no_share
 drawn_by _ whole = no_row
 
 -- What the start of a child draws of its parent's item, by the node that the parent's plan has

@@ -277,7 +277,8 @@ impl Item {
     #[inline(always)]
     pub fn kept(&self) -> &Completion
         requires { parcel_in self.now ≢ None }
-        ensures { completion_in self.now ≡ Some result.now }
+        ensures shown { completion_in self.now ≡ Some result.now }
+        ensures lawful { IfSome (parcel_in self.now) IsDelivery }
     {
         &self.completion
     }

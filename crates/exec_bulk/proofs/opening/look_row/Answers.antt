@@ -1,4 +1,7 @@
-use Rattle.std.proofs.Common.{length, ap, ◌∙◌}
+use Rattle.std.proofs.Common.{length, ap, subst, ◌∙◌}
+use Rattle.std.specs.Prelude.{IfSome, Option}
+use Rattle.home_items.specs.Items.{parcel_in}
+use Rattle.home_items.specs.Parcels.{Delivery, IsDelivery}
 use Rattle.op_slot.proofs.Loans.{if-there}
 use Rattle.step_parts.proofs.Unkept.{open-home}
 use Rattle.exec_bulk.specs.Rows.{numbers_in}
@@ -21,8 +24,12 @@ returns g c =
     record {
       still = looked-on board t item c.args.hand.now _ left.stays left.swapped;
       shows = λ inside kid lies kept is.
-          let same = lent-one board t c.args.hand.now inside kid lies c.item_mut.result value c.in-Some.item c.in-Some.is in (
-            ap length (c.numbers_of.ensures.numbers ∙ ap numbers_in (shown-done item inside same kept is c.kept.result.now c.kept.ensures)),
-            c.kept_saw.ensures ∙ shown-saw item inside same kept is,
-          );
+          let same = lent-one board t c.args.hand.now inside kid lies c.item_mut.result value c.in-Some.item c.in-Some.is in
+          record {
+            room_is = ap length
+                (c.numbers_of.ensures.numbers
+                ∙ ap numbers_in (shown-done item inside same kept is c.kept.result.now c.kept.ensures.shown));
+            saw_is = c.kept_saw.ensures ∙ shown-saw item inside same kept is;
+            lawful = subst (λ (o : Option Delivery). IfSome o IsDelivery) (ap parcel_in same ∙ is) c.kept.ensures.lawful;
+          };
     }
