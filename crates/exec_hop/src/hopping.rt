@@ -1,5 +1,5 @@
 //! How a node hops into a context.
-ghost use Rattle.std.specs.Prelude.{Some};
+ghost use Rattle.std.specs.Prelude.{None, Some};
 ghost use Rattle.home_items.specs.Parcels.{IsDelivery, delivery_of};
 ghost use Rattle.exec_hop.specs.Ends.{MayHop};
 ghost use Rattle.exec_hop.specs.Hops.{LandsIn};
@@ -9,7 +9,7 @@ use node_tree::Context;
 use op_slot::Hand;
 use std::sync::Wait;
 use step_parts::{
-    Gate, Item, Label, Next, Parcel, Site, Taken, complete_stopped, leave_at_rest, leave_keeping,
+    Gate, Item, Label, Next, Site, Taken, complete_stopped, leave_at_rest, leave_keeping,
 };
 
 /// Leaves the node ready in the context, with what its child completed with, which moves into its
@@ -35,22 +35,20 @@ pub(crate) fn hop_keeping<R: Wait, G: Gate>(
     leave_keeping(site, hand, taken, label, done, on)
 }
 
-/// Leaves the node ready in the context, with what it keeps of its child. Where a request was made
-/// before the operation was started, it completes stopped.
+/// Leaves the node ready in the context, where it keeps nothing. Where a request was made before
+/// the operation was started, it completes stopped.
 #[inline(always)]
 pub(crate) fn hop<R: Wait, G: Gate>(
     site: &Site<R, G>,
     hand: &mut Hand<Item>,
     taken: Taken,
-    kept: Option<Parcel>,
     on: Context,
 ) -> Next
-    requires may { MayHop site.now taken kept hand.old }
-    ensures { LandsIn site.now taken on kept result hand.old hand.new }
+    requires may { MayHop site.now taken None hand.old }
+    ensures { LandsIn site.now taken on None result hand.old hand.new }
 {
     if taken.asked() {
-        drop(kept);
         return complete_stopped(site, hand, taken, false);
     }
-    leave_at_rest(site, hand, taken, kept, on)
+    leave_at_rest(site, hand, taken, None, on)
 }

@@ -31,7 +31,7 @@ impl Kind for Schedules {
             Node::Schedule(on) => {
                 let (taken, state) = take_up(site, hand, name);
                 match state {
-                    State::Start => hop(site, hand, taken, None, *on),
+                    State::Start => hop(site, hand, taken, *on),
                     _ => finish(site, hand, taken),
                 }
             }

@@ -28,7 +28,7 @@ impl Kind for StartsOns {
             Node::StartsOn { on, child } => {
                 let (taken, state) = take_up(site, hand, name);
                 match state {
-                    State::Start => hop(site, hand, taken, None, *on),
+                    State::Start => hop(site, hand, taken, *on),
                     _ => match take_back(site, hand, &taken, *child) {
                         Some(parcel) => pass_unless_stopped(site, hand, taken, parcel, false),
                         None => {

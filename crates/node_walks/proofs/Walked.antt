@@ -14,7 +14,8 @@ use Rattle.exec_recv.specs.Sites.{Did, Does}
 use Rattle.node_walks.specs.declared.mail.ReadyNode.{ReadyNode}
 use Rattle.node_walks.specs.Mails.{HearsAll, HearsEach, HearsOf, ready_after}
 use Rattle.node_walks.specs.Starts.{GoesOnWith}
-use Rattle.node_walks.specs.Walks.{LeadsTo, StepsOnce, Walks, Ends, Steps, WalksOn, Anything, WalksAnyhow}
+use Rattle.exec_recv.specs.Nexts.{IsStepped}
+use Rattle.node_walks.specs.Walks.{LeadsTo, Walks, Ends, Steps, WalksOn, Anything, WalksAnyhow}
 
 module _ {M : Type 0} (hears : HearsOf M) where
   -- a mail that heard of these nodes, and then of those
@@ -35,40 +36,61 @@ module _ {M : Type 0} (hears : HearsOf M) where
       record { ready = all.ready; leaves = more all.ready all.leaves; heard = all.heard }
 
 module _ {M : Type 0} (hears : HearsOf M) (does : Does) (board : Board Blueprint) (x : Name) (next : Next) (first : Seated Item Entry) (mail : M) where
-  -- What is left to walk from here, with this node, makes the whole walk after that step.
-  abbrev pub Completes : Option Name → Seated Item Entry → M → Type 0
-  Completes going m posted =
-      (m' : Seated Item Entry) (mail' : M) (others : List ReadyNode) → Walks does board going m m' others →
-      HearsEach hears others posted mail' → HearsAll hears mail mail' (WalksOn does board x next first m')
+  -- A walk after this step makes the whole walk after that one.
+  abbrev pub Leads : Name → Next → Seated Item Entry → M → Type 0
+  Leads last ended m posted =
+      (m' : Seated Item Entry) (mail' : M) → HearsAll hears posted mail' (WalksOn does board last ended m m') →
+      HearsAll hears mail mail' (WalksOn does board x next first m')
 
   -- so it is at first
-  pub completes-first : (going : Option Name) (m : Seated Item Entry) (posted : M) → LeadsTo board x next going first m →
-      HearsEach hears (ready_after x next) mail posted → Completes going m posted
-  completes-first going m posted follows heard m' mail' others walks more =
-      record {
-        ready = ready_after x next ++ others;
-        leaves = record {
-          going = going;
-          found = m;
-          follows = follows;
-          others = others;
-          walks = walks;
-          ready_is = refl;
-        };
-        heard = hears-then hears (ready_after x next) others mail posted mail' heard more;
-      }
+  pub leads-first : Leads x next first mail
+  leads-first m' mail' all = all
 
-  -- after one more step
-  pub completes-on : (y : Name) (m : Seated Item Entry) (posted : M) (going : Option Name) (m1 : Seated Item Entry) (posted1 : M) →
-      Completes (Some y) m posted → HearsAll hears posted posted1 (StepsOnce does board y going m m1) → Completes going m1 posted1
-  completes-on y m posted going m1 posted1 so_far step m' mail' others walks more =
-      so_far m' mail' (step.ready ++ others) (Steps y going m m1 m' step.ready others step.leaves walks)
-      (hears-then hears step.ready others posted posted1 mail' step.heard more)
+  -- the hand found this from there, and the mail heard of what that step left ready
+  module _ (last : Name) (ended : Next) (m : Seated Item Entry) (posted : M) (so_far : Leads last ended m posted) (found : Seated Item Entry)
+      (posted1 : M) (heard : HearsEach hears (ready_after last ended) posted posted1) where
+    -- a node, of which one more step was made
+    pub leads-on : (y : Name) (ended1 : Next) (m1 : Seated Item Entry) → LeadsTo board last ended (Some y) m found →
+        Did does board y ended1 found m1 → IsStepped board y found m1 ended1 → Leads y ended1 m1 posted1
+    leads-on y ended1 m1 follows did stepped m' mail' all =
+        so_far m' mail' (record {
+          ready = ready_after last ended ++ (ready_after y ended1 ++ all.leaves.others);
+          leaves = record {
+            going = Some y;
+            found = found;
+            follows = follows;
+            others = ready_after y ended1 ++ all.leaves.others;
+            walks = Steps y all.leaves.going found all.leaves.found m' (ready_after y ended1) all.leaves.others
+                (record {
+                  next = ended1;
+                  between = m1;
+                  did = did;
+                  stepped = stepped;
+                  follows = all.leaves.follows;
+                  ready_is = refl;
+                })
+                all.leaves.walks;
+            ready_is = refl;
+          };
+          heard = hears-then hears (ready_after last ended) (ready_after y ended1 ++ all.leaves.others) posted posted1 mail' heard
+              (subst (λ (r : List ReadyNode). HearsEach hears r posted1 mail') all.leaves.ready_is all.heard);
+        })
 
-  -- and where there is no node to go on with nothing is left
-  pub completes-last : (m : Seated Item Entry) (posted : M) → Completes None m posted →
-      HearsAll hears mail posted (WalksOn does board x next first m)
-  completes-last m posted so_far = so_far m posted [] (Ends m) refl
+    -- none: nothing is left
+    pub leads-last : LeadsTo board last ended None m found → HearsAll hears mail posted1 (WalksOn does board x next first found)
+    leads-last follows =
+        so_far found posted1 (record {
+          ready = ready_after last ended ++ [];
+          leaves = record {
+            going = None;
+            found = found;
+            follows = follows;
+            others = [];
+            walks = Ends found;
+            ready_is = refl;
+          };
+          heard = hears-then hears (ready_after last ended) [] posted posted1 posted1 heard refl;
+        })
 
 -- A walk is one whatever is said of its steps.
 module _ (does : Does) (board : Board Blueprint) where

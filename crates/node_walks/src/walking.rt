@@ -7,7 +7,7 @@ ghost use Rattle.exec_recv.specs.Sites.{IsSite};
 ghost use Rattle.node_walks.specs.Mails.{HearsAll, HearsEach, ready_after};
 ghost use Rattle.node_walks.specs.Resting.{IsAtRest, OwesOnly, CanGoOn, GoesOn};
 ghost use Rattle.node_walks.specs.Stepped.{HasStepped, OnlySteps, WasStepped};
-ghost use Rattle.node_walks.specs.Walks.{FindsOwed, LeadsTo, StepsOnce, WalksOn};
+ghost use Rattle.node_walks.specs.Walks.{FindsOwed, LeadsTo, WalksOn};
 
 use crate::mail::Mail;
 use exec_recv::{Item, Next, Site, Stepper};
@@ -66,29 +66,6 @@ fn find_next<T: Stepper, M: Mail, R: Wait + Sync>(
     }
 }
 
-// Steps the node. Then the hand may step the node that is answered; with none it is at rest.
-#[inline(always)]
-fn step_once<T: Stepper, M: Mail, R: Wait + Sync>(
-    site: &Site<R, T>,
-    hand: &mut Hand<Item>,
-    name: Name,
-    mail: &mut M,
-) -> Option<Name>
-    requires sync { IsSync R.row }
-    requires hand { IsHandOf site.now hand.old }
-    requires site { IsSite site.now }
-    requires can { CanGoOn site.now name hand.old.me }
-    ensures stays { Stays site.now hand.old hand.new }
-    ensures steps { HearsAll M.hears mail.old mail.new
-        (StepsOnce T.does site.now name result hand.old.me hand.new.me) }
-    ensures aside { KeepsAside hand.old.me hand.new.me }
-    ensures next { GoesOn site.now result hand.new.me }
-    ensures mail { M.keeps mail.old mail.new }
-{
-    let next = T::step(site, hand, name);
-    find_next(site, hand, name, next, mail)
-}
-
 /// Goes on after a step of the node that was made elsewhere and left it so: it steps the node that
 /// Go names, and where there is none begins one whose start it owes and steps that, until it owes
 /// none. What is said of `go_on` is said of this.
@@ -119,11 +96,22 @@ pub fn go_after<T: Stepper, M: Mail, R: Wait + Sync>(
     ensures aside { KeepsAside hand.old.me hand.new.me }
     ensures mail { M.keeps mail.old mail.new }
 {
-    let mut going = find_next(site, hand, name, next, mail);
+    let mut last = name;
+    let mut ended = next;
     for _ in site.rt.forever() {
-        match going {
-            Some(next) => going = step_once(site, hand, next, mail),
-            None => return,
+        match ended {
+            Next::Go(node) => {
+                let going = Name { node, ..last };
+                ended = T::step(site, hand, going);
+                last = going;
+            }
+            _ => match find_next(site, hand, last, ended, mail) {
+                Some(going) => {
+                    ended = T::step(site, hand, going);
+                    last = going;
+                }
+                None => return,
+            },
         }
     }
     unreachable!()

@@ -1,13 +1,15 @@
 //! How a step starts a child of its node, which the hand goes on with.
-ghost use Rattle.std.specs.Prelude.{◌≡◌, true, false, None, IfSome, MatchOption, is_some};
+ghost use Rattle.std.specs.Prelude.{◌≡◌, true, false, None, IfSome, IfNone, MatchOption, is_some};
 ghost use Rattle.exec_value.specs.Place.{AreInPlace};
 ghost use Rattle.node_tree.specs.Tree.{is_root};
 ghost use Rattle.table_steps.specs.Readings.{KnowsIdle};
 ghost use Rattle.home_items.specs.Contents.{Rest};
 ghost use Rattle.home_items.specs.Entries.{carried_of, asked_of};
+ghost use Rattle.home_items.specs.Items.{start_in, GoesOn};
 ghost use Rattle.step_parts.specs.Changes.{LiesAt, ChangesTo};
 ghost use Rattle.step_parts.specs.Starts.{data_in, MayBegin, MayRun, AwaitsChild, Begins, StartsChild, StartsAgain, StartsTop};
 ghost use Rattle.step_parts.specs.Takes.{IsTaken, Keeps};
+ghost use Rattle.step_parts.specs.Wants.{MayWant, EndsWanting};
 
 use crate::copying::Carried;
 use crate::leaving::leave_at_rest;
@@ -19,7 +21,7 @@ use life_rules::Name;
 use node_tree::Context;
 use op_slot::Hand;
 use plan_rules::NodeId;
-use std::alloc::AllocError;
+use std::alloc::{AllocError, Global};
 use std::sync::Wait;
 
 // Leaves the node, whose start lies in its home, awaiting its child, and begins the child with
@@ -49,21 +51,47 @@ fn go_below<R, G>(
     Next::Go(child)
 }
 
-// The same, out of the step's way.
+// The same with this copy of the node's arguments, out of the step's way. Where there is none, the
+// step ends for want of memory.
 #[inline(never)]
-fn go_below_apart<R, G>(
+fn go_on_apart<R: Wait, G: Gate>(
     site: &Site<R, G>,
     hand: &mut Hand<Item>,
     taken: Taken,
     child: NodeId,
-    args: Data,
+    copy: Option<Data>,
     asked: bool,
 ) -> Next
-    requires may { MayBegin site.now taken child args asked hand.old }
-    requires lies { LiesAt site.now taken (Rest taken.start None) hand.old.me }
-    ensures { AwaitsChild site.now taken child args asked result hand.old hand.new }
+    requires may { IfSome copy (λ args. MayBegin site.now taken child args asked hand.old) }
+    requires lies { IfSome copy (λ _. LiesAt site.now taken (Rest taken.start None) hand.old.me) }
+    requires wants { IfNone copy (MayWant site.now taken hand.old) }
+    ensures awaits { IfSome copy
+        (λ args. AwaitsChild site.now taken child args asked result hand.old hand.new) }
+    ensures ends { IfNone copy (EndsWanting site.now taken result hand.old hand.new) }
 {
-    go_below(site, hand, taken, child, args, asked)
+    match copy {
+        Some(args) => go_below(site, hand, taken, child, args, asked),
+        None => without_memory(site, hand, taken),
+    }
+}
+
+// A copy of the arguments that lie here; then the start alone lies here. None where there is no
+// memory for it, which doesn't come where the arguments stand in place.
+#[inline(never)]
+fn copy_resting(item: &mut Item, alloc: Global) -> Option<Data>
+    requires { GoesOn item.old }
+    ensures copies { IfSome result (λ copy. copy ≡ carried_of (start_in item.old)) }
+    ensures rests { IfSome result (λ _. item.new ≡ Rest (start_in item.old) None) }
+    ensures stays { IfNone result (item.new ≡ item.old) }
+    ensures in_place { AreInPlace (carried_of (start_in item.old)) → is_some result ≡ true }
+{
+    match copy_data(alloc, item.args()) {
+        Ok(copy) => {
+            item.rest();
+            Some(copy)
+        }
+        Err(AllocError) => None,
+    }
 }
 
 // A copy of the node's arguments; then the node's start alone lies in its home. None where there is
@@ -140,13 +168,10 @@ pub fn start_child<R: Wait, G: Gate>(
                 let args = Data::one(site.alloc, Datum::Int(number));
                 go_below(site, hand, taken, child, args, asked)
             }
-            None => match copy_data(site.alloc, item.args()) {
-                Ok(args) => {
-                    item.rest();
-                    go_below_apart(site, hand, taken, child, args, asked)
-                }
-                Err(AllocError) => without_memory(site, hand, taken),
-            },
+            None => {
+                let copy = copy_resting(item, site.alloc);
+                go_on_apart(site, hand, taken, child, copy, asked)
+            }
         },
         None => unreachable!(),
     }
