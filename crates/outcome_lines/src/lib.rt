@@ -2,10 +2,11 @@
 //!
 //! It stands on exec_value, whose outcomes it writes, and on exec_io, to whose sinks it writes
 //! them. `put_line` appends exactly the line of the definition, or fails with cause and appends a
-//! front of it. A short line is gathered first, and handed to the sink in one piece. No call takes
-//! memory.
+//! front of it. The line of one int is written from its end, and another short line is gathered
+//! first: the sink gets each in one piece. No call takes memory.
 #![tactic(auto)]
 
+mod int_line;
 mod law;
 mod line;
 mod piece;

@@ -1,10 +1,14 @@
 //! How an outcome is written as a line.
-ghost use Rattle.std.specs.Prelude.{◌∷◌};
+ghost use Rattle.std.specs.Prelude.{◌≡◌, [], ◌∷◌, IfSome};
 ghost use Rattle.std.specs.List.{flat_map};
 ghost use Rattle.exec_value.specs.Bytes.{blank};
+ghost use Rattle.exec_value.specs.declared.data.Datum.{Datum};
+ghost use Rattle.exec_value.specs.declared.outcome.Completion.{Completion};
+ghost use Rattle.exec_value.specs.declared.outcome.Outcome.{Outcome};
 ghost use Rattle.outcome_lines.specs.Line.{text_of, words_of, outcome_words, line_of};
 ghost use Rattle.exec_io.specs.Writing.{Puts};
 
+use crate::int_line::put_int_line;
 use crate::piece::{PIECE_BYTES, Piece};
 use crate::put::{put_int, put_number, put_row, put_text};
 use exec_io::{Failed, Sink, put_bytes};
@@ -15,6 +19,29 @@ use exec_value::{Completion, Datum, Outcome};
 /// `Failed` comes only where the sink's count of faults rose, and then a front of the line was
 /// appended.
 pub fn put_line<K: Sink>(number: u64, outcome: &Outcome, sink: &mut K) -> Result<(), Failed>
+    ensures { Puts (K.told sink.old) (K.told sink.new) result
+        (line_of number outcome.now) }
+{
+    match int_of(outcome) {
+        Some(value) => put_int_line(number, value, sink),
+        None => put_any_line(number, outcome, sink),
+    }
+}
+
+/// The int, where an outcome is a value of one.
+fn int_of(outcome: &Outcome) -> Option<i64>
+    ensures { IfSome result (λ n.
+        outcome.now ≡ Outcome.Done (Completion.Value (Datum.Int n ∷ []))) }
+{
+    match outcome {
+        Outcome::Done(Completion::Value(values)) => values.one_int(),
+        _ => None,
+    }
+}
+
+/// Writes the line of any outcome, out of the way of those that are one int.
+#[inline(never)]
+fn put_any_line<K: Sink>(number: u64, outcome: &Outcome, sink: &mut K) -> Result<(), Failed>
     ensures { Puts (K.told sink.old) (K.told sink.new) result
         (line_of number outcome.now) }
 {

@@ -36,6 +36,7 @@ impl<W: Write> Sink for Writing<W> {
     ghost told = { λ s.
         record { written = None; outstanding = None; faults = s.faults.count } };
 
+    #[inline(always)]
     fn write(&mut self, piece: &[u8]) -> Result<usize, Failed>
         requires { 0 < length piece.now }
         ensures count { IfOk result (λ n. (1 ≤ n) × (n ≤ length piece.now)) }
