@@ -1,3 +1,2 @@
 -- TraceLaws: lemmas of the picture of a trace.
 pub mod Rows
-pub mod Children

@@ -1,11 +1,9 @@
 -- How a text grows.
-use Rattle.std.specs.Prelude.{◌≡◌, ℕ, ◌++◌, List}
+use Rattle.std.specs.Prelude.{ℕ, List}
 use Rattle.std.specs.Borrow.{Bor}
 use Rattle.std.specs.List.{flat_map}
-
--- These bytes were added.
-pub record Adds (old new bytes : List ℕ) : Type 0 where
-  pub added : new ≡ old ++ bytes
+-- These bytes were added: as the text of a trace grows.
+pub use Rattle.trace_text.specs.Adding.{Adds}
 
 -- Texts, one after the other.
 abbrev pub joined_pieces : List (Bor (List ℕ)) → List ℕ

@@ -12,7 +12,6 @@
 
 mod armed;
 mod bar;
-mod event;
 mod frame;
 mod heading;
 mod layout;

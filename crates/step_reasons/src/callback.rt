@@ -9,7 +9,7 @@ use exec_life::State;
 use life_rules::{CallbackPhase, Place};
 
 /// What has become of a node's stop callback.
-#[derive(Clone, Copy, Debug, PartialEq, Eq)]
+#[derive(Clone, Copy, PartialEq, Eq)]
 pub enum Callback {
     /// None was registered.
     Never,

@@ -5,7 +5,7 @@ use crate::standing::Standing;
 use life_rules::{BlockState, Place, ScopeWord, SourceAt};
 
 /// What is so in a state, and keeps a hand from a step.
-#[derive(Clone, Copy, Debug, PartialEq, Eq)]
+#[derive(Clone, Copy)]
 pub enum Fact {
     /// There is no such hand.
     NoHand {

@@ -12,7 +12,7 @@ use exec_life::{NearestSource, State};
 use life_rules::{BlockState, CallbackPhase, ControlWord, Event, Place, SourceAt};
 
 /// In which way a hand has a node.
-#[derive(Clone, Copy, Debug, PartialEq, Eq)]
+#[derive(Clone, Copy)]
 pub(crate) enum Part {
     Holds,
     OwesStart,

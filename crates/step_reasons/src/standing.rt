@@ -9,7 +9,7 @@ use exec_life::State;
 use life_rules::{BlockState, ControlWord, Place};
 
 /// How far a node has come, and who has it.
-#[derive(Clone, Copy, Debug, PartialEq, Eq)]
+#[derive(Clone, Copy, PartialEq, Eq)]
 pub enum Standing {
     /// No operation lives in its block, which is free.
     InFreeBlock,

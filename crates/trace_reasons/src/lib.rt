@@ -10,7 +10,6 @@
 //! says has been so in each state since the entry that it names. Want of memory is the only fault.
 #![tactic(auto)]
 
-mod entry;
 mod open;
 mod places;
 mod put;

@@ -7,10 +7,11 @@ ghost use Rattle.pictures.specs.Adding.{Adds};
 ghost use Rattle.replay_core.specs.Candidates.{blocks_of, place_of};
 ghost use Rattle.trace_reasons.specs.Open.{block_mark, callback_mark, is_unscanned, scan_mark, association_mark, callback_marks, scan_marks, marks, open_text};
 
-use crate::put::{put, put_between, put_place, put_source};
+use crate::put::{put, put_between};
 use exec_life::State;
 use life_rules::{BlockState, CallbackPhase, Place, SourceAt};
 use std::alloc::AllocError;
+use trace_text::{put_place, put_source};
 
 // Adds the block, where an operation lives in it.
 fn put_block_mark(state: &State, block: u32, out: &mut Vec<u8>) -> Result<(), AllocError>

@@ -4,10 +4,11 @@ ghost use Rattle.pictures.specs.Adding.{Adds};
 ghost use Rattle.trace_reasons.specs.Sentences.{between, source_name, subject_text, children_word, standing_text, callback_text, block_text, nearest_text, next_text, request_text, scope_reading, source_subject, fact_text};
 ghost use Rattle.trace_text.specs.Texts.{place_text, scope_text};
 
-use crate::put::{put, put_between, put_place, put_scope, put_source_name};
+use crate::put::{put, put_between, put_source_name};
 use life_rules::{BlockState, Place, ScopeWord, SourceAt};
 use std::alloc::AllocError;
 use step_reasons::{Callback, Fact, Standing};
+use trace_text::{put_place, put_scope};
 
 // Adds the place as a sentence names it.
 fn put_subject(own: Option<Place>, place: Place, out: &mut Vec<u8>) -> Result<(), AllocError>

@@ -6,7 +6,6 @@ ghost use Rattle.replay_core.specs.Verdicts.{IsFirstRefused, AllTaken};
 ghost use Rattle.trace_reasons.specs.Explaining.{Explains, entries_word, since_text, refused_text, taken_text};
 ghost use Rattle.trace_reasons.specs.Since.{IsReason};
 
-use crate::entry::text_of;
 use crate::open::{put_marks, put_open};
 use crate::places::own_place;
 use crate::put::{put, put_between};
@@ -17,7 +16,7 @@ use exec_life::State;
 use replay_core::{Trace, Verdict, check_trace};
 use std::alloc::{AllocError, Global};
 use step_reasons::{Fact, reason_of};
-use trace_text::Entry;
+use trace_text::{Entry, put_entry_text};
 
 /// What is said of a trace.
 #[derive(Drop)]
@@ -116,7 +115,7 @@ fn told(
     let mut text = Vec::new(alloc);
     put_between(b"entry ", number, b", line ", &mut text)?;
     put_between(b"", line, b": ", &mut text)?;
-    put(&text_of(alloc, opening, entry)?, &mut text)?;
+    put_entry_text(entry, &mut text)?;
     put(b": ", &mut text)?;
     put_fact(own_place(&entry.event), fact, &mut text)?;
     put_since(since, &mut text)?;

@@ -19,9 +19,9 @@ pub enum TraceFault {
 impl fmt::Display for TraceFault {
     fn fmt<W: fmt::Write>(&self, f: &mut fmt::Formatter<W>) -> fmt::Result {
         match self {
-            TraceFault::TooLong => write!(f, "too long"),
+            TraceFault::TooLong => f.write_str("too long"),
             TraceFault::Line(line) => write!(f, "line {line}"),
-            TraceFault::NoMemory => write!(f, "no memory"),
+            TraceFault::NoMemory => f.write_str("no memory"),
         }
     }
 }

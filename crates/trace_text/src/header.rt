@@ -3,6 +3,7 @@ ghost use Rattle.std.specs.Prelude.{◌≡◌};
 ghost use Rattle.trace_text.specs.Words.{scope_numbers_in, hands_in, blocks_in, nodes_in, header_in};
 
 use crate::cut::cut_at;
+use crate::word_table::is_text;
 use crate::words::{read_kind, read_number};
 use node_tree::ScopeKind;
 
@@ -22,7 +23,7 @@ pub fn read_header(line: &[u8]) -> Option<Header>
     ensures { result ≡ header_in line.now }
 {
     let cut = cut_at(line, b' ')?;
-    if cut.front != b"exec".as_slice() {
+    if !is_text(cut.front, b"exec") {
         return None;
     }
     read_nodes(cut.rest)

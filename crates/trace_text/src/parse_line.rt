@@ -5,6 +5,7 @@ ghost use Rattle.trace_text.specs.Words.{parent_in, marked_in, marks_in, node_in
 use crate::cut::cut_at;
 use crate::entry::{Choice, Entry};
 use crate::read_event::read_event;
+use crate::word_table::is_text;
 use crate::words::read_number;
 use node_tree::TreeNode;
 use std::alloc::{AllocError, Global};
@@ -15,7 +16,7 @@ pub fn parse_node(line: &[u8]) -> Option<TreeNode>
     ensures { result ≡ node_in line.now }
 {
     let cut = cut_at(line, b' ')?;
-    if cut.front != b"node".as_slice() {
+    if !is_text(cut.front, b"node") {
         return None;
     }
     read_marks(cut.rest)
@@ -35,7 +36,7 @@ fn read_marks(bytes: &[u8]) -> Option<TreeNode>
 fn read_parent(bytes: &[u8]) -> Option<Option<u32>>
     ensures { result ≡ parent_in bytes.now }
 {
-    if bytes == b"-".as_slice() {
+    if is_text(bytes, b"-") {
         return Some(None);
     }
     let parent = read_number(bytes)?;
@@ -51,16 +52,16 @@ fn read_marked(bytes: &[u8]) -> Option<TreeNode>
         source: false,
         unstoppable: false,
     };
-    if bytes == b"plain".as_slice() {
+    if is_text(bytes, b"plain") {
         return Some(plain);
     }
-    if bytes == b"source".as_slice() {
+    if is_text(bytes, b"source") {
         return Some(TreeNode {
             source: true,
             ..plain
         });
     }
-    if bytes == b"unstoppable".as_slice() {
+    if is_text(bytes, b"unstoppable") {
         return Some(TreeNode {
             unstoppable: true,
             ..plain

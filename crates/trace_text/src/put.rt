@@ -25,6 +25,7 @@ pub fn put_number(number: u32, out: &mut Vec<u8>) -> Result<(), AllocError>
     Ok(())
 }
 
+/// Adds a place: the block's number, a dot and the node's.
 pub fn put_place(place: Place, out: &mut Vec<u8>) -> Result<(), AllocError>
     ensures { OnOk result (Adds out.old.items out.new.items (place_text place)) }
 {
@@ -34,6 +35,7 @@ pub fn put_place(place: Place, out: &mut Vec<u8>) -> Result<(), AllocError>
     Ok(())
 }
 
+/// Adds a source: the scope's, or a place.
 pub fn put_source(source: SourceAt, out: &mut Vec<u8>) -> Result<(), AllocError>
     ensures { OnOk result (Adds out.old.items out.new.items (source_text source)) }
 {
@@ -120,7 +122,7 @@ fn put_bit(bit: bool, out: &mut Vec<u8>) -> Result<(), AllocError>
     }
 }
 
-/// Adds the word of a scope.
+/// Adds the word of a scope: four bits and the count, with blanks between them.
 pub fn put_scope(word: ScopeWord, out: &mut Vec<u8>) -> Result<(), AllocError>
     ensures { OnOk result (Adds out.old.items out.new.items (scope_text word)) }
 {

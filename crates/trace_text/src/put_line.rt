@@ -6,7 +6,7 @@ ghost use Rattle.trace_text.specs.Texts.{line_feed, entry_text, choice_text, nod
 use crate::entry::{Choice, Entry};
 use crate::opening::Opening;
 use crate::put::{put, put_number};
-use crate::put_event::put_event;
+use crate::put_events::put_event;
 use node_tree::{ScopeKind, Tree, TreeNode};
 use std::alloc::AllocError;
 

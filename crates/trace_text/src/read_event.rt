@@ -8,7 +8,7 @@ ghost use Rattle.trace_text.specs.Words.{in_halves, number_in, place_in, childre
 
 use crate::cut::cut_at;
 use crate::kinds::{BareKind, BlockKind, PlaceKind};
-use crate::word_table::find_word;
+use crate::word_table::{find_word, is_text};
 use crate::words::{
     read_cause, read_children, read_number, read_place, read_resting, read_scope, read_source,
 };
@@ -67,7 +67,7 @@ fn read_at_place(kind: PlaceKind, rest: &[u8]) -> Option<Event>
 fn read_other(alloc: Global, word: &[u8], rest: &[u8]) -> Result<Option<Event>, AllocError>
     ensures { IfOk result (λ event. event ≡ other_in word.now rest.now) }
 {
-    if word == b"await".as_slice() {
+    if is_text(word, b"await") {
         return read_await(alloc, rest);
     }
     Ok(read_plain(word, rest))
@@ -78,23 +78,23 @@ fn read_other(alloc: Global, word: &[u8], rest: &[u8]) -> Result<Option<Event>, 
 fn read_plain(word: &[u8], rest: &[u8]) -> Option<Event>
     ensures { result ≡ plain_in word.now rest.now }
 {
-    if word == b"rest".as_slice() {
+    if is_text(word, b"rest") {
         return read_rest(rest);
     }
-    if word == b"look".as_slice() {
+    if is_text(word, b"look") {
         return read_look(rest);
     }
-    if word == b"request".as_slice() {
+    if is_text(word, b"request") {
         return read_request(rest);
     }
-    if word == b"run".as_slice() {
+    if is_text(word, b"run") {
         return read_run(rest);
     }
-    if word == b"seal_scan".as_slice() {
+    if is_text(word, b"seal_scan") {
         let source = read_source(rest)?;
         return Some(Event::SealScan { source });
     }
-    if word == b"seal".as_slice() {
+    if is_text(word, b"seal") {
         let expected = read_scope(rest)?;
         return Some(Event::Seal { expected });
     }

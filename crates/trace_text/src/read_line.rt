@@ -11,6 +11,7 @@ use crate::opening::Opening;
 use crate::parse_line::{parse_choice, parse_entry, parse_node};
 use crate::parts::{Parts, parts_of};
 use crate::put_line::{put_choice_text, put_entry_text, put_node_text, put_numbers};
+use crate::word_table::is_text;
 use life_rules::{Event, Place, SourceAt};
 use node_tree::TreeNode;
 use std::alloc::{AllocError, Global};
@@ -28,7 +29,7 @@ pub fn read_entry(
     };
     let mut text = Vec::new(alloc);
     put_entry_text(&entry, &mut text)?;
-    if !has_entry(opening, &entry) || text.as_slice() != line {
+    if !has_entry(opening, &entry) || !is_text(text.as_slice(), line) {
         return Ok(None);
     }
     Ok(Some(entry))
@@ -47,7 +48,7 @@ pub fn read_choice(
     };
     let mut text = Vec::new(alloc);
     put_choice_text(choice, &mut text)?;
-    if choice.hand >= opening.hands() || text.as_slice() != line {
+    if choice.hand >= opening.hands() || !is_text(text.as_slice(), line) {
         return Ok(None);
     }
     Ok(Some(choice))
@@ -62,7 +63,7 @@ pub fn read_node(alloc: Global, nodes: u32, line: &[u8]) -> Result<Option<TreeNo
     };
     let mut text = Vec::new(alloc);
     put_node_text(node, &mut text)?;
-    if !has_parent(nodes, node) || text.as_slice() != line {
+    if !has_parent(nodes, node) || !is_text(text.as_slice(), line) {
         return Ok(None);
     }
     Ok(Some(node))
@@ -84,7 +85,7 @@ pub fn read_header(alloc: Global, line: &[u8]) -> Result<Option<Header>, AllocEr
         header.most,
         &mut text,
     )?;
-    if !is_within(header) || text.as_slice() != line {
+    if !is_within(header) || !is_text(text.as_slice(), line) {
         return Ok(None);
     }
     Ok(Some(header))

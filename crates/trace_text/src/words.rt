@@ -3,6 +3,7 @@ ghost use Rattle.std.specs.Prelude.{◌≡◌, IfOk};
 ghost use Rattle.trace_text.specs.Words.{with_digit, number_in, place_in, source_in, children_in, resting_in, cause_in, bit_in, kind_in, counted_in, joining_in, closed_in, scope_in};
 
 use crate::cut::cut_at;
+use crate::word_table::is_text;
 use life_rules::{Place, Resting, ScopeWord, SourceAt};
 use node_tree::{NodeList, ScopeKind};
 use std::alloc::{AllocError, Global};
@@ -48,7 +49,7 @@ pub fn read_place(bytes: &[u8]) -> Option<Place>
 pub fn read_source(bytes: &[u8]) -> Option<SourceAt>
     ensures { result ≡ source_in bytes.now }
 {
-    if bytes == b"scope".as_slice() {
+    if is_text(bytes, b"scope") {
         return Some(SourceAt::Scope);
     }
     let place = read_place(bytes)?;
@@ -75,13 +76,13 @@ pub fn read_children(alloc: Global, bytes: &[u8]) -> Result<Option<NodeList>, Al
 pub fn read_resting(bytes: &[u8]) -> Option<Resting>
     ensures { result ≡ resting_in bytes.now }
 {
-    if bytes == b"loop".as_slice() {
+    if is_text(bytes, b"loop") {
         return Some(Resting::Loop);
     }
-    if bytes == b"pool".as_slice() {
+    if is_text(bytes, b"pool") {
         return Some(Resting::Pool);
     }
-    if bytes == b"parked".as_slice() {
+    if is_text(bytes, b"parked") {
         return Some(Resting::Parked);
     }
     None
@@ -92,10 +93,10 @@ pub fn read_resting(bytes: &[u8]) -> Option<Resting>
 pub fn read_cause(bytes: &[u8]) -> Option<bool>
     ensures { result ≡ cause_in bytes.now }
 {
-    if bytes == b"plain".as_slice() {
+    if is_text(bytes, b"plain") {
         return Some(false);
     }
-    if bytes == b"failure".as_slice() {
+    if is_text(bytes, b"failure") {
         return Some(true);
     }
     None
@@ -106,10 +107,10 @@ pub fn read_cause(bytes: &[u8]) -> Option<bool>
 pub fn read_kind(bytes: &[u8]) -> Option<ScopeKind>
     ensures { result ≡ kind_in bytes.now }
 {
-    if bytes == b"simple".as_slice() {
+    if is_text(bytes, b"simple") {
         return Some(ScopeKind::Simple);
     }
-    if bytes == b"counting".as_slice() {
+    if is_text(bytes, b"counting") {
         return Some(ScopeKind::Counting);
     }
     None
@@ -119,10 +120,10 @@ pub fn read_kind(bytes: &[u8]) -> Option<ScopeKind>
 fn read_bit(bytes: &[u8]) -> Option<bool>
     ensures { result ≡ bit_in bytes.now }
 {
-    if bytes == b"0".as_slice() {
+    if is_text(bytes, b"0") {
         return Some(false);
     }
-    if bytes == b"1".as_slice() {
+    if is_text(bytes, b"1") {
         return Some(true);
     }
     None

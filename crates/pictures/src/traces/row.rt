@@ -6,13 +6,12 @@ ghost use Rattle.trace_text.specs.Texts.{event_text};
 ghost use Rattle.trace_text.specs.declared.limits.TheConstants.{ENTRIES};
 
 use crate::text::put_all;
-use crate::traces::event::put_event;
 use crate::traces::frame::{Frame, is_shown, row_top};
 use crate::traces::layout::lane_x;
 use itoa::Buffer;
 use life_rules::Event;
 use std::alloc::{AllocError, Global};
-use trace_text::Entry;
+use trace_text::{Entry, put_event};
 
 /// The class of an event, which gives its colour.
 fn class_of(event: &Event) -> &'static str

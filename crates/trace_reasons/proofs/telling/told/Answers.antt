@@ -1,18 +1,9 @@
-use Rattle.std.proofs.Common.{◌≡◌, ◌+◌, ◌-◌, [], length, codes, true, ap, sym, subst, ◌∙◌}
+use Rattle.std.proofs.Common.{◌≡◌, ◌+◌, [], length, codes, ap, ◌∙◌}
 use Rattle.pictures.proofs.Joining.{Adds-then, Adds-same}
 use Rattle.trace_reasons.specs.Explaining.{entry_line}
 use Rattle.trace_reasons.specs.Sentences.{between, fact_text}
 use Rattle.trace_text.specs.Setups.{Setup}
-use Rattle.trace_text.specs.Values.{has_entry}
-use Rattle.trace_reasons.proofs.Entries.{entry-there}
 use Rattle.trace_reasons.proofs.telling.told.Goals as goal
-
-pub text_of-requires : goal.text_of-requires
-text_of-requires c =
-    let t = c.args.trace.now in
-    let e = c.args.entry.now in
-    let there = entry-there t.opening t.entries (c.args.number - 1) e c.opening-opening.ensures.trace.each c.requires.entry_is in
-    subst (λ (o : Setup). has_entry o e ≡ true) (sym c.opening-opening.ensures.opening) there
 
 pub returns : goal.returns
 returns c =
@@ -21,11 +12,10 @@ returns c =
     let size : c.size.result ≡ length t.opening.nodes = c.size.ensures.size ∙ ap length (c.tree.ensures.tree ∙ nodes) in
     let line : c.size.result + 1 + c.args.number ≡ entry_line t c.args.number = ap (λ n. n + 1 + c.args.number) size in
     let at = Adds-same (ap (λ n. between [] n (codes ": ")) line) c.in_ok-put_between-2.ensures in
-    let entry = Adds-same (c.deref.ensures.value ∙ c.in_ok-text_of.ensures) c.in_ok-put.ensures in
     let fact = Adds-same (ap (λ own. fact_text own c.args.fact.now) c.own_place.ensures) c.in_ok-put_fact.ensures in
     let whole =
     Adds-then c.in_ok-put_between.ensures
     (Adds-then at
-    (Adds-then entry
-    (Adds-then c.in_ok-put-2.ensures (Adds-then fact (Adds-then c.in_ok-put_since.ensures c.in_ok-put-3.ensures))))) in
+    (Adds-then c.in_ok-put_entry_text.ensures
+    (Adds-then c.in_ok-put.ensures (Adds-then fact (Adds-then c.in_ok-put_since.ensures c.in_ok-put-2.ensures))))) in
     rw c.new-text.ensures.items at whole.added

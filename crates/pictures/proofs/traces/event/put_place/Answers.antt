@@ -1,5 +1,0 @@
-use Rattle.pictures.proofs.Joining.{Adds-then}
-use Rattle.pictures.proofs.traces.event.put_place.Goals as goal
-
-pub returns : goal.returns
-returns c = Adds-then c.in_ok-put_number.ensures (Adds-then c.in_ok-put.ensures c.in_ok-put_number-2.ensures)
