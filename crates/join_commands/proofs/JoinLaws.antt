@@ -43,6 +43,11 @@ pub pushed : {A T E : Type 0} (result : Result T E) (new old : List A) (x : A) �
 pushed (Ok done) new old x is fails = is
 pushed (Err fault) new old x is fails = cc
 
+-- and there is one more
+pub one_more : {T E : Type 0} (result : Result T E) (new old at : ℕ) → new ≡ (if is_ok result then old + 1 else old) → is_err result ≡ false → old ≡ at → new ≡ at + 1
+one_more (Ok done) new old at is fails same = is ∙ ap (λ (n : ℕ). n + 1) same
+one_more (Err fault) new old at is fails same = cc
+
 -- one part more
 pub in_order_more : (parts : List (List (List ℕ))) (i : ℕ) → i < length parts → in_order (take (i + 1) parts) ≡ in_order (take i parts) ++ get_or parts i []
 in_order_more [] i below = absurd (omega arith)

@@ -1,6 +1,6 @@
 -- Summaries are summed one after another.
-use Rattle.std.proofs.Common.{◌≡◌, ℕ, ℤ, pos, ◌+◌, ◌<◌, ◌≤◌, List, [], ◌∷◌, ◌++◌, map, length, get_or, take, codes, Option, Some, None, Result, Ok, Err, refl, sym, ap, ◌∙◌, subst, arith, length-take}
-use Rattle.std.specs.Prelude.{◌+ℤ◌, IfNone, IfOk}
+use Rattle.std.proofs.Common.{◌≡◌, ℕ, ℤ, pos, ◌+◌, ◌<◌, ◌≤◌, List, [], ◌∷◌, ◌++◌, map, length, get_or, take, codes, Option, Some, None, Result, Ok, Err, refl, sym, ap, ◌∙◌, subst, append_assoc, arith, length-take}
+use Rattle.std.specs.Prelude.{◌+ℤ◌, IfNone, IfOk, OnOk, is_ok, if◌then◌else◌}
 use Rattle.std.specs.Borrow.{Bor}
 use Rattle.std.proofs.lemmas.List.{take_more, take_all, map-append, get_or_default}
 use Rattle.std.proofs.lemmas.Int.{ints}
@@ -112,3 +112,10 @@ beyond_at all names i d sum one below has summary large = record {
 pub of_none : {A : Type 0} (o : Option A) (P : Type 0) → IfNone o P → ((x : A) → o ≡ Some x → ⊥) → P
 of_none None P holds none = holds
 of_none (Some x) P holds none = absurd (none x refl)
+
+-- a name is written, and then a count behind it
+pub counted : {E : Type 0} (r : Result (Unit {0}) E) (old mid new name shown digits : List ℕ) → mid ≡ old ++ name → new ≡ (if is_ok r then mid ++ shown else mid) → shown ≡ digits
+    → OnOk r (new ≡ old ++ (name ++ digits))
+counted (Ok done) old mid new name shown digits first second same =
+    second ∙ (ap (λ (l : List ℕ). l ++ shown) first ∙ (append_assoc old name shown ∙ ap (λ (l : List ℕ). old ++ (name ++ l)) same))
+counted (Err fault) old mid new name shown digits first second same = tt

@@ -8,7 +8,7 @@ ghost use Rattle.join_commands.specs.Asks.{are_names, command_asked, join_usage,
 pub const MOST_PARTS: usize = 1_000_000;
 
 /// What is asked of parts.
-#[derive(Clone, Copy, Debug, PartialEq, Eq)]
+#[derive(Clone, Copy)]
 pub(crate) enum Asked {
     /// `lines PART..`: the lines of parts that follow each other.
     Lines,

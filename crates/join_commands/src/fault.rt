@@ -6,7 +6,7 @@ use crate::refusal::{Cause, Refusal};
 use part_lines::{PartFault, PutFault};
 
 /// Why a part isn't read.
-#[derive(Clone, Copy, Debug, PartialEq, Eq)]
+#[derive(Clone, Copy)]
 pub(crate) enum LookFault {
     Refused(Cause),
     /// A file can't be opened, or a read failed.
@@ -15,7 +15,7 @@ pub(crate) enum LookFault {
 }
 
 /// Why parts aren't joined.
-#[derive(Clone, Copy, Debug, PartialEq, Eq)]
+#[derive(Clone, Copy)]
 pub(crate) enum JoinFault {
     Refused(Refusal),
     /// A file can't be opened, or a read failed.

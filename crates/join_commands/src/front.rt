@@ -6,7 +6,7 @@ ghost use Rattle.join_commands.specs.declared.front.TheConstants.{FRONT};
 pub(crate) const FRONT: usize = 9;
 
 /// The first bytes of a text, to be told.
-#[derive(Clone, Copy, Debug, PartialEq, Eq)]
+#[derive(Clone, Copy)]
 pub(crate) struct Front {
     pub(crate) bytes: [u8; FRONT],
     pub(crate) count: usize,

@@ -14,7 +14,7 @@ use exec_status::Status;
 use itoa::Buffer;
 
 /// Why a part is refused.
-#[derive(Clone, Copy, Debug, PartialEq, Eq)]
+#[derive(Clone, Copy)]
 pub(crate) enum Cause {
     /// The status of its run isn't there.
     NoStatus,
@@ -39,7 +39,7 @@ pub(crate) enum Cause {
 }
 
 /// Why the part at a place is refused.
-#[derive(Clone, Copy, Debug, PartialEq, Eq)]
+#[derive(Clone, Copy)]
 pub(crate) struct Refusal {
     pub(crate) at: usize,
     pub(crate) cause: Cause,

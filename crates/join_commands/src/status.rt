@@ -3,7 +3,7 @@ ghost use Rattle.std.specs.Prelude.{◌≡◌, Some, IfOk, IfErr};
 ghost use Rattle.exec_io.specs.Shelves.{Texts};
 ghost use Rattle.join_commands.specs.Faults.{HasLookCause, IsStatusFault};
 ghost use Rattle.join_commands.specs.Parts.{ToldStatus};
-ghost use Rattle.join_commands.specs.Statuses.{told_status, counts_status, IsUntold};
+ghost use Rattle.join_commands.specs.Statuses.{told_status, counts_status, is_code, IsUntold};
 
 use crate::fault::LookFault;
 use crate::front::{FRONT, Front};
@@ -14,15 +14,22 @@ use exec_status::Status;
 use part_lines::{Folder, OpenFault, Tally, read_front};
 use std::alloc::{AllocError, Global};
 
+/// Whether the text is a digit, with a line feed behind it or without.
+fn is_code(digit: &[u8], line: &[u8], text: &[u8]) -> bool
+    ensures { result ≡ is_code digit.now line.now text.now }
+{
+    text == digit || text == line
+}
+
 /// The status of a run that came to its end, where this is the text of its file.
 pub(crate) fn told_by(text: &[u8]) -> Option<Status>
     ensures { result ≡ told_status text.now }
 {
-    if text == b"0".as_slice() || text == b"0\n".as_slice() {
+    if is_code(b"0", b"0\n", text) {
         Some(Status::AllValues)
-    } else if text == b"1".as_slice() || text == b"1\n".as_slice() {
+    } else if is_code(b"1", b"1\n", text) {
         Some(Status::NotAllValues)
-    } else if text == b"4".as_slice() || text == b"4\n".as_slice() {
+    } else if is_code(b"4", b"4\n", text) {
         Some(Status::NoMemory)
     } else {
         None

@@ -20,7 +20,7 @@ use std::alloc::Global;
 const SUMMARY_BYTES: usize = 1_024;
 
 /// The numbers of a summary.
-#[derive(Clone, Copy, Debug, PartialEq, Eq)]
+#[derive(Clone, Copy)]
 pub(crate) struct Numbers {
     pub(crate) records: u64,
     pub(crate) values: u64,
@@ -32,7 +32,7 @@ pub(crate) struct Numbers {
 }
 
 /// How the numbers of a summary contradict each other.
-#[derive(Clone, Copy, Debug, PartialEq, Eq)]
+#[derive(Clone, Copy)]
 pub(crate) enum Contradiction {
     /// How many records it says there are, and how many there are by the sorts of lines.
     Records(u64, u128),

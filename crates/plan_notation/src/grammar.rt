@@ -7,7 +7,7 @@ use plan_parts::{JobWord, PlainJob, named};
 use plan_reader::{Adaptor, Leaf, NodeWord};
 
 /// A setting.
-#[derive(Clone, Copy, Debug, PartialEq, Eq)]
+#[derive(Clone, Copy)]
 pub enum Setting {
     Version,
     Input,

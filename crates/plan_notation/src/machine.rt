@@ -155,8 +155,7 @@ impl Machine {
     fn tell(&mut self, setting: Setting, value: Piece, at: usize) -> Result<(), AllocError>
         ensures { OnOk result (self.new ≡ setting_told setting value.items at self.old) }
     {
-        let said = mem::replace(&mut self.said, Said::nothing(self.alloc)?);
-        self.said = said.told(self.alloc, setting, value, at)?;
+        self.said.tell(self.alloc, setting, value, at)?;
         self.expect = Expect::Start;
         Ok(())
     }

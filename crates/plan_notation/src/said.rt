@@ -1,5 +1,5 @@
 //! What a text says of a plan's settings.
-ghost use Rattle.std.specs.Prelude.{◌≡◌, IfOk};
+ghost use Rattle.std.specs.Prelude.{◌≡◌, IfOk, OnOk};
 ghost use Rattle.plan_notation.specs.Said.{settings_at_first, with_setting};
 
 use crate::grammar::Setting;
@@ -92,38 +92,26 @@ impl Said {
         self.scope_at
     }
 
-    /// With one more setting, at this offset.
-    pub(crate) fn told(
-        self,
+    /// Takes one more setting, which is told at this offset.
+    pub(crate) fn tell(
+        &mut self,
         alloc: Global,
         setting: Setting,
         value: Piece,
         at: usize,
-    ) -> Result<Said, AllocError>
-        ensures { IfOk result (λ said. said ≡ with_setting setting value.items at self) }
+    ) -> Result<(), AllocError>
+        ensures { OnOk result (self.new ≡ with_setting setting value.items at self.old) }
     {
         match setting {
-            Setting::Version => Ok(Said {
-                version: value,
-                ..self
-            }),
-            Setting::Input => Ok(Said {
-                input: value,
-                ..self
-            }),
-            Setting::Scope => Ok(Said {
-                scope: value,
-                scope_at: at,
-                ..self
-            }),
-            Setting::OnError => Ok(Said {
-                on_error: value,
-                ..self
-            }),
-            Setting::StopAfter => Ok(Said {
-                stop_after: two(alloc, b",\"stop_after\":", &value)?,
-                ..self
-            }),
+            Setting::Version => self.version = value,
+            Setting::Input => self.input = value,
+            Setting::Scope => {
+                self.scope = value;
+                self.scope_at = at;
+            }
+            Setting::OnError => self.on_error = value,
+            Setting::StopAfter => self.stop_after = two(alloc, b",\"stop_after\":", &value)?,
         }
+        Ok(())
     }
 }

@@ -30,3 +30,15 @@ returns-clause-fault g c = λ all known.
     let there = text_there (text_of all (out_name c.args.name.now)) c.in_ok-reader.reader.ahead (c.in_ok-reader.ensures.opens all (c.in_ok-told.ensures.same ∙ known)) in
     let other : c.in_ok-told.told ≡ c.status_of-found.result → ⊥ = search rules in
     differs all c.args.name.now there.0 c.in-Ok.tally c.in_ok-told.told c.status_of-found.result there.1 (c.in-Ok.ensures.counted there.0 there.2) (c.in_ok-told.ensures.told all known) c.status_of-found.ensures other
+
+pub returns-in_err-reader-clause-same : goal.returns-in_err-reader-clause-same
+returns-in_err-reader-clause-same g c = c.in_err-reader.ensures.same ∙ c.in_ok-told.ensures.same
+
+pub returns-in-Err-clause-same : goal.returns-in-Err-clause-same
+returns-in-Err-clause-same g c = c.in-Err.ensures.same ∙ c.in_ok-reader.ensures.same ∙ c.in_ok-told.ensures.same
+
+pub returns-then-eq-clause-same : goal.returns-then-eq-clause-same
+returns-then-eq-clause-same g c = c.in-Ok.ensures.same ∙ c.in_ok-reader.ensures.same ∙ c.in_ok-told.ensures.same
+
+pub returns-clause-same : goal.returns-clause-same
+returns-clause-same g c = c.in-Ok.ensures.same ∙ c.in_ok-reader.ensures.same ∙ c.in_ok-told.ensures.same

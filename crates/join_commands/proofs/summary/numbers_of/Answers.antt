@@ -16,3 +16,27 @@ returns-in_err-numbers-clause-refused g c = λ all known.
     let handed = handed_err c.from_residual-in_err-numbers.result c.in_err-numbers.field-0.0 c.from_residual-in_err-numbers.ensures.0 c.from_residual-in_err-numbers.ensures.1 in
     subst (λ r. IfErr {T = Numbers} r (IsSumFault all c.args.name.now)) (sym handed)
     (of_unread all c.args.name.now has.0 c.in_err-numbers.field-0.0 (ap (λ (n : List ℕ). text_of all n) (sym named) ∙ has.1) (c.in_err-numbers.ensures.refused has.0 has.2))
+
+pub returns-in_err-told-clause-same : goal.returns-in_err-told-clause-same
+returns-in_err-told-clause-same g c = c.in_err-told.ensures.same
+
+pub returns-in_default-clause-same : goal.returns-in_default-clause-same
+returns-in_default-clause-same g c = c.in_ok-told.ensures.same
+
+pub returns-in-Err-Missing-clause-same : goal.returns-in-Err-Missing-clause-same
+returns-in-Err-Missing-clause-same g c = c.in-Err-Missing.ensures.same ∙ c.in_ok-told.ensures.same
+
+pub returns-in-Err-Failed-clause-same : goal.returns-in-Err-Failed-clause-same
+returns-in-Err-Failed-clause-same g c = c.in-Err-Failed.ensures.same ∙ c.in_ok-told.ensures.same
+
+pub returns-in-Err-NoMemory-clause-same : goal.returns-in-Err-NoMemory-clause-same
+returns-in-Err-NoMemory-clause-same g c = c.in-Err-NoMemory.ensures.same ∙ c.in_ok-told.ensures.same
+
+pub returns-in_err-numbers-clause-same : goal.returns-in_err-numbers-clause-same
+returns-in_err-numbers-clause-same g c = c.in_err-numbers.ensures.same ∙ c.in-Ok-open.ensures.same ∙ c.in_ok-told.ensures.same
+
+pub returns-then-eq-clause-same : goal.returns-then-eq-clause-same
+returns-then-eq-clause-same g c = c.in_ok-numbers.ensures.same ∙ c.in-Ok-open.ensures.same ∙ c.in_ok-told.ensures.same
+
+pub returns-clause-same : goal.returns-clause-same
+returns-clause-same g c = c.in_ok-numbers.ensures.same ∙ c.in-Ok-open.ensures.same ∙ c.in_ok-told.ensures.same

@@ -25,3 +25,12 @@ returns-in_default-clause-refused g c = λ all known.
       beyond_at all c.args.names.now c.loop-at.at _ c.loop-at.sum c.in-Ok.numbers c.loop-at-test.true
           (c.loop-at.invariant.summed all known) (c.in-Ok.ensures.whole all (c.loop-at.invariant.texts ∙ known)) large,
     )
+
+pub returns-in-Err-clause-same : goal.returns-in-Err-clause-same
+returns-in-Err-clause-same g c = c.in-Err.ensures.same ∙ c.loop-at.invariant.texts
+
+pub returns-in_default-clause-same : goal.returns-in_default-clause-same
+returns-in_default-clause-same g c = c.in-Ok.ensures.same ∙ c.loop-at.invariant.texts
+
+pub returns-clause-same : goal.returns-clause-same
+returns-clause-same g c = c.loop-at.invariant.texts

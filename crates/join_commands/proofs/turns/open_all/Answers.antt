@@ -1,4 +1,5 @@
-use Rattle.std.proofs.Common.{◌≡◌, ◌<◌, ◌≤◌, ◌+◌, ◌++◌, ◌∷◌, [], ℕ, List, length, get_or, take, rules, sym, subst, ◌∙◌, arith}
+use Rattle.std.proofs.Common.{◌≡◌, ◌<◌, ◌≤◌, ◌+◌, ◌++◌, ◌∷◌, [], ℕ, List, length, get_or, take, false, sym, subst, ◌∙◌, arith}
+use Rattle.std.specs.Prelude.{is_err, vec_len}
 use Rattle.std.specs.Borrow.{Bor}
 use Rattle.std.proofs.lemmas.List.{take_all}
 use Rattle.std.proofs.lemmas.Slice.Zip.{AllZip-long}
@@ -6,7 +7,7 @@ use Rattle.part_lines.specs.Readers.{ReaderView}
 use Rattle.join_commands.specs.Parts.{IsWholePart}
 use Rattle.join_commands.specs.Turns.{AreAtStarts}
 use Rattle.join_commands.proofs.EndLaws.{at_part_quiet, look_to_join}
-use Rattle.join_commands.proofs.JoinLaws.{pushed, zip_both}
+use Rattle.join_commands.proofs.JoinLaws.{one_more, pushed, zip_both}
 use Rattle.join_commands.proofs.OrderLaws.{unopened_reads}
 use Rattle.join_commands.proofs.TurnLaws.{at_begin, starts_more}
 use Rattle.join_commands.proofs.turns.open_all.Goals as goal
@@ -23,7 +24,8 @@ returns-in-Err-clause-cause g c = look_to_join _ _ _ c.loop-at.at c.in-Err.fault
 pub loop-at-preserved : goal.loop-at-preserved
 loop-at-preserved g c =
     let before : List ReaderView = c.loop-at.readers.items in
-    let items : c.push.new.self.items ≡ before ++ c.in-Ok.reader ∷ [] = pushed c.push.result c.push.new.self.items before c.in-Ok.reader c.push.ensures.items (sym c.is_err.ensures.value ∙ c.if-is_err.false) in
+    let pushes : is_err c.push.result ≡ false = sym c.is_err.ensures.value ∙ c.if-is_err.false in
+    let items : c.push.new.self.items ≡ before ++ c.in-Ok.reader ∷ [] = pushed c.push.result c.push.new.self.items before c.in-Ok.reader c.push.ensures.items pushes in
     record {
       starts = λ all parts known whole.
           let i : ℕ = c.loop-at.at in
@@ -34,9 +36,9 @@ loop-at-preserved g c =
           (at_begin all _ (get_or parts i []) c.in-Ok.reader
           (zip_both (λ (n : Bor (List ℕ)) s. IsWholePart all n.now s) c.args.names.now parts i _ [] whole c.loop-at-test.true)
           (c.in-Ok.ensures.opens all (c.loop-at.invariant.texts ∙ known)) c.in-Ok.ensures.start));
-      many = search rules;
+      many = one_more c.push.result (vec_len c.push.new.self) (vec_len c.loop-at.readers) c.loop-at.at c.push.ensures.len pushes c.loop-at.invariant.many;
       texts = c.in-Ok.ensures.same ∙ c.loop-at.invariant.texts;
-      faults = search rules;
+      faults = c.in-Ok.ensures.cause.still (λ e. cc) ∙ c.loop-at.invariant.faults;
     }
 
 pub returns-clause-starts : goal.returns-clause-starts
@@ -47,3 +49,12 @@ returns-clause-starts g c = λ all parts known whole.
 
 pub returns-in-Err-clause-quiet : goal.returns-in-Err-clause-quiet
 returns-in-Err-clause-quiet g c = at_part_quiet c.loop-at.at c.in-Err.fault c.at_part.result c.at_part.ensures
+
+pub returns-then-is_err-clause-same : goal.returns-then-is_err-clause-same
+returns-then-is_err-clause-same g c = c.in-Ok.ensures.same ∙ c.loop-at.invariant.texts
+
+pub returns-in-Err-clause-same : goal.returns-in-Err-clause-same
+returns-in-Err-clause-same g c = c.in-Err.ensures.same ∙ c.loop-at.invariant.texts
+
+pub returns-clause-same : goal.returns-clause-same
+returns-clause-same g c = c.loop-at.invariant.texts

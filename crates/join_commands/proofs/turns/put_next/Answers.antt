@@ -40,3 +40,15 @@ pub returns-in-Err-clause-puts : goal.returns-in-Err-clause-puts
 returns-in-Err-clause-puts g c = λ said words at is.
     unread said (numbered_line c.args.number words) c.args.reader.now (g.K.Sink.told c.args.out.now) c.args.at c.in-Err.fault c.at_part.result at c.in-Err.ensures.fault
     (c.at_part.ensures ∙ ap (at_part c.args.at) c.of_lines.ensures)
+
+pub returns-in-Ok-clause-same : goal.returns-in-Ok-clause-same
+returns-in-Ok-clause-same g c = c.in-Ok-Some.ensures.same
+
+pub returns-in-Err-put_line-clause-same : goal.returns-in-Err-put_line-clause-same
+returns-in-Err-put_line-clause-same g c = c.in-Ok-Some.ensures.same
+
+pub returns-in-Ok-None-clause-same : goal.returns-in-Ok-None-clause-same
+returns-in-Ok-None-clause-same g c = c.in-Ok-None.ensures.same
+
+pub returns-in-Err-clause-same : goal.returns-in-Err-clause-same
+returns-in-Err-clause-same g c = c.in-Err.ensures.same
