@@ -1,3 +1,4 @@
 mod Exchange
 mod LowestOwed
 mod OnlyChild
+mod Remembered

@@ -1,9 +1,20 @@
 use Rattle.std.proofs.Common.{sym, ap, ◌∙◌, subst}
-use Rattle.table_steps.specs.Runs.{CanRun}
+use Rattle.table_steps.specs.Views.{IsHandOf, Stays, knows}
+use Rattle.table_steps.specs.Runs.{CanRun, HasRun, HasPassed, IsRun}
 use Rattle.table_kept.proofs.Remembering.{IsLaid, place-here}
 use Rattle.table_stop_kept.proofs.Run.Remembered.{run-of_block, remembers-run}
 use Rattle.table_stop_kept.proofs.Run.Told.{unrun-named}
+use Rattle.op_table.proofs.Remembered.{remembers-still}
 use Rattle.op_table.proofs.table.OpTable.run_step.Goals as goal
+
+pub run_at-requires-clause-table : goal.run_at-requires-clause-table
+run_at-requires-clause-table g c κs _ =
+    subst (IsHandOf c.args.self.now) (sym c.hand.view_is) c.requires.table
+
+pub run_at-requires-clause-needs : goal.run_at-requires-clause-needs
+run_at-requires-clause-needs g c κs _ =
+    subst (λ s. CanRun c.args.self.now.frame.tree (knows s) c.args.source c.args.block c.args.node)
+    (sym c.hand.view_is) c.requires.needs
 
 pub insert-requires-clause-place : goal.insert-requires-clause-place
 insert-requires-clause-place g c =
@@ -26,3 +37,32 @@ invariant_of-hand-2 g c =
     (ap (λ m. m.0.runs) ran.me_is)
     (unrun-named c.args.block c.args.node _ name c.hand.inside.seat.me.0.runs ran.name_is can.unrun)
     c.insert.ensures.has
+
+pub invariant_of-hand : goal.invariant_of-hand
+invariant_of-hand g c =
+    let is = c.in_err-name.ensures.run.me_is in
+    remembers-still c.hand.invariant c.run_at.ensures.stays.same.0
+    (ap (λ m. m.0.owed) is, ap (λ m. m.0.runs) is)
+
+pub returns-clause-stays : goal.returns-clause-stays
+returns-clause-stays g c =
+    subst (λ s. Stays c.args.self.now s c.run_at.new.seat) c.hand.view_is c.run_at.ensures.stays
+
+pub returns-clause-run : goal.returns-clause-run
+returns-clause-run g c =
+    subst (λ s. HasRun c.args.self.now c.args.source c.args.block c.args.node c.in_ok-name.name s
+    c.run_at.new.seat)
+    c.hand.view_is c.in_ok-name.ensures.run
+
+pub returns-in_err-name-clause-stays : goal.returns-in_err-name-clause-stays
+returns-in_err-name-clause-stays g c =
+    subst (λ s. Stays c.args.self.now s c.run_at.new.seat) c.hand.view_is c.run_at.ensures.stays
+
+pub returns-in_err-name-clause-run : goal.returns-in_err-name-clause-run
+returns-in_err-name-clause-run g c =
+    let passed = subst (λ s. HasPassed c.args.self.now c.args.source c.args.block c.args.node s
+    c.run_at.new.seat)
+    c.hand.view_is c.in_err-name.ensures.run in
+    subst (λ answer. IsRun c.args.self.now c.args.source c.args.block c.args.node answer
+    c.args.hand.now c.run_at.new.seat)
+    (sym c.from_residual.ensures) passed
