@@ -1,5 +1,5 @@
 -- A deck that stays, and lists of names that became longer.
-use Rattle.std.proofs.Common.{◌≡◌, ℕ, List, [], ◌∷◌, ◌++◌, append_assoc, append-nil, sym, ap, ◌∙◌, subst}
+use Rattle.std.proofs.Common.{◌≡◌, ℕ, List, [], append-nil, sym, subst}
 use Rattle.std.specs.Prelude.{Option, Some}
 use Rattle.std.specs.declared.alloc.Global.{Global}
 use Rattle.std.specs.declared.vec.Vec.{Vec}
@@ -25,13 +25,6 @@ keeps-some o o' deck deck' is is' same =
 -- a list is as long as itself, and longer with one name more, or where it isn't touched
 pub longer-here : (names : List Name) → AreMoreNames names names
 longer-here names = record { others = []; is = sym (append-nil names) }
-
-pub longer-same : (names longer after : List Name) → AreMoreNames names longer → after ≡ longer → AreMoreNames names after
-longer-same names longer after more is = record { others = more.others; is = is ∙ more.is }
-
-pub longer-one : (names longer after : List Name) (name : Name) → AreMoreNames names longer → after ≡ longer ++ name ∷ [] → AreMoreNames names after
-longer-one names longer after name more is =
-    record { others = more.others ++ name ∷ []; is = is ∙ ap (λ l. l ++ name ∷ []) more.is ∙ append_assoc names more.others (name ∷ []) }
 
 -- what a drain leaves of a list
 moves-longer : (count : ℕ) (names longer : List Name) (old new : LoopPost) → Moves count names longer old new → AreMoreNames names longer

@@ -5,7 +5,7 @@ use Rattle.life_rules.specs.declared.event.Name.{Name}
 use Rattle.deck_relay.specs.declared.deck.Deck.{Deck}
 use Rattle.deck_relay.specs.Moves.{FindsNone, Takes}
 use Rattle.run_loop.specs.declared.loop_mail.LoopMail.{LoopMail}
-use Rattle.run_loop.specs.Fetches.{FindsNoneOf, IsNameListed, IsPushed, IsShared, TakesOf}
+use Rattle.run_loop.specs.Fetches.{FindsNoneOf, IsPushed, IsShared, TakesOf}
 
 -- a list of no names is empty, and one of some isn't
 pub is-empty : (names : List Name) → length names ≡ 0 → names ≡ []
@@ -34,8 +34,3 @@ module _ (o o' : Option Deck) (deck deck' : Deck) (is : o ≡ Some deck) (is' : 
 -- and where there is none
 pub finds-none : (o : Option Deck) → o ≡ None → FindsNoneOf o o
 finds-none o is = subst (λ (p : Option Deck). FindsNoneOf p p) (sym is) tt
-
-pub shared-here : (name : Name) (old new : LoopMail) (o o' : Option Deck) → o ≡ None → o' ≡ o → IsNameListed name old new → IsShared name old new o o'
-shared-here name old new o o' none same listed =
-    subst (λ (p : Option Deck). IsShared name old new o p) (sym same)
-    (subst (λ (p : Option Deck). IsShared name old new p p) (sym none) listed)

@@ -1,24 +1,16 @@
 -- Looks at the delays of a plan, one block after another.
 use Rattle.std.proofs.Common.{◌≡◌, ◌≢◌, inl, inr, ℕ, ◌+◌, ◌<◌, ◌≤◌, List, length, refl, sym, ap, ◌∙◌, subst, arith}
-use Rattle.std.specs.Prelude.{Option, Some, None, slice_get}
-use Rattle.std.proofs.lemmas.Bool.{cases_lt, cases_eq, cond-true, cond-false}
+use Rattle.std.specs.Prelude.{Some, slice_get}
+use Rattle.std.proofs.lemmas.Bool.{cases_lt, cases_eq}
 use Rattle.std.proofs.lemmas.Nat.{row_fits, same_from_place}
-use Rattle.std.proofs.lemmas.Option.{none-some, same_Some, slice_get_within}
-use Rattle.atomic_table.specs.declared.shared.Seat.{Seat}
-use Rattle.common_lemmas.proofs.Bool.{either}
-use Rattle.life_rules.specs.declared.event.Name.{Name}
-use Rattle.life_rules.specs.Words.{is_parked}
-use Rattle.timer_wheel.specs.Delays.{DelayList, places, delay_at, seen_parked}
+use Rattle.std.proofs.lemmas.Option.{same_Some, slice_get_within}
+use Rattle.timer_wheel.specs.Delays.{DelayList, places, delay_at}
 use Rattle.plan_rules.specs.declared.node.Node.TheVariants.{Delay}
 use Rattle.plan_shape.specs.Blueprint.{Blueprint}
 use Rattle.plan_shape.specs.declared.limits.TheConstants.{MOST_TURNS}
 use Rattle.plan_shape.proofs.TreeLemmas.{length-tree_of}
 use Rattle.table_steps.specs.Views.{Board}
 use Rattle.table_steps.specs.Claims.{Seated}
-use Rattle.table_steps.specs.Looks.{IsReadAs}
-use Rattle.table_rules.specs.declared.view.View.{View}
-use Rattle.table_words.specs.Controls.{control_read}
-use Rattle.table_words.specs.Stamps.{stamp_of}
 use Rattle.home_items.specs.declared.entry.Entry.{Entry}
 use Rattle.home_items.specs.declared.item.Item.{Item}
 use Rattle.exec_recv.specs.Asides.{KeepsAside}
@@ -157,37 +149,3 @@ module _ (board : Board Blueprint) (over : IsOver board board.frame.over.value) 
                 (looks.looked k delay (slice_get_within delays k delay at) at))
           ];
         }
-
--- a look that found no parked node
-pub look-none : (board : Board Blueprint) (block : ℕ) (delay : DelayNode) (answer : Option Name) (old new : Seat (Option Item) (View Item Entry))
-    (list : DelayList) → IsReadAs board block delay.node is_parked answer old new → answer ≡ None →
-    LooksAtDelay board block delay old.me new.me list list
-look-none board block delay answer old new list read none =
-    let parked = is_parked (control_read read.word) in
-    record {
-      word = read.word;
-      me_is = read.me_is;
-      list = either parked
-          (λ t. absurd (none-some _ (sym none ∙ read.answer_is ∙ cond-true parked (Some _) None t)))
-          (λ f. sym (cond-false parked (seen_parked list (place_of board block delay.node) (stamp_of read.word) delay.turns) list f));
-    }
-
--- and one that found it
-pub look-some : (board : Board Blueprint) (block : ℕ) (delay : DelayNode) (answer : Option Name) (old new : Seat (Option Item) (View Item Entry))
-    (name : Name) (place : ℕ) (list after : DelayList) → IsReadAs board block delay.node is_parked answer old new → answer ≡ Some name →
-    place ≡ place_of board block delay.node → after ≡ seen_parked list place name.generation delay.turns →
-    LooksAtDelay board block delay old.me new.me list after
-look-some board block delay answer old new name place list after read some place_is noted =
-    let parked = is_parked (control_read read.word) in
-    let here : Name = record { block = block; generation = stamp_of read.word; node = delay.node } in
-    record {
-      word = read.word;
-      me_is = read.me_is;
-      list = either parked
-          (λ t.
-          let is : here ≡ name = same_Some here name (sym (read.answer_is ∙ cond-true parked (Some here) None t) ∙ some) in
-          noted ∙ ap (λ (x : Name). seen_parked list place x.generation delay.turns) (sym is)
-          ∙ ap (λ p. seen_parked list p (stamp_of read.word) delay.turns) place_is
-          ∙ sym (cond-true parked (seen_parked list (place_of board block delay.node) (stamp_of read.word) delay.turns) list t))
-          (λ f. absurd (none-some name (sym (read.answer_is ∙ cond-false parked (Some here) None f) ∙ some)));
-    }

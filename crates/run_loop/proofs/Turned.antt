@@ -1,13 +1,12 @@
 -- Nodes that a turn passed over, and names that it left, one after the other.
-use Rattle.std.proofs.Common.{◌≡◌, inl, inr, ℕ, ◌+◌, ◌-◌, Bool, true, false, List, length, arith, refl, sym, ap, ◌∙◌, subst}
+use Rattle.std.proofs.Common.{◌≡◌, inl, inr, ℕ, ◌+◌, Bool, true, false, List, length, arith, refl, sym, ap, ◌∙◌, subst}
 use Rattle.std.specs.Prelude.{◌≢◌, slice_get, is_some, Option, Some, None, IfSome}
-use Rattle.std.proofs.lemmas.Bool.{both_ways, cases_lt, eq-eqb}
+use Rattle.std.proofs.lemmas.Bool.{both_ways, cases_lt}
 use Rattle.std.proofs.lemmas.Option.{same_Some}
 use Rattle.life_rules.specs.declared.event.Name.{Name}
 use Rattle.life_rules.specs.declared.event.Resting.{Resting}
 use Rattle.life_rules.specs.declared.event.Resting.TheVariants as rest
 use Rattle.node_tree.specs.declared.context.Context.TheVariants.{Loop, Pool}
-use Rattle.node_tree.specs.Tree.{is_root}
 use Rattle.plan_shape.specs.Blueprint.{Blueprint}
 use Rattle.table_words.specs.Layouts.{OfControl, index}
 use Rattle.table_steps.specs.Views.{Board}
@@ -69,17 +68,6 @@ module _ (board : Board Blueprint) (helps : Bool) (block : ℕ) (m between m' : 
             loop = since-after i (IsUnready Loop) m between m' passed.loop next;
             pool = λ help. since-after i (IsUnready Pool) m between m' (passed.pool help) next;
           }
-
--- all nodes but the last are all but the root
-pub passed-all : (board : Board Blueprint) (helps : Bool) (block : ℕ) (m m' : Seated Item Entry) →
-    ArePassed board m m' helps block (length board.frame.tree - 1) → ArePassed board m m' helps block (length board.frame.tree)
-passed-all board helps block m m' all node below inner =
-    elim (cases_lt node (length board.frame.tree - 1)) [
-      | inl less ↦ all node less inner
-      | inr past ↦
-          let last : node + 1 ≡ length board.frame.tree = omega (arith, below, past) in
-          absurd (both_ways (is_root board.frame.tree node) inner (eq-eqb (node + 1) (length board.frame.tree) last))
-    ]
 
 -- a node that was taken at its place of the table
 pub taken-there : (does : Does) (board : Board Blueprint) (helps : Bool) (from : Resting) (answer : Option Name) (block node : ℕ)
@@ -143,17 +131,6 @@ module _ (board : Board Blueprint) (helps : Bool) (m between m' : Seated Item En
             let is : block ≡ other = omega (arith, below, past) in
             subst (λ (k : ℕ). WasMet board m m' helps k node) is (met-before block node first (one node within inner))
       ]
-
--- all nodes but the last are all but the root
-pub met-all : (board : Board Blueprint) (helps : Bool) (block : ℕ) (m m' : Seated Item Entry) →
-    AreMet board m m' helps block (length board.frame.tree - 1) → AreMet board m m' helps block (length board.frame.tree)
-met-all board helps block m m' all node below inner =
-    elim (cases_lt node (length board.frame.tree - 1)) [
-      | inl less ↦ all node less inner
-      | inr past ↦
-          let last : node + 1 ≡ length board.frame.tree = omega (arith, below, past) in
-          absurd (both_ways (is_root board.frame.tree node) inner (eq-eqb (node + 1) (length board.frame.tree) last))
-    ]
 
 -- a scan that comes after something else
 pub nothing-later : (board : Board Blueprint) (helps : Bool) (m between m' : Seated Item Entry) → KeepsAside m between →

@@ -1,9 +1,10 @@
-use Rattle.std.proofs.Common.{arith}
+use Rattle.std.proofs.Common.{arith, ◌≡◌, length, subst}
 use Rattle.std.proofs.lemmas.Option.{slice_get-get_or}
 use Rattle.op_slot.proofs.Staying.{stays-here, stays-on}
 use Rattle.node_walks.proofs.Read.{looks-here, looks-on}
 use Rattle.run_loop.proofs.Looking.{through-none, through-more}
 use Rattle.run_loop.proofs.PlaceLooks.{look-only, look-rests}
+use Rattle.run_loop.specs.Delayed.{LooksThrough}
 use Rattle.run_loop.proofs.delaying.look_through.Goals as goal
 
 pub loop-delay-init : goal.loop-delay-init
@@ -43,3 +44,16 @@ look_at-requires-clause-places c =
     let below = c.loop-delay-test.true in
     let room = c.requires.places (omega (arith, below)) in
     omega (arith, places, room)
+
+pub look_at-requires-clause-delay : goal.look_at-requires-clause-delay
+look_at-requires-clause-delay c =
+    c.requires.nodes.each c.loop-delay.delay-index _
+    (slice_get-get_or c.args.nodes.now c.loop-delay.delay-index _ c.loop-delay-test.true)
+
+pub returns-clause-looks : goal.returns-clause-looks
+returns-clause-looks c =
+    let end = c.loop-delay.auto.delay-index-end in
+    let past = c.loop-delay-test.false in
+    let all : c.loop-delay.delay-index ≡ length c.args.nodes.now = omega (arith, end, past) in
+    subst (λ n. LooksThrough c.args.table.now c.args.block c.args.nodes.now n c.args.hand.now.me c.loop-delay.hand.me
+    c.args.delays.now c.loop-delay.delays) all c.loop-delay.invariant.looks

@@ -2,7 +2,7 @@ use Rattle.std.proofs.Common.{ap, ◌∙◌, subst, arith, refl}
 use Rattle.op_slot.proofs.Staying.{stays-on}
 use Rattle.exec_recv.specs.Asides.{Aside}
 use Rattle.exec_recv.proofs.Asiding.{aside-on}
-use Rattle.timer_wheel.specs.Delays.{DelayList}
+use Rattle.timer_wheel.specs.Delays.{DelayList, places}
 use Rattle.run_loop.specs.Delayed.{LooksBelow, MayTakeDue, MayTakeOf}
 use Rattle.run_loop.specs.Serves.{moment}
 use Rattle.run_loop.proofs.Due.{due-now, passes}
@@ -53,3 +53,19 @@ returns-clause-turn g c =
     between new c.args.delays.now c.look_round.new.delays c.take_due.new.delays
     (subst (λ (d : DelayList). LooksBelow board c.args.nodes.now board.frame.layout.blocks old between d c.look_round.new.delays)
     c.next_turn.ensures (rw c.site.view_is at c.look_round.ensures.looks)) c.take_due.ensures.due c.look_round.ensures.only.aside c.take_due.ensures.aside
+
+pub look_round-requires-clause-hand : goal.look_round-requires-clause-hand
+look_round-requires-clause-hand g c = rw (← c.site.view_is) at c.requires.hand
+
+pub look_round-requires-clause-places : goal.look_round-requires-clause-places
+look_round-requires-clause-places g c = rw c.next_turn.ensures (rw (← c.site.view_is) at c.requires.places)
+
+pub look_round-requires-clause-nodes : goal.look_round-requires-clause-nodes
+look_round-requires-clause-nodes g c = rw (← c.site.view_is) at c.requires.nodes
+
+pub take_due-requires-clause-hand : goal.take_due-requires-clause-hand
+take_due-requires-clause-hand g c κs within = rw c.site.view_is at c.look_round.ensures.stays.hand
+
+pub returns-clause-places : goal.returns-clause-places
+returns-clause-places g c =
+    c.take_due.ensures.due.takes.places_are ∙ c.look_round.ensures.looks.places_are ∙ ap places c.next_turn.ensures

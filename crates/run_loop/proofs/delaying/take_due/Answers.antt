@@ -1,11 +1,12 @@
-use Rattle.std.proofs.Common.{arith}
+use Rattle.std.proofs.Common.{arith, sym, subst}
 use Rattle.op_slot.proofs.Staying.{stays-here, stays-on}
 use Rattle.exec_recv.proofs.Asiding.{aside-here, aside-on}
 use Rattle.deck_relay.specs.SameDecks.{keeps-here, keeps-on}
-use Rattle.run_loop.specs.Delayed.{MayTakeDelay, MayTakeOf}
+use Rattle.run_loop.specs.Delayed.{MayTakeDelay, MayTakeOf, TakesOut}
 use Rattle.run_loop.specs.Serves.{moment}
 use Rattle.run_loop.proofs.Due.{delay-of, takes-none, takes-more}
 use Rattle.run_loop.proofs.Served.{looked-here, more-none, more-on, more-by}
+use Rattle.timer_wheel.specs.Delays.{NoneIsDue}
 use Rattle.run_loop.proofs.delaying.take_due.Goals as goal
 
 pub out-init : goal.out-init
@@ -49,4 +50,14 @@ out-preserved g c =
           c.in-Some.out.place c.in-Some.out.generation more before.takes c.in-Some.ensures.some c.in-Some.ensures.taken
           c.try_due-taken.ensures.tried before.aside c.try_due-taken.ensures.aside;
       deck = keeps-on c.args.names.now.deck c.out.names.deck c.try_due-taken.new.names.deck before.deck c.try_due-taken.ensures.deck;
+    }
+
+pub returns-clause-due : goal.returns-clause-due
+returns-clause-due g c =
+    let same = sym c.in_default.ensures.same in
+    let old = c.args.hand.now.me in
+    let takes = TakesOut c.args.site.now c.out.taken old c.out.hand.me c.args.delays.now in
+    record {
+      takes = subst takes same c.out.invariant.takes;
+      none = subst NoneIsDue same c.in_default.ensures.none;
     }

@@ -1,5 +1,7 @@
 use Rattle.std.proofs.Common.{inl, inr, length, arith, refl, ap}
 use Rattle.life_rules.specs.declared.event.Resting.TheVariants as rest
+use Rattle.op_slot.proofs.Staying.{stays-here}
+use Rattle.exec_recv.proofs.Asiding.{aside-here}
 use Rattle.node_walks.proofs.Took.{first-serves}
 use Rattle.deck_relay.specs.SameDecks.{keeps-here}
 use Rattle.run_loop.specs.Delayed.{MayTakeDelay}
@@ -56,3 +58,9 @@ returns-clause-tried g c within =
 
 pub returns-then-name-blocks-clause-deck : goal.returns-then-name-blocks-clause-deck
 returns-then-name-blocks-clause-deck g c = keeps-here c.args.names.now.deck
+
+pub returns-then-name-blocks-clause-stays : goal.returns-then-name-blocks-clause-stays
+returns-then-name-blocks-clause-stays g c = stays-here c.args.site.now c.args.hand.now c.requires.hand
+
+pub returns-then-name-blocks-clause-aside : goal.returns-then-name-blocks-clause-aside
+returns-then-name-blocks-clause-aside g c = aside-here c.args.hand.now.me

@@ -1,4 +1,4 @@
-use Rattle.std.proofs.Common.{◌+◌, List, sym, ap, ◌∙◌, subst}
+use Rattle.std.proofs.Common.{◌≡◌, ℕ, ◌+◌, List, length, arith, sym, ap, ◌∙◌, subst}
 use Rattle.std.specs.Prelude.{Some}
 use Rattle.std.proofs.lemmas.Option.{same_Some}
 use Rattle.plan_rules.specs.declared.node.Node.{Node as PlanNode}
@@ -23,3 +23,12 @@ loop-node-preserved c =
           (delays-other nodes node c.loop-node.list.items c.loop-node.invariant
           (λ turns at. w.in_default.not-Delay turns (same_Some _ _ (sym c.node.ensures ∙ at))))
     ]
+
+pub returns : goal.returns
+returns c =
+    let nodes = c.args.plan.now.nodes in
+    let size = c.size-node-end.ensures.size in
+    let end = c.loop-node.auto.node-end in
+    let past = c.loop-node-test.false in
+    let all : c.loop-node.node ≡ length nodes = omega (arith, size, end, past) in
+    subst (λ (count : ℕ). AreDelaysBelow nodes count c.loop-node.list.items) all c.loop-node.invariant

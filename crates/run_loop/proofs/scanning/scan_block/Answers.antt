@@ -1,4 +1,4 @@
-use Rattle.std.proofs.Common.{arith, ap, ◌∙◌}
+use Rattle.std.proofs.Common.{arith, ap, ◌∙◌, ◌≡◌, ℕ, ◌+◌, ◌-◌, ◌<◌, ◌≤◌, false, length}
 use Rattle.op_slot.proofs.Staying.{stays-here, stays-on}
 use Rattle.exec_recv.specs.Asides.{Aside}
 use Rattle.exec_recv.proofs.Asiding.{aside-here, aside-on}
@@ -6,6 +6,8 @@ use Rattle.deck_relay.specs.SameDecks.{keeps-here, keeps-on}
 use Rattle.run_loop.specs.Serves.{MayHelp, moment}
 use Rattle.run_loop.proofs.Served.{looked-here, more-none, more-on}
 use Rattle.run_loop.proofs.Turned.{passed-more, node-met}
+use Rattle.std.specs.Prelude.{◌==◌}
+use Rattle.std.proofs.lemmas.Bool.Decides.{nat_tests}
 use Rattle.run_loop.proofs.scanning.scan_block.Goals as goal
 
 pub loop-node-init : goal.loop-node-init
@@ -49,3 +51,24 @@ loop-node-preserved g c =
           before.met c.take_node-taken.ensures.met;
       deck = keeps-on c.args.names.now.deck c.loop-node.names.deck c.take_node-taken.new.names.deck before.deck c.take_node-taken.ensures.deck;
     }
+
+-- a node before the root
+inner-below : (size node past : ℕ) → size - 1 ≤ past → node < size → (node + 1 == size) ≡ false → node < past
+inner-below size node past end below inner = grind (arith, nat_tests)
+
+pub returns-clause-none : goal.returns-clause-none
+returns-clause-none g c zero =
+    let tree = c.args.site.now.frame.tree in
+    let all = c.loop-node.invariant.none zero in
+    let size : c.size-size.result ≡ length tree =
+    c.size-size.ensures.size ∙ ap length (rw c.site.view_is at c.tree.ensures.tree) in
+    let end = rw size at c.loop-node-test.false in
+    (all.0, λ node below inner. all.1 node (inner-below (length tree) node c.loop-node.node end below inner) inner)
+
+pub returns-clause-met : goal.returns-clause-met
+returns-clause-met g c node below inner =
+    let tree = c.args.site.now.frame.tree in
+    let size : c.size-size.result ≡ length tree =
+    c.size-size.ensures.size ∙ ap length (rw c.site.view_is at c.tree.ensures.tree) in
+    let end = rw size at c.loop-node-test.false in
+    c.loop-node.invariant.met node (inner-below (length tree) node c.loop-node.node end below inner) inner

@@ -46,3 +46,15 @@ loop-block-preserved g c =
           c.scan_block-taken.ensures.met;
       deck = keeps-on c.args.names.now.deck c.loop-block.names.deck c.scan_block-taken.new.names.deck before.deck c.scan_block-taken.ensures.deck;
     }
+
+pub returns-clause-none : goal.returns-clause-none
+returns-clause-none g c zero block within =
+    let blocks = rw c.site.view_is at c.blocks-block-end.ensures.blocks in
+    let end = c.loop-block-test.false in
+    c.loop-block.invariant.none zero block (omega (arith, blocks, end, within))
+
+pub returns-clause-met : goal.returns-clause-met
+returns-clause-met g c block within =
+    let blocks = rw c.site.view_is at c.blocks-block-end.ensures.blocks in
+    let end = c.loop-block-test.false in
+    c.loop-block.invariant.met block (omega (arith, blocks, end, within))

@@ -1,4 +1,4 @@
-use Rattle.std.proofs.Common.{◌∙◌, subst}
+use Rattle.std.proofs.Common.{◌∙◌, subst, refl, true, false}
 use Rattle.std.specs.Prelude.{◌≢◌}
 use Rattle.std.proofs.lemmas.Bool.{both_ways}
 use Rattle.life_rules.specs.declared.event.Resting.TheVariants as rest
@@ -13,6 +13,7 @@ use Rattle.node_walks.proofs.Took.{first-serves, only-before}
 use Rattle.deck_relay.specs.SameDecks.{keeps-here, keeps-on}
 use Rattle.run_loop.specs.declared.loop_mail.LoopMail.{LoopMail}
 use Rattle.run_loop.specs.Fetches.{HearsName}
+use Rattle.run_loop.specs.Turns.{IsInner}
 use Rattle.run_loop.proofs.turning.serve_name.Goals as goal
 
 pub is_inner-requires : goal.is_inner-requires
@@ -103,3 +104,24 @@ returns-clause-deck g c =
 
 pub returns-clause-unheard : goal.returns-clause-unheard
 returns-clause-unheard g c lost = c.serve-2.ensures.unheard lost ∙ c.serve.ensures.unheard c.if-serve.false
+
+pub serve-requires-clause-place : goal.serve-requires-clause-place
+serve-requires-clause-place g c κs within =
+    let inner : IsInner c.args.site.now c.args.name =
+    rw c.site.view_is at (c.is_inner.ensures.yes c.if-not-is_inner.false) in
+    inner.place
+
+pub serve-requires-2-clause-place : goal.serve-requires-2-clause-place
+serve-requires-2-clause-place g c κs within =
+    let inner : IsInner c.args.site.now c.args.name =
+    rw c.site.view_is at (c.is_inner.ensures.yes c.if-not-is_inner.false) in
+    inner.place
+
+pub returns-then-not-is_inner-clause-served : goal.returns-then-not-is_inner-clause-served
+returns-then-not-is_inner-clause-served g c served = absurd (both_ways false refl served)
+
+pub returns-then-not-helps-clause-served : goal.returns-then-not-helps-clause-served
+returns-then-not-helps-clause-served g c served = absurd (both_ways false refl served)
+
+pub returns-then-serve-clause-left : goal.returns-then-serve-clause-left
+returns-then-serve-clause-left g c left inner = absurd (both_ways true left refl)

@@ -105,3 +105,11 @@ pub returns-clause-deck : goal.returns-clause-deck
 returns-clause-deck g c =
     keeps-on (deck_of c.args.self.now) (deck_of c.poll_names-taken.new.self) c.serve_delays.new.names.deck c.poll_names-taken.ensures.deck
     c.serve_delays.ensures.deck
+
+pub serve_delays-requires-clause-places : goal.serve_delays-requires-clause-places
+serve_delays-requires-clause-places g c κs within =
+    rw c.deref.ensures.value c.poll_names-taken.ensures.ready.delays.room
+
+pub serve_delays-requires-clause-nodes : goal.serve_delays-requires-clause-nodes
+serve_delays-requires-clause-nodes g c κs within =
+    rw c.deref.ensures.value c.poll_names-taken.ensures.ready.delays.are

@@ -8,6 +8,7 @@ use Rattle.exec_recv.proofs.Asiding.{aside-here}
 use Rattle.run_loop.specs.Serves.{MayHelp, ServesMore, moment}
 use Rattle.run_loop.specs.Turns.{AreAllLeft, MeetsFirst}
 use Rattle.run_loop.proofs.Meeting.{left-fewer}
+use Rattle.exec_recv.specs.Asides.{Aside}
 use Rattle.run_loop.proofs.looped.Loop.poll_names.Goals as goal
 
 pub returns-clause-none : goal.returns-clause-none
@@ -67,3 +68,14 @@ pub returns-clause-deck : goal.returns-clause-deck
 returns-clause-deck g c =
     keeps-on (deck_of c.args.self.now) c.fetch.new.self.deck c.serve_each-taken.new.names.deck c.fetch.ensures.deck
     c.serve_each-taken.ensures.deck
+
+pub returns-clause-ready : goal.returns-clause-ready
+returns-clause-ready g c =
+    let ready = c.requires.ready in
+    record {
+      hand = c.serve_each-taken.ensures.stays.hand;
+      first = ap (λ (a : Aside). a.number) c.serve_each-taken.ensures.aside.same ∙ ready.first;
+      rests = c.serve_each-taken.ensures.rests;
+      next = ready.next;
+      delays = ready.delays;
+    }

@@ -1,4 +1,4 @@
-use Rattle.std.proofs.Common.{◌≡◌, ◌⊎◌, inl, inr, arith, refl, subst}
+use Rattle.std.proofs.Common.{◌≡◌, ◌⊎◌, inl, inr, arith, refl, subst, ap, ◌∙◌}
 use Rattle.exec_recv.proofs.Asiding.{aside-on}
 use Rattle.deck_relay.specs.SameDecks.{keeps-on}
 use Rattle.run_loop.specs.Delayed.{MayTakeDue, MayTakeIn}
@@ -9,6 +9,7 @@ use Rattle.run_loop.proofs.Served.{more-by, more-first}
 use Rattle.run_loop.proofs.Turned.{nothing-later}
 use Rattle.run_loop.proofs.Due.{due-after, passes-after}
 use Rattle.run_loop.proofs.Meeting.{met-later}
+use Rattle.exec_recv.specs.Asides.{Aside}
 use Rattle.run_loop.proofs.looped.Loop.turn.Goals as goal
 
 pub returns-clause-aside : goal.returns-clause-aside
@@ -109,3 +110,19 @@ pub returns-clause-deck : goal.returns-clause-deck
 returns-clause-deck g c =
     keeps-on (deck_of c.args.self.now) (deck_of c.poll-taken.new.self) c.scan_blocks.new.names.deck c.poll-taken.ensures.deck
     c.scan_blocks.ensures.deck
+
+pub returns-clause-ready : goal.returns-clause-ready
+returns-clause-ready g c =
+    let ready = c.poll-taken.ensures.ready in
+    record {
+      hand = c.scan_blocks.ensures.stays.hand;
+      first = ap (λ (a : Aside). a.number) c.scan_blocks.ensures.aside.same ∙ ready.first;
+      rests = c.scan_blocks.ensures.rests;
+      next = ready.next;
+      delays = ready.delays;
+    }
+
+pub returns-then-taken-gt0-clause-none : goal.returns-then-taken-gt0-clause-none
+returns-then-taken-gt0-clause-none g c zero =
+    let some = c.if-taken-gt0.true in
+    absurd (omega (arith, some, zero))

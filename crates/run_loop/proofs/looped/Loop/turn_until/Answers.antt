@@ -76,3 +76,21 @@ returns-in-Some-collect-clause-collected g c =
 pub returns-in-Some-collect-clause-deck : goal.returns-in-Some-collect-clause-deck
 returns-in-Some-collect-clause-deck g c =
     keeps-on (deck_of c.args.self.now) (deck_of c.loop.self) (deck_of c.collect.new.self) c.loop.invariant.deck c.collect.ensures.deck
+
+pub collect-requires-clause-ready : goal.collect-requires-clause-ready
+collect-requires-clause-ready g c = rw (← c.site.view_is) at c.loop.invariant.ready
+
+pub collect-requires-clause-over : goal.collect-requires-clause-over
+collect-requires-clause-over g c = rw (← c.site.view_is) at c.requires.site.over
+
+pub turn-taken-requires-clause-ready : goal.turn-taken-requires-clause-ready
+turn-taken-requires-clause-ready g c κs within = rw c.site.view_is at c.collect.ensures.ready
+
+pub returns-in-Some-collect-clause-ready : goal.returns-in-Some-collect-clause-ready
+returns-in-Some-collect-clause-ready g c = rw c.site.view_is at c.collect.ensures.ready
+
+pub returns-in-Some-collect-clause-same : goal.returns-in-Some-collect-clause-same
+returns-in-Some-collect-clause-same g c =
+    let before = c.loop.invariant.same in
+    let collect = c.collect.ensures.same in
+    (collect.0 ∙ before.0, collect.1 ∙ before.1)
