@@ -119,15 +119,6 @@ turned-same x k f e =
     (λ apart. cond-false (same x y) k (f y) apart) in
     λ t y. each y t
 
-pub turned_source-same : {B : Type 0} (s : SourceRef) (k : B) (f : SourceRef → B) → k ≡ f s →
-    turned_source s k f ≡ f
-turned_source-same s k f e =
-    let each : (t : SourceRef) → turned_source s k f t ≡ f t =
-    λ t. either (same_source s t)
-    (λ here. cond-true (same_source s t) k (f t) here ∙ e ∙ ap f (same_source-true s t here))
-    (λ apart. cond-false (same_source s t) k (f t) apart) in
-    λ i t. each t i
-
 -- a request that was read, noted
 pub turned-note : (s : SourceRef) (b : Bool) (f : SourceRef → Bool) →
     turned_source s (f s || b) f ≡ note s b f

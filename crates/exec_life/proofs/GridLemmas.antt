@@ -1,13 +1,12 @@
 -- What a grid reads after a write.
-use Rattle.std.proofs.Common.{◌≡◌, ℕ, Bool, ◌+◌, ◌*◌, ◌<◌, true, false, ◌&&◌, eqb, ltb, cond, List, length, refl, sym, ap, ◌∙◌, subst, inl, inr, ◌||◌, get_or, set, arith, replicate}
+use Rattle.std.proofs.Common.{◌≡◌, ℕ, Bool, ◌+◌, ◌*◌, ◌<◌, true, false, ◌&&◌, eqb, ltb, cond, length, refl, sym, ap, ◌∙◌, subst, inl, inr, ◌||◌, get_or, set, arith}
 use Rattle.std.proofs.lemmas.Bool.{and_parts, and_from, ltb-true, lt-ltb, eqb-true, eq-eqb, both_ways, cond-true, cond-false, cases_order, le-ltb, ne_eqb}
 use Rattle.std.proofs.lemmas.Nat.{mul-add-lt, same_from_place}
 use Rattle.std.proofs.lemmas.List.{get_or-set_same, get_or-set_other}
 use Rattle.std.specs.Prelude.{if◌then◌else◌, ◌==◌, nat_lt}
 use Rattle.life_rules.specs.States.{set_at}
 use Rattle.common_lemmas.proofs.Bool.{either, both-same}
-use Rattle.common_lemmas.proofs.Lists.{get_or-replicate_same}
-use Rattle.exec_life.specs.Grids.{Cells, at, row_at, SameSize, SetsCell, ClearsRow, IsBlank}
+use Rattle.exec_life.specs.Grids.{Cells, at, row_at, SameSize, SetsCell, ClearsRow}
 
 module _ {A : Type 0} (d : A) (g : Cells A) where
   -- behind the last node
@@ -116,17 +115,6 @@ begun-none f b v =
     λ i j. ap (λ t. cond (eqb i b && t) v (f i j)) (le-ltb j 0 (omega arith)) ∙ without (eqb i b) v (f i j) in
     λ t i j. each i j t
 
--- a grid that was made of one value
-pub IsBlank-made : {A : Type 0} (rows columns : ℕ) (v : A) →
-    IsBlank rows columns v (record { rows = rows; columns = columns; cells = replicate (rows * columns) v })
-IsBlank-made rows columns v =
-    let g : Cells _ = record { rows = rows; columns = columns; cells = replicate (rows * columns) v } in
-    let each : (i j : ℕ) → at v g i j ≡ v =
-    λ i j. either (ltb j columns)
-    (λ within. at-within v g i j within ∙ get_or-replicate_same (rows * columns) (i * columns + j) v)
-    (λ past. at-past v g i j past) in
-    record { rows_are = refl; columns_are = refl; cells_are = λ t i j. each i j t }
-
 pub ClearsRow-done : {A : Type 0} (old new : Cells A) (b m : ℕ) (v : A) → SameSize old new → m ≡ old.columns →
     at v new ≡ begun_at (at v old) b m v → ClearsRow old new b v
 ClearsRow-done old new b m v size all cells =
@@ -134,10 +122,3 @@ ClearsRow-done old new b m v size all cells =
       size = size;
       row = cells ∙ ap (λ k. begun_at (at v old) b k v) all ∙ begun-all old b v;
     }
-
-pub IsBlank-filled : {A : Type 0} (rows columns : ℕ) (v : A) (cells : List A) →
-    cells ≡ replicate (rows * columns) v →
-    IsBlank rows columns v (record { rows = rows; columns = columns; cells = cells })
-IsBlank-filled {A} rows columns v cells e =
-    let P : List A → Type 0 = λ xs. IsBlank rows columns v (record { rows = rows; columns = columns; cells = xs }) in
-    subst P (sym e) (IsBlank-made rows columns v)

@@ -20,3 +20,4 @@ pub mod ReleaseMeans
 pub mod OpeningMeans
 pub mod Tells
 pub mod SameTables
+pub mod Places

@@ -1,5 +1,5 @@
 -- What the writes of a report mean.
-use Rattle.std.proofs.Common.{◌≡◌, ℕ, true, ◌&&◌, eqb, Some, sym, ap, ◌∙◌, subst, arith}
+use Rattle.std.proofs.Common.{◌≡◌, ℕ, true, ◌&&◌, eqb, Option, Some, None, sym, ap, ◌∙◌, subst, arith}
 use Rattle.std.specs.Option.{option_map_or}
 use Rattle.std.specs.Prelude.{◌==◌, nat_le, nat_lt}
 use Rattle.std.proofs.lemmas.Bool.{and_parts, and_from, lt-ltb, cond-true, cond-false, eq-eqb, ne_eqb}
@@ -106,3 +106,12 @@ parent-there d h p q state needs above =
     let parts = and_parts (nat_lt p.block s.blocks) (nat_lt p.node (size s)) there.0 in
     let up = parent_within d.tree p.node q state.sound.tree above in
     and_from (nat_lt p.block s.blocks) (nat_lt q (size s)) parts.0 (lt-ltb q (size s) up.1)
+
+-- a node without a parent reports to nobody
+pub no_report-means : (d : StateLists) (h : ℕ) (p : Place) → IsState d →
+    parent_of d.tree p.node ≡ None → Means d (after_report (machine d) h p)
+no_report-means d h p state none =
+    let s = machine d in
+    let reports : Option ℕ → State =
+    λ o. option_map_or (λ q. reported_to s h p (name_of s p.block q)) o s in
+    record { fitted = state.fitted; state_is = ap reports (sym none) }

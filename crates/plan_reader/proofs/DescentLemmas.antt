@@ -9,23 +9,18 @@ use Rattle.plan_parts.specs.declared.reading.Reading.TheVariants.{Good, Bad}
 use Rattle.plan_parts.specs.Reading.{IfGood}
 use Rattle.plan_reader.specs.NodeParts.{adaptor_node, leaf_node, let_node}
 use Rattle.plan_reader.specs.Roots.{AreRoots, IsTidy}
-use Rattle.plan_reader.specs.Walked.{Listed, Walked, check_keys, child_at, last, list_at, walk}
+use Rattle.plan_reader.specs.Walked.{Listed, Walked, child_at, last, list_at, walk}
 use Rattle.plan_reader.specs.declared.node_word.Adaptor.{Adaptor as AdaptorWord}
 use Rattle.plan_reader.specs.declared.node_word.Leaf.{Leaf as LeafWord}
 use Rattle.plan_reader.specs.declared.node_word.Let.{Let as LetWord}
 use Rattle.plan_reader.proofs.OverLemmas.{Reads, is_late_adaptor, reads-adaptor, reads-leaf, reads-let}
-use Rattle.plan_reader.proofs.RootedWalk.{Leads, child-leads, keys-tidy, leads-append, leads-roots, leads-tidy, list-leads, walk-gives_root}
+use Rattle.plan_reader.proofs.RootedWalk.{Leads, child-leads, leads-append, leads-roots, leads-tidy, list-leads, walk-gives_root}
 
 -- the node that was read stands over roots
 over-roots : (roots : List ℕ) (late : Bool) (r : Reading Node) (v : Walked) → Reads roots late r
     → AreRoots v roots → IfGood r (λ n. AreRoots v (named_by n))
 over-roots roots late (Good n) v reads are = subst (AreRoots v) (sym reads.over.names) are
 over-roots roots late (Bad faults) v reads are = tt
-
--- once the keys of a node were checked
-pub checked-tidy : (known : List (List ℕ)) (d : Data) (w v : Walked) → IsTidy w
-    → v ≡ check_keys known d w → IsTidy v
-checked-tidy known d w v tidy is = subst IsTidy (sym is) (keys-tidy known d w tidy)
 
 -- a leaf
 pub leaf-roots : (leaf : LeafWord) (d : Data) (v : Walked) (r : Reading Node) → r ≡ leaf_node leaf d

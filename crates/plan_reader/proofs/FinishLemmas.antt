@@ -1,5 +1,5 @@
 -- What a builder answers at the end, as the plan that was read.
-use Rattle.std.proofs.Common.{◌≡◌, ℕ, true, false, Option, Some, None, Result, Ok, Err, refl, sym, ap, ◌∙◌, subst}
+use Rattle.std.proofs.Common.{◌≡◌, ℕ, false, Option, Some, None, Result, Ok, Err, refl, sym, ap, ◌∙◌, subst}
 use Rattle.plan_rules.specs.declared.settings.Settings.{Settings}
 use Rattle.plan_shape.specs.declared.fault.BuildFault.{BuildFault}
 use Rattle.plan_shape.specs.declared.fault.BuildFault.TheVariants.{NoMemory}
@@ -12,13 +12,8 @@ use Rattle.plan_parts.specs.Reading.{any_fault}
 use Rattle.plan_reader.specs.Limits.{plan_limit}
 use Rattle.plan_reader.specs.Roots.{HasOneRoot}
 use Rattle.plan_reader.specs.Walked.{Walked, last}
-use Rattle.plan_reader.specs.Plans.{first_fault, found_unless, joined}
+use Rattle.plan_reader.specs.Plans.{found_unless, joined}
 use Rattle.plan_reader.specs.declared.fault.PlanFault.TheVariants.{Limit}
-
--- something was found wrong
-pub joined-faulty : (settings : Settings) (w : Walked) → any_fault w.faults ≡ true
-    → joined (Good settings) w ≡ Err (first_fault w.faults)
-joined-faulty settings w is = rw is refl
 
 unless-none : (o : Option BuildFault) (settings : Settings) (w : Walked) (plan : Blueprint)
     → Answers o (Ok plan)

@@ -11,3 +11,4 @@ mod FinishLemmas
 mod JsonLemmas
 mod LevelLemmas
 mod AnswerLemmas
+mod ReadMapped

@@ -22,7 +22,7 @@ use Rattle.plan_reader.specs.Limits.{node_limit}
 use Rattle.plan_reader.specs.NodeParts.{adaptor_node, leaf_node, let_node}
 use Rattle.plan_reader.specs.NodeWords.{node_keys, node_named}
 use Rattle.plan_reader.specs.Roots.{AreRoots, AreTidy, IsTidy}
-use Rattle.plan_reader.specs.Walked.{Below, Listed, Walked, blame, check_keys, child_at, each, last, list_at, made, make, named_node, none_listed, parts, take, take_bulk, walk, with_child}
+use Rattle.plan_reader.specs.Walked.{Below, Listed, Walked, blame, child_at, each, last, list_at, made, make, named_node, none_listed, parts, take, take_bulk, walk, with_child}
 use Rattle.plan_reader.specs.declared.node_word.NodeWord.{NodeWord}
 use Rattle.plan_reader.specs.declared.node_word.NodeWord.TheVariants.{Leaf, Adaptor, Let, Bulk, WhenAll, Ahead}
 use Rattle.plan_reader.proofs.FaultLemmas.{Tells, any-both, tells-job_at}
@@ -199,14 +199,6 @@ parts-leads below Ahead d w gives early tidy =
     make-leads (node.Ahead (last v) (last u)) w u (last v ∷ last u ∷ []) true
     (record { names = refl; version = refl }) early
     (leads-append w v u (last v ∷ []) (last u ∷ []) first second)
-
--- a node by its name
-tidy-case : (b : Bool) (w : Walked) → IsTidy w → IsTidy (cond b (blame NAME_FAULT w) w)
-tidy-case true w tidy none = absurd (noted NAME_FAULT w refl none)
-tidy-case false w tidy none = tidy none
-
-pub keys-tidy : (known : List (List ℕ)) (d : Data) (w : Walked) → IsTidy w → IsTidy (check_keys known d w)
-keys-tidy known d w tidy = tidy-case (has_unknown_key known d) w tidy
 
 keys-case : (b : Bool) (below : Below) (word : NodeWord) (d : Data) (w : Walked) → GivesRoot below
     → (w.is_first ≡ true → is_late word ≡ false) → IsTidy w

@@ -1,11 +1,35 @@
-use Rattle.std.proofs.Common.{◌∙◌, List, length, sym, subst}
+use Rattle.std.proofs.Common.{◌<◌, ◌∙◌, List, length, sym, subst}
+use Rattle.std.specs.Prelude.{All}
 use Rattle.std.proofs.lemmas.List.{with_items_is}
 use Rattle.life_rules.specs.LifeSteps.{after_release}
 use Rattle.exec_life.specs.Parts.{lists_of, shown, Means}
 use Rattle.exec_life.specs.ViewLists.{ViewLists}
 use Rattle.exec_life.specs.ViewWrites.{ForgetsFirst}
+use Rattle.exec_life.proofs.Places.{block-within, each-has}
 use Rattle.exec_life.proofs.ReleaseMeans.{release-means}
 use Rattle.exec_life.proofs.parts.Parts.release.Goals as goal
+
+pub block-word-requires : goal.block-word-requires
+block-word-requires c =
+    block-within (lists_of c.args.self.now) c.args.hand c.args.block c.requires.needs
+
+pub set_block-requires : goal.set_block-requires
+set_block-requires c =
+    block-within (lists_of c.args.self.now) c.args.hand c.args.block c.requires.needs
+
+pub clear_places-requires : goal.clear_places-requires
+clear_places-requires c =
+    let d = lists_of c.args.self.now in
+    let within = block-within d c.args.hand c.args.block c.requires.needs in
+    subst (λ n. c.args.block < n) (sym c.set_block.ensures.count) within
+
+pub forget_each-requires : goal.forget_each-requires
+forget_each-requires c =
+    let d = lists_of c.args.self.now in
+    let within = block-within d c.args.hand c.args.block c.requires.needs in
+    subst (λ (views : List ViewLists). All (λ v. c.args.block < v.blocks) views)
+    (sym c.deref_mut.ensures.value)
+    (each-has d c.args.block c.requires.ready.state within)
 
 pub returns : goal.returns
 returns c =

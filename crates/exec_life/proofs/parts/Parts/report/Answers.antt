@@ -1,19 +1,43 @@
-use Rattle.std.proofs.Common.{ap, sym, ◌∙◌}
+use Rattle.std.proofs.Common.{◌<◌, ap, sym, subst, ◌∙◌}
 use Rattle.std.proofs.lemmas.Bool.{and_parts}
 use Rattle.life_rules.specs.declared.event.Place.{Place}
 use Rattle.life_rules.specs.States.{is_place}
 use Rattle.life_rules.specs.Words.{one_less, pending}
 use Rattle.exec_life.specs.declared.view.Role.TheVariants.{Nothing}
 use Rattle.exec_life.specs.Parts.{lists_of, shown}
+use Rattle.exec_life.proofs.Places.{node-within, has-place}
 use Rattle.exec_life.proofs.Puts.{hand-view, knows-place, still-knows}
-use Rattle.exec_life.proofs.ReportMeans.{report-means, last_report-means, parent-there}
+use Rattle.exec_life.proofs.ReportMeans.{report-means, last_report-means, parent-there, no_report-means}
 use Rattle.exec_life.proofs.Roles.{role-cells}
 use Rattle.exec_life.proofs.parts.Parts.report.Goals as goal
+
+pub parent-requires : goal.parent-requires
+parent-requires c =
+    let d = lists_of c.args.self.now in
+    node-within d c.args.place
+    (and_parts (is_place (shown c.args.self.now) c.args.place) _ c.requires.needs).0
+
+pub returns-in_default : goal.returns-in_default
+returns-in_default c =
+    no_report-means (lists_of c.args.self.now) c.args.hand c.args.place c.requires.ready.state
+    (sym c.parent.ensures ∙ c.in_default.is)
 
 pub control-word-requires-clause-place : goal.control-word-requires-clause-place
 control-word-requires-clause-place c =
     parent-there (lists_of c.args.self.now) c.args.hand c.args.place c.in-Some.node c.requires.ready.state c.requires.needs
     (sym c.in-Some.ensures)
+
+pub set_control-requires : goal.set_control-requires
+set_control-requires c =
+    let d = lists_of c.args.self.now in
+    let parent : Place = record { block = c.args.place.block; node = c.in-Some.node } in
+    has-place d parent c.requires.ready.state
+    (parent-there d c.args.hand c.args.place c.in-Some.node c.requires.ready.state c.requires.needs
+    (sym c.in-Some.ensures))
+
+pub index_mut-view-requires : goal.index_mut-view-requires
+index_mut-view-requires c =
+    subst (λ n. c.args.hand < n) (sym c.args.self.now.views.ok.0) c.requires.ready.hand_is
 
 pub set_role-requires : goal.set_role-requires
 set_role-requires c =

@@ -24,3 +24,22 @@ returns-clause-table c =
     let inside = shown c.self.inside.parts in
     let new = subst (SameTable inside) (sym c.take_step.ensures.state_is) (table-stays inside c.args.hand c.args.event) in
     rw (← c.self.view_is) new
+
+pub allows-requires : goal.allows-requires
+allows-requires c =
+    let has : StateLists → Type 0 = λ d. c.args.hand < (machine d).hands in
+    record { state = c.self.invariant; hand_is = subst has (sym c.self.view_is) c.requires }
+
+pub take_step-requires-clause-ready : goal.take_step-requires-clause-ready
+take_step-requires-clause-ready c =
+    let has : StateLists → Type 0 = λ d. c.args.hand < (machine d).hands in
+    record { state = c.self.invariant; hand_is = subst has (sym c.self.view_is) c.requires }
+
+pub take_step-requires-clause-needs : goal.take_step-requires-clause-needs
+take_step-requires-clause-needs c = sym c.if-not-allows.ensures
+
+pub returns-clause-exact : goal.returns-clause-exact
+returns-clause-exact c = rw (← c.self.view_is) c.if-not-allows.ensures
+
+pub returns-clause-taken : goal.returns-clause-taken
+returns-clause-taken c = rw (← c.self.view_is) c.take_step.ensures.state_is
