@@ -10,6 +10,9 @@ use std::sync::{Arc, Wait};
 /// How many hands may have a sleeper: 16 workers and hand 0.
 pub const MOST_HANDS: u32 = 17;
 
+// How many hands are counted as searching when one more may not begin to search by itself.
+const MOST_SEARCHERS: u64 = 2;
+
 /// What the sleepers share.
 #[derive(Drop)]
 pub(crate) struct Room {
@@ -41,9 +44,20 @@ impl Sleeper {
 
     /// Counts this hand as searching, where at most one other is. The last hand may always look.
     pub fn try_search(&self) -> bool {
-        self.is_last()
-            || self.room.searching.compare_exchange(0, 1).is_ok()
-            || self.room.searching.compare_exchange(1, 2).is_ok()
+        if self.is_last() {
+            return true;
+        }
+        for others in 0..MOST_SEARCHERS {
+            if self
+                .room
+                .searching
+                .compare_exchange(others, others + 1)
+                .is_ok()
+            {
+                return true;
+            }
+        }
+        false
     }
 
     // Whether it is the last hand, which isn't counted as searching.
