@@ -11,5 +11,4 @@ pub mod Shares
 pub mod Starting
 pub mod Kept
 pub mod Lots
-pub mod Sending
 pub mod States

@@ -35,14 +35,6 @@ child-fits item child requested fits e above shows other = elim (fits.0) [
   | inr below ↦ absurd (other (above-is e above child (sym (ap node_above shows) ∙ below.above)))
 ]
 
--- asked with the parent's number, a completion failed
-pub failed-fits : (parcel : Delivery) (parent : ℕ) (requested : Bool) → FitsHome (Done parcel) parent requested →
-    (node_of parcel.start ≡ parent → ⊥) → IsFailure parcel.completion
-failed-fits parcel parent requested fits other = elim (fits.0) [
-  | inl own ↦ absurd (other own.node)
-  | inr below ↦ below.failed
-]
-
 -- and so a failure fits there
 pub fits-failed : (parcel : Delivery) (parent : ℕ) → node_above parcel.start ≡ Some parent → IsFailure parcel.completion →
     FitsHome (Done parcel) parent true

@@ -65,12 +65,6 @@ pub part-start : (node : ℕ) (whole : List ℤ) (asked : Bool) (above : List En
     start_with node (Row whole ∷ []) asked above ≡ start_below node (part_args whole part) whole asked above
 part-start node whole asked above bulk part at = rw at refl
 
--- and runs with the row
-pub part-carries : (node : ℕ) (whole : List ℤ) (asked : Bool) (above : List Entry) (bulk part : ℕ) →
-    slice_get (plan_of above).nodes node ≡ Some (Part bulk part) →
-    carried_of (start_with node (Row whole ∷ []) asked above) ≡ Row whole ∷ []
-part-carries node whole asked above bulk part at = rw (part-start node whole asked above bulk part at) (rw at refl)
-
 -- the receiver node runs with its arguments
 receiver-by : (o : Option Node) (e : Entry) → o ≡ None → carried_by o e ≡ e.args
 receiver-by None e none = refl

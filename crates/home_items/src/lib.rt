@@ -16,6 +16,7 @@
 mod entry;
 mod env;
 mod item;
+mod kept_parcel;
 mod law;
 mod parcel;
 mod placing;
