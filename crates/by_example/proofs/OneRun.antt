@@ -27,7 +27,8 @@ use Rattle.run_loop.specs.declared.looped.Loop.{Loop as Looped}
 use Rattle.run_loop.specs.declared.waiting.Waited.{Waited}
 use Rattle.run_loop.specs.declared.waiting.Waited.TheVariants.{Completed, NoBlock}
 use Rattle.table_rules.specs.declared.view.View.{View}
-use Rattle.table_steps.specs.Claims.{Missed, Seated}
+use Rattle.table_steps.specs.Claims.{Missed}
+use Rattle.table_steps.specs.Seats.{Seated}
 use Rattle.table_steps.specs.Views.{Board, fresh_with, knows}
 use Rattle.by_example.specs.Answers.{IsAddCause, MayComplete, answer_of}
 use Rattle.whole_run.specs.Opened.{IsFreshHand}

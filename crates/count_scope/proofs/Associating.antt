@@ -8,7 +8,8 @@ use Rattle.life_rules.specs.Scopes.{refusal, is_refused}
 use Rattle.atomic_table.specs.declared.shared.Seat.{Seat}
 use Rattle.table_rules.specs.declared.view.View.{View}
 use Rattle.table_steps.specs.Views.{Board}
-use Rattle.table_steps.specs.Claims.{with_step, Seated}
+use Rattle.table_steps.specs.Claims.{with_step}
+use Rattle.table_steps.specs.Seats.{Seated}
 use Rattle.table_steps.specs.ScopeMoves.{IsMaking, MayLeaveScope, leaves_scope, with_one_more}
 use Rattle.count_scope.specs.Leaves.{Leaves}
 use Rattle.count_scope.specs.Associations.{Associates}

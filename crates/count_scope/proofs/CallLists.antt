@@ -9,7 +9,8 @@ use Rattle.table_words.specs.ScopeNumbers.{scope_read}
 use Rattle.listed_words.specs.declared.seen.Seen.{Seen}
 use Rattle.listed_words.specs.Lists.{entry}
 use Rattle.table_rules.specs.declared.view.View.{View}
-use Rattle.table_steps.specs.Claims.{with_step, Seated}
+use Rattle.table_steps.specs.Claims.{with_step}
+use Rattle.table_steps.specs.Seats.{Seated}
 use Rattle.count_scope.specs.declared.joining.JoinStart.{JoinStart}
 use Rattle.count_scope.specs.Seals.{seen_after, tried}
 use Rattle.count_scope.specs.Leaves.{is_last, emptied, SealsWhere, Leaves}

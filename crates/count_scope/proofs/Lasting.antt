@@ -12,7 +12,8 @@ use Rattle.table_rules.specs.declared.frame.Frame.{Frame}
 use Rattle.table_rules.specs.declared.view.View.{View}
 use Rattle.table_rules.specs.ShownWords.{scope_of}
 use Rattle.table_rules.specs.Running.{Running}
-use Rattle.table_steps.specs.Claims.{with_step, Seated}
+use Rattle.table_steps.specs.Claims.{with_step}
+use Rattle.table_steps.specs.Seats.{Seated}
 use Rattle.table_laws.specs.Lasting.{StillLists, IsEmptied}
 use Rattle.table_laws.proofs.Lasting.{scope-later, emptied-since}
 use Rattle.count_scope.specs.declared.joining.JoinStart.TheVariants.{Joined, Waiting}

@@ -8,7 +8,7 @@ use Rattle.table_words.specs.ScopeNumbers.{scope_read}
 use Rattle.atomic_table.specs.declared.shared.Seat.{Seat}
 use Rattle.table_rules.specs.declared.view.View.{View}
 use Rattle.table_rules.specs.Grown.{HasBitsOf}
-use Rattle.table_steps.specs.Claims.{Seated}
+use Rattle.table_steps.specs.Seats.{Seated}
 use Rattle.table_steps.specs.ScopeMoves.{leaves_scope, with_one_less, MovesScope}
 use Rattle.count_scope.specs.Tries.{Sealed, AreTries}
 use Rattle.count_scope.specs.Seals.{IsFresh, tried, Seals}

@@ -8,7 +8,7 @@ use Rattle.table_words.specs.ScopeNumbers.{scope_read}
 use Rattle.atomic_table.specs.declared.shared.Seat.{Seat}
 use Rattle.table_rules.specs.declared.view.View.{View}
 use Rattle.table_rules.specs.Grown.{HasBitsOf}
-use Rattle.table_steps.specs.Claims.{Seated}
+use Rattle.table_steps.specs.Seats.{Seated}
 use Rattle.table_steps.specs.ScopeSets.{SetsScope, joining}
 use Rattle.count_scope.specs.declared.joining.JoinStart.{JoinStart}
 use Rattle.count_scope.specs.Tries.{Sealed, is_settled}

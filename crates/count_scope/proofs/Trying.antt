@@ -8,7 +8,8 @@ use Rattle.table_words.specs.ScopeNumbers.{scope_read, scope_written}
 use Rattle.atomic_table.specs.declared.shared.Seat.{Seat}
 use Rattle.table_rules.specs.declared.view.View.{View}
 use Rattle.table_rules.specs.Grown.{HasBitsOf}
-use Rattle.table_steps.specs.Claims.{with_step, logged, Seated}
+use Rattle.table_steps.specs.Claims.{with_step, logged}
+use Rattle.table_steps.specs.Seats.{Seated}
 use Rattle.table_steps.specs.ScopeMoves.{as_joined, IsSealedAs}
 use Rattle.count_scope.specs.Tries.{Sealed, is_settled, expected_after, AllFailed}
 use Rattle.count_scope.specs.Seals.{IsFresh, listed, Seals}

@@ -3,7 +3,8 @@ use Rattle.std.specs.Prelude.{◌≡◌, ℕ, ◌+◌, Bool, true, false, Some, 
 use Rattle.life_rules.specs.declared.scope.Refused.{Refused}
 use Rattle.life_rules.specs.Scopes.{refusal}
 use Rattle.table_words.specs.ScopeNumbers.{scope_read}
-use Rattle.table_steps.specs.Claims.{with_step, Seated}
+use Rattle.table_steps.specs.Claims.{with_step}
+use Rattle.table_steps.specs.Seats.{Seated, homes_of, view_of}
 use Rattle.table_steps.specs.ScopeMoves.{as_used, with_one_more}
 use Rattle.count_scope.specs.declared.members.Association.{Association}
 use Rattle.count_scope.specs.Leaves.{Leaves}
@@ -15,14 +16,14 @@ Answer = Result Association Refused
 module _ {P E : Type 0} where
   -- the hand has one association more
   abbrev pub associated : Seated P E → Seated P E
-  associated m = (record (m.0) { made = m.0.made + 1 }, m.1)
+  associated m = (record (view_of m) { made = (view_of m).made + 1 }, homes_of m)
 
   -- a step read this word, and left it with the used bit set
   pub record IsMarked (m m' : Seated P E) : Type 0 where
     pub read : ℕ
     pub left : ℕ
     pub left_is : scope_read left ≡ as_used (scope_read read)
-    pub me_is : m' ≡ (with_step 0 read left m.0, m.1)
+    pub me_is : m' ≡ (with_step 0 read left (view_of m), homes_of m)
 
   -- the used bit was read as set, and there was no step more; else a step marked it
   abbrev pub MarksWhere : Bool → Seated P E → Seated P E → Type 0
@@ -38,14 +39,18 @@ module _ {P E : Type 0} where
     pub left_is : scope_read left ≡ with_one_more (scope_read word)
     pub ends : MatchResult answer
         (λ _. (refusal (scope_read word) most ≡ None)
-        × MarksWhere (scope_read word).used (associated (with_step 0 word left m.0, m.1)) m')
+        × MarksWhere (scope_read word).used
+        (associated (with_step 0 word left (view_of m), homes_of m)) m')
         (λ cause. (refusal (scope_read word) most ≡ Some cause)
-        × Leaves (with_step 0 word left m.0, m.1) m')
+        × Leaves (with_step 0 word left (view_of m), homes_of m) m')
 
   -- the hand has one association more where one was made, and as many as before where it was
   -- refused; else only the list of its steps is another
   abbrev pub CountsOne : Answer → Seated P E → Seated P E → Type 0
   CountsOne answer m m' =
       MatchResult answer
-      (λ _. m' ≡ (record (m.0) { made = m.0.made + 1; steps = m'.0.steps }, m.1))
-      (λ _. m' ≡ (record (m.0) { steps = m'.0.steps }, m.1))
+      (λ _. m' ≡ (
+        record (view_of m) { made = (view_of m).made + 1; steps = (view_of m').steps },
+        homes_of m,
+      ))
+      (λ _. m' ≡ (record (view_of m) { steps = (view_of m').steps }, homes_of m))

@@ -11,7 +11,7 @@ use Rattle.table_words.specs.Layouts.{index}
 use Rattle.atomic_table.specs.declared.shared.Seat.{Seat}
 use Rattle.table_rules.specs.declared.view.View.{View}
 use Rattle.table_steps.specs.Views.{Board}
-use Rattle.table_steps.specs.Claims.{Seated}
+use Rattle.table_steps.specs.Seats.{Seated}
 use Rattle.table_steps.specs.Sights.{spot_of}
 use Rattle.table_laws.specs.CallLists.{ListsOne, ListsTwo, ListsSome}
 use Rattle.stop_calls.specs.declared.requesting.Request.{Request}

@@ -3,7 +3,8 @@ use Rattle.std.specs.Prelude.{◌≡◌, ℕ, true, if◌then◌else◌, Bool, f
 use Rattle.life_rules.specs.declared.scope.ScopeWord.{ScopeWord}
 use Rattle.life_rules.specs.Scopes.{may_seal}
 use Rattle.table_words.specs.ScopeNumbers.{scope_read}
-use Rattle.table_steps.specs.Claims.{with_step, Seated}
+use Rattle.table_steps.specs.Claims.{with_step}
+use Rattle.table_steps.specs.Seats.{Seated, homes_of, view_of}
 use Rattle.table_steps.specs.ScopeSets.{joining}
 use Rattle.count_scope.specs.declared.joining.JoinStart.{JoinStart}
 use Rattle.count_scope.specs.declared.joining.JoinStart.TheVariants.{Joined, Waiting}
@@ -33,5 +34,5 @@ pub record Starts {P E : Type 0} (answer : JoinStart) (m m' : Seated P E) : Type
   pub left_is : scope_read left ≡ joining (scope_read read)
   pub words : List ℕ
   pub last : ℕ
-  pub me_is : m' ≡ (tried words last (with_step 0 read left m.0), m.1)
+  pub me_is : m' ≡ (tried words last (with_step 0 read left (view_of m)), homes_of m)
   pub starts : StartsWhere (may_seal (scope_read left)) (scope_read left) words last answer

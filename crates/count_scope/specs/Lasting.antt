@@ -9,7 +9,7 @@ use Rattle.table_rules.specs.declared.frame.Frame.{Frame}
 use Rattle.table_rules.specs.declared.view.View.{View}
 use Rattle.table_rules.specs.ShownWords.{scope_of}
 use Rattle.table_rules.specs.Running.{Running}
-use Rattle.table_steps.specs.Claims.{Seated}
+use Rattle.table_steps.specs.Seats.{Seated}
 use Rattle.table_laws.specs.Lasting.{StillLists, IsEmptied}
 use Rattle.count_scope.specs.declared.members.Association.{Association}
 use Rattle.count_scope.specs.declared.joining.JoinStart.TheVariants.{Joined}

@@ -3,7 +3,8 @@ use Rattle.std.specs.Prelude.{◌≡◌, ℕ, ◌-◌, ◌≤◌, Bool, true, fa
 use Rattle.life_rules.specs.declared.scope.ScopeWord.{ScopeWord}
 use Rattle.table_words.specs.ScopeNumbers.{scope_read}
 use Rattle.table_rules.specs.declared.view.View.{View}
-use Rattle.table_steps.specs.Claims.{with_step, Seated}
+use Rattle.table_steps.specs.Claims.{with_step}
+use Rattle.table_steps.specs.Seats.{Seated, homes_of, view_of}
 use Rattle.table_steps.specs.ScopeMoves.{with_one_less, leaves_scope}
 use Rattle.table_steps.specs.ScopeEntries.{MayEnter}
 use Rattle.count_scope.specs.Tries.{Sealed, AreTries}
@@ -31,11 +32,11 @@ module _ {P E : Type 0} where
 
   -- the hand with one association less: one that is being refused goes first
   abbrev pub with_one_left : Seated P E → Seated P E
-  with_one_left m = (leaves_scope m.0, m.1)
+  with_one_left m = (leaves_scope (view_of m), homes_of m)
 
   -- the hand has one association less
   abbrev pub disassociated : Seated P E → Seated P E
-  disassociated m = (record (m.0) { made = m.0.made - 1 }, m.1)
+  disassociated m = (record (view_of m) { made = (view_of m).made - 1 }, homes_of m)
 
   -- the leave read this word, and left one that counts one less. Where that left the last one of a
   -- scope that joins, the scope is sealed by tries that read these words
@@ -45,5 +46,5 @@ module _ {P E : Type 0} where
     pub left_is : scope_read left ≡ with_one_less (scope_read word)
     pub words : List ℕ
     pub last : ℕ
-    pub me_is : m' ≡ (tried words last (with_step 0 word left m.0), m.1)
+    pub me_is : m' ≡ (tried words last (with_step 0 word left (view_of m)), homes_of m)
     pub seals : SealsWhere (is_last (scope_read word)) (emptied (scope_read word)) words last

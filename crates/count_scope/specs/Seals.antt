@@ -6,7 +6,8 @@ use Rattle.listed_words.specs.declared.seen.Seen.{Seen}
 use Rattle.listed_words.specs.Lists.{entry}
 use Rattle.table_rules.specs.declared.view.View.{View}
 use Rattle.table_rules.specs.Grown.{HasBitsOf}
-use Rattle.table_steps.specs.Claims.{with_step, Seated}
+use Rattle.table_steps.specs.Claims.{with_step}
+use Rattle.table_steps.specs.Seats.{Seated, homes_of, view_of}
 use Rattle.count_scope.specs.Tries.{Sealed, AreTries}
 
 -- the hand's newest step was on the scope's word, and left a word with the bits of this one
@@ -37,5 +38,5 @@ module _ {P E : Type 0} where
   pub record Seals (first : ScopeWord) (answer : Sealed) (m m' : Seated P E) : Type 0 where
     pub words : List ℕ
     pub left : ℕ
-    pub me_is : m' ≡ (tried words left m.0, m.1)
+    pub me_is : m' ≡ (tried words left (view_of m), homes_of m)
     pub tries : AreTries first answer words left

@@ -1,12 +1,10 @@
 -- The second child of an `ahead` is its only one in the table's tree.
 use Rattle.std.specs.Prelude.{Contains, ◌==◌}
-use Rattle.std.proofs.Common.{◌≡◌, ℕ, zero, suc, true, false, [], ◌∷◌, Option, Some, None, refl, sym, ap, ◌∙◌, subst, arith}
+use Rattle.std.proofs.Common.{◌≡◌, ℕ, zero, suc, true, false, [], ◌∷◌, Some, refl, sym, ap, ◌∙◌, subst, arith}
 use Rattle.std.proofs.lemmas.Bool.{eq-eqb, false≢true}
 use Rattle.std.proofs.lemmas.Option.{same_Some}
-use Rattle.std.specs.Prelude.{is_some}
 use Rattle.life_rules.specs.declared.event.Name.{Name}
 use Rattle.node_tree.specs.Tree.{is_child}
-use Rattle.plan_rules.specs.declared.node.Node.{Node}
 use Rattle.plan_rules.specs.declared.node.Node.TheVariants.{Ahead}
 use Rattle.plan_kinds.proofs.Trees.{trees-show}
 use Rattle.plan_shape.specs.Blueprint.{Blueprint}
@@ -15,11 +13,6 @@ use Rattle.table_steps.specs.Views.{Board}
 use Rattle.home_items.proofs.Standing.{second-differs}
 use Rattle.step_parts.specs.Takes.{IsOnlyChild}
 use Rattle.exec_recv.specs.Sites.{plan_at, node_at, IsSite}
-use Rattle.exec_ahead.specs.Kinds.{IsAhead}
-
-pub ahead-some : (o : Option Node) → IsAhead o → is_some o ≡ true
-ahead-some None kind = absurd kind
-ahead-some (Some node) kind = refl
 
 pub second-among : (first second : ℕ) → Contains (first ∷ second ∷ []) second
 second-among first second = (1, omega arith, refl)

@@ -10,7 +10,7 @@ use Rattle.plan_rules.specs.declared.node.Node.TheVariants.{WhenAll}
 use Rattle.plan_kinds.specs.Built.{IsNoPart}
 use Rattle.plan_shape.specs.Blueprint.{Blueprint}
 use Rattle.table_rules.specs.declared.view.Held.{Held}
-use Rattle.table_steps.specs.Claims.{Seated}
+use Rattle.table_steps.specs.Seats.{Seated}
 use Rattle.table_steps.specs.Slots.{held_at, knows_idle}
 use Rattle.table_steps.specs.Views.{Board}
 use Rattle.home_items.specs.declared.entry.Entry.{Entry}

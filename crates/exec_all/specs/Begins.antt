@@ -3,7 +3,7 @@ use Rattle.std.specs.Prelude.{◌≡◌, ◌⊎◌, ℕ, Bool, true, false, List
 use Rattle.exec_value.specs.declared.outcome.Completion.TheVariants.{Stopped, NoMemory}
 use Rattle.plan_rules.specs.declared.node.Node.TheVariants.{WhenAll}
 use Rattle.plan_shape.specs.Blueprint.{Blueprint}
-use Rattle.table_steps.specs.Views.{Board}
+use Rattle.table_steps.specs.Views.{Board, knows}
 use Rattle.home_items.specs.Entries.{asked_of, carried_of}
 use Rattle.exec_recv.specs.declared.next.Next.{Next}
 use Rattle.exec_recv.specs.declared.next.Next.TheVariants.{Rest as IsAtRest}
@@ -39,7 +39,7 @@ module _ (board : Board Blueprint) (t : Stepping) (children : List ℕ) where
     pub next_is : next ≡ IsAtRest
     pub waiting : HandSeat
     pub awaits : AwaitsMany board t None children old waiting
-    pub owed : new.me.0.owed ≡ waiting.me.0.owed
+    pub owed : (knows new).owed ≡ (knows waiting).owed
 
   -- It listened to the source above it, and then looked: where a stop was requested there it
   -- completed stopped, and began no child; else it began all.

@@ -16,7 +16,7 @@ use Rattle.plan_rules.specs.declared.node.Node.TheVariants.{Bulk, Part}
 use Rattle.plan_shape.specs.Blueprint.{Blueprint}
 use Rattle.plan_shape.specs.declared.limits.TheConstants.{BULK_PARTS}
 use Rattle.plan_shape.proofs.ListLemmas.{different_range}
-use Rattle.table_steps.specs.Claims.{Seated}
+use Rattle.table_steps.specs.Seats.{Seated}
 use Rattle.table_steps.specs.Slots.{has_seen}
 use Rattle.table_steps.specs.Views.{Board}
 use Rattle.op_slot.specs.Tends.{HasPlaces}

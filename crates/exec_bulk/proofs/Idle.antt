@@ -10,7 +10,7 @@ use Rattle.plan_shape.specs.Blueprint.{Blueprint}
 use Rattle.table_rules.specs.declared.view.Held.{Held}
 use Rattle.table_rules.specs.Named.{find_by}
 use Rattle.table_steps.specs.Views.{Board, Stays}
-use Rattle.table_steps.specs.Claims.{Seated}
+use Rattle.table_steps.specs.Seats.{Seated}
 use Rattle.table_steps.specs.Readings.{HoldsAbove, IsBegunAs, KnowsIdle}
 use Rattle.table_steps.specs.Slots.{knows_idle}
 use Rattle.home_items.specs.declared.entry.Entry.{Entry}

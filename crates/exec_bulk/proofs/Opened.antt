@@ -1,6 +1,6 @@
 -- How the step of a bulk that has begun goes on from what lies in the homes.
 use Rattle.std.proofs.Common.{◌≡◌, ◌≢◌, inl, inr, ℕ, ◌+◌, ◌<◌, ◌≤◌, min, true, false, ◌==◌, List, ℤ, [], length, Option, Some, None, refl, sym, ap, ◌∙◌, subst, arith}
-use Rattle.std.specs.Prelude.{IfSome, slice_get}
+use Rattle.std.specs.Prelude.{slice_get}
 use Rattle.std.specs.Borrow.{MutBor}
 use Rattle.std.specs.List.{list_any, range_with_len}
 use Rattle.std.specs.Option.{option_copied_mut, option_map, option_map_or}
@@ -25,8 +25,8 @@ use Rattle.home_items.specs.Bounds.{least_of}
 use Rattle.home_items.specs.Contents.{Start, Rest, Done}
 use Rattle.home_items.specs.Entries.{node_of, no_row, row_lot}
 use Rattle.home_items.specs.Fits.{IsItemOf}
-use Rattle.home_items.specs.Items.{completion_in, lot_for, lot_of, parcel_in, saw_in, start_in, state_of, without_parcel}
-use Rattle.home_items.specs.Parcels.{Delivery, IsDelivery}
+use Rattle.home_items.specs.Items.{completion_in, lot_for, lot_of, parcel_in, saw_in, start_in, state_of}
+use Rattle.home_items.specs.Parcels.{Delivery}
 use Rattle.exec_recv.specs.Seats.{HandSeat}
 use Rattle.exec_recv.specs.Sites.{node_at, plan_at}
 use Rattle.exec_recv.specs.Steppable.{CanStep}
@@ -34,10 +34,10 @@ use Rattle.start_laws.specs.Nodes.{IsStartOf}
 use Rattle.step_parts.specs.Midway.{IsMidway}
 use Rattle.step_parts.specs.Several.{emptied, Empties}
 use Rattle.step_parts.specs.Stepping.{Stepping}
-use Rattle.step_parts.specs.Takes.{IsOpen, IsOpenWith, TakesKept}
+use Rattle.step_parts.specs.Takes.{IsOpen, IsOpenWith}
 use Rattle.step_parts.proofs.Changing.{turned-keeps}
 use Rattle.step_parts.proofs.Ended.{open-none, open-taken}
-use Rattle.step_parts.proofs.Frames.{named-at, others-on}
+use Rattle.step_parts.proofs.Frames.{others-on}
 use Rattle.step_parts.proofs.Several.{emptied-else, emptied-in}
 use Rattle.step_parts.proofs.Swapping.{swap-changes}
 use Rattle.step_parts.proofs.Telling.{kept-from}

@@ -24,7 +24,7 @@ use Rattle.exec_recv.specs.Sites.{node_at, plan_at, IsSite}
 use Rattle.start_laws.specs.Nodes.{IsStartOf}
 use Rattle.start_laws.proofs.Pairs.{sole}
 use Rattle.step_parts.proofs.Places.{node-shown}
-use Rattle.exec_bulk.specs.Kinds.{IsBulkNode, IsPartNode}
+use Rattle.exec_bulk.specs.Kinds.{IsBulkNode}
 use Rattle.exec_bulk.specs.Rows.{first_part}
 use Rattle.exec_bulk.proofs.Ranges.{range-place, place-range}
 use Rattle.std.specs.Prelude.{List}
@@ -34,11 +34,6 @@ pub bulk-of : (o : Option Node) → IsBulkNode o → (child : ℕ) × (job : Job
 bulk-of None kind = absurd kind
 bulk-of (Some (Bulk child job)) kind = (child, job, refl)
 bulk-of (Some node) kind = absurd kind
-
-pub part-of : (o : Option Node) → IsPartNode o → (bulk : ℕ) × (part : ℕ) × (o ≡ Some (Part bulk part))
-part-of None kind = absurd kind
-part-of (Some (Part bulk part)) kind = (bulk, part, refl)
-part-of (Some node) kind = absurd kind
 
 -- in a plan
 module _ (plan : Blueprint) (is_plan : IsPlan plan) (n child : ℕ) (job : Job) (at : slice_get plan.nodes n ≡ Some (Bulk child job)) where

@@ -8,7 +8,7 @@ use Rattle.exec_value.specs.declared.outcome.Completion.TheVariants.{NoMemory}
 use Rattle.plan_rules.specs.declared.node.Node.TheVariants.{Bulk}
 use Rattle.plan_shape.specs.Blueprint.{Blueprint}
 use Rattle.table_steps.specs.Slots.{has_seen}
-use Rattle.table_steps.specs.Views.{Board}
+use Rattle.table_steps.specs.Views.{Board, knows}
 use Rattle.home_items.specs.Parcels.{Delivery}
 use Rattle.exec_recv.specs.declared.next.Next.{Next}
 use Rattle.exec_recv.specs.declared.next.Next.TheVariants.{Rest as IsAtRest}
@@ -39,7 +39,7 @@ module _ (board : Board Blueprint) (t : Stepping) where
   pub record MayStart (parcel : Delivery) (row : List Datum) (hand : HandSeat) : Type 0 where
     pub may : MayBegin parcel hand
     pub row_is : row ≡ Row (numbers_in parcel.completion) ∷ []
-    pub seen : parcel.saw ≡ true → has_seen board.frame.tree hand.me.0 t.name ≡ true
+    pub seen : parcel.saw ≡ true → has_seen board.frame.tree (knows hand) t.name ≡ true
 
   -- where the child saw a request, the node looked, and the answer is what it read
   pub record Looks (saw answer : Bool) (old new : HandSeat) : Type 0 where
@@ -58,7 +58,7 @@ module _ (board : Board Blueprint) (t : Stepping) where
     pub awaits : AwaitsMany board t (Some parcel)
         (range_with_len (first_part t.name.node) (parts_for (numbers_in parcel.completion)))
         read waiting
-    pub owed : new.me.0.owed ≡ waiting.me.0.owed
+    pub owed : (knows new).owed ≡ (knows waiting).owed
 
   -- It began the parts. Where the child saw a request of which the node's own look reads nothing,
   -- which doesn't come, it completed with want of memory.

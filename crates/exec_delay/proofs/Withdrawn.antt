@@ -13,7 +13,7 @@ use Rattle.node_tree.specs.Tree.{nearest}
 use Rattle.plan_shape.specs.Blueprint.{Blueprint}
 use Rattle.table_rules.specs.declared.view.View.{View}
 use Rattle.table_rules.specs.ShownViews.{has_source_ref}
-use Rattle.table_steps.specs.Claims.{Seated}
+use Rattle.table_steps.specs.Seats.{Seated}
 use Rattle.table_steps.specs.Slots.{has_seen}
 use Rattle.table_steps.specs.Views.{Board}
 use Rattle.stop_calls.specs.declared.removing.Settled.{Settled}

@@ -8,7 +8,7 @@ use Rattle.table_rules.specs.declared.view.View.{View}
 use Rattle.table_steps.specs.Callbacks.{is_registered}
 use Rattle.table_steps.specs.Readings.{IsPhaseAs}
 use Rattle.table_steps.specs.Slots.{has_seen}
-use Rattle.table_steps.specs.Views.{Board}
+use Rattle.table_steps.specs.Views.{Board, knows}
 use Rattle.stop_calls.specs.declared.removing.Settled.{Settled}
 use Rattle.stop_calls.specs.declared.removing.Settled.TheVariants.{NeverRan, Ran, OwnHand}
 use Rattle.stop_calls.specs.Removals.{IsSettled}
@@ -39,7 +39,7 @@ module _ (board : Board Blueprint) (x : Name) (ran : Bool)
     pub removes : is_registered phase ≡ true → HasRemoved middle
     pub none : is_registered phase ≡ false → (ran ≡ false) × (new.me ≡ middle.me)
     pub seen : hears_one board x ≡ true → ran ≡ true →
-        has_seen board.frame.tree new.me.0 x ≡ true
+        has_seen board.frame.tree (knows new) x ≡ true
 
   -- so it was where x hears a source. Where it hears none, nothing was done
   pub record Withdraws : Type 0 where

@@ -87,26 +87,11 @@ Puts-took bytes n within grown held cause = record {
   cause = record { later = cause.later; failed = tt; still = cause.still };
 }
 
--- a write that failed
-pub Puts-failed : {s t : SinkView} {e : Failed} (bytes : List ℕ) → Appends s.written t.written [] → AddsAtMost s.outstanding t.outstanding 0 → HasCause {T = ℕ} s.faults t.faults (Err e) → Puts s t (Err e) bytes
-Puts-failed bytes grown held cause = record {
-  ok = tt;
-  part = AppendsFront-none bytes grown;
-  held = AddsAtMost-more held zero-le;
-  cause = record { later = cause.later; failed = cause.failed; still = tt };
-}
-
 -- a write of a front of what is left, after what was written of the bytes
 pub Puts-more : {s t u : SinkView} (bytes piece : List ℕ) (done n : ℕ) → piece ≡ drop done bytes → Puts s t (Ok tt) (take done bytes) → n ≤ length piece → Appends t.written u.written (take n piece) → AddsAtMost t.outstanding u.outstanding n → HasCause {E = Failed} t.faults u.faults (Ok n) → Puts s u (Ok tt) (take (done + n) bytes)
 Puts-more {s = s} {u = u} bytes piece done n rest before within grown held cause =
     let e : take done bytes ++ take n piece ≡ take (done + n) bytes = ap (λ (l : List ℕ). take done bytes ++ take n l) rest ∙ sym (take-add done n bytes) in
     subst (Puts s u (Ok tt)) e (Puts-then before (Puts-took piece n within grown held cause))
-
--- a write that failed there
-pub Puts-stopped : {s t u : SinkView} {e : Failed} (bytes piece : List ℕ) (done : ℕ) → piece ≡ drop done bytes → Puts s t (Ok tt) (take done bytes) → Appends t.written u.written [] → AddsAtMost t.outstanding u.outstanding 0 → HasCause {T = ℕ} t.faults u.faults (Err e) → Puts s u (Err e) bytes
-Puts-stopped {s = s} {u = u} {e = e} bytes piece done rest before grown held cause =
-    let whole : take done bytes ++ piece ≡ bytes = ap (λ (l : List ℕ). take done bytes ++ l) rest ∙ take-append-drop done bytes in
-    subst (Puts s u (Err e)) whole (Puts-then before (Puts-failed piece grown held cause))
 
 -- the items before one, and it
 pub Puts-item : {X : Type 0} {s t u : SinkView} {r : Result (Unit {0}) Failed} (f : X → List ℕ) (xs : List X) (i : ℕ) (x d : X) → x ≡ get_or xs i d → i < length xs → Puts s t (Ok tt) (flat_map f (take i xs)) → Puts t u r (f x) → Puts s u r (flat_map f (take (i + 1) xs))

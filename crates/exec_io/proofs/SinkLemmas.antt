@@ -1,5 +1,5 @@
 -- How the bytes of a sink grow over several calls.
-use Rattle.std.proofs.Common.{ℕ, ◌+◌, ◌≤◌, List, [], ◌++◌, Option, None, Some, IsSome, refl, sym, ap, ◌∙◌, append_assoc, append-nil, arith}
+use Rattle.std.proofs.Common.{ℕ, ◌+◌, ◌≤◌, List, [], ◌++◌, Option, None, Some, sym, ap, ◌∙◌, append_assoc, append-nil, arith}
 use Rattle.exec_io.specs.Sinks.{Appends, AddsAtMost}
 
 -- before the first call
@@ -22,19 +22,6 @@ Appends-still {mid = None} {new = Some zs} first second = absurd second.grown
 Appends-still {old = None} {mid = Some ys} {new = Some zs} first second = absurd first.grown
 Appends-still {old = Some xs} {mid = Some ys} {new = Some zs} first second = record { grown = second.grown ∙ append-nil ys ∙ first.grown }
 
--- and before another
-pub Appends-then : {old mid new : Option (List ℕ)} {xs : List ℕ} → Appends old mid [] → Appends mid new xs → Appends old new xs
-Appends-then {new = None} first second = record { grown = tt }
-Appends-then {mid = None} {new = Some zs} first second = absurd second.grown
-Appends-then {old = None} {mid = Some ys} {new = Some zs} first second = absurd first.grown
-Appends-then {old = Some xs} {mid = Some ys} {new = Some zs} {xs = bs} first second = record { grown = second.grown ∙ ap (λ l. l ++ bs) (first.grown ∙ append-nil xs) }
-
--- what is told afterwards was told before
-pub Appends-told : {old new : Option (List ℕ)} {xs : List ℕ} → Appends old new xs → IsSome new → IsSome old
-Appends-told {old = None} {new = None} grows told = told
-Appends-told {old = None} {new = Some ys} grows told = absurd grows.grown
-Appends-told {old = Some xs} grows told = refl
-
 -- before the first call
 pub AddsAtMost-zero : (told : Option ℕ) → AddsAtMost told told 0
 AddsAtMost-zero None = record { grown = tt }
@@ -52,9 +39,3 @@ pub AddsAtMost-more : {old new : Option ℕ} {m n : ℕ} → AddsAtMost old new 
 AddsAtMost-more {new = None} adds le = record { grown = tt }
 AddsAtMost-more {old = None} {new = Some b} adds le = absurd adds.grown
 AddsAtMost-more {old = Some a} {new = Some b} adds le = record { grown = omega (arith, adds.grown) }
-
--- what is told afterwards was told before
-pub AddsAtMost-told : {old new : Option ℕ} {n : ℕ} → AddsAtMost old new n → IsSome new → IsSome old
-AddsAtMost-told {old = None} {new = None} adds told = told
-AddsAtMost-told {old = None} {new = Some b} adds told = absurd adds.grown
-AddsAtMost-told {old = Some a} adds told = refl

@@ -1,6 +1,6 @@
 -- Where lets and their children stand, and whose starts they have.
-use Rattle.std.specs.Prelude.{Contains, All, is_some, slice_get}
-use Rattle.std.proofs.Common.{◌≡◌, ◌⊎◌, ℕ, ◌<◌, ◌==◌, true, false, List, [], ◌∷◌, length, get_or, Option, Some, None, inl, inr, refl, sym, ◌∙◌, subst, arith}
+use Rattle.std.specs.Prelude.{Contains, All, slice_get}
+use Rattle.std.proofs.Common.{◌≡◌, ◌⊎◌, ℕ, ◌<◌, ◌==◌, true, false, List, [], ◌∷◌, length, get_or, Option, Some, inl, inr, refl, sym, ◌∙◌, subst, arith}
 use Rattle.std.proofs.lemmas.Bool.{eqb-true}
 use Rattle.std.proofs.lemmas.List.Elements.{Contains-get_or, Contains-append_left, Contains-append_cases}
 use Rattle.common_lemmas.proofs.Bool.{either}
@@ -81,11 +81,6 @@ let-whole nodes (LetValue x pick xs) is whole = whole
 let-whole nodes (LetError x pick xs) is whole = whole
 let-whole nodes (LetStopped x pick xs) is whole = whole
 let-whole nodes node is whole = absurd is
-
--- the node is a let of the plan
-pub let-some : (o : Option Node) → IsLetNode o → is_some o ≡ true
-let-some None kind = absurd kind
-let-some (Some node) kind = refl
 
 pub kind-let : (o : Option Node) (node : Node) → o ≡ Some node → IsLetNode o → IsLet node
 kind-let o node e kind = subst IsLetNode e kind

@@ -18,7 +18,7 @@ use Rattle.plan_shape.specs.Blueprint.{Blueprint}
 use Rattle.table_words.specs.Layouts.{OfControl, OfSource, index}
 use Rattle.table_rules.specs.declared.view.View.{View}
 use Rattle.table_steps.specs.Views.{Board, IsPlaceIn}
-use Rattle.table_steps.specs.Claims.{Seated}
+use Rattle.table_steps.specs.Seats.{Seated}
 use Rattle.table_steps.specs.Rouses.{IsRoused}
 use Rattle.table_steps.specs.Sights.{spot_of, IsSourceIn}
 use Rattle.table_steps.specs.Steps.{control_index}

@@ -10,7 +10,7 @@ use Rattle.table_rules.specs.declared.view.Owed.{Owed}
 use Rattle.table_rules.specs.declared.view.Reported.{Reported}
 use Rattle.table_rules.specs.Named.{find_by}
 use Rattle.table_steps.specs.Views.{Board, IsPlaceIn, aimed}
-use Rattle.table_steps.specs.Claims.{Seated}
+use Rattle.table_steps.specs.Seats.{Seated}
 use Rattle.table_steps.specs.Reports.{LastAt, laid}
 use Rattle.table_steps.specs.Slots.{IsSeated, AreApart, slot_of, kids_of, kept, is_of_family}
 use Rattle.table_steps.specs.Takes.{TakenAt}

@@ -6,7 +6,7 @@ use Rattle.listed_words.specs.declared.seen.Seen.{Seen}
 use Rattle.table_rules.specs.ShownViews.{has_source_ref}
 use Rattle.plan_shape.specs.Blueprint.{Blueprint}
 use Rattle.table_steps.specs.Views.{Board}
-use Rattle.table_steps.specs.Claims.{Seated}
+use Rattle.table_steps.specs.Seats.{Seated}
 use Rattle.home_items.specs.declared.entry.Entry.{Entry}
 use Rattle.home_items.specs.declared.item.Item.{Item}
 use Rattle.exec_recv.specs.Asides.{aside_of, KeepsAside}

@@ -22,7 +22,7 @@ use Rattle.table_rules.specs.Named.{count_by, find_by, without, Each}
 use Rattle.table_rules.specs.ShownViews.{has_source_ref}
 use Rattle.table_steps.specs.Views.{Board, aimed}
 use Rattle.table_steps.specs.Begins.{Begins, begun_as, start_shown}
-use Rattle.table_steps.specs.Claims.{Seated}
+use Rattle.table_steps.specs.Seats.{Seated}
 use Rattle.table_steps.specs.Owing.{Owes}
 use Rattle.table_steps.specs.Reports.{laid}
 use Rattle.table_steps.specs.Slots.{AreApart, slot_of, kids_of, kept, has_seen, is_of_family, owed_at}

@@ -8,7 +8,7 @@ use Rattle.plan_shape.specs.Blueprint.{Blueprint}
 use Rattle.table_words.specs.Layouts.{OfControl, OfSource}
 use Rattle.table_steps.specs.Views.{Board, aimed}
 use Rattle.table_steps.specs.Begins.{Begins, start_shown, notes_start, source_index}
-use Rattle.table_steps.specs.Claims.{Seated}
+use Rattle.table_steps.specs.Seats.{Seated}
 use Rattle.table_steps.specs.Slots.{home_at}
 use Rattle.table_steps.specs.Steps.{control_index}
 use Rattle.home_items.specs.contracts.item.ItemCargo.TheImpl.{ghosts}

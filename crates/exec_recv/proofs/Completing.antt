@@ -1,11 +1,10 @@
 -- How a node delivers: its parcel is put into its home, it is finished, and reported.
-use Rattle.std.proofs.Common.{◌≡◌, inl, ℕ, Bool, true, false, ◌||◌, ◌==◌, ◌∷◌, refl, sym, ap, ◌∙◌, subst}
+use Rattle.std.proofs.Common.{◌≡◌, inl, ℕ, Bool, true, false, ◌||◌, ◌==◌, ◌∷◌, refl, sym, ap, ◌∙◌}
 use Rattle.std.specs.Prelude.{Option, Some, None, MatchOption}
 use Rattle.std.specs.List.{list_any}
 use Rattle.life_rules.specs.declared.event.Name.{Name}
 use Rattle.life_rules.specs.declared.words.CallbackPhase.{CallbackPhase}
 use Rattle.life_rules.specs.declared.words.ControlWord.TheVariants.{Busy, Done as IsDone}
-use Rattle.listed_words.specs.declared.seen.Seen.{Seen}
 use Rattle.listed_words.specs.Lists.{entry}
 use Rattle.node_tree.specs.Tree.{is_root}
 use Rattle.plan_shape.specs.Blueprint.{Blueprint}
@@ -15,7 +14,7 @@ use Rattle.table_rules.specs.declared.view.Reported.{Reported}
 use Rattle.table_rules.specs.ShownViews.{has_source_ref}
 use Rattle.table_rules.specs.Named.{without}
 use Rattle.table_steps.specs.Views.{Board, aimed, aim_at}
-use Rattle.table_steps.specs.Claims.{Seated}
+use Rattle.table_steps.specs.Seats.{Seated}
 use Rattle.table_steps.specs.Finishes.{is_settled, CanFinish, FinishesAt, FinishedAt}
 use Rattle.table_steps.specs.Lefts.{LeavesControl}
 use Rattle.table_steps.specs.Readings.{above_it}
@@ -24,7 +23,7 @@ use Rattle.table_steps.specs.Slots.{slot_of, kids_of, kept, is_of_family, has_se
 use Rattle.table_steps.specs.Steps.{control_index}
 use Rattle.table_steps.specs.declared.report.Report.{Report}
 use Rattle.table_steps.specs.declared.report.Report.TheVariants.{Last, Others}
-use Rattle.op_slot.specs.Tends.{IsCalm, HasPlaces, OwesReport, Tends}
+use Rattle.op_slot.specs.Tends.{IsCalm, OwesReport}
 use Rattle.op_slot.proofs.Leaving.{tends-finishes, finished-owes, finished-calm}
 use Rattle.op_slot.proofs.Kept.{kept-shed}
 use Rattle.home_items.specs.contracts.item.ItemCargo.TheImpl.{ghosts}
@@ -34,7 +33,7 @@ use Rattle.home_items.specs.Contents.{Done}
 use Rattle.home_items.specs.Items.{start_in}
 use Rattle.home_items.specs.Fits.{FitsHome}
 use Rattle.home_items.specs.Parcels.{Delivery}
-use Rattle.exec_recv.specs.Asides.{Aside, aside_of, SeesMore, KeepsAside}
+use Rattle.exec_recv.specs.Asides.{Aside, aside_of, SeesMore}
 use Rattle.exec_recv.specs.Beginnings.{AllCanStart}
 use Rattle.exec_recv.specs.Deliveries.{CanDeliver}
 use Rattle.exec_recv.specs.Family.{AreOwedElsewhere}

@@ -15,12 +15,11 @@ use Rattle.node_tree.specs.Tree.{is_child, parent_of}
 use Rattle.plan_rules.specs.Allowed.{IsFailure}
 use Rattle.plan_shape.specs.Blueprint.{Blueprint}
 use Rattle.table_rules.specs.declared.view.Held.{Held}
-use Rattle.table_rules.specs.declared.view.Owed.{Owed}
 use Rattle.table_rules.specs.declared.view.Reported.{Reported}
 use Rattle.table_rules.specs.ShownViews.{has_source_ref}
 use Rattle.table_rules.specs.Named.{find_by, without}
 use Rattle.table_steps.specs.Views.{Board, IsPlaceIn, aim_at}
-use Rattle.table_steps.specs.Claims.{Seated}
+use Rattle.table_steps.specs.Seats.{Seated}
 use Rattle.table_steps.specs.Finishes.{FinishesAt}
 use Rattle.table_steps.specs.Lefts.{LeavesControl}
 use Rattle.table_steps.specs.Readings.{above_it}
@@ -47,7 +46,7 @@ use Rattle.exec_recv.specs.Seats.{HandSeat}
 use Rattle.exec_recv.specs.Sites.{plan_at}
 use Rattle.exec_recv.specs.Nexts.{GoesTo, IsStepped}
 use Rattle.exec_recv.proofs.Acting.{all-more}
-use Rattle.exec_recv.proofs.Moves.{moves-look, moves-control, moves-beside, moves-on}
+use Rattle.exec_recv.proofs.Moves.{moves-control, moves-beside, moves-on}
 use Rattle.exec_recv.proofs.Arriving.{last-homes, last-steps}
 use Rattle.exec_recv.proofs.Completing.{reported_with, item-is, finish-owes, finish-held, finish-owed, finish-calm, finish-aside, finish-steps, finish-sees, finish-starts, report-aside, report-seen, report-steps}
 use Rattle.exec_recv.proofs.Failing.{owes-failed}

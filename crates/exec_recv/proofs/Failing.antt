@@ -15,7 +15,7 @@ use Rattle.plan_kinds.proofs.Trees.{trees-show}
 use Rattle.table_rules.specs.declared.view.Reported.{Reported}
 use Rattle.table_rules.specs.Named.{find_by}
 use Rattle.table_steps.specs.Views.{Board}
-use Rattle.table_steps.specs.Claims.{Seated}
+use Rattle.table_steps.specs.Seats.{Seated}
 use Rattle.table_steps.specs.Readings.{above_it}
 use Rattle.table_steps.specs.Requests.{OwesFailed}
 use Rattle.op_slot.specs.Tends.{OwesReport}

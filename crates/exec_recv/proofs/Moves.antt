@@ -9,7 +9,7 @@ use Rattle.table_words.specs.Layouts.{OfControl, OfCallback}
 use Rattle.table_steps.specs.Callbacks.{callback_index}
 use Rattle.table_steps.specs.Steps.{control_index}
 use Rattle.table_steps.specs.Views.{Board, IsPlaceIn}
-use Rattle.table_steps.specs.Claims.{Seated}
+use Rattle.table_steps.specs.Seats.{Seated}
 use Rattle.home_items.specs.declared.entry.Entry.{Entry}
 use Rattle.home_items.specs.declared.item.Item.{Item}
 use Rattle.exec_recv.specs.Areas.{IsWithin, MovesWithin}

@@ -19,7 +19,8 @@ use Rattle.table_words.proofs.Spots.{apart}
 use Rattle.table_rules.specs.declared.view.View.{View}
 use Rattle.table_rules.specs.Named.{Each}
 use Rattle.table_steps.specs.Views.{Board, IsPlaceIn}
-use Rattle.table_steps.specs.Claims.{Seated, word_index}
+use Rattle.table_steps.specs.Claims.{word_index}
+use Rattle.table_steps.specs.Seats.{Seated}
 use Rattle.table_steps.specs.Callbacks.{callback_index}
 use Rattle.table_steps.specs.Lefts.{SaysCallback}
 use Rattle.table_steps.specs.Remembers.{running}

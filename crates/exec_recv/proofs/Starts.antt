@@ -12,7 +12,7 @@ use Rattle.plan_shape.specs.Blueprint.{Blueprint}
 use Rattle.table_rules.specs.declared.view.Owed.{Owed}
 use Rattle.table_rules.specs.Named.{find_by, count_by, Each}
 use Rattle.table_steps.specs.Views.{Board}
-use Rattle.table_steps.specs.Claims.{Seated}
+use Rattle.table_steps.specs.Seats.{Seated}
 use Rattle.table_steps.specs.Owing.{Owes}
 use Rattle.table_steps.specs.Slots.{slot_of, kept, has_seen}
 use Rattle.home_items.specs.declared.entry.Entry.{Entry}

@@ -10,7 +10,7 @@ use Rattle.plan_shape.specs.Blueprint.{Blueprint}
 use Rattle.table_words.specs.Layouts.{OfSource, index}
 use Rattle.table_rules.specs.declared.view.View.{View}
 use Rattle.table_steps.specs.Views.{Board}
-use Rattle.table_steps.specs.Claims.{Seated}
+use Rattle.table_steps.specs.Seats.{Seated}
 use Rattle.stop_calls.specs.declared.requesting.Request.{Request}
 use Rattle.stop_calls.specs.Asides.{ComesBack, IsLonger}
 use Rattle.stop_calls.specs.Requests.{IsAskedFor}

@@ -1,12 +1,11 @@
 -- A node that may be stepped, and whose home has its start, has just begun.
-use Rattle.std.proofs.Common.{◌≡◌, ℕ, ◌+◌, ◌<◌, true, false, List, [], ◌∷◌, length, inl, inr, Option, Some, None, refl, sym, ap, ◌∙◌, subst, arith}
+use Rattle.std.proofs.Common.{◌≡◌, true, List, [], ◌∷◌, length, inl, inr, Option, Some, None, refl, sym, ap, ◌∙◌, arith}
 use Rattle.std.specs.Prelude.{ℤ, ◌≢◌, is_some, slice_get}
 use Rattle.std.proofs.lemmas.Option.{same_Some}
 use Rattle.life_rules.specs.declared.event.Name.{Name}
 use Rattle.plan_shape.specs.Blueprint.{Blueprint}
-use Rattle.table_rules.specs.declared.view.Held.{Held}
 use Rattle.table_steps.specs.Views.{Board}
-use Rattle.table_steps.specs.Claims.{Seated}
+use Rattle.table_steps.specs.Seats.{Seated}
 use Rattle.home_items.specs.declared.entry.Entry.{Entry}
 use Rattle.home_items.specs.declared.item.Item.{Item}
 use Rattle.home_items.specs.Contents.{Start, Rest, Done}
@@ -15,7 +14,7 @@ use Rattle.home_items.specs.Fits.{IsRest}
 use Rattle.home_items.specs.Items.{start_in, is_start, lot_of}
 use Rattle.home_items.proofs.Lots.{draws-some}
 use Rattle.exec_recv.specs.Over.{IsOver}
-use Rattle.exec_recv.specs.Steppable.{CanStep, HasBegun, IsBack, IsDoneBelow}
+use Rattle.exec_recv.specs.Steppable.{CanStep, HasBegun, IsBack}
 
 -- a start of the table's plan has an entry, since a plan has a node
 some-entry : (board : Board Blueprint) (plan : Blueprint) (start : List Entry) → IsOver board plan →

@@ -18,7 +18,7 @@ use Rattle.table_words.specs.Stamps.{stamp_of}
 use Rattle.table_rules.specs.Named.{Each}
 use Rattle.table_steps.specs.Views.{Board, IsPlaceIn}
 use Rattle.table_steps.specs.Callbacks.{callback_index}
-use Rattle.table_steps.specs.Claims.{Seated}
+use Rattle.table_steps.specs.Seats.{Seated, view_of}
 use Rattle.table_steps.specs.Lefts.{SaysCallback, SaysControl}
 use Rattle.table_steps.specs.Steps.{control_index}
 use Rattle.table_steps.specs.Takes.{rest_word}
@@ -69,7 +69,7 @@ module _ (board : Board Blueprint) (plan : Blueprint) where
   -- The list of steps grew by such as a scan of the source may make, and each callback whose run
   -- began in what is new did there what it does.
   pub record ListsActions (source : SourceRef) (m m' : Seated Item Entry) : Type 0 where
-    pub steps : IsLonger m.0.steps m'.0.steps
+    pub steps : IsLonger (view_of m).steps (view_of m').steps
     pub within : Each (IsWithin board source) steps.made
     pub act : AllAct steps.made
 

@@ -8,7 +8,7 @@ use Rattle.plan_shape.specs.Blueprint.{Blueprint}
 use Rattle.table_words.specs.Layouts.{Spot, TheScopeSource, OfControl, OfCallback, OfSource, IsSpot, index}
 use Rattle.table_rules.specs.Named.{Each}
 use Rattle.table_steps.specs.Views.{Board, IsPlaceIn}
-use Rattle.table_steps.specs.Claims.{Seated}
+use Rattle.table_steps.specs.Seats.{Seated, view_of}
 use Rattle.home_items.specs.declared.entry.Entry.{Entry}
 use Rattle.home_items.specs.declared.item.Item.{Item}
 use Rattle.exec_recv.specs.Since.{IsLook}
@@ -51,5 +51,5 @@ module _ (board : Board Blueprint) (source : SourceRef) (step : Seen) where
 pub record MovesWithin (board : Board Blueprint) (x : Name) (m m' : Seated Item Entry)
     : Type 0 where
   pub made : List Seen
-  pub is : m'.0.steps ≡ made ++ m.0.steps
+  pub is : (view_of m').steps ≡ made ++ (view_of m).steps
   pub within : IsPlaceIn board x → Each (IsWithin board (Node x)) made

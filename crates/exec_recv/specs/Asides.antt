@@ -9,7 +9,7 @@ use Rattle.table_rules.specs.declared.view.Reported.{Reported}
 use Rattle.table_rules.specs.declared.view.Rooted.{Rooted}
 use Rattle.table_rules.specs.declared.view.Scanning.{Scanning}
 use Rattle.table_rules.specs.ShownViews.{has_source_ref}
-use Rattle.table_steps.specs.Claims.{Seated}
+use Rattle.table_steps.specs.Seats.{Seated, homes_of, view_of}
 use Rattle.home_items.specs.declared.entry.Entry.{Entry}
 use Rattle.home_items.specs.declared.item.Item.{Item}
 
@@ -46,20 +46,20 @@ aside_of v = record {
 -- A request that was seen is seen still.
 abbrev pub SeesMore : Seated Item Entry → Seated Item Entry → Type 0
 SeesMore m m' =
-    (source : SourceRef) → has_source_ref m.0.seen source ≡ true →
-    has_source_ref m'.0.seen source ≡ true
+    (source : SourceRef) → has_source_ref (view_of m).seen source ≡ true →
+    has_source_ref (view_of m').seen source ≡ true
 
 -- Of the rest the list of steps only grew, and a request that was seen is seen still.
 pub record KeepsAside (m m' : Seated Item Entry) : Type 0 where
-  pub same : aside_of m'.0 ≡ aside_of m.0
+  pub same : aside_of (view_of m') ≡ aside_of (view_of m)
   pub fresh : List Seen
-  pub grown : m'.0.steps ≡ fresh ++ m.0.steps
+  pub grown : (view_of m').steps ≡ fresh ++ (view_of m).steps
   pub sees : SeesMore m m'
 
 -- Beside requests that were seen and the list of steps nothing changed: not what the hand holds and
 -- owes, and not what lies in its homes.
 pub record KeepsAll (m m' : Seated Item Entry) : Type 0 where
   pub aside : KeepsAside m m'
-  pub held : m'.0.held ≡ m.0.held
-  pub owed : m'.0.owed ≡ m.0.owed
-  pub homes : m'.1 ≡ m.1
+  pub held : (view_of m').held ≡ (view_of m).held
+  pub owed : (view_of m').owed ≡ (view_of m).owed
+  pub homes : homes_of m' ≡ homes_of m

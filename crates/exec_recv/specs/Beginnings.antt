@@ -5,7 +5,7 @@ use Rattle.node_tree.specs.Tree.{is_root}
 use Rattle.plan_shape.specs.Blueprint.{Blueprint}
 use Rattle.table_steps.specs.Views.{Board, IsPlaceIn}
 use Rattle.table_steps.specs.Begins.{CanBegin}
-use Rattle.table_steps.specs.Claims.{Seated}
+use Rattle.table_steps.specs.Seats.{Seated, view_of}
 use Rattle.table_steps.specs.Owing.{owing, Owes, AreOfItsBlock}
 use Rattle.table_steps.specs.Slots.{has_seen}
 use Rattle.home_items.specs.contracts.item.ItemCargo.TheImpl.{ghosts}
@@ -21,14 +21,14 @@ pub record CanStart (board : Board Blueprint) (y : Name) (m : Seated Item Entry)
   pub place : IsPlaceIn board y
   pub begin : CanBegin ghosts board.frame m y
   pub is_start : begin.item ≡ Start (start_in begin.item)
-  pub fit : FitsHome begin.item y.node (has_seen board.frame.tree m.0 y)
-  pub once : owing m.0 y ≤ 1
-  pub beside : AreOfItsBlock m.0 y
+  pub fit : FitsHome begin.item y.node (has_seen board.frame.tree (view_of m) y)
+  pub once : owing (view_of m) y ≤ 1
+  pub beside : AreOfItsBlock (view_of m) y
 
 -- so it is of each start that the hand owes
 abbrev pub AllCanStart : Board Blueprint → Seated Item Entry → Type 0
-AllCanStart board m = (y : Name) → Owes m.0 y → CanStart board y m
+AllCanStart board m = (y : Name) → Owes (view_of m) y → CanStart board y m
 
 -- no start that it owes is of a root
 abbrev pub OwesNoRoot : Board Blueprint → Seated Item Entry → Type 0
-OwesNoRoot board m = (y : Name) → Owes m.0 y → is_root board.frame.tree y.node ≡ false
+OwesNoRoot board m = (y : Name) → Owes (view_of m) y → is_root board.frame.tree y.node ≡ false

@@ -12,8 +12,8 @@ use Rattle.plan_shape.specs.Blueprint.{Blueprint}
 use Rattle.table_words.specs.Controls.{source_read}
 use Rattle.table_words.specs.Layouts.{OfSource, index}
 use Rattle.table_rules.specs.declared.view.Held.{Held}
-use Rattle.table_steps.specs.Views.{Board, IsHandOf, IsPlaceIn, aim_at}
-use Rattle.table_steps.specs.Claims.{Seated}
+use Rattle.table_steps.specs.Views.{Board, IsHandOf, IsPlaceIn, aim_at, knows}
+use Rattle.table_steps.specs.Seats.{Seated}
 use Rattle.table_steps.specs.Finishes.{is_settled, FinishesAt}
 use Rattle.table_steps.specs.Lefts.{LeavesControl}
 use Rattle.table_steps.specs.Readings.{above_it}
@@ -52,7 +52,7 @@ pub record CanDeliver (board : Board Blueprint) (x : Name) (failed : Bool) (hand
   pub place : IsPlaceIn board x
   pub inner : is_root board.frame.tree x.node ≡ false
   pub calm : IsCalm hand.me
-  pub unrun : hand.me.0.runs ≡ []
+  pub unrun : (knows hand).runs ≡ []
   pub held : Held Entry
   pub parcel : Delivery
   pub tends : Tends board.frame x held (Some (Done parcel)) (λ _. None) hand.me
@@ -62,7 +62,7 @@ pub record CanDeliver (board : Board Blueprint) (x : Name) (failed : Bool) (hand
   pub off : IsFailure parcel.completion → failed ≡ true
   pub shows : parcel.start ≡ held.start
   pub item : IsItemOf (Done parcel) x.node
-  pub calmly : has_seen board.frame.tree hand.me.0 x || held.told ≡ false →
+  pub calmly : has_seen board.frame.tree (knows hand) x || held.told ≡ false →
       SawNoRequest (Done parcel)
   pub bound : least_of (Done parcel) ≤ held.named
   pub key : plan_of held.start ≡ plan_at board

@@ -12,7 +12,7 @@ use Rattle.plan_shape.specs.Blueprint.{Blueprint}
 use Rattle.table_rules.specs.declared.view.Held.{Held}
 use Rattle.table_rules.specs.Named.{without}
 use Rattle.table_steps.specs.Views.{Board}
-use Rattle.table_steps.specs.Claims.{Seated}
+use Rattle.table_steps.specs.Seats.{Seated, view_of}
 use Rattle.table_steps.specs.Lefts.{SaysControl}
 use Rattle.table_steps.specs.Owing.{Owes}
 use Rattle.table_steps.specs.Steps.{control_index}
@@ -34,7 +34,7 @@ next_for AtParked = Parked
 module _ (board : Board Blueprint) (x : Name) (m m' : Seated Item Entry) where
   -- the hand holds the node no more, and nothing in its place
   abbrev pub LetsGo : Type 0
-  LetsGo = m'.0.held ≡ without (λ (e : Held Entry). e.name) m.0.held x
+  LetsGo = (view_of m').held ≡ without (λ (e : Held Entry). e.name) (view_of m).held x
 
   -- and its newest step left the node at rest there
   pub record LeftAt (to : Resting) : Type 0 where
@@ -42,13 +42,13 @@ module _ (board : Board Blueprint) (x : Name) (m m' : Seated Item Entry) where
     pub read : ℕ
     pub left : ℕ
     pub earlier : List Seen
-    pub steps_are : m'.0.steps ≡ entry (control_index board x) read left ∷ earlier
+    pub steps_are : (view_of m').steps ≡ entry (control_index board x) read left ∷ earlier
     pub says : SaysControl x (resting_at to) left
 
   -- it holds y in its place, which it may step
   pub record GoesTo (y : Name) : Type 0 where
     pub held : Held Entry
-    pub holds : m'.0.held ≡ held ∷ without (λ (e : Held Entry). e.name) m.0.held x
+    pub holds : (view_of m').held ≡ held ∷ without (λ (e : Held Entry). e.name) (view_of m).held x
     pub can : CanStep board y m'
 
   -- the node to go on with is of the same operation as x
@@ -62,7 +62,8 @@ module _ (board : Board Blueprint) (x : Name) (m m' : Seated Item Entry) where
   -- the hand owes starts that it owed before, and beside them those of children of x alone
   abbrev pub OwesNewBelow : Type 0
   OwesNewBelow =
-      (y : Name) → Owes m'.0 y → Owes m.0 y ⊎ (is_child board.frame.tree x.node y.node ≡ true)
+      (y : Name) → Owes (view_of m') y →
+      Owes (view_of m) y ⊎ (is_child board.frame.tree x.node y.node ≡ true)
 
   -- What each step of a node x leaves: the hand's view beside nodes and starts is as before, and no
   -- word was moved but those of places of the block of x. Each start that it owes can begin, and

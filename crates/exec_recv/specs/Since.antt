@@ -2,7 +2,7 @@
 use Rattle.std.specs.Prelude.{◌≡◌, ℕ, List, ◌++◌, Contains}
 use Rattle.listed_words.specs.declared.seen.Seen.{Seen}
 use Rattle.listed_words.specs.Lists.{entry}
-use Rattle.table_steps.specs.Claims.{Seated}
+use Rattle.table_steps.specs.Seats.{Seated, view_of}
 use Rattle.home_items.specs.declared.entry.Entry.{Entry}
 use Rattle.home_items.specs.declared.item.Item.{Item}
 
@@ -14,7 +14,7 @@ IsLook seen = seen.left ≡ seen.read
 pub record HasMovedSince (index : ℕ) (says : ℕ → ℕ → Type 0) (m m' : Seated Item Entry)
     : Type 0 where
   pub fresh : List Seen
-  pub grown : m'.0.steps ≡ fresh ++ m.0.steps
+  pub grown : (view_of m').steps ≡ fresh ++ (view_of m).steps
   pub word : ℕ
   pub left : ℕ
   pub there : Contains fresh (entry index word left)

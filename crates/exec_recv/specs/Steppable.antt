@@ -7,7 +7,7 @@ use Rattle.node_tree.specs.Tree.{is_child}
 use Rattle.plan_shape.specs.Blueprint.{Blueprint}
 use Rattle.table_rules.specs.declared.view.Held.{Held}
 use Rattle.table_steps.specs.Views.{Board, IsPlaceIn}
-use Rattle.table_steps.specs.Claims.{Seated}
+use Rattle.table_steps.specs.Seats.{Seated, view_of}
 use Rattle.table_steps.specs.Hearings.{HearsAs}
 use Rattle.table_steps.specs.Slots.{kids_of}
 use Rattle.op_slot.specs.Tends.{IsCalm, Tends}
@@ -74,7 +74,7 @@ module _ (board : Board Blueprint) (x : Name) (held : Held Entry) (item : Item)
 pub record CanStep (board : Board Blueprint) (x : Name) (m : Seated Item Entry) : Type 0 where
   pub place : IsPlaceIn board x
   pub calm : IsCalm m
-  pub unrun : m.0.runs ≡ []
+  pub unrun : (view_of m).runs ≡ []
   pub held : Held Entry
   pub item : Item
   pub kid : ℕ → Option Item
@@ -84,7 +84,7 @@ pub record CanStep (board : Board Blueprint) (x : Name) (m : Seated Item Entry) 
   pub goes_on : ¬ HasCompleted item
   pub bound : least_of item ≤ held.named
   pub key : plan_of held.start ≡ board.frame.over.value
-  pub hears : HearsAs board.frame.tree m.0 x held.told held.told_children
+  pub hears : HearsAs board.frame.tree (view_of m) x held.told held.told_children
   pub kids : (n : ℕ) (done : Item) → is_child board.frame.tree x.node n ≡ true → kid n ≡ Some done →
       IsDoneBelow held n done
   pub came : HasBegun board x held item kid

@@ -13,7 +13,7 @@ use std::mem;
 /// The text of an error. A word that nobody reads stands before it in memory, so that a completion
 /// is cheap to move. An enum is moved in pieces, and a piece ends only where no variant has a part
 /// that lies across. A value begins with a word and a text with a byte, so that without the word a
-/// completion would be moved in 8, 1 and 39 bytes, the last of them by way of the stack. With it the
+/// completion would be moved in 8, 1 and 39 bytes, the last by way of the stack. With it the
 /// pieces are of 8, 8 and 32 bytes, and stay in registers.
 #[derive(Debug, Drop)]
 pub struct ErrorText {

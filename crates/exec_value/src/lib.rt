@@ -1,8 +1,8 @@
 //! Data, completions and outcomes, and how a line is read as a record.
 //!
 //! Values are cheap to move and to copy. A text has 24 bytes, a datum 32, a completion 48. A short
-//! text, a row of one number and one datum stand in place; a longer text and a longer row are shared
-//! by their copies, so that a copy counts one owner more and takes no memory.
+//! text, a row of one number and one datum stand in place; a longer text or row is shared by its
+//! copies, so that a copy counts one owner more and takes no memory.
 #![tactic(auto)]
 
 mod data;

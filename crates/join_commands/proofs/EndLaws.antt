@@ -94,21 +94,6 @@ pub joined_or : (all : Texts) (names : List (Bor (List ℕ))) (parts : List (Lis
 joined_or all names parts sum old mid new (Ok status) whole puts ends counted is = joined all names parts sum old mid new status whole puts.0 puts.1 ends counted is
 joined_or all names parts sum old mid new (Err fault) whole puts ends counted is = tt
 
-pub fault_or : (all : Texts) (names : List (Bor (List ℕ))) (result : Result Status JoinFault) → IfErr result (λ fault. fault ≡ WriteFault) → IfErr result (IsJoinFault all names)
-fault_or all names (Ok status) is = tt
-fault_or all names (Err fault) is = finish_fault all names fault is
-
--- a count of faults over two calls, of which the first went on
-pub cause_then : {T U : Type 0} (fault : JoinFault) (a b c : ℕ) (first : Result T JoinFault) (second : Result U JoinFault) → HasJoinCause fault a b first → first ≢ Err fault
-    → HasJoinCause fault b c second → HasJoinCause fault a c second
-cause_then fault a b c first second one on two =
-    let same : b ≡ a = one.still on in
-    record {
-      later = omega (arith, two.later, same);
-      failed = λ is. subst (λ n. Rose n c) same (two.failed is);
-      still = λ other. two.still other ∙ same;
-    }
-
 -- a call that isn't of this fault, and left its count
 pub cause_else : {T : Type 0} (fault : JoinFault) (a b : ℕ) (result : Result T JoinFault) → b ≡ a → result ≢ Err fault → HasJoinCause fault a b result
 cause_else fault a b result same other = record { later = omega (arith, same); failed = λ is. absurd (other is); still = λ not. same }
@@ -211,16 +196,3 @@ uneven_fault all names tallies (Refused refusal) each is = uneven_cause all name
 uneven_fault all names tallies ReadFault each is = tt
 uneven_fault all names tallies WriteFault each is = tt
 uneven_fault all names tallies NoMemory each is = tt
-
--- and that is neither a fault of reads nor one of writes
-pub uneven_no_read : (tallies : List Tally) (fault : JoinFault) → IsUneven tallies fault → fault ≢ ReadFault
-uneven_no_read tallies (Refused refusal) is same = cc
-uneven_no_read tallies ReadFault is same = is
-uneven_no_read tallies WriteFault is same = is
-uneven_no_read tallies NoMemory is same = is
-
-pub uneven_no_write : (tallies : List Tally) (fault : JoinFault) → IsUneven tallies fault → fault ≢ WriteFault
-uneven_no_write tallies (Refused refusal) is same = cc
-uneven_no_write tallies ReadFault is same = is
-uneven_no_write tallies WriteFault is same = is
-uneven_no_write tallies NoMemory is same = is

@@ -1,7 +1,7 @@
 -- How a claim and a release move what reads at a name, and when its generation is over.
 use Rattle.std.specs.Prelude.{◌==◌, nat_lt}
 use Rattle.std.proofs.Common.{◌≡◌, ℕ, ◌+◌, ◌≤◌, true, false, ◌&&◌, ◌||◌, refl, sym, ap, ◌∙◌, inl, inr, arith}
-use Rattle.std.proofs.lemmas.Bool.{cond-true, cond-false, and_right, and_from, or_from, or_left, or_right, eqb-true, eq-eqb, lt-ltb, le-ltb, both_ways, cases_lt, false≢true, false_from_ne_true}
+use Rattle.std.proofs.lemmas.Bool.{cond-true, cond-false, and_right, and_from, or_from, or_left, or_right, eqb-true, eq-eqb, lt-ltb, le-ltb, cases_lt, false≢true}
 use Rattle.life_rules.specs.declared.words.BlockWord.{BlockWord}
 use Rattle.life_rules.specs.declared.words.BlockState.{BlockState}
 use Rattle.life_rules.specs.declared.words.BlockState.TheVariants.{Free, Open, Retired}
@@ -34,10 +34,6 @@ is_over-live s x l =
     let a = lives s x l in
     or_from _ _ (le-ltb x.generation (s.block x.block).generation (omega (arith, a.generation)))
     (and_right _ _ (open-unretired _ a.is_opened))
-
--- what is over isn't live
-pub is_live-over : (s : State) (x : Name) → is_over s x ≡ true → is_live s x ≡ false
-is_live-over s x o = false_from_ne_true _ (λ l. both_ways _ (is_over-live s x l) o)
 
 -- a claim ends no generation
 pub is_over-claim : (s : State) (h b : ℕ) (x : Name) → is_free (s.block b).state ≡ true →

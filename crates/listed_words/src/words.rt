@@ -160,7 +160,8 @@ impl<S: Drop, V, K, P: TableRule<S, V, K>> Words<S, V, K, P> {
 
     pub(crate) fn join<M: Join<V>>(&self, seat: &mut Seat<S, V>, other: Seat<S, V>)
         requires { (seat.old.table_id ≡ self.now.table_id)
-            × (other.table_id ≡ self.now.table_id) × (other.me.1 ≡ []) × (0 < self.now.table_id.words)
+            × (other.table_id ≡ self.now.table_id) × (other.me.1 ≡ [])
+            × (0 < self.now.table_id.words)
             × Joins (P.holds self.now.key) seat.old.id seat.old.me.0 other.id other.me.0
             (M.both seat.old.me.0 other.me.0) M.spent }
         ensures { (seat.new.table_id ≡ seat.old.table_id) × (seat.new.id ≡ seat.old.id)

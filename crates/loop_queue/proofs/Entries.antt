@@ -1,5 +1,5 @@
 -- The entries of one post among others.
-use Rattle.std.proofs.Common.{◌≡◌, ◌≢◌, ℕ, false, List, [], ◌∷◌, ◌++◌, length, All, nat_eq, arith, refl, sym, ap, ◌∙◌, cond, eq-eqb, ne_eqb}
+use Rattle.std.proofs.Common.{◌≡◌, ◌≢◌, ℕ, false, List, [], ◌∷◌, ◌++◌, All, nat_eq, arith, refl, sym, ap, ◌∙◌, cond, eq-eqb, ne_eqb}
 use Rattle.std.proofs.lemmas.List.Elements.{filter-append, All-tail}
 use Rattle.loop_queue.specs.declared.entry.Entry.{Entry}
 use Rattle.loop_queue.specs.Rule.{of_post, has_some}
@@ -9,10 +9,6 @@ of-append k a b = filter-append (λ e. nat_eq e.post k) a b
 
 pub of-other : (k : ℕ) (x : Entry) → k ≢ x.post → of_post k (x ∷ []) ≡ []
 of-other k x apart = ap (λ b. cond b (x ∷ []) []) (ne_eqb x.post k (λ same. apart (sym same)))
-
-pub no-entries : (l : List Entry) → length l ≡ 0 → l ≡ []
-no-entries [] none = refl
-no-entries (x ∷ xs) none = absurd (omega (arith, none))
 
 pub has-none : (l : List Entry) → has_some l ≡ false → l ≡ []
 has-none [] none = refl

@@ -4,7 +4,7 @@ use Rattle.std.specs.Prelude.{slice_get, Some}
 use Rattle.std.proofs.lemmas.List.Sums.{sum_by-cons}
 use Rattle.loop_queue.specs.declared.queue.LoopQueue.{LoopQueue}
 use Rattle.loop_queue.specs.declared.post.LoopPost.{LoopPost}
-use Rattle.loop_queue.specs.Posts.{IsSamePost, AreOpened, CameBack, share_of}
+use Rattle.loop_queue.specs.Posts.{IsSamePost, CameBack, share_of}
 use Rattle.loop_queue.proofs.Gather.{got, no-more}
 
 at-changed : {X : Type 0} (l : List X) (i j : ℕ) (new x : X) → slice_get (set l i new) j ≡ Some x →
@@ -21,15 +21,6 @@ sum-same f [] i old new e same = absurd (no-more old e)
 sum-same f (y ∷ l) zero old new e same =
     let is : f y ≡ f old = ap f (got y old e) in omega (arith, is, same, sum_by-cons f y l, sum_by-cons f new l)
 sum-same f (y ∷ l) (suc i) old new e same = omega (arith, sum-same f l i old new e same, sum_by-cons f y l, sum_by-cons f y (set l i new))
-
-pub back-when-opened : (count : ℕ) (of : LoopQueue) (posts : List LoopPost) → AreOpened count of posts → CameBack of posts
-back-when-opened count of posts opened =
-    record {
-      queue = λ k post at. (opened.new k post at).queue;
-      numbers = λ j k one other apart first second same.
-          apart (sym (opened.new j one first).number ∙ same ∙ (opened.new k other second).number);
-      shares = opened.shares;
-    }
 
 -- a post that is the same as one of them, in its place
 pub back-kept : (of : LoopQueue) (posts : List LoopPost) (place : ℕ) (old new : LoopPost) → CameBack of posts →

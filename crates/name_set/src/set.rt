@@ -37,7 +37,8 @@ impl Model for NameSet {
       generations = set.generations.items;
     } };
 
-    ghost invariant = { λ set. IsKept set.layout set.bits.items set.generations.items set.low set.high };
+    ghost invariant = { λ set. IsKept set.layout set.bits.items set.generations.items
+        set.low set.high };
 }
 
 // The first place that is marked, where none is outside of these words.

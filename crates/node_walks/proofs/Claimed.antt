@@ -15,7 +15,8 @@ use Rattle.table_rules.specs.declared.view.Owed.{Owed}
 use Rattle.table_rules.specs.Named.{find_by, count_by, Each}
 use Rattle.table_steps.specs.declared.block.Block.{Block}
 use Rattle.table_steps.specs.Views.{Board}
-use Rattle.table_steps.specs.Claims.{Seated, root_name, word_index, logged, Missed}
+use Rattle.table_steps.specs.Claims.{root_name, word_index, logged, Missed}
+use Rattle.table_steps.specs.Seats.{Seated}
 use Rattle.table_steps.specs.Slots.{has_seen}
 use Rattle.table_steps.specs.Steps.{control_index}
 use Rattle.op_slot.specs.Puts.{FitsOwed, CanPut, IsPut}

@@ -1,16 +1,15 @@
 -- What an operation completes with, by the item that lay in the home of its root.
-use Rattle.std.proofs.Common.{◌≡◌, inl, inr, ℕ, Bool, false, List, [], ◌∷◌, length, sym, ap, ◌∙◌, subst}
+use Rattle.std.proofs.Common.{◌≡◌, inl, inr, ℕ, Bool, List, [], ◌∷◌, length, sym, ap, ◌∙◌, subst}
 use Rattle.std.specs.Prelude.{Option, Some, MatchOption}
 use Rattle.std.proofs.lemmas.Bool.{both_ways}
 use Rattle.common_lemmas.proofs.Bool.{either}
 use Rattle.exec_value.specs.declared.outcome.Completion.{Completion}
-use Rattle.exec_value.specs.declared.outcome.Completion.TheVariants.{NoMemory}
 use Rattle.life_rules.specs.declared.event.Name.{Name}
 use Rattle.plan_kinds.specs.Small.{IsSmall}
 use Rattle.plan_shape.specs.Blueprint.{Blueprint}
 use Rattle.table_rules.specs.declared.view.Rooted.{Rooted}
 use Rattle.table_steps.specs.Views.{Board}
-use Rattle.table_steps.specs.Claims.{Seated}
+use Rattle.table_steps.specs.Seats.{Seated}
 use Rattle.table_steps.specs.Slots.{noted_at}
 use Rattle.home_items.specs.declared.entry.Entry.{Entry}
 use Rattle.home_items.specs.declared.item.Item.{Item}
@@ -75,17 +74,6 @@ keeps-as law start parcel is delivery c number completion saw =
           (may-collect law start parcel is.node is.receiver delivery is.of));
       small = λ small none. small-keeps (Rest start (Some parcel)) is small (sym completion ∙ none);
       saw = λ seen. sym saw ∙ seen;
-    }
-
--- without one with want of memory, and not in a small plan
-pub none-as : (item : Item) → IsOfRoot item → (KeepsParcel item → ⊥) → (c : Collected) → c.number ≡ record_number (start_in item) →
-    c.completion ≡ NoMemory → c.saw ≡ false → CompletesAs item c
-none-as item is no_parcel c number completion saw =
-    record {
-      number = number;
-      may = inl completion;
-      small = λ small none. no_parcel (small-keeps item is small);
-      saw = λ seen. absurd (both_ways c.saw saw seen);
     }
 
 module _ (board : Board Blueprint) (root : Name) (m : Seated Item Entry) (item : Item) (lay : LayAtRoot board root m item) where

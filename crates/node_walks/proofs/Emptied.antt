@@ -16,7 +16,8 @@ use Rattle.table_rules.specs.declared.view.Rooted.{Rooted}
 use Rattle.table_rules.specs.Named.{find_by, without}
 use Rattle.table_steps.specs.declared.block.Block.{Block}
 use Rattle.table_steps.specs.Views.{Board, aimed}
-use Rattle.table_steps.specs.Claims.{Seated, root_name, logged, word_index}
+use Rattle.table_steps.specs.Claims.{root_name, logged, word_index}
+use Rattle.table_steps.specs.Seats.{Seated}
 use Rattle.table_steps.specs.Finishes.{is_settled, CanFinish, FinishesAt, RootedAt}
 use Rattle.table_steps.specs.Lefts.{LeavesControl}
 use Rattle.table_steps.specs.Releases.{CanRelease, ReleasesAt}

@@ -1,35 +1,33 @@
 -- What a hand has after a step, and after it began a node whose start it owed.
-use Rattle.std.proofs.Common.{◌≡◌, ℕ, false, List, [], ◌∷◌, refl, sym, ap, ◌∙◌, subst}
+use Rattle.std.proofs.Common.{◌≡◌, ℕ, List, [], ◌∷◌, refl, sym, ap, ◌∙◌}
 use Rattle.std.specs.Prelude.{Some, None}
 use Rattle.std.proofs.lemmas.Bool.{cond-true, cond-false}
 use Rattle.common_lemmas.proofs.Bool.{either}
 use Rattle.life_rules.specs.declared.event.Name.{Name}
 use Rattle.life_rules.specs.Views.{same}
 use Rattle.listed_words.specs.Lists.{entry}
-use Rattle.node_tree.specs.Tree.{IsTree, is_root, has_source}
+use Rattle.node_tree.specs.Tree.{IsTree}
 use Rattle.plan_shape.specs.Blueprint.{Blueprint}
 use Rattle.table_rules.specs.declared.view.Held.{Held}
 use Rattle.table_rules.specs.declared.view.Owed.{Owed}
 use Rattle.table_rules.specs.Named.{find_by, without}
 use Rattle.table_steps.specs.Views.{Board, aimed}
-use Rattle.table_steps.specs.Begins.{Begins, begun_as, start_shown, notes_start, source_index}
-use Rattle.table_steps.specs.Claims.{Seated}
+use Rattle.table_steps.specs.Begins.{Begins, begun_as, start_shown}
+use Rattle.table_steps.specs.Seats.{Seated}
 use Rattle.table_steps.specs.Owing.{Owes}
 use Rattle.table_steps.specs.Slots.{AreApart, home_at}
-use Rattle.table_steps.specs.Steps.{control_index}
 use Rattle.op_slot.specs.Tends.{HasPlaces}
-use Rattle.op_slot.proofs.Kept.{find-without}
 use Rattle.op_slot.proofs.Tending.{renewed-same}
 use Rattle.home_items.specs.contracts.item.ItemCargo.TheImpl.{ghosts}
 use Rattle.home_items.specs.declared.entry.Entry.{Entry}
 use Rattle.home_items.specs.declared.item.Item.{Item}
-use Rattle.exec_recv.specs.Asides.{aside_of, KeepsAside}
+use Rattle.exec_recv.specs.Asides.{KeepsAside}
 use Rattle.exec_recv.specs.Beginnings.{OwesNoRoot}
 use Rattle.exec_recv.specs.declared.next.Next.{Next}
 use Rattle.exec_recv.specs.Nexts.{LetsGo, GoesTo, IsStepped}
 use Rattle.exec_recv.specs.Sites.{Does}
-use Rattle.exec_recv.proofs.Asiding.{aside-here, aside-on, aside-one}
-use Rattle.exec_recv.proofs.Begun.{begun-starts, begun-steps, is-other}
+use Rattle.exec_recv.proofs.Asiding.{aside-on}
+use Rattle.exec_recv.proofs.Begun.{begun-starts, begun-steps}
 use Rattle.exec_recv.proofs.Starts.{inner-still}
 use Rattle.node_walks.specs.Resting.{IsAtRest, HasOnlyStarts, OwesOnly, CanGoOn}
 use Rattle.node_walks.specs.Stepped.{HasStepped}

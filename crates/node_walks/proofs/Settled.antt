@@ -22,7 +22,7 @@ use Rattle.table_rules.specs.Named.{count_by, find_by}
 use Rattle.table_rules.specs.ShownViews.{has_source_ref, scan_in}
 use Rattle.table_steps.specs.Views.{Board}
 use Rattle.table_steps.specs.Callbacks.{callback_index, is_registered, left_by}
-use Rattle.table_steps.specs.Claims.{Seated}
+use Rattle.table_steps.specs.Seats.{Seated}
 use Rattle.table_steps.specs.Finishes.{is_settled}
 use Rattle.table_steps.specs.Readings.{at_entry, Holds, IsPhaseAs}
 use Rattle.table_steps.specs.Slots.{slot_of, kept}

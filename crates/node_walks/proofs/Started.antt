@@ -12,7 +12,8 @@ use Rattle.table_rules.specs.Named.{find_by, without}
 use Rattle.table_steps.specs.declared.block.Block.{Block}
 use Rattle.table_steps.specs.Views.{Board, aimed}
 use Rattle.table_steps.specs.Begins.{Begins, CanBegin, notes_start, start_shown}
-use Rattle.table_steps.specs.Claims.{Seated, root_name}
+use Rattle.table_steps.specs.Claims.{root_name}
+use Rattle.table_steps.specs.Seats.{Seated}
 use Rattle.table_steps.specs.Owing.{Owes}
 use Rattle.table_steps.specs.Slots.{AreApart, home_at, kept, slot_of}
 use Rattle.table_steps.specs.Steps.{control_index}

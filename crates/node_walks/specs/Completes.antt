@@ -7,7 +7,8 @@ use Rattle.plan_shape.specs.Blueprint.{Blueprint}
 use Rattle.table_rules.specs.declared.view.Rooted.{Rooted}
 use Rattle.table_steps.specs.declared.block.Block.{Block}
 use Rattle.table_steps.specs.Views.{Board}
-use Rattle.table_steps.specs.Claims.{Seated, root_name}
+use Rattle.table_steps.specs.Claims.{root_name}
+use Rattle.table_steps.specs.Seats.{Seated, view_of}
 use Rattle.table_steps.specs.Slots.{noted_at}
 use Rattle.home_items.specs.declared.entry.Entry.{Entry}
 use Rattle.home_items.specs.declared.item.Item.{Item}
@@ -27,7 +28,7 @@ use Rattle.node_walks.specs.Leaves.{LeavesAside}
 pub record IsListed (board : Board Blueprint) (b : Block) (m : Seated Item Entry) : Type 0 where
   pub within : b.index < board.frame.layout.blocks
   pub start : List Entry
-  pub noted : noted_at m.0 (root_name board b.index b.generation)
+  pub noted : noted_at (view_of m) (root_name board b.index b.generation)
       ≡ Some (record { name = root_name board b.index b.generation; start = start })
   pub receiver : IsReceiverStart start
 
@@ -68,13 +69,13 @@ pub record IsFor (start : List Entry) (requested : Bool) (c : Collected) : Type 
 -- So it is for whatever start the hand had noted of the block's root.
 abbrev pub IsForNoted : Board Blueprint → Block → Seated Item Entry → Collected → Type 0
 IsForNoted board b m c =
-    (e : Rooted Entry) → noted_at m.0 (root_name board b.index b.generation) ≡ Some e
-    → IsFor e.start m.0.requested c
+    (e : Rooted Entry) → noted_at (view_of m) (root_name board b.index b.generation) ≡ Some e
+    → IsFor e.start (view_of m).requested c
 
 -- The environment shows whatever start the hand had noted of the block's root.
 abbrev pub ShowsNoted : Board Blueprint → Block → Seated Item Entry → List Entry → Type 0
 ShowsNoted board b m env =
-    (e : Rooted Entry) → noted_at m.0 (root_name board b.index b.generation) ≡ Some e
+    (e : Rooted Entry) → noted_at (view_of m) (root_name board b.index b.generation) ≡ Some e
     → env ≡ e.start
 
 -- So the operation of the block's root completed: the environment is that of its start, a start of
@@ -92,4 +93,4 @@ pub record EndsRoot (board : Board Blueprint) (b : Block) (m m' : Seated Item En
   pub completes : CompletesNoted board b m ended
   pub moves : MovesAndGivesBack board b m m'
   pub leaves : LeavesAside
-      (with_released (root_name board b.index b.generation) (aside_of m.0)) m m'
+      (with_released (root_name board b.index b.generation) (aside_of (view_of m))) m m'

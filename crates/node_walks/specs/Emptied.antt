@@ -12,7 +12,8 @@ use Rattle.table_rules.specs.declared.view.Rooted.{Rooted}
 use Rattle.table_rules.specs.Named.{without}
 use Rattle.table_steps.specs.declared.block.Block.{Block}
 use Rattle.table_steps.specs.Views.{Board}
-use Rattle.table_steps.specs.Claims.{Seated, root_name, logged, word_index}
+use Rattle.table_steps.specs.Claims.{root_name, logged, word_index}
+use Rattle.table_steps.specs.Seats.{Seated, homes_of, view_of}
 use Rattle.table_steps.specs.Finishes.{is_settled}
 use Rattle.table_steps.specs.Slots.{noted_at}
 use Rattle.table_steps.specs.Steps.{control_index}
@@ -31,15 +32,15 @@ use Rattle.node_walks.specs.Leaves.{LeavesAside}
 -- The hand holds the root and nothing besides, and all homes that it has with it are empty. The
 -- root hears the scope's source.
 pub record HasEmptyRoot (board : Board Blueprint) (x : Name) (m : Seated Item Entry) : Type 0 where
-  pub first : m.0.number ≡ 0
+  pub first : (view_of m).number ≡ 0
   pub root : is_root board.frame.tree x.node ≡ true
   pub hears : source_for x (nearest board.frame.tree x.node) ≡ Some Scope
   pub places : HasPlaces board.frame x
-  pub runs : m.0.runs ≡ []
-  pub scans : m.0.scans ≡ []
+  pub runs : (view_of m).runs ≡ []
+  pub scans : (view_of m).scans ≡ []
   pub held : Held Entry
   pub tends : Tends board.frame x held None (λ _. None) m
-  pub alone : m.0.held ≡ held ∷ []
+  pub alone : (view_of m).held ≡ held ∷ []
 
 -- And it has read that the root's callback never was registered, or is over.
 pub record IsSettledRoot (board : Board Blueprint) (x : Name) (m : Seated Item Entry) : Type 0 where
@@ -55,7 +56,7 @@ pub record SettlesRoot (board : Board Blueprint) (x : Name)
     (m m' : Seated Item Entry) : Type 0 where
   pub keeps : KeepsAside m m'
   pub moves : MovesWithin board x m m'
-  pub owed : m'.0.owed ≡ m.0.owed
+  pub owed : (view_of m').owed ≡ (view_of m).owed
   pub is : IsSettledRoot board x m'
 
 -- One block more was given back, and the start of its root is noted no more.
@@ -71,19 +72,19 @@ with_released root aside =
 pub record LayAtRoot (board : Board Blueprint) (root : Name) (m : Seated Item Entry)
     (item : Item) : Type 0 where
   pub told : Bool
-  pub asked : told ≡ m.0.requested
+  pub asked : told ≡ (view_of m).requested
   pub fit : FitsHome item root.node told
   pub goes_on : ¬ HasCompleted item
   pub rests : MayRest item root.node
   pub key : plan_of (start_in item) ≡ board.frame.over.value
-  pub noted : (e : Rooted Entry) → noted_at m.0 root ≡ Some e → start_in item ≡ e.start
+  pub noted : (e : Rooted Entry) → noted_at (view_of m) root ≡ Some e → start_in item ≡ e.start
 
 -- The item was taken out of the home of the block's root, where it lay so. All else is as it was.
 pub record IsOut (board : Board Blueprint) (b : Block) (m m' : Seated Item Entry)
     (item : Item) : Type 0 where
   pub lay : LayAtRoot board (root_name board b.index b.generation) m item
   pub empty : HasEmptyRoot board (root_name board b.index b.generation) m'
-  pub owed : m'.0.owed ≡ []
+  pub owed : (view_of m').owed ≡ []
   pub keeps : KeepsAside m m'
   pub moves : MovesWithin board (root_name board b.index b.generation) m m'
 
@@ -95,29 +96,32 @@ pub record MovesAndGivesBack (board : Board Blueprint) (b : Block) (m m' : Seate
   pub moves : MovesWithin board (root_name board b.index b.generation) m before
   pub read : ℕ
   pub left : ℕ
-  pub gave : m'.0.steps ≡ entry (word_index board b.index) read left ∷ before.0.steps
+  pub gave : (view_of m').steps ≡ entry (word_index board b.index) read left ∷ before.0.steps
 
 -- The root was finished, and the block given back.
 pub record IsGivenBack (board : Board Blueprint) (b : Block)
     (m m' : Seated Item Entry) : Type 0 where
-  pub held : m'.0.held ≡ []
-  pub owed : m'.0.owed ≡ m.0.owed
+  pub held : (view_of m').held ≡ []
+  pub owed : (view_of m').owed ≡ (view_of m).owed
   pub moves : MovesAndGivesBack board b m m'
   pub leaves : LeavesAside
-      (with_released (root_name board b.index b.generation) (aside_of m.0)) m m'
+      (with_released (root_name board b.index b.generation) (aside_of (view_of m))) m m'
 
 -- The item lay there so, and the block was given back.
 pub record IsRootEmptied (board : Board Blueprint) (b : Block) (m m' : Seated Item Entry)
     (item : Item) : Type 0 where
   pub lay : LayAtRoot board (root_name board b.index b.generation) m item
-  pub rests : IsAtRest m'.0
+  pub rests : IsAtRest (view_of m')
   pub moves : MovesAndGivesBack board b m m'
   pub leaves : LeavesAside
-      (with_released (root_name board b.index b.generation) (aside_of m.0)) m m'
+      (with_released (root_name board b.index b.generation) (aside_of (view_of m))) m m'
 
 -- The root's word that was read didn't say that it is ready in the loop, and nothing changed.
 pub record WasNotReady (board : Board Blueprint) (b : Block)
     (m m' : Seated Item Entry) : Type 0 where
   pub word : ℕ
   pub differs : word ≢ rest_word (root_name board b.index b.generation) rest.Loop
-  pub is : m' ≡ (logged (control_index board (root_name board b.index b.generation)) word m.0, m.1)
+  pub is : m' ≡ (
+    logged (control_index board (root_name board b.index b.generation)) word (view_of m),
+    homes_of m,
+  )

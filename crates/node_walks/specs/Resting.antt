@@ -6,7 +6,7 @@ use Rattle.table_rules.specs.declared.view.View.{View}
 use Rattle.table_rules.specs.declared.view.Held.{Held}
 use Rattle.table_rules.specs.Named.{without}
 use Rattle.table_steps.specs.Views.{Board}
-use Rattle.table_steps.specs.Claims.{Seated}
+use Rattle.table_steps.specs.Seats.{Seated, view_of}
 use Rattle.home_items.specs.declared.entry.Entry.{Entry}
 use Rattle.home_items.specs.declared.item.Item.{Item}
 use Rattle.exec_recv.specs.Beginnings.{AllCanStart, OwesNoRoot}
@@ -24,11 +24,11 @@ pub record IsAtRest {P E : Type 0} (v : View P E) : Type 0 where
 
 -- Beside starts that it owes the hand is at rest. Each of them can begin.
 pub record HasOnlyStarts (board : Board Blueprint) (m : Seated Item Entry) : Type 0 where
-  pub held : m.0.held ≡ []
-  pub reported : m.0.reported ≡ []
-  pub finished : m.0.finished ≡ []
-  pub runs : m.0.runs ≡ []
-  pub scans : m.0.scans ≡ []
+  pub held : (view_of m).held ≡ []
+  pub reported : (view_of m).reported ≡ []
+  pub finished : (view_of m).finished ≡ []
+  pub runs : (view_of m).runs ≡ []
+  pub scans : (view_of m).scans ≡ []
   pub starts : AllCanStart board m
 
 -- So it is, and none of these starts is of a root.
@@ -40,13 +40,13 @@ pub record OwesOnly (board : Board Blueprint) (m : Seated Item Entry) : Type 0 w
 -- begin, and none is of a root.
 pub record CanGoOn (board : Board Blueprint) (x : Name) (m : Seated Item Entry) : Type 0 where
   pub can : CanStep board x m
-  pub alone : without (λ (e : Held Entry). e.name) m.0.held x ≡ []
-  pub reported : m.0.reported ≡ []
-  pub finished : m.0.finished ≡ []
+  pub alone : without (λ (e : Held Entry). e.name) (view_of m).held x ≡ []
+  pub reported : (view_of m).reported ≡ []
+  pub finished : (view_of m).finished ≡ []
   pub starts : AllCanStart board m
   pub inner : OwesNoRoot board m
 
 -- With a node the hand may go on; with none it is at rest.
 abbrev pub GoesOn : Board Blueprint → Option Name → Seated Item Entry → Type 0
 GoesOn board (Some next) m = CanGoOn board next m
-GoesOn board None m = IsAtRest m.0
+GoesOn board None m = IsAtRest (view_of m)

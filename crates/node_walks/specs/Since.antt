@@ -2,7 +2,7 @@
 use Rattle.std.specs.Prelude.{◌≡◌, List, ◌++◌}
 use Rattle.listed_words.specs.declared.seen.Seen.{Seen}
 use Rattle.table_rules.specs.Named.{Each}
-use Rattle.table_steps.specs.Claims.{Seated}
+use Rattle.table_steps.specs.Seats.{Seated, view_of}
 use Rattle.home_items.specs.declared.entry.Entry.{Entry}
 use Rattle.home_items.specs.declared.item.Item.{Item}
 use Rattle.exec_recv.specs.Asides.{KeepsAside}
@@ -13,5 +13,5 @@ use Rattle.exec_recv.specs.Since.{IsLook}
 pub record OnlyLooks (m m' : Seated Item Entry) : Type 0 where
   pub aside : KeepsAside m m'
   pub fresh : List Seen
-  pub grown : m'.0.steps ≡ fresh ++ m.0.steps
+  pub grown : (view_of m').steps ≡ fresh ++ (view_of m).steps
   pub each : Each IsLook fresh

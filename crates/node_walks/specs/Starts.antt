@@ -7,7 +7,8 @@ use Rattle.table_steps.specs.declared.block.Block.{Block}
 use Rattle.table_steps.specs.Views.{Board, aim_at}
 use Rattle.table_steps.specs.Begins.{Begins}
 use Rattle.table_rules.specs.declared.view.View.{View}
-use Rattle.table_steps.specs.Claims.{Seated, root_name, IsUnnoted}
+use Rattle.table_steps.specs.Claims.{root_name, IsUnnoted}
+use Rattle.table_steps.specs.Seats.{Seated, view_of}
 use Rattle.table_steps.specs.Slots.{home_at}
 use Rattle.op_slot.specs.Puts.{IsPut}
 use Rattle.op_slot.specs.Searches.{IsMissedFrom, IsFoundFrom}
@@ -42,8 +43,8 @@ with_claimed aside = record aside { claimed = aside.claimed + 1 }
 pub record IsStartPlaced (board : Board Blueprint) (b : Block) (start : List Entry)
     (m m' : Seated Item Entry) : Type 0 where
   pub within : b.index < board.frame.layout.blocks
-  pub unnoted : IsUnnoted m.0 (root_name board b.index b.generation)
-  pub owed : m'.0.owed ≡ record {
+  pub unnoted : IsUnnoted (view_of m) (root_name board b.index b.generation)
+  pub owed : (view_of m').owed ≡ record {
     name = root_name board b.index b.generation;
     above = [];
     lot = [];
@@ -51,7 +52,7 @@ pub record IsStartPlaced (board : Board Blueprint) (b : Block) (start : List Ent
   pub only : HasOnlyStarts board m'
   pub home : home_at board.frame.layout m' (root_name board b.index b.generation) ≡ Some
       (Some (Start start))
-  pub leaves : LeavesAside (with_claimed (aside_of m.0)) m m'
+  pub leaves : LeavesAside (with_claimed (aside_of (view_of m))) m m'
 
 -- One block more was claimed, and its root has begun with this start.
 abbrev pub with_started : Name → List Entry → Aside → Aside
@@ -66,9 +67,9 @@ with_started root start aside =
 pub record BeginsRoot (board : Board Blueprint) (b : Block) (start : List Entry)
     (m m' : Seated Item Entry) : Type 0 where
   pub within : b.index < board.frame.layout.blocks
-  pub unnoted : IsUnnoted m.0 (root_name board b.index b.generation)
+  pub unnoted : IsUnnoted (view_of m) (root_name board b.index b.generation)
   pub leaves : LeavesAside
-      (with_started (root_name board b.index b.generation) start (aside_of m.0)) m m'
+      (with_started (root_name board b.index b.generation) start (aside_of (view_of m))) m m'
 
 -- Each block was missed, at a step of its own: it wasn't free, or another hand moved it.
 abbrev pub MissesEach : Board Blueprint → ℕ → Seat (Option Item) (View Item Entry) →

@@ -5,7 +5,7 @@ use Rattle.life_rules.specs.Views.{beside}
 use Rattle.plan_shape.specs.Blueprint.{Blueprint}
 use Rattle.table_steps.specs.Views.{Board, aim_at}
 use Rattle.table_steps.specs.Begins.{Begins}
-use Rattle.table_steps.specs.Claims.{Seated}
+use Rattle.table_steps.specs.Seats.{Seated, view_of}
 use Rattle.table_steps.specs.Owing.{Owes}
 use Rattle.home_items.specs.contracts.item.ItemCargo.TheImpl.{ghosts}
 use Rattle.home_items.specs.declared.entry.Entry.{Entry}
@@ -19,7 +19,7 @@ use Rattle.node_walks.specs.Mails.{ready_after}
 
 -- The hand owed the start of y, and that node began.
 pub record BeginsOwed (board : Board Blueprint) (y : Name) (m m' : Seated Item Entry) : Type 0 where
-  pub owes : Owes m.0 y
+  pub owes : Owes (view_of m) y
   pub begins : Begins ghosts (aim_at board y) m m'
 
 -- Nothing was done.
@@ -28,7 +28,7 @@ IsSame m m' = m' ≡ m
 
 -- The hand owes no start, and nothing was done.
 pub record OwesNone (m m' : Seated Item Entry) : Type 0 where
-  pub none : m.0.owed ≡ []
+  pub none : (view_of m).owed ≡ []
   pub same : IsSame m m'
 
 -- The hand goes on with a node whose start it owed, where it owed one, and else with none.

@@ -11,7 +11,8 @@ use Rattle.table_rules.specs.declared.view.Owed.{Owed}
 use Rattle.table_rules.specs.Named.{find_by}
 use Rattle.table_steps.specs.declared.block.Block.{Block}
 use Rattle.table_steps.specs.Views.{Board}
-use Rattle.table_steps.specs.Claims.{Seated, root_name, Claimed}
+use Rattle.table_steps.specs.Claims.{root_name, Claimed}
+use Rattle.table_steps.specs.Seats.{Seated}
 use Rattle.table_steps.specs.Slots.{slot_of, kept}
 use Rattle.op_slot.specs.Searches.{IsMissedBelow, IsFound, IsFoundFrom}
 use Rattle.op_slot.specs.Tends.{IsCalm, Owes}

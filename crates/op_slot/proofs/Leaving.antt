@@ -23,7 +23,7 @@ use Rattle.table_rules.specs.Named.{find_by, Each}
 use Rattle.table_rules.specs.ShownViews.{scan_in, has_name}
 use Rattle.table_steps.specs.Views.{aimed}
 use Rattle.table_steps.specs.Awaits.{owes_each, is_named, is_unnamed, AwaitsAt, CanAwait}
-use Rattle.table_steps.specs.Claims.{Seated}
+use Rattle.table_steps.specs.Seats.{Seated}
 use Rattle.table_steps.specs.Finishes.{is_settled, is_of_kids, CanEnd, CanFinish, FinishedAt, RootedAt}
 use Rattle.table_steps.specs.Releases.{CanRelease}
 use Rattle.table_steps.specs.Reports.{CanReport}

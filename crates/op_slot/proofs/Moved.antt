@@ -4,7 +4,7 @@ use Rattle.std.specs.Prelude.{Some}
 use Rattle.life_rules.specs.declared.event.Name.{Name}
 use Rattle.table_rules.specs.declared.cargo.Cargo.{Ghosts}
 use Rattle.table_rules.specs.declared.frame.Frame.{Frame}
-use Rattle.table_steps.specs.Claims.{Seated}
+use Rattle.table_steps.specs.Seats.{Seated}
 use Rattle.table_steps.specs.Begins.{CanBegin}
 use Rattle.table_steps.specs.Slots.{slot_of}
 use Rattle.table_steps.specs.Sheds.{shed}

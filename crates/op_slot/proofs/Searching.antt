@@ -8,7 +8,8 @@ use Rattle.table_rules.specs.declared.view.Rooted.{Rooted}
 use Rattle.table_rules.specs.Named.{find_by}
 use Rattle.table_steps.specs.declared.block.Block.{Block}
 use Rattle.table_steps.specs.Views.{Board}
-use Rattle.table_steps.specs.Claims.{root_name, word_index, logged, Claimed, Missed, IsAnswer, Seated}
+use Rattle.table_steps.specs.Claims.{root_name, word_index, logged, Claimed, Missed, IsAnswer}
+use Rattle.table_steps.specs.Seats.{Seated}
 use Rattle.op_slot.specs.Searches.{block_round, IsMissedBelow, IsFound, IsSearched, IsMissedFrom, IsFoundFrom, IsSearchedFrom}
 
 -- a block that was missed is missed by steps that change nothing, so what the list of steps doesn't tell is as

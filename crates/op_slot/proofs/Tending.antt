@@ -1,7 +1,7 @@
 -- What a hand has of a node after items were moved, and after the hand came to owe or to hold the node.
 use Rattle.std.proofs.Common.{◌≡◌, ℕ, ℤ, Bool, true, false, ◌==◌, List, [], ◌∷◌, refl, sym, ap, ◌∙◌}
 use Rattle.std.specs.Prelude.{Option, Some, None}
-use Rattle.std.proofs.lemmas.Bool.{both_ways, cond-true, cond-false, eqb-true, eq-eqb, false_from_ne_true}
+use Rattle.std.proofs.lemmas.Bool.{cond-true, cond-false, eqb-true}
 use Rattle.life_rules.specs.declared.words.CallbackPhase.{CallbackPhase}
 use Rattle.life_rules.specs.declared.event.Name.{Name}
 use Rattle.node_tree.specs.Tree.{is_child, has_source}
@@ -16,7 +16,8 @@ use Rattle.table_rules.specs.declared.view.Owed.{Owed}
 use Rattle.table_rules.specs.Named.{find_by}
 use Rattle.table_steps.specs.Views.{aimed}
 use Rattle.table_steps.specs.Begins.{begun_as, Begins, IsRenewed, start_shown}
-use Rattle.table_steps.specs.Claims.{Seated, with_step}
+use Rattle.table_steps.specs.Claims.{with_step}
+use Rattle.table_steps.specs.Seats.{Seated}
 use Rattle.table_steps.specs.Finishes.{is_of_kids}
 use Rattle.table_steps.specs.Kids.{empty_slots}
 use Rattle.table_steps.specs.Readings.{above_it, says_begun, says_phase, notes_idle, IsBegunAs, IsPhaseAs}
@@ -32,14 +33,6 @@ use Rattle.op_slot.proofs.Places.{kid-within, kid-apart, own-apart, kids-apart, 
 
 some-same : {A : Type 0} (a b : A) → Some a ≡ Some b → a ≡ b
 some-same a b e = cc
-
-pub apart-sym : {O : Type 0} (f : Frame O) (x y : Name) → (slot_of f.layout x == slot_of f.layout y) ≡ false →
-    (slot_of f.layout y == slot_of f.layout x) ≡ false
-apart-sym f x y apart =
-    false_from_ne_true (slot_of f.layout y == slot_of f.layout x)
-    (λ t.
-    both_ways (slot_of f.layout x == slot_of f.layout y) apart
-    (eq-eqb (slot_of f.layout x) (slot_of f.layout y) (sym (eqb-true (slot_of f.layout y) (slot_of f.layout x) t))))
 
 module _ {P E O : Type 0} (f : Frame O) (x : Name) (new old : Option P) (m m' : Seated P E) (did : IsSwapped f x new old m m') where
   -- after a move the new lies in the home, and what lay there was the answer

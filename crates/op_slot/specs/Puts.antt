@@ -5,7 +5,7 @@ use Rattle.table_rules.specs.declared.cargo.Cargo.{Ghosts}
 use Rattle.table_rules.specs.declared.frame.Frame.{Frame}
 use Rattle.table_rules.specs.declared.view.Held.{Held}
 use Rattle.table_rules.specs.declared.view.Owed.{Owed}
-use Rattle.table_steps.specs.Claims.{Seated}
+use Rattle.table_steps.specs.Seats.{Seated, view_of}
 use Rattle.table_steps.specs.Begins.{CanBegin}
 use Rattle.table_steps.specs.Slots.{has_seen, held_at, owed_at, home_at}
 use Rattle.table_steps.specs.Swaps.{IsSwapped}
@@ -16,9 +16,9 @@ module _ {P E O : Type 0} (cargo : Ghosts P E O) (f : Frame O) (m : Seated P E) 
   -- seen of requests and was told when it came to hold the node
   pub record FitsHeld : Type 0 where
     pub held : Held E
-    pub holds : held_at m.0 x ≡ Some held
+    pub holds : held_at (view_of m) x ≡ Some held
     pub start : cargo.start item ≡ held.start
-    pub fit : cargo.fits item x.node (has_seen f.tree m.0 x || held.told)
+    pub fit : cargo.fits item x.node (has_seen f.tree (view_of m) x || held.told)
 
   -- the hand owes the node's start. The start that the item shows goes on with that of the parent,
   -- has the table's key, and draws the lot with which the node is owed; the root's goes on with
@@ -26,12 +26,12 @@ module _ {P E O : Type 0} (cargo : Ghosts P E O) (f : Frame O) (m : Seated P E) 
   -- completion
   pub record FitsOwed : Type 0 where
     pub owed : Owed E
-    pub owes : owed_at m.0 x ≡ Some owed
+    pub owes : owed_at (view_of m) x ≡ Some owed
     pub entry : E
     pub start : cargo.start item ≡ entry ∷ owed.above
     pub key : cargo.key (cargo.start item) ≡ f.over.value
     pub drawn : cargo.drawn (cargo.start item) ≡ owed.lot
-    pub fit : cargo.fits item x.node (has_seen f.tree m.0 x)
+    pub fit : cargo.fits item x.node (has_seen f.tree (view_of m) x)
     pub goes_on : ¬ cargo.ends item
 
   -- and the node's home is empty

@@ -3,7 +3,7 @@ use Rattle.std.specs.Prelude.{◌≡◌, ℕ, zero, suc, ◌+◌, ◌-◌, ◌<�
 use Rattle.atomic_table.specs.declared.shared.Seat.{Seat}
 use Rattle.table_rules.specs.declared.view.View.{View}
 use Rattle.table_steps.specs.declared.block.Block.{Block}
-use Rattle.table_steps.specs.Views.{Board}
+use Rattle.table_steps.specs.Views.{Board, knows}
 use Rattle.table_steps.specs.Claims.{root_name, Claimed, IsUnnoted, Missed}
 
 module _ {P E O : Type 0} (board : Board O) where
@@ -22,7 +22,7 @@ module _ {P E O : Type 0} (board : Board O) where
     pub within : b.index < board.frame.layout.blocks
     pub missed : IsMissedBelow b.index old middle
     pub claimed : Claimed board b.index b middle new
-    pub unnoted : IsUnnoted old.me.0 (root_name board b.index b.generation)
+    pub unnoted : IsUnnoted (knows old) (root_name board b.index b.generation)
 
   -- none where each block was missed; else the block that was found
   abbrev pub IsSearched : Option Block → Seat (Option P) (View P E) → Seat (Option P) (View P E) →
@@ -52,7 +52,7 @@ module _ {P E O : Type 0} (board : Board O) (from : ℕ) where
     pub within : b.index < board.frame.layout.blocks
     pub missed : IsMissedFrom count old middle
     pub claimed : Claimed board b.index b middle new
-    pub unnoted : IsUnnoted old.me.0 (root_name board b.index b.generation)
+    pub unnoted : IsUnnoted (knows old) (root_name board b.index b.generation)
 
   -- none where each block was missed, and else the block that was found
   abbrev pub IsSearchedFrom : Option Block → Seat (Option P) (View P E) →

@@ -8,12 +8,12 @@ use Rattle.table_rules.specs.declared.frame.Frame.{Frame}
 use Rattle.table_rules.specs.declared.view.Held.{Held}
 use Rattle.table_rules.specs.declared.view.Owed.{Owed}
 use Rattle.table_rules.specs.declared.view.Reported.{Reported}
-use Rattle.table_steps.specs.Claims.{Seated}
+use Rattle.table_steps.specs.Seats.{Seated, homes_of, view_of}
 use Rattle.table_steps.specs.Slots.{slot_of, kept, held_at, owed_at, reported_at, home_at}
 
 -- the hand makes no scan
 abbrev pub IsCalm : {P E : Type 0} → Seated P E → Type 0
-IsCalm m = m.0.scans ≡ []
+IsCalm m = (view_of m).scans ≡ []
 
 -- the home of this node of a family, changed in one
 abbrev pub put_at : {A : Type 0} → ℕ → A → (ℕ → A) → ℕ → A
@@ -21,7 +21,7 @@ put_at n new kid k = if n == k then new else kid k
 
 -- the hand owes the report of the node, with this entry
 abbrev pub OwesReport : {P E : Type 0} → Name → Reported P E → Seated P E → Type 0
-OwesReport x entry m = reported_at m.0 x ≡ Some entry
+OwesReport x entry m = reported_at (view_of m) x ≡ Some entry
 
 module _ {O : Type 0} (f : Frame O) (x : Name) where
   -- the table has a place for each node of the tree, the node is one of them, and its children
@@ -38,16 +38,16 @@ module _ {O : Type 0} (f : Frame O) (x : Name) where
 module _ {P E O : Type 0} (f : Frame O) (x : Name) where
   -- the hand owes the node's start, and this lies in the node's home
   pub record Owes (owed : Owed E) (inside : Option P) (m : Seated P E) : Type 0 where
-    pub owes : owed_at m.0 x ≡ Some owed
+    pub owes : owed_at (view_of m) x ≡ Some owed
     pub home : home_at f.layout m x ≡ Some inside
 
   -- the hand holds the node. This lies in the node's home, and this in those of its children
   pub record Tends (held : Held E) (inside : Option P) (kid : ℕ → Option P)
       (m : Seated P E) : Type 0 where
-    pub holds : held_at m.0 x ≡ Some held
+    pub holds : held_at (view_of m) x ≡ Some held
     pub own : home_at f.layout m x ≡ Some inside
     pub kids : (n : ℕ) → is_child f.tree x.node n ≡ true →
-        kept (place_number f.layout x.block n) m.1 ≡ Some (kid n)
+        kept (place_number f.layout x.block n) (homes_of m) ≡ Some (kid n)
 
 -- what the hand owes besides the node it still owes, and what lies in those homes still lies there
 abbrev pub KeepsOwed : {P E O : Type 0} → Frame O → Name → Seated P E → Seated P E → Type 0

@@ -8,7 +8,7 @@ use Rattle.table_words.specs.Layouts.{OfControl, index}
 use Rattle.table_rules.specs.declared.frame.Frame.{Frame}
 use Rattle.table_rules.specs.declared.view.View.{View}
 use Rattle.table_steps.specs.Views.{aimed}
-use Rattle.table_steps.specs.Claims.{Seated}
+use Rattle.table_steps.specs.Seats.{Seated}
 use Rattle.table_steps.specs.Slots.{slot_of}
 use Rattle.table_steps.specs.Swaps.{TurnsTo}
 use Rattle.table_life_kept.proofs.Turn.Swapping.{Swap}

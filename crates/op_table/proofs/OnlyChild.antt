@@ -18,7 +18,7 @@ use Rattle.table_rules.specs.declared.view.Owed.{Owed}
 use Rattle.table_rules.specs.Named.{count_by, find_by}
 use Rattle.table_steps.specs.Owing.{owing}
 use Rattle.table_steps.specs.Views.{Board, IsPlaceIn, aimed}
-use Rattle.table_steps.specs.Claims.{Seated}
+use Rattle.table_steps.specs.Seats.{Seated}
 use Rattle.table_steps.specs.Slots.{slot_of, kids_of, home_at, kept}
 use Rattle.table_steps.specs.Sheds.{shed}
 use Rattle.table_steps.specs.Releases.{is_own_slot}

@@ -20,7 +20,8 @@ use Rattle.table_rules.specs.Named.{count_by}
 use Rattle.table_steps.specs.declared.report.Report.{Report}
 use Rattle.table_steps.specs.declared.report.Report.TheVariants.{Last, Others}
 use Rattle.table_steps.specs.Owing.{owing}
-use Rattle.table_steps.specs.Claims.{Seated, Missed}
+use Rattle.table_steps.specs.Seats.{Seated}
+use Rattle.table_steps.specs.Claims.{Missed}
 use Rattle.table_steps.specs.Remembers.{running, Remembers}
 use Rattle.table_steps.specs.Readings.{says_begun, notes_idle, notes_phase}
 use Rattle.table_steps.specs.Callbacks.{learns, withdraws}

@@ -6,7 +6,7 @@ use Rattle.life_rules.specs.Views.{beside}
 use Rattle.table_rules.specs.declared.cargo.Cargo.{Ghosts}
 use Rattle.table_rules.specs.declared.frame.Frame.{Frame}
 use Rattle.table_steps.specs.Views.{aimed}
-use Rattle.table_steps.specs.Claims.{Seated}
+use Rattle.table_steps.specs.Seats.{Seated}
 use Rattle.table_steps.specs.Lefts.{LeavesControl}
 use Rattle.table_steps.specs.Awaits.{CanAwait, AwaitsAt}
 use Rattle.table_steps.specs.Begins.{Begins}

@@ -249,6 +249,6 @@ pub struct Releases<K, J> {
 }
 
 impl<P: Cargo, K: Subject, J: Site<P::Over>> Play<Option<P>, View<P, P::Entry>> for Releases<K, J> {
-    ghost then = { λ step m found m'. TellsRelease P.Cargo J.frames J.hand K.aim step.word found step.first m
-        m' };
+    ghost then = { λ step m found m'. TellsRelease P.Cargo J.frames J.hand K.aim
+        step.word found step.first m m' };
 }

@@ -44,11 +44,6 @@ at_its_end number at_hand (Some more) free some end =
     let whole : at_hand ++ more ≡ at_hand = ap (λ (l : List ℕ). at_hand ++ l) end ∙ append-nil at_hand in
     subst (IsNoLine number) (sym whole) (record { some = some; no_line = no_line_feed number at_hand free })
 
--- and nothing is ahead where nothing is at hand
-pub nothing_ahead : (at_hand : List ℕ) (left : Option (List ℕ)) → at_hand ≡ [] → IsAtEnd left → IsAtEnd (bytes_ahead at_hand left)
-nothing_ahead at_hand None none end = tt
-nothing_ahead at_hand (Some more) none end = ap (λ (l : List ℕ). l ++ more) none ∙ end
-
 -- what the end of a file says of what was ahead before
 pub at_end_fault : (number : ℕ) (at_hand : List ℕ) (left old : Option (List ℕ)) (r : Result (Option ℕ) PartFault) → r ≡ at_end at_hand number → HasNoLineFeed at_hand → IsAtEnd left
     → Keeps old (bytes_ahead at_hand left) → IfErr r (IsFaultAt old number)

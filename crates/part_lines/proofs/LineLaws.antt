@@ -157,18 +157,6 @@ no_line_feed number bytes free = λ begins.
 pub too_many : (number : ℕ) (bytes : List ℕ) → MOST_LINES < number → ¬ BeginsLine number bytes
 too_many number bytes many = λ begins. omega (arith, many, begins.few)
 
--- more bytes begin with the same line
-pub shows_more : (bytes more : List ℕ) (number : ℕ) (said : Said) (words : List ℕ) → Shows bytes number said words → Shows (bytes ++ more) number said words
-shows_more bytes more number said words shows = record {
-  more = shows.more ++ more;
-  are = shows.are;
-  bytes_are = ap (λ (l : List ℕ). l ++ more) shows.bytes_are ∙ append_assoc (numbered_line number words) shows.more more;
-  head = shows.head;
-  length_is = shows.length_is;
-  sort_is = shows.sort_is;
-  few = shows.few;
-}
-
 -- what begins with a line, and more behind it, begins with it without that
 pub begins_before : (at_hand more : List ℕ) (end number : ℕ) → LineEndsAt at_hand end → BeginsLine number (at_hand ++ more) → BeginsLine number at_hand
 begins_before at_hand more end number ends begins =

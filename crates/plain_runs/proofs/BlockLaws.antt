@@ -1,9 +1,8 @@
 -- What becomes of the blocks of plain runs.
 use Rattle.std.proofs.Common.{◌≡◌, ℕ, ◌^◌, ◌+◌, ◌<◌, ◌≤◌, Bool, true, false, List, [], ◌∷◌, ◌++◌, length, get_or, set, replicate, Option, Some, None, IsSome, cond, sum_by, refl, sym, ap, ◌∙◌, subst, inl, inr, length-append, arith}
 use Rattle.std.proofs.lemmas.Bool.{cases_eq, cases_lt}
-use Rattle.std.specs.Prelude.{is_some, is_none}
+use Rattle.std.specs.Prelude.{is_some}
 use Rattle.std.proofs.lemmas.List.Sums.{sum_by-set}
-use Rattle.std.proofs.lemmas.List.Folds.{sum_by-replicate}
 use Rattle.std.proofs.lemmas.List.{get_or-set_same, get_or-set_other, get_or_past, length-replicate, replicate-append-replicate}
 use Rattle.common_lemmas.proofs.Lists.{get_or-replicate_same}
 use Rattle.std.proofs.Math.ListN.{length-set}
@@ -40,22 +39,9 @@ evaluated-may work started completion (inr wants) = inl (wants.0, inr wants.1)
 abbrev one : Option Started → ℕ
 one block = cond (is_some block) 1 0
 
--- one operation more runs where a free block has one now, and one less where a block is free now
-pub more-run : (old new : Plain) (at : ℕ) (started : Started) → new.blocks ≡ set old.blocks at (Some started) → at < length old.blocks → true ≡ is_none (get_or old.blocks at None) → (plain_work new).running ≡ (plain_work old).running + 1
-more-run old new at started blocks within free =
-    omega (arith, ap (sum_by one) blocks, sum_by-set one old.blocks at (Some started) None within, ap one (none-of (get_or old.blocks at None) (sym free)))
-  where
-    none-of : (block : Option Started) → is_none block ≡ true → block ≡ None
-    none-of None is = refl
-    none-of (Some other) is = cc
-
 fewer-run : (old new : Plain) (at : ℕ) (started : Started) → new.blocks ≡ set old.blocks at None → at < length old.blocks → get_or old.blocks at None ≡ Some started → (plain_work old).running ≡ (plain_work new).running + 1
 fewer-run old new at started blocks within is =
     omega (arith, ap (sum_by one) blocks, sum_by-set one old.blocks at None None within, ap one is)
-
--- none runs in free blocks
-pub none-run : (plain : Plain) (blocks : ℕ) → plain.blocks ≡ replicate blocks None → (plain_work plain).running ≡ 0
-none-run plain blocks free = ap (sum_by one) free ∙ sum_by-replicate one blocks None ∙ omega arith
 
 -- the operation of a block is collected, and the block is free
 pub collects-at : (old new : Plain) (at next : ℕ) (small : Bool) (started : Started) (completion : Completion) → new.plan ≡ old.plan → new.requested ≡ old.requested → new.collected ≡ gathered old.plan no_table started.number completion ∷ old.collected → new.blocks ≡ set old.blocks at None → at < length old.blocks

@@ -20,8 +20,9 @@ fn jobs(elements: bool) -> &'static str
     if elements {
         "jobs over elements: add, sub, mul, div, neg, within, index"
     } else {
-        "jobs on an int: add, sub, mul, div, neg, within, iota, show; on a text: append, parse, length; \
-on a row: length; on ints and rows: sum; on texts: join; on an optional: value_or; on any data: at, fail, give, pass"
+        "jobs on an int: add, sub, mul, div, neg, within, iota, show; \
+on a text: append, parse, length; on a row: length; on ints and rows: sum; on texts: join; \
+on an optional: value_or; on any data: at, fail, give, pass"
     }
 }
 
@@ -131,7 +132,8 @@ pub(crate) fn job_wrong_at(
 /// The name of a bulk's job; of a value that has none it is empty.
 fn name_of_job(value: &Value) -> &str
     ensures { result.now ≡
-        unwrap_or (option_and_then (text_at (codes "job")) (get (codes "job") (view value.now))) [] }
+        unwrap_or (option_and_then (text_at (codes "job"))
+        (get (codes "job") (view value.now))) [] }
 {
     match value.get("job") {
         Some(job) => match text_at(job, "job") {

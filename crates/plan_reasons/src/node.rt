@@ -19,11 +19,13 @@ fn nodes(is_first: bool) -> &'static str
     ensures { result.now ≡ nodes is_first }
 {
     if is_first {
-        "nodes: input, just, just_error, just_stopped, schedule, delay, read_env, then, upon_error, upon_stopped, \
-let_value, let_error, let_stopped, starts_on, continues_on, stopped_as_optional, stopped_as_error, bulk, when_all"
+        "nodes: input, just, just_error, just_stopped, schedule, delay, read_env, then, upon_error, \
+upon_stopped, let_value, let_error, let_stopped, starts_on, continues_on, stopped_as_optional, \
+stopped_as_error, bulk, when_all"
     } else {
-        "nodes: input, just, just_error, just_stopped, schedule, delay, read_env, then, upon_error, upon_stopped, \
-let_value, let_error, let_stopped, starts_on, continues_on, stopped_as_optional, stopped_as_error, bulk, when_all, \
+        "nodes: input, just, just_error, just_stopped, schedule, delay, read_env, then, upon_error, \
+upon_stopped, let_value, let_error, let_stopped, starts_on, continues_on, stopped_as_optional, \
+stopped_as_error, bulk, when_all, \
 unstoppable, ahead"
     }
 }

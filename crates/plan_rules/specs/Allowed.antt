@@ -61,10 +61,6 @@ abbrev pub Lets : (Completion → Option (List Datum)) → Job → List ℕ →
 Lets channel pick bodies Body Child c =
     (d : Completion) × Child d × LetOf (channel d) pick bodies Body d c
 
--- the completion is a value with these data
-abbrev pub IsValueOf : List Datum → Completion → Type 0
-IsValueOf values c = c ≡ Value values
-
 abbrev pub IsFailure : Completion → Type 0
 IsFailure (Error e) = Unit {0}
 IsFailure Stopped = Unit {0}

@@ -1,6 +1,6 @@
 -- What the arms of an evaluation rest on: which nodes run next, and that a node settles as its arm says.
-use Rattle.std.specs.Prelude.{Contains, Some, None, Option, Result, OnOk, OnErr, IfNone, slice_get}
-use Rattle.std.proofs.Common.{◌≡◌, ◌⊎◌, ℕ, ◌<◌, false, List, sym, ap, ◌∙◌, subst}
+use Rattle.std.specs.Prelude.{Contains, Some, None, Option, Result, OnOk, IfNone, slice_get}
+use Rattle.std.proofs.Common.{◌≡◌, ◌⊎◌, ℕ, ◌<◌, List, sym, ap, ◌∙◌, subst}
 use Rattle.std.specs.declared.alloc.AllocError.{AllocError}
 use Rattle.std.proofs.lemmas.List.Elements.{All-contains}
 use Rattle.exec_value.specs.declared.data.Datum.{Datum}
@@ -8,7 +8,7 @@ use Rattle.exec_value.specs.declared.outcome.Completion.{Completion}
 use Rattle.exec_job.specs.declared.job.Job.{Job}
 use Rattle.plan_rules.specs.declared.node.Node.{Node}
 use Rattle.plan_rules.specs.declared.node.Node.TheVariants.{Bulk}
-use Rattle.plan_rules.specs.Settle.{let_of, lets_of, settle_of}
+use Rattle.plan_rules.specs.Settle.{let_of, lets_of}
 use Rattle.plan_laws.proofs.Readings.{settled-by-case}
 use Rattle.plan_kinds.specs.Runs.{run_by}
 use Rattle.plan_shape.specs.Blueprint.{Blueprint}
@@ -76,24 +76,6 @@ bulk-settles run n args {found} {k} {job} {d} {made} {result} at is same exact =
       small = λ small. absurd (small.nodes_are n (Bulk k job) (at ∙ ap Some is));
     } in
     subst (λ c. Settles run c made result) (same ∙ ap (λ x. settled_case run x args) (sym is)) settles
-
--- below an `unstoppable` no request stands
-pub unasked-settles : (run other : Evaluation) → other.plan.now ≡ run.plan.now → other.number ≡ run.number →
-    other.asked ≡ false → (k : ℕ) (args : List Datum) (made : Completion)
-    (result : Result (Unit {0}) AllocError) → Settles other (settled_by other k args) made result →
-    Settles run (settle_of run.plan.now.nodes k args run.number false) made result
-unasked-settles run other plan number asked k args made result settles =
-    let same : settled_by other k args ≡ settle_of run.plan.now.nodes k args run.number false =
-    ap (λ (p : Blueprint). settle_of p.nodes k args other.number other.asked) plan
-    ∙ ap (λ r. settle_of run.plan.now.nodes k args r other.asked) number
-    ∙ ap (settle_of run.plan.now.nodes k args run.number) asked in
-    record {
-      exact = subst (λ c. OnOk result (made ≡ c)) same settles.exact;
-      small = λ small.
-          subst (λ r. OnErr result (SettlesLong run.plan.now r)) number
-          (subst (λ p. OnErr result (SettlesLong p other.number)) plan
-          (settles.small (subst IsSmall (sym plan) small)));
-    }
 
 -- a let settles by what was taken from its channel, where its child's completion stays if that is nothing
 let-same : (run : Evaluation) (pick : Job) (bodies : List ℕ) (channel : Completion → Option (List Datum))

@@ -1,7 +1,7 @@
 -- Which byte is none of which.
 use Rattle.std.proofs.Common.{◌≡◌, inl, inr, ℕ, ◌==◌, ◌||◌, true, subst, sym}
 use Rattle.std.proofs.lemmas.Bool.{eqb-true, or_cases}
-use Rattle.plan_words.specs.Bytes.{is_blank, is_mark}
+use Rattle.plan_words.specs.Bytes.{is_mark}
 
 -- what holds of four bytes
 pub one_of_four : (b w x y z : ℕ) (P : ℕ → Type 0) → P w → P x → P y → P z
@@ -20,6 +20,3 @@ one_of_four b w x y z P pw px py pz h =
 
 pub of_mark : (b : ℕ) (P : ℕ → Type 0) → P 124 → P 40 → P 41 → P 44 → is_mark b ≡ true → P b
 of_mark b P p q r s h = one_of_four b 124 40 41 44 P p q r s h
-
-pub of_blank : (b : ℕ) (P : ℕ → Type 0) → P 32 → P 9 → P 10 → P 13 → is_blank b ≡ true → P b
-of_blank b P p q r s h = one_of_four b 32 9 10 13 P p q r s h

@@ -1,6 +1,6 @@
 -- Constants that go over several lines are seen as if they stood on one.
-use Rattle.std.proofs.Common.{◌≡◌, ℕ, ◌+◌, ◌<◌, ◌≤◌, ◌==◌, ◌&&◌, not, Bool, true, List, [], ◌∷◌, ◌++◌, length, take, drop, get_or, append_assoc, sym, ap, subst, ◌∙◌}
-use Rattle.std.proofs.lemmas.List.{append-nil, drop_more, take_all, take_more}
+use Rattle.std.proofs.Common.{◌≡◌, ℕ, ◌+◌, ◌<◌, ◌==◌, ◌&&◌, not, Bool, true, List, [], ◌∷◌, ◌++◌, length, take, drop, get_or, append_assoc, sym, ap, subst, ◌∙◌}
+use Rattle.std.proofs.lemmas.List.{append-nil, drop_more, take_more}
 use Rattle.plan_words.specs.Seen.{IsBetween, IsInRow, IsInText, seen_in}
 use Rattle.plan_words.specs.Wholes.{is_whole}
 use Rattle.plan_words.proofs.Broken.{row_first, row_next, same_more, text_first, text_next}
@@ -67,23 +67,6 @@ on_in_row start bytes index text cut new b can_cut now within byte on kept is fl
           (subst (λ (q : Bool). IsInRow q (drop (index + 1) bytes) (seen_in (cut ++ b ∷ []))) (sym flag)
           (row_next cut b (drop (index + 1) bytes) can_cut inside));
     }
-
--- at the start and at the end
-pub at_start_of_text : (start bytes : List ℕ) → IsInText true bytes (seen_in start) → OnInText start bytes 0 start true
-at_start_of_text start bytes is = record { same = ap seen_in (sym (append-nil start)); inside = is }
-
-pub at_start_of_row : (start bytes : List ℕ) → IsInRow true bytes (seen_in start) → OnInRow start bytes 0 start true
-at_start_of_row start bytes is = record { same = ap seen_in (sym (append-nil start)); inside = is }
-
-pub whole_in_text : (start bytes : List ℕ) (index : ℕ) (text : List ℕ) (can_cut : Bool) → length bytes ≤ index
-    → OnInText start bytes index text can_cut → seen_in text ≡ seen_in (start ++ bytes)
-whole_in_text start bytes index text can_cut past on =
-    on.same ∙ ap (λ (bs : List ℕ). seen_in (start ++ bs)) (take_all index bytes past)
-
-pub whole_in_row : (start bytes : List ℕ) (index : ℕ) (text : List ℕ) (can_cut : Bool) → length bytes ≤ index
-    → OnInRow start bytes index text can_cut → seen_in text ≡ seen_in (start ++ bytes)
-whole_in_row start bytes index text can_cut past on =
-    on.same ∙ ap (λ (bs : List ℕ). seen_in (start ++ bs)) (take_all index bytes past)
 
 -- a word or a constant by its first byte and the others
 same_word : (old put : List ℕ) (first : ℕ) (rest word : List ℕ) → word ≡ first ∷ rest → put ≡ old ++ first ∷ []

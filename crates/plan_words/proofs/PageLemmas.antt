@@ -1,8 +1,8 @@
 -- What the steps of a layout make of the tokens of a page.
-use Rattle.std.proofs.Common.{◌≡◌, ◌<◌, ◌≤◌, ◌+◌, inl, inr, ℕ, zero, suc, length, get_or, arith, ◌==◌, ◌||◌, Bool, true, false, List, [], ◌∷◌, ◌++◌, map, take, append_assoc, cond, refl, sym, ap, subst, ◌∙◌}
+use Rattle.std.proofs.Common.{◌≡◌, ◌<◌, ◌+◌, inl, inr, ℕ, zero, suc, length, get_or, arith, ◌==◌, ◌||◌, Bool, true, false, List, [], ◌∷◌, ◌++◌, map, take, append_assoc, cond, refl, sym, ap, subst, ◌∙◌}
 use Rattle.std.proofs.lemmas.Bool.{and_parts, cases_Bool, cond-false, eqb-true, false≢true, or_cases, or_parts, true≢false}
 use Rattle.std.specs.List.{list_all}
-use Rattle.std.proofs.lemmas.List.{append-nil, map_push, take_all, take_more}
+use Rattle.std.proofs.lemmas.List.{append-nil, map_push, take_more}
 use Rattle.plan_words.specs.declared.kind.TokenKind.{TokenKind}
 use Rattle.plan_words.specs.declared.kind.TokenKind.TheVariants as kind
 use Rattle.plan_words.specs.Bytes.{ends_word, is_mark}
@@ -174,11 +174,6 @@ adds_more f xs index x start old new within is before now words h =
 
 pub adds_none : {X : Type 0} (f : X → List ℕ) (xs : List X) (start : PageSeen) → AddsTokens (map f (take 0 xs)) start start
 adds_none f xs start words h = subst (λ (ws : List (List ℕ)). HoldsTokens ws start) (sym (append-nil words)) h
-
-pub adds_all : {X : Type 0} (f : X → List ℕ) (xs : List X) (index : ℕ) (start new : PageSeen) → length xs ≤ index
-    → AddsTokens (map f (take index xs)) start new → AddsTokens (map f xs) start new
-adds_all {X} f xs index start new past adds =
-    subst (λ (ys : List X). AddsTokens (map f ys) start new) (take_all index xs past) adds
 
 pub blank_page : (page : PageSeen) → page.text ≡ [] → HoldsTokens [] page
 unfolding seen_in words_in

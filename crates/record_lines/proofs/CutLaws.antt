@@ -73,11 +73,6 @@ rest-no_line_feed (b ∷ bytes) = elim (cases_eq b LINE_FEED) [
       subst P (sym (cut-byte b bytes h)) (byte_before-rest b h (cut bytes).ended (cut bytes).rest (rest-no_line_feed bytes))
 ]
 
--- one line feed after bytes ends their rest as a line
-pub cut-one_line_feed : cut (LINE_FEED ∷ []) ≡ record { ended = [] ∷ []; rest = [] }
-unfolding cut line_feed_before
-cut-one_line_feed = refl
-
 pub cut-line : (front : List ℕ) → HasNoLineFeed front → cut (front ++ LINE_FEED ∷ []) ≡ record { ended = front ∷ []; rest = [] }
 unfolding cut line_feed_before byte_before
 cut-line [] h = refl

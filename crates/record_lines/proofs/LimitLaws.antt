@@ -18,17 +18,6 @@ take_past m xs ys h =
 abbrev limited : ℕ → ℕ → List ℕ → List (List ℕ)
 limited n m bytes = take n (whole_lines (take m bytes))
 
--- what follows the lines of a, of which there are no more than the limits allow
-abbrev limited_rest : ℕ → ℕ → List ℕ → List ℕ → List (List ℕ)
-limited_rest n m a b = take (n - length (whole_lines a)) (whole_lines (rest_of a ++ take (m - length a) b))
-
-limited-begins : (n m : ℕ) (a b : List ℕ) → length a ≤ m → length (whole_lines a) ≤ n
-    → limited n m (a ++ b) ≡ whole_lines a ++ limited_rest n m a b
-limited-begins n m a b size count =
-    ap (λ bytes. take n (whole_lines bytes)) (take_past m a b size)
-    ∙ ap (take n) (whole_lines-append a (take (m - length a) b))
-    ∙ take_past n (whole_lines a) (whole_lines (rest_of a ++ take (m - length a) b)) count
-
 limited-within : (n m : ℕ) (a : List ℕ) → length a ≤ m → length (whole_lines a) ≤ n → limited n m a ≡ whole_lines a
 limited-within n m a size count =
     ap (λ bytes. take n (whole_lines bytes)) (take_all m a size) ∙ take_all n (whole_lines a) count
@@ -58,10 +47,3 @@ pub limited_lines-full : (a b : List ℕ) → (MOST_BYTES ≤ length a) ⊎ (MOS
 unfolding limited_lines
 limited_lines-full a b (inl size) = limited-full_bytes MOST_RECORDS MOST_BYTES a b size
 limited_lines-full a b (inr count) = limited-full_lines MOST_RECORDS MOST_BYTES a b count
-
--- lines within the limits come first of them, whatever bytes follow
-pub limited_lines-begins : (a b : List ℕ) → length a ≤ MOST_BYTES → length (whole_lines a) ≤ MOST_RECORDS
-    → (more : List (List ℕ)) × (limited_lines (a ++ b) ≡ whole_lines a ++ more)
-unfolding limited_lines
-limited_lines-begins a b size count =
-    (limited_rest MOST_RECORDS MOST_BYTES a b, limited-begins MOST_RECORDS MOST_BYTES a b size count)

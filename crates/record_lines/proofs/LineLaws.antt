@@ -1,11 +1,10 @@
 -- The laws of the lines and of the rest of a byte list, as it grows.
-use Rattle.std.proofs.Common.{◌≡◌, ◌≢◌, ℕ, List, [], ◌∷◌, ◌++◌, Some, length, take, map, slice_get, refl, sym, ap, ◌∙◌, append_assoc}
-use Rattle.std.proofs.lemmas.List.{append-nil, map-append, take_at}
-use Rattle.std.proofs.lemmas.List.Elements.{All-nil, All-cons, All-append}
+use Rattle.std.proofs.Common.{◌≡◌, ◌≢◌, ℕ, List, [], ◌∷◌, ◌++◌, map, refl, sym, ap, ◌∙◌, append_assoc}
+use Rattle.std.proofs.lemmas.List.{append-nil, map-append}
+use Rattle.std.proofs.lemmas.List.Elements.{All-append}
 use Rattle.record_lines.specs.declared.limits.TheConstants.{LINE_FEED}
 use Rattle.record_lines.specs.Lines.{Cut, cut, whole_lines, rest_of, without_cr, HasNoLineFeed}
 use Rattle.record_lines.proofs.CutLaws.{cut-append, cut-no_line_feed, cut-line, rest-no_line_feed}
-use Rattle.common_lemmas.proofs.Lists.{slice_get-append_middle}
 
 -- no bytes have no lines and no rest
 pub whole_lines-nil : whole_lines [] ≡ []
@@ -76,39 +75,3 @@ rest_of-line bytes front h =
     rest_of-append bytes (front ++ LINE_FEED ∷ [])
     ∙ ap rest_of (sym (append_assoc (rest_of bytes) front (LINE_FEED ∷ [])))
     ∙ rest_of-none (rest_of bytes ++ front) (rest_with bytes front h)
-
--- the same of one byte
-pub whole_lines-line_feed : (bytes : List ℕ) → whole_lines (bytes ++ LINE_FEED ∷ []) ≡ whole_lines bytes ++ without_cr (rest_of bytes) ∷ []
-whole_lines-line_feed bytes =
-    whole_lines-line bytes [] (All-nil (λ b. b ≢ LINE_FEED))
-    ∙ ap (λ rest. whole_lines bytes ++ without_cr rest ∷ []) (append-nil (rest_of bytes))
-
-pub rest_of-line_feed : (bytes : List ℕ) → rest_of (bytes ++ LINE_FEED ∷ []) ≡ []
-rest_of-line_feed bytes = rest_of-line bytes [] (All-nil (λ b. b ≢ LINE_FEED))
-
-one_byte : (b : ℕ) → b ≢ LINE_FEED → HasNoLineFeed (b ∷ [])
-one_byte b other = All-cons (λ b. b ≢ LINE_FEED) b [] other (All-nil (λ b. b ≢ LINE_FEED))
-
-pub whole_lines-byte : (bytes : List ℕ) (b : ℕ) → b ≢ LINE_FEED → whole_lines (bytes ++ b ∷ []) ≡ whole_lines bytes
-whole_lines-byte bytes b other = whole_lines-same bytes (b ∷ []) (one_byte b other)
-
-pub rest_of-byte : (bytes : List ℕ) (b : ℕ) → b ≢ LINE_FEED → rest_of (bytes ++ b ∷ []) ≡ rest_of bytes ++ b ∷ []
-rest_of-byte bytes b other = rest_of-more bytes (b ∷ []) (one_byte b other)
-
--- the lines of a front are the first ones
-pub take-whole_lines : (a b : List ℕ) → take (length (whole_lines a)) (whole_lines (a ++ b)) ≡ whole_lines a
-take-whole_lines a b =
-    ap (take (length (whole_lines a))) (whole_lines-append a b)
-    ∙ take_at (whole_lines a) (whole_lines (rest_of a ++ b)) (length (whole_lines a)) refl
-
--- a line's number: it stands behind the lines that were whole before it, whatever bytes follow
-pub slice_get-whole_lines : (bytes front more : List ℕ) → HasNoLineFeed front
-    → slice_get (whole_lines ((bytes ++ (front ++ LINE_FEED ∷ [])) ++ more)) (length (whole_lines bytes)) ≡ Some (without_cr (rest_of bytes ++ front))
-slice_get-whole_lines bytes front more free =
-    let line = without_cr (rest_of bytes ++ front) in
-    let through = bytes ++ (front ++ LINE_FEED ∷ []) in
-    let later = whole_lines (rest_of through ++ more) in
-    let split : whole_lines (through ++ more) ≡ whole_lines bytes ++ line ∷ later =
-    whole_lines-append through more ∙ ap (λ lines. lines ++ later) (whole_lines-line bytes front free)
-    ∙ append_assoc (whole_lines bytes) (line ∷ []) later in
-    ap (λ lines. slice_get lines (length (whole_lines bytes))) split ∙ slice_get-append_middle (whole_lines bytes) line later

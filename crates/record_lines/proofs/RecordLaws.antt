@@ -1,15 +1,13 @@
 -- The laws of the records of a byte list, as it grows, and of the bytes that pass a limit.
 use Rattle.std.proofs.Common.{◌≡◌, ◌≢◌, ℕ, ◌+◌, ◌<◌, ◌≤◌, ◌⊎◌, List, [], ◌∷◌, ◌++◌, length, map, refl, sym, ap, ◌∙◌, subst, inl, inr, arith, append_assoc, length-append}
 use Rattle.std.proofs.lemmas.Bool.{cases_eq}
-use Rattle.std.proofs.lemmas.List.Elements.{All-nil, All-cons}
-use Rattle.record_lines.specs.declared.ending.End.{End}
-use Rattle.record_lines.specs.declared.ending.End.TheVariants.{Ended, Fault, Limit}
+use Rattle.record_lines.specs.declared.ending.End.TheVariants.{Ended, Limit}
 use Rattle.record_lines.specs.declared.limits.TheConstants.{LINE_FEED, MOST_RECORDS, MOST_BYTES}
 use Rattle.record_lines.specs.Lines.{Cut, cut, line_feed_before, byte_before, whole_lines, rest_of, without_cr}
 use Rattle.record_lines.specs.Records.{last_line, records_of, HasByteAfterMost, IsBeyond}
 use Rattle.record_lines.proofs.CutLaws.{cut-line_feed, cut-byte}
-use Rattle.record_lines.proofs.LineLaws.{whole_lines-append, rest_of-append, whole_lines-same, whole_lines-line, rest_of-line}
-use Rattle.record_lines.proofs.LimitLaws.{limited_lines-within, limited_lines-full, limited_lines-begins}
+use Rattle.record_lines.proofs.LineLaws.{whole_lines-append, rest_of-append}
+use Rattle.record_lines.proofs.LimitLaws.{limited_lines-within, limited_lines-full}
 
 -- a rest of no byte is no line, and any other is one
 pub last_line-none : (rest : List ℕ) → rest ≡ [] → last_line rest ≡ []
@@ -27,13 +25,6 @@ records_of-append a b =
     ap (λ lines. lines ++ last_line (rest_of (a ++ b))) (whole_lines-append a b)
     ∙ append_assoc (whole_lines a) (whole_lines (rest_of a ++ b)) (last_line (rest_of (a ++ b)))
     ∙ ap (λ rest. whole_lines a ++ (whole_lines (rest_of a ++ b) ++ last_line rest)) (rest_of-append a b)
-
--- lines that were read within the limits are the first records, however the stream goes on and ends
-pub records_of-begins : (a b : List ℕ) (end : End) → length a ≤ MOST_BYTES → length (whole_lines a) ≤ MOST_RECORDS
-    → (more : List (List ℕ)) × (records_of (a ++ b) end ≡ whole_lines a ++ more)
-records_of-begins a b Ended size count = (records_of (rest_of a ++ b) Ended, records_of-append a b)
-records_of-begins a b Fault size count = (whole_lines (rest_of a ++ b), whole_lines-append a b)
-records_of-begins a b Limit size count = limited_lines-begins a b size count
 
 -- how many records a stream has that ends with this cut
 records_count : Cut → ℕ
@@ -88,44 +79,6 @@ records_of-count bytes =
 last_of : (x : ℕ) (xs : List ℕ) → (front : List ℕ) × (last : ℕ) × (x ∷ xs ≡ front ++ last ∷ [])
 last_of x [] = ([], x, refl)
 last_of x (y ∷ ys) = let found = last_of y ys in (x ∷ found.0, found.1, ap (λ zs. x ∷ zs) found.2)
-
--- the last byte of a stream ends its last record
-records_of-last : (front : List ℕ) (last : ℕ) → length (records_of (front ++ last ∷ []) Ended) ≤ length (whole_lines front) + 1
-records_of-last front last = elim (cases_eq last LINE_FEED) [
-  | inl e ↦
-      let P : ℕ → Type 0 = λ b. length (records_of (front ++ b ∷ []) Ended) ≤ length (whole_lines front) + 1 in
-      let line = ap length (whole_lines-line front [] (All-nil (λ b. b ≢ LINE_FEED))) in
-      let none = ap length (last_line-none (rest_of (front ++ LINE_FEED ∷ [])) (rest_of-line front [] (All-nil (λ b. b ≢ LINE_FEED)))) in
-      subst P (sym e) (omega (
-        arith,
-        line,
-        none,
-        length-append (whole_lines front) (without_cr (rest_of front ++ []) ∷ []),
-        length-append (whole_lines (front ++ LINE_FEED ∷ [])) (last_line (rest_of (front ++ LINE_FEED ∷ []))),
-      ))
-  | inr h ↦
-      let same = ap length (whole_lines-same front (last ∷ []) (All-cons (λ b. b ≢ LINE_FEED) last [] h (All-nil (λ b. b ≢ LINE_FEED)))) in
-      omega (arith, same, records_of-count (front ++ last ∷ []))
-]
-
-records_of-nil : length (records_of [] Ended) ≡ 0
-unfolding whole_lines rest_of cut last_line
-records_of-nil = refl
-
--- a byte stands after the most whole lines exactly where the stream has more records than the most
-pub HasByteAfterMost-from_count : (bytes : List ℕ) → MOST_RECORDS < length (records_of bytes Ended) → HasByteAfterMost bytes
-HasByteAfterMost-from_count [] over = absurd (omega (arith, records_of-nil))
-HasByteAfterMost-from_count (b ∷ bytes) over =
-    let found = last_of b bytes in
-    let P : List ℕ → Type 0 = λ bytes. MOST_RECORDS < length (records_of bytes Ended) in
-    let count = subst P found.2 over in
-    record {
-      front = found.0;
-      byte = found.1;
-      more = [];
-      split = found.2;
-      full = omega (arith, count, records_of-last found.0 found.1);
-    }
 
 pub count_from_HasByteAfterMost : (bytes : List ℕ) → HasByteAfterMost bytes → MOST_RECORDS < length (records_of bytes Ended)
 count_from_HasByteAfterMost bytes h =

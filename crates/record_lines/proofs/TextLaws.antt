@@ -1,6 +1,6 @@
 -- The laws of the text of a line.
-use Rattle.std.proofs.Common.{◌≡◌, ℕ, ◌+◌, ◌-◌, ◌<◌, ◌≤◌, ◌==◌, List, Some, None, length, take, slice_index, arith}
-use Rattle.std.proofs.lemmas.Bool.{le-leb, lt-leb, cond_both}
+use Rattle.std.proofs.Common.{◌≡◌, ℕ, ◌+◌, ◌-◌, ◌<◌, ◌≤◌, ◌==◌, List, None, length, take, slice_index, arith}
+use Rattle.std.proofs.lemmas.Bool.{lt-leb, cond_both}
 use Rattle.std.proofs.lemmas.List.{length-take-le}
 use Rattle.record_lines.specs.declared.limits.TheConstants.{CARRIAGE_RETURN, MOST_LINE}
 use Rattle.record_lines.specs.Lines.{without_cr, text_of}
@@ -13,11 +13,6 @@ length-without_cr line =
     cond_both (slice_index line (length line - 1) == CARRIAGE_RETURN) (take (length line - 1) line) line P
     (λ _. omega (arith, length-take-le (length line - 1) line (omega arith)))
     (λ _. omega arith)
-
--- a line that is short enough is its text
-pub text_of-short : (line : List ℕ) → length line ≤ MOST_LINE → text_of line ≡ Some line
-unfolding text_of
-text_of-short line short = (rw (le-leb (length line) MOST_LINE short))
 
 -- a line that is too long has none
 pub text_of-long : (line : List ℕ) → MOST_LINE < length line → text_of line ≡ None

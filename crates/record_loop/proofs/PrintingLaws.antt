@@ -39,17 +39,6 @@ next_line outcomes outcome number is =
     let same : 1 + length outcomes ≡ number = omega arith in
     text_from-more 1 outcomes outcome ∙ ap (λ n. text_from 1 outcomes ++ line_of n outcome) same
 
--- nothing is written yet
-pub Wrote-nil : (start : SinkView) → Wrote [] start start false false
-Wrote-nil start = record {
-  part = AppendsFront-none [] (Appends-nil start.written);
-  whole = λ _. Appends-nil start.written;
-  handed_on = λ _ _. inr refl;
-  cause = λ is. cc;
-  still = λ _. refl;
-  later = omega arith;
-}
-
 -- after a lost write the front of a text is one of a longer text
 Wrote-cut : {text : List ℕ} {start now : SinkView} {due lost : Bool} (more : List ℕ) → lost ≡ true → Wrote text start now due lost → Wrote (text ++ more) start now due lost
 Wrote-cut more gone wrote = record {
@@ -251,10 +240,6 @@ HoldsAllBut-whole {form = form} {start = start} {now = now} most outcomes wrote 
     by : (f : Form) → Appends start.written now.written (text_of f outcomes) → AppendsAtLeast start.written now.written (text_so_far f outcomes)
     by Lines all = AtLeast-whole (text_from 1 outcomes) all
     by Summary all = AtLeast-front (AppendsFront-whole all)
-
--- where a summary is to come no text is due before
-pub HoldsAllBut-summary : {start now : SinkView} {text : List ℕ} (most : ℕ) (outcomes : List Outcome) → AppendsFront start.written now.written text → HoldsAllBut most Summary start now outcomes
-HoldsAllBut-summary most outcomes front = record { whole = outcomes; rest = []; split = sym (append-nil outcomes); few = zero-le; held = AtLeast-front front }
 
 -- where all records are taken, no write was lost before the rest is written
 pub kept-taking : {form : Form} {start now : SinkView} {printer : Printer} {outcomes : List Outcome} {lost : Bool} → (printer.lost ≡ true → lost ≡ true) → Printed form start now printer outcomes → KeepsTaking form lost → printer.lost ≡ false

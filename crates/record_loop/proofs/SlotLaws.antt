@@ -1,5 +1,5 @@
 -- How slots stand for records.
-use Rattle.std.proofs.Common.{◌≡◌, ◌≢◌, ℕ, suc, ◌+◌, ◌<◌, ◌≤◌, Bool, true, false, List, [], ◌∷◌, ◌++◌, length, Option, Some, None, IsSome, nat_le, cond, refl, sym, ap, ◌∙◌, subst, inl, inr, arith}
+use Rattle.std.proofs.Common.{◌≡◌, ◌≢◌, ℕ, suc, ◌+◌, ◌<◌, ◌≤◌, Bool, true, false, List, [], ◌∷◌, ◌++◌, length, Option, Some, None, nat_le, cond, refl, sym, ap, ◌∙◌, subst, inl, inr, arith}
 use Rattle.std.proofs.lemmas.Bool.{leb-true}
 use Rattle.std.specs.Prelude.{is_some}
 use Rattle.exec_value.specs.declared.outcome.Outcome.{Outcome}
@@ -13,7 +13,7 @@ use Rattle.line_rules.specs.StopStates.{state_between}
 use Rattle.line_rules.proofs.LicenseLaws.{late-license}
 use Rattle.record_loop.specs.declared.slot.Slot.{Slot}
 use Rattle.record_loop.specs.declared.slot.Slot.TheVariants.{Running, Bad, NoMemory}
-use Rattle.record_loop.specs.Slots.{HasOperation, SettlesSlot, has_operation}
+use Rattle.record_loop.specs.Slots.{SettlesSlot, has_operation}
 use Rattle.record_loop.specs.Standing.{StandsFor, StandForAll}
 use Rattle.plan_rules.specs.Seen.{seen_state}
 use Rattle.record_loop.specs.Works.{Begun, Work, KeepsWork, MayCompleteWork}
@@ -101,16 +101,6 @@ StandForAll-push terms work moment before [] (l ∷ lines) slot line number is s
 StandForAll-push terms work moment before (s ∷ slots) [] slot line number is stand stands = absurd stand
 StandForAll-push terms work moment before (s ∷ slots) (l ∷ lines) slot line number is stand stands =
     (stand.0, StandForAll-push terms work moment (before + 1) slots lines slot line number (omega (arith, is)) stand.1 stands)
-
--- a slot that stands for a record has its operation
-pub StandsFor-operation : (terms : Terms) (work : Work) (moment : Option Moment) (number : ℕ) (line : List ℕ) (slot : Slot) → StandsFor terms work moment number line slot → HasOperation work slot
-StandsFor-operation terms work moment number line (Running ticket) stands = some (work.tickets ticket) stands.begun
-  where
-    some : {x : Begun} (found : Option Begun) → found ≡ Some x → IsSome found
-    some None is = cc
-    some (Some x) is = refl
-StandsFor-operation terms work moment number line Bad stands = tt
-StandsFor-operation terms work moment number line NoMemory stands = tt
 
 -- what an operation may have seen is what the moment licenses, where its line is the next one
 seen-licensed : (moment : Option Moment) (number : ℕ) (requested : Bool) → requested ≡ is_some moment → ((m : Moment) → moment ≡ Some m → m.written < number) → seen_state (is_asked_before moment number) requested ≡ license moment number

@@ -1,5 +1,5 @@
 -- How a run goes on, record by record.
-use Rattle.std.proofs.Common.{◌≡◌, ℕ, ◌+◌, ◌<◌, ◌≤◌, Bool, true, false, not, ◌||◌, List, [], length, Option, Some, None, refl, sym, ap, ◌∙◌, subst, length-append, arith}
+use Rattle.std.proofs.Common.{◌≡◌, ℕ, ◌+◌, ◌<◌, ◌≤◌, Bool, true, false, List, [], length, Option, Some, None, refl, sym, ap, ◌∙◌, subst, length-append, arith}
 use Rattle.std.specs.Prelude.{◌&&◌, IsFalse, is_some}
 use Rattle.exec_value.specs.declared.outcome.Outcome.{Outcome}
 use Rattle.node_tree.specs.declared.scope_kind.ScopeKind.{ScopeKind}
@@ -25,11 +25,6 @@ use Rattle.record_loop.proofs.PrintingLaws.{AtLeast-nil, HoldsAllBut-none, Holds
 use Rattle.record_loop.proofs.SlotLaws.{StandForAll-length, StandForAll-kept, StandForAll-asks}
 use Rattle.record_loop.proofs.TallyLaws.{TalliesWith-new, TalliesWith-same, TalliesWith-kept, told-new, told-kept}
 
--- a request that was made makes the two records of it agree
-asked-none : {b : Bool} {moment : Option Moment} → b ≡ is_some moment → b ≡ false → moment ≡ None
-asked-none {moment = None} is not = refl
-asked-none {moment = Some m} is not = absurd (let e : true ≡ false = sym is ∙ not in cc)
-
 -- settings that don't exclude each other have a stop rule over a counting scope alone
 rules-count : (scope : ScopeKind) (rule : Bool) → IsFalse (is_simple scope && rule) → rule ≡ true → scope ≡ Counting
 rules-count Counting rule free set = refl
@@ -53,21 +48,6 @@ module _ {Wants : Blueprint → Type 0} {opening : Opening} {read : ℕ} {lines 
       let P : Settings → Type 0 = λ s. has_stop_rule s ≡ true in
       ap (λ (p : Blueprint). p.settings.scope) standing.plan_is
       ∙ rules-count opening.plan.settings.scope (has_stop_rule opening.plan.settings) standing.may_run.rules (subst P standing.settings_are set)
-
--- the first rule, or the second, is set
-pub after-set : (settings : Settings) (k : ℕ) → settings.stop_after ≡ Some k → has_stop_rule settings ≡ true
-after-set settings k is = by settings.stop_after is
-  where
-    by : (after : Option ℕ) → after ≡ Some k → (is_some after || settings.on_error_stop) ≡ true
-    by None is = cc
-    by (Some n) is = refl
-
-pub error-set : (settings : Settings) → settings.on_error_stop ≡ true → has_stop_rule settings ≡ true
-error-set settings set = by (is_some settings.stop_after) settings.on_error_stop set
-  where
-    by : (a b : Bool) → b ≡ true → (a || b) ≡ true
-    by true b set = refl
-    by false b set = set
 
 -- no record was read
 pub Standing-fresh : (Wants : Blueprint → Type 0) (opening : Opening) (work : Work) (flight : InFlight) → IsFresh opening.window opening.plan.settings opening.form flight

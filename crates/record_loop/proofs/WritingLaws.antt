@@ -16,13 +16,13 @@ use Rattle.run_tally.specs.Gathered.{Gathered}
 use Rattle.record_loop.specs.declared.in_flight.InFlight.{InFlight}
 use Rattle.record_loop.specs.declared.slot.Slot.{Slot}
 use Rattle.record_loop.specs.Printing.{AppendsAtLeast, Printed}
-use Rattle.record_loop.specs.Slots.{HasOperation, SettlesSlot, has_operation, running_in}
+use Rattle.record_loop.specs.Slots.{SettlesSlot, has_operation, running_in}
 use Rattle.exec_io.specs.Views.{SinkView}
 use Rattle.record_loop.specs.Standing.{Opening, terms_at, StandsFor, StandForAll, Standing}
 use Rattle.record_loop.specs.Tallies.{TalliesWith, IsToldBy}
 use Rattle.record_loop.specs.Works.{Work, Requests}
 use Rattle.record_loop.proofs.PrintingLaws.{HoldsAllBut-more}
-use Rattle.record_loop.proofs.SlotLaws.{StandForAll-kept, StandForAll-asks, StandsFor-operation, MayEnd-settles, SettlesAt, settled-at, StandForAll-settles}
+use Rattle.record_loop.proofs.SlotLaws.{StandForAll-kept, StandForAll-asks, MayEnd-settles, SettlesAt, settled-at, StandForAll-settles}
 use Rattle.record_loop.proofs.StandingLaws.{read-lines}
 use Rattle.record_loop.proofs.TallyLaws.{TalliesWith-settles, told-settles}
 
@@ -48,12 +48,6 @@ first-of terms work moment before slot (s ∷ slots) (line ∷ rest) is stand = 
   running = sum_by-cons (λ (x : Slot). cond (has_operation x) 1 0) s slots ∙ ap (λ (x : Slot). cond (has_operation x) 1 0 + running_in slots) (let same : s ≡ slot = cc in same);
   fewer = omega arith;
 }
-
--- the first slot has its operation
-pub first-operation : {Wants : Blueprint → Type 0} {opening : Opening} {read : ℕ} {lines : List (List ℕ)} {work : Work} {now : SinkView} {flight : InFlight} (slot : Slot) → slice_get flight.slots.items 0 ≡ Some slot → Standing Wants opening read lines work now flight → HasOperation work slot
-first-operation {Wants = Wants} {opening = opening} {work = work} {flight = flight} slot is standing =
-    let first = first-of (terms_at Wants opening) work standing.moment (length standing.outcomes) slot flight.slots.items standing.back is standing.waiting in
-    StandsFor-operation (terms_at Wants opening) work standing.moment (length standing.outcomes + 1) first.line slot first.stands
 
 module _ {Wants : Blueprint → Type 0} {opening : Opening} {lines : List (List ℕ)} {old : Work} {now : SinkView} {flight : InFlight} (mid : Work) (later : SinkView) (next : InFlight) (slot : Slot) (outcome : Outcome)
     (standing : Standing Wants opening (length lines) lines old now flight) (is : slice_get flight.slots.items 0 ≡ Some slot) (settles : SettlesSlot Wants old mid slot outcome)

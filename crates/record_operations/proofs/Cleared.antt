@@ -1,10 +1,9 @@
 -- Tickets that are free stay free, and a hand whose tickets all are has nothing.
-use Rattle.std.proofs.Common.{◌≡◌, ℕ, suc, ◌+◌, ◌<◌, ◌≤◌, List, [], ◌∷◌, length, set, get_or, inl, inr, refl, ap, ◌∙◌, arith}
-use Rattle.std.specs.Prelude.{Option, Some, None, MatchOption}
+use Rattle.std.proofs.Common.{◌≡◌, ℕ, suc, ◌+◌, ◌<◌, ◌≤◌, List, [], ◌∷◌, length, get_or, inl, inr, refl, ap, ◌∙◌, arith}
+use Rattle.std.specs.Prelude.{Option, None}
 use Rattle.std.proofs.lemmas.Bool.{cases_eq, cases_lt}
-use Rattle.std.proofs.lemmas.List.{length-set, get_or_past}
+use Rattle.std.proofs.lemmas.List.{get_or_past}
 use Rattle.std.proofs.lemmas.List.Sums.{sum_by-cons}
-use Rattle.exec_value.specs.declared.outcome.Completion.{Completion}
 use Rattle.plan_shape.specs.Blueprint.{Blueprint}
 use Rattle.table_steps.specs.Views.{Board, knows}
 use Rattle.exec_recv.specs.Asides.{Aside}
@@ -14,15 +13,12 @@ use Rattle.spawn_future.specs.Slots.{kept_in}
 use Rattle.record_operations.specs.declared.tickets.Operation.{Operation}
 use Rattle.record_operations.specs.Calls.{LeavesSame}
 use Rattle.record_operations.specs.Ends.{HasJoined, IsEnded}
-use Rattle.record_operations.specs.Moves.{KeepsRun, KeepsOperations, LeavesRun, Clears}
+use Rattle.record_operations.specs.Moves.{Clears}
 use Rattle.record_operations.specs.Runs.{Run, begun_by, taken}
 use Rattle.record_operations.specs.Sound.{IsSound}
 use Rattle.line_rules.specs.PlanTerms.{has_ahead}
 use Rattle.record_operations.specs.Worked.{HasWorked}
-use Rattle.record_operations.proofs.Listed.{one_if, put-here, put-there}
-
-pub clears-here : (run : Run) → Clears run run
-clears-here run = record { board = refl; plan = refl; begun = refl; count = refl; free = λ t free. free }
+use Rattle.record_operations.proofs.Listed.{one_if}
 
 pub clears-on : (old between new : Run) → Clears old between → Clears between new → Clears old new
 clears-on old between new first next =
@@ -36,49 +32,6 @@ clears-on old between new first next =
 
 kept-begun : (old new : Run) → new.looped.tally ≡ old.looped.tally → new.operations ≡ old.operations → begun_by new ≡ begun_by old
 kept-begun old new tally operations = λ i. length (tally i) + taken (operations i)
-
-pub keeps-clears : (old new : Run) → KeepsRun old new → Clears old new
-keeps-clears old new keeps =
-    record {
-      board = keeps.board;
-      plan = keeps.plan;
-      begun = kept-begun old new keeps.tally keeps.operations;
-      count = ap length keeps.operations;
-      free = λ t free. ap (λ (l : List (Option Operation)). get_or l t None) keeps.operations ∙ free;
-    }
-
-pub operations-clears : (old new : Run) → KeepsOperations old new → Clears old new
-operations-clears old new keeps =
-    record {
-      board = keeps.board;
-      plan = keeps.plan;
-      begun = kept-begun old new keeps.tally keeps.operations;
-      count = ap length keeps.operations;
-      free = λ t free. ap (λ (l : List (Option Operation)). get_or l t None) keeps.operations ∙ free;
-    }
-
-pub leaves-clears : (old new : Run) (ticket : ℕ) (completion : Completion) → ticket < length old.operations →
-    LeavesRun old new ticket completion → Clears old new
-leaves-clears old new ticket completion within leaves =
-    record {
-      board = leaves.board;
-      plan = leaves.collects.plan;
-      begun = let tally = leaves.tally in let running = leaves.collects.running in omega (arith, tally, running);
-      count = ap length leaves.operations ∙ length-set old.operations ticket None;
-      free = λ t free.
-          ap (λ (l : List (Option Operation)). get_or l t None) leaves.operations
-          ∙ elim (cases_eq t ticket) [
-            | inl here ↦
-                ap (λ k. get_or (set old.operations ticket None) k None) here ∙ put-here old.operations ticket within None
-            | inr there ↦ put-there old.operations ticket within None t there ∙ free
-          ];
-    }
-
--- whether one was collected or not
-pub left-clears : (old new : Run) (ticket : ℕ) (answer : Option Completion) → ticket < length old.operations →
-    MatchOption answer (KeepsRun old new) (LeavesRun old new ticket) → Clears old new
-left-clears old new ticket None within keeps = keeps-clears old new keeps
-left-clears old new ticket (Some completion) within leaves = leaves-clears old new ticket completion within leaves
 
 -- tickets that are free, and one more
 pub free-more : (operations : List (Option Operation)) (n : ℕ) → ((t : ℕ) → t < n → get_or operations t None ≡ None) → get_or operations n None ≡ None →

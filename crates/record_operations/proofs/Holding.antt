@@ -6,17 +6,11 @@ use Rattle.deck_relay.specs.declared.desk.Desk.{Desk}
 use Rattle.deck_relay.specs.Desks.{KeepsOwn, deck_in, post_in}
 use Rattle.deck_relay.specs.SameDecks.{KeepsDeck, keeps-here, keeps-on}
 use Rattle.loop_queue.specs.declared.post.LoopPost.{LoopPost}
-use Rattle.loop_queue.specs.Posts.{IsSamePost}
 use Rattle.record_operations.specs.Owns.{KeepsPost, KeepsBoth}
 
 pub post-here : (post : Option LoopPost) → KeepsPost post post
 post-here (Some post) = record { number = refl; queue = refl; share = refl }
 post-here None = tt
-
--- where it is there
-pub post-some : (o o' : Option LoopPost) (post post' : LoopPost) → o ≡ Some post → o' ≡ Some post' → IsSamePost post post' → KeepsPost o o'
-post-some o o' post post' is is' same =
-    subst (λ (t : Option LoopPost × Option LoopPost). KeepsPost t.0 t.1) (λ j. (sym is j, sym is' j)) same
 
 post-on : (first second third : Option LoopPost) → KeepsPost first second → KeepsPost second third → KeepsPost first third
 post-on (Some first) (Some second) (Some third) one next =

@@ -15,7 +15,8 @@ use Rattle.listed_words.specs.declared.seen.Seen.{Seen}
 use Rattle.plan_shape.specs.Blueprint.{Blueprint}
 use Rattle.table_rules.specs.declared.view.View.{View}
 use Rattle.table_rules.specs.ShownViews.{has_source_ref}
-use Rattle.table_steps.specs.Claims.{with_step, Seated}
+use Rattle.table_steps.specs.Claims.{with_step}
+use Rattle.table_steps.specs.Seats.{Seated}
 use Rattle.table_steps.specs.ScopeEntries.{MayEnter}
 use Rattle.table_steps.specs.Views.{Board, IsHandOf, knows}
 use Rattle.home_items.specs.declared.entry.Entry.{Entry}
@@ -24,7 +25,6 @@ use Rattle.exec_recv.specs.Asides.{aside_of}
 use Rattle.node_walks.specs.Resting.{IsAtRest}
 use Rattle.run_loop.specs.declared.looped.Loop.{Loop as Looped}
 use Rattle.run_loop.specs.Loops.{HasDelays, IsReady}
-use Rattle.record_operations.specs.Calls.{LeavesSame}
 
 -- the hand has so many associations now, and made steps
 pub record Moves (made : ℕ) (v w : View Item Entry) : Type 0 where
@@ -63,11 +63,6 @@ moved-ready board made old new ready next delays hand did =
       next = let before = ready.next in omega (arith, next, before);
       delays = delays;
     }
-
--- one that has as many associations as before says the same
-pub moved-same : (m m' : Seated Item Entry) → Moves m.0.made m.0 m'.0 → LeavesSame m m'
-moved-same m m' did =
-    record { is = moved-aside m.0.made m.0 m'.0 did; sees = moved-sees m.0.made m.0 m'.0 did }
 
 -- tries of a seal only list steps
 tried-moves : (made read left last : ℕ) (v : View Item Entry) (words : List ℕ) →

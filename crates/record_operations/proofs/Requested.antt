@@ -8,7 +8,7 @@ use Rattle.plan_shape.specs.Blueprint.{Blueprint}
 use Rattle.table_rules.specs.declared.view.Scanning.{Scanning}
 use Rattle.table_rules.specs.declared.view.View.{View}
 use Rattle.table_rules.specs.ShownViews.{has_source_ref}
-use Rattle.table_steps.specs.Claims.{Seated}
+use Rattle.table_steps.specs.Seats.{Seated}
 use Rattle.table_steps.specs.Sights.{IsSourceIn}
 use Rattle.table_steps.specs.Views.{Board}
 use Rattle.stop_calls.specs.declared.requesting.Request.TheVariants.{Made, Already}

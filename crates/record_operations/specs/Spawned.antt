@@ -7,7 +7,7 @@ use Rattle.table_rules.specs.declared.view.Rooted.{Rooted}
 use Rattle.table_rules.specs.declared.view.View.{View}
 use Rattle.table_steps.specs.Slots.{noted_at}
 use Rattle.table_steps.specs.Views.{Board}
-use Rattle.table_steps.specs.Claims.{Seated}
+use Rattle.table_steps.specs.Seats.{Seated, view_of}
 use Rattle.home_items.specs.declared.entry.Entry.{Entry}
 use Rattle.home_items.specs.declared.item.Item.{Item}
 use Rattle.exec_recv.specs.Asides.{aside_of, SeesMore}
@@ -25,14 +25,14 @@ pub record ServesSpawned (board : Board Blueprint) (old new : List (Option Futur
   pub begun : ℕ
   pub ended : ℕ
   pub kept : kept_in new + ended ≡ kept_in old + begun
-  pub made : m'.0.made + ended ≡ m.0.made + begun
-  pub claimed : m'.0.claimed ≡ m.0.claimed + begun
-  pub released : m'.0.released ≡ m.0.released + ended
-  pub aside : beside_blocks (aside_of m.0) (aside_of m'.0) ≡ aside_of m.0
+  pub made : (view_of m').made + ended ≡ (view_of m).made + begun
+  pub claimed : (view_of m').claimed ≡ (view_of m).claimed + begun
+  pub released : (view_of m').released ≡ (view_of m).released + ended
+  pub aside : beside_blocks (aside_of (view_of m)) (aside_of (view_of m')) ≡ aside_of (view_of m)
   pub noted : (x : Name) (e : Rooted Entry) → IsOfNoFuture board old x →
-      noted_at m.0 x ≡ Some e → noted_at m'.0 x ≡ Some e
+      noted_at (view_of m) x ≡ Some e → noted_at (view_of m') x ≡ Some e
   pub apart : (x : Name) (e : Rooted Entry) → IsOfNoFuture board old x →
-      noted_at m.0 x ≡ Some e → IsOfNoFuture board new x
+      noted_at (view_of m) x ≡ Some e → IsOfNoFuture board new x
   pub sees : SeesMore m m'
 
 -- Each `ahead` that is parked was served, and then each future that is abandoned and complete was

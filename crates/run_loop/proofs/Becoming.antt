@@ -11,7 +11,7 @@ use Rattle.timer_wheel.specs.Delays.{DelayList, delay_at, is_of}
 use Rattle.plan_shape.specs.Blueprint.{Blueprint}
 use Rattle.table_words.specs.Stamps.{stamp_of}
 use Rattle.table_steps.specs.Views.{Board}
-use Rattle.table_steps.specs.Claims.{Seated}
+use Rattle.table_steps.specs.Seats.{Seated}
 use Rattle.table_steps.specs.Steps.{control_index}
 use Rattle.table_steps.specs.Takes.{rest_word}
 use Rattle.home_items.specs.declared.entry.Entry.{Entry}

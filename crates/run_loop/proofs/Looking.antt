@@ -10,7 +10,7 @@ use Rattle.plan_shape.specs.Blueprint.{Blueprint}
 use Rattle.plan_shape.specs.declared.limits.TheConstants.{MOST_TURNS}
 use Rattle.plan_shape.proofs.TreeLemmas.{length-tree_of}
 use Rattle.table_steps.specs.Views.{Board}
-use Rattle.table_steps.specs.Claims.{Seated}
+use Rattle.table_steps.specs.Seats.{Seated}
 use Rattle.home_items.specs.declared.entry.Entry.{Entry}
 use Rattle.home_items.specs.declared.item.Item.{Item}
 use Rattle.exec_recv.specs.Asides.{KeepsAside}

@@ -8,7 +8,7 @@ use Rattle.plan_shape.specs.Blueprint.{Blueprint}
 use Rattle.table_words.specs.Controls.{control_read}
 use Rattle.table_words.specs.Stamps.{stamp_of}
 use Rattle.table_steps.specs.Views.{Board}
-use Rattle.table_steps.specs.Claims.{Seated}
+use Rattle.table_steps.specs.Seats.{Seated}
 use Rattle.home_items.specs.declared.entry.Entry.{Entry}
 use Rattle.home_items.specs.declared.item.Item.{Item}
 use Rattle.node_walks.specs.Resting.{IsAtRest}

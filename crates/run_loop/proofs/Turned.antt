@@ -10,7 +10,7 @@ use Rattle.node_tree.specs.declared.context.Context.TheVariants.{Loop, Pool}
 use Rattle.plan_shape.specs.Blueprint.{Blueprint}
 use Rattle.table_words.specs.Layouts.{OfControl, index}
 use Rattle.table_steps.specs.Views.{Board}
-use Rattle.table_steps.specs.Claims.{Seated}
+use Rattle.table_steps.specs.Seats.{Seated}
 use Rattle.table_steps.specs.Steps.{control_index}
 use Rattle.table_steps.specs.Takes.{rest_word}
 use Rattle.home_items.specs.declared.entry.Entry.{Entry}

@@ -11,7 +11,8 @@ use Rattle.table_words.specs.Controls.{control_read}
 use Rattle.table_words.specs.Layouts.{OfControl, index}
 use Rattle.table_words.specs.Stamps.{stamp_of}
 use Rattle.table_steps.specs.Views.{Board}
-use Rattle.table_steps.specs.Claims.{Seated, logged}
+use Rattle.table_steps.specs.Claims.{logged}
+use Rattle.table_steps.specs.Seats.{Seated, homes_of, view_of}
 use Rattle.home_items.specs.declared.entry.Entry.{Entry}
 use Rattle.home_items.specs.declared.item.Item.{Item}
 use Rattle.exec_recv.specs.Sites.{Does}
@@ -155,7 +156,7 @@ pub record LooksAtDelay (board : Board Blueprint) (block : ℕ) (delay : DelayNo
     (m m' : Seated Item Entry)
     (before after : DelayList) : Type 0 where
   pub word : ℕ
-  pub me_is : m' ≡ (logged (word_at board block delay.node) word m.0, m.1)
+  pub me_is : m' ≡ (logged (word_at board block delay.node) word (view_of m), homes_of m)
   pub list : after ≡ (if is_parked (control_read word)
       then seen_parked before (place_of board block delay.node) (stamp_of word) delay.turns
       else before)

@@ -7,7 +7,7 @@ use Rattle.node_tree.specs.declared.context.Context.TheVariants.{Loop, Pool}
 use Rattle.node_tree.specs.Tree.{is_root}
 use Rattle.plan_shape.specs.Blueprint.{Blueprint}
 use Rattle.table_steps.specs.Views.{Board, IsPlaceIn}
-use Rattle.table_steps.specs.Claims.{Seated}
+use Rattle.table_steps.specs.Seats.{Seated}
 use Rattle.table_steps.specs.Steps.{control_index}
 use Rattle.home_items.specs.declared.entry.Entry.{Entry}
 use Rattle.home_items.specs.declared.item.Item.{Item}

@@ -5,7 +5,7 @@ use Rattle.exec_value.specs.declared.outcome.Completion.TheVariants.{NoMemory}
 use Rattle.life_rules.specs.declared.event.Resting.TheVariants.{Parked}
 use Rattle.plan_rules.specs.Settle.{ahead_of}
 use Rattle.plan_shape.specs.Blueprint.{Blueprint}
-use Rattle.table_steps.specs.Views.{Board, Stays}
+use Rattle.table_steps.specs.Views.{Board, Stays, knows}
 use Rattle.home_items.specs.Parcels.{Delivery}
 use Rattle.exec_recv.specs.declared.next.Next.{Next}
 use Rattle.exec_recv.specs.Asides.{KeepsAside}
@@ -26,7 +26,7 @@ use Rattle.serve_ahead.specs.Spawned.{saw_joined}
 -- and the list of its steps.
 pub record RestsAfter (board : Board Blueprint) (old new : HandSeat) : Type 0 where
   pub stays : Stays board old new
-  pub rests : IsAtRest new.me.0
+  pub rests : IsAtRest (knows new)
   pub aside : KeepsAside old.me new.me
 
 -- It was left parked, with what its second child completed with, where it has; and the hand went

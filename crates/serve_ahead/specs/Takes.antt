@@ -6,7 +6,7 @@ use Rattle.plan_rules.specs.declared.node.Node.TheVariants.{Ahead}
 use Rattle.plan_shape.specs.Blueprint.{Blueprint}
 use Rattle.table_steps.specs.Steps.{control_index}
 use Rattle.table_steps.specs.Views.{Board, Stays}
-use Rattle.table_steps.specs.Claims.{Seated}
+use Rattle.table_steps.specs.Seats.{Seated, view_of}
 use Rattle.home_items.specs.declared.entry.Entry.{Entry}
 use Rattle.home_items.specs.declared.item.Item.{Item}
 use Rattle.home_items.specs.Contents.{Done}
@@ -60,6 +60,6 @@ module _ (board : Board Blueprint) (at : AheadAt) where
 
   -- Its word was read, and didn't say so, and no word was moved.
   pub record MissesAhead (m m' : Seated Item Entry) : Type 0 where
-    pub rests : IsAtRest m'.0
+    pub rests : IsAtRest (view_of m')
     pub looks : OnlyLooks m m'
     pub missed : WasMissed board m m' Parked at.name

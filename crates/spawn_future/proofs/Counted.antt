@@ -1,5 +1,5 @@
 -- How many operations were begun and ended, and what else the hand's view says.
-use Rattle.std.proofs.Common.{◌≡◌, ◌≢◌, ℕ, ◌+◌, ◌-◌, ◌<◌, Bool, true, false, List, [], ◌∷◌, ◌++◌, append_assoc, length, set, get_or, cond, inl, inr, refl, sym, ap, ◌∙◌, subst, arith}
+use Rattle.std.proofs.Common.{◌≡◌, ℕ, ◌+◌, ◌<◌, Bool, true, false, List, [], ◌∷◌, ◌++◌, append_assoc, length, set, get_or, cond, inl, inr, refl, sym, ap, ◌∙◌, subst, arith}
 use Rattle.std.specs.Prelude.{Option, Some, None, count_by}
 use Rattle.std.specs.Option.{option_map_or}
 use Rattle.std.proofs.lemmas.Bool.{cases_eq, cond-true, cond-false}
@@ -7,25 +7,24 @@ use Rattle.std.proofs.lemmas.List.Sums.{sum_by-cons, sum_by-set}
 use Rattle.common_lemmas.proofs.Bool.{either}
 use Rattle.life_rules.specs.declared.event.Name.{Name}
 use Rattle.life_rules.specs.Views.{same}
-use Rattle.life_rules.proofs.Names.{same-refl, same-true}
+use Rattle.life_rules.proofs.Names.{same-true}
 use Rattle.listed_words.specs.declared.seen.Seen.{Seen}
 use Rattle.plan_shape.specs.Blueprint.{Blueprint}
 use Rattle.table_rules.specs.declared.view.Rooted.{Rooted}
 use Rattle.table_rules.specs.Named.{find_by, without}
-use Rattle.table_steps.specs.declared.block.Block.{Block}
 use Rattle.table_steps.specs.Slots.{noted_at}
 use Rattle.table_steps.specs.Views.{Board}
-use Rattle.table_steps.specs.Claims.{Seated}
+use Rattle.table_steps.specs.Seats.{Seated}
 use Rattle.home_items.specs.declared.entry.Entry.{Entry}
 use Rattle.home_items.specs.declared.item.Item.{Item}
 use Rattle.exec_recv.specs.Asides.{Aside, aside_of, KeepsAside}
 use Rattle.exec_recv.proofs.Asiding.{aside-here}
 use Rattle.node_walks.specs.declared.completing.Ended.{Ended}
 use Rattle.spawn_future.specs.declared.future.Future.{Future}
-use Rattle.spawn_future.specs.Counts.{beside_blocks, IsOfNoFuture, notes_of, futures_of, KeepsNotes, BeginsAndEnds}
+use Rattle.spawn_future.specs.Counts.{beside_blocks, IsOfNoFuture, futures_of, BeginsAndEnds}
 use Rattle.spawn_future.specs.Keeping.{root_of, AreKept, Enters, Ends}
-use Rattle.spawn_future.specs.Slots.{Has, kept_in, IsMarkedAt}
-use Rattle.spawn_future.proofs.Kept.{others-noted, others-stay, unnoted-apart}
+use Rattle.spawn_future.specs.Slots.{Has, IsMarkedAt}
+use Rattle.spawn_future.proofs.Kept.{others-noted, others-stay}
 use Rattle.spawn_future.proofs.Slotted.{one-more, one-less, one-same, was-there, is-here, stays-there, has-within}
 
 abbrev name_of : Rooted Entry → Name

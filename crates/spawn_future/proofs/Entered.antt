@@ -10,7 +10,7 @@ use Rattle.table_rules.specs.Named.{find_by}
 use Rattle.table_steps.specs.declared.block.Block.{Block}
 use Rattle.table_steps.specs.ScopeEntries.{MayEnter}
 use Rattle.table_steps.specs.Views.{Board}
-use Rattle.table_steps.specs.Claims.{Seated}
+use Rattle.table_steps.specs.Seats.{Seated}
 use Rattle.op_slot.specs.Searches.{IsMissedFrom}
 use Rattle.op_slot.proofs.Searching.{missed-from_same}
 use Rattle.home_items.specs.declared.entry.Entry.{Entry}

@@ -1,13 +1,13 @@
 -- The hand and its futures while an `ahead` is served.
-use Rattle.std.proofs.Common.{◌≡◌, ℕ, ◌+◌, Bool, true, false, List, inl, inr, refl, sym, ap, ◌∙◌, subst}
+use Rattle.std.proofs.Common.{ℕ, ◌+◌, Bool, true, false, List, inl, inr, sym, ap, ◌∙◌, subst}
 use Rattle.std.specs.Bool.{OnTrue, OnFalse}
-use Rattle.std.specs.Prelude.{◌⊎◌, Option, Some, None}
+use Rattle.std.specs.Prelude.{◌⊎◌, Option}
 use Rattle.atomic_table.specs.declared.shared.Seat.{Seat}
 use Rattle.life_rules.specs.declared.event.Name.{Name}
 use Rattle.plan_shape.specs.Blueprint.{Blueprint}
 use Rattle.table_rules.specs.declared.view.View.{View}
 use Rattle.table_steps.specs.declared.block.Block.{Block}
-use Rattle.table_steps.specs.Claims.{Seated}
+use Rattle.table_steps.specs.Seats.{Seated}
 use Rattle.table_steps.specs.Views.{Board, IsHandOf}
 use Rattle.home_items.specs.declared.entry.Entry.{Entry}
 use Rattle.home_items.specs.declared.item.Item.{Item}
@@ -17,7 +17,7 @@ use Rattle.exec_recv.proofs.Asiding.{aside-here, aside-on}
 use Rattle.op_slot.proofs.Staying.{stays-on}
 use Rattle.node_walks.specs.Resting.{IsAtRest}
 use Rattle.node_walks.specs.declared.completing.Ended.{Ended}
-use Rattle.node_walks.specs.Completes.{IsListed, MayCollect}
+use Rattle.node_walks.specs.Completes.{MayCollect}
 use Rattle.node_walks.specs.Leaves.{LeavesAside}
 use Rattle.serve_ahead.specs.declared.taking.AheadAt.{AheadAt}
 use Rattle.serve_ahead.specs.declared.taking.Served.{Served}
@@ -30,7 +30,7 @@ use Rattle.spawn_future.specs.declared.spawning.SpawnFault.TheVariants.{Full, Sc
 use Rattle.spawn_future.specs.Counts.{BeginsAndEnds}
 use Rattle.spawn_future.specs.Keeping.{block_root, AreKept, IsKeeping, KeepsAtHand, Ends}
 use Rattle.spawn_future.specs.Polls.{Abandons, AbandonsNone, EndsSlotAt}
-use Rattle.spawn_future.specs.Slots.{Has, HasBlock, WaitsAt}
+use Rattle.spawn_future.specs.Slots.{HasBlock}
 use Rattle.spawn_future.specs.Spawns.{Spawns, Refuses}
 use Rattle.spawn_future.proofs.Counted.{counts-same, counts-begun, counts-ended, counts-marked}
 use Rattle.spawn_future.proofs.Kept.{kept-same, keeping-same, block-listed, marked-kept}

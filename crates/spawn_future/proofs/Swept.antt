@@ -1,10 +1,9 @@
 -- What a sweep has done after so many slots.
 use Rattle.std.proofs.Common.{◌≡◌, ◌≢◌, ◌⊎◌, ℕ, suc, ◌+◌, ◌<◌, ◌≤◌, true, false, List, [], ◌∷◌, ◌++◌, append_assoc, length, length-set, set, get_or, inl, inr, refl, sym, ap, ◌∙◌, subst, arith}
-use Rattle.std.specs.Prelude.{Option, Some, None, is_some}
+use Rattle.std.specs.Prelude.{Option, Some, None}
 use Rattle.std.proofs.Math.Numerals.{add-one}
 use Rattle.std.proofs.lemmas.Bool.{both_ways, cases_eq, cases_lt}
 use Rattle.std.proofs.lemmas.Option.{same_Some}
-use Rattle.std.proofs.lemmas.List.Sums.{count_by-le-length}
 use Rattle.life_rules.specs.declared.event.Name.{Name}
 use Rattle.life_rules.specs.declared.event.Resting.TheVariants as rest
 use Rattle.listed_words.specs.declared.seen.Seen.{Seen}
@@ -18,7 +17,7 @@ use Rattle.table_steps.specs.Slots.{noted_at}
 use Rattle.table_steps.specs.Steps.{control_index}
 use Rattle.table_steps.specs.Takes.{rest_word}
 use Rattle.table_steps.specs.Views.{Board}
-use Rattle.table_steps.specs.Claims.{Seated}
+use Rattle.table_steps.specs.Seats.{Seated}
 use Rattle.home_items.specs.declared.entry.Entry.{Entry}
 use Rattle.home_items.specs.declared.item.Item.{Item}
 use Rattle.exec_recv.specs.Asides.{Aside, aside_of}
@@ -269,9 +268,3 @@ swept-all board slot count old new m m' past swept =
       read = λ t f below has abandoned. swept.read t f (omega (arith, past, below)) has abandoned;
       ends = swept.ends;
     }
-
--- and the count is small
-pub swept-few : (board : Board Blueprint) (slot count : ℕ) (old new : List (Option Future)) (m m' : Seated Item Entry) →
-    SweepsTo board slot count old new m m' → count ≤ length old
-swept-few board slot count old new m m' swept =
-    let kept = swept.kept in let most = count_by-le-length is_some old in omega (arith, kept, most)

@@ -1,5 +1,5 @@
 -- What a turn has served so far.
-use Rattle.std.proofs.Common.{◌≡◌, ℕ, ◌+◌, ◌<◌, Bool, true, false, List, [], ◌∷◌, ◌++◌, length, inl, inr, refl, sym, ap, ◌∙◌, subst, arith}
+use Rattle.std.proofs.Common.{◌≡◌, ℕ, ◌+◌, ◌<◌, Bool, false, List, [], ◌∷◌, ◌++◌, length, inl, inr, refl, sym, ap, ◌∙◌, subst, arith}
 use Rattle.std.specs.Prelude.{Option, Some, None, slice_get}
 use Rattle.std.proofs.lemmas.Bool.{cases_eq, cond-true, cond-false}
 use Rattle.std.proofs.lemmas.List.{length-append}
@@ -7,7 +7,6 @@ use Rattle.std.proofs.lemmas.Option.{slice_get_within}
 use Rattle.common_lemmas.proofs.Bool.{either}
 use Rattle.atomic_table.specs.declared.shared.Seat.{Seat}
 use Rattle.life_rules.specs.declared.event.Name.{Name}
-use Rattle.life_rules.specs.declared.words.ControlWord.{ControlWord}
 use Rattle.life_rules.specs.Words.{is_parked}
 use Rattle.plan_rules.specs.declared.node.Node.{Node}
 use Rattle.plan_rules.specs.declared.node.Node.TheVariants.{Ahead}
@@ -19,21 +18,19 @@ use Rattle.table_words.specs.Layouts.{OfControl, index}
 use Rattle.table_words.specs.Stamps.{stamp_of}
 use Rattle.table_steps.specs.Looks.{IsReadAs}
 use Rattle.table_steps.specs.Views.{Board, IsPlaceIn}
-use Rattle.table_steps.specs.Claims.{Seated}
+use Rattle.table_steps.specs.Seats.{Seated}
 use Rattle.home_items.specs.declared.entry.Entry.{Entry}
 use Rattle.home_items.specs.declared.item.Item.{Item}
 use Rattle.exec_recv.specs.Asides.{KeepsAside}
 use Rattle.exec_recv.specs.Over.{IsOver}
 use Rattle.exec_recv.specs.Sites.{plan_at}
-use Rattle.exec_recv.specs.Since.{HasReadSince}
 use Rattle.node_walks.specs.Since.{OnlyLooks}
 use Rattle.exec_recv.proofs.Since.{since-after, since-before}
-use Rattle.node_walks.proofs.Read.{looked-aside, looked-only, looked-since, looks-here, looks-on}
+use Rattle.node_walks.proofs.Read.{looked-only, looked-since, looks-here, looks-on}
 use Rattle.serve_ahead.specs.declared.taking.AheadAt.{AheadAt}
 use Rattle.serve_ahead.specs.Takes.{IsAheadIn}
 use Rattle.spawn_future.specs.declared.future.Future.{Future}
 use Rattle.spawn_future.specs.Counts.{BeginsAndEnds}
-use Rattle.spawn_future.specs.Serves.{ServesAhead}
 use Rattle.spawn_future.specs.Turns.{HasAhead, IsAheadOf, WasUnparked, IsUnparked, AreUnparked, PassesPlace, ServesEach, ServesPlace, Turns}
 use Rattle.spawn_future.proofs.Counted.{counts-same, counts-on}
 

@@ -8,7 +8,7 @@ use Rattle.listed_words.specs.declared.seen.Seen.{Seen}
 use Rattle.plan_shape.specs.Blueprint.{Blueprint}
 use Rattle.table_words.specs.Controls.{control_read}
 use Rattle.table_words.specs.Layouts.{OfControl, index}
-use Rattle.table_steps.specs.Claims.{Seated}
+use Rattle.table_steps.specs.Seats.{Seated}
 use Rattle.table_steps.specs.Steps.{control_index}
 use Rattle.table_steps.specs.Views.{Board, IsPlaceIn}
 use Rattle.home_items.specs.declared.entry.Entry.{Entry}

@@ -8,7 +8,7 @@ use Rattle.plan_shape.specs.Blueprint.{Blueprint}
 use Rattle.table_rules.specs.declared.view.Rooted.{Rooted}
 use Rattle.table_steps.specs.Slots.{noted_at}
 use Rattle.table_steps.specs.Views.{Board}
-use Rattle.table_steps.specs.Claims.{Seated}
+use Rattle.table_steps.specs.Seats.{Seated, view_of}
 use Rattle.home_items.specs.declared.entry.Entry.{Entry}
 use Rattle.home_items.specs.declared.item.Item.{Item}
 use Rattle.exec_recv.specs.Asides.{Aside, aside_of, SeesMore}
@@ -31,7 +31,7 @@ IsOfNoFuture board slots x = (t : ℕ) (f : Future) → Has slots t f → root_o
 
 -- So many notes name this root, and so many futures have it.
 abbrev pub notes_of : Name → Seated Item Entry → ℕ
-notes_of x m = count_by (λ (e : Rooted Entry). same e.name x) m.0.noted
+notes_of x m = count_by (λ (e : Rooted Entry). same e.name x) (view_of m).noted
 
 abbrev pub futures_of : Board Blueprint → Name → List (Option Future) → ℕ
 futures_of board x slots =
@@ -42,9 +42,9 @@ futures_of board x slots =
 pub record KeepsNotes (board : Board Blueprint) (old new : List (Option Future))
     (m m' : Seated Item Entry) : Type 0 where
   pub noted : (x : Name) (e : Rooted Entry) → IsOfNoFuture board old x →
-      noted_at m.0 x ≡ Some e → noted_at m'.0 x ≡ Some e
+      noted_at (view_of m) x ≡ Some e → noted_at (view_of m') x ≡ Some e
   pub apart : (x : Name) (e : Rooted Entry) → IsOfNoFuture board old x →
-      noted_at m.0 x ≡ Some e → IsOfNoFuture board new x
+      noted_at (view_of m) x ≡ Some e → IsOfNoFuture board new x
   pub balance : (x : Name) →
       notes_of x m' + futures_of board x old ≡ notes_of x m + futures_of board x new
 
@@ -56,11 +56,11 @@ pub record BeginsAndEnds (board : Board Blueprint) (old new : List (Option Futur
   pub begun : ℕ
   pub ended : ℕ
   pub kept : kept_in new + ended ≡ kept_in old + begun
-  pub made : m'.0.made + ended ≡ m.0.made + begun
-  pub claimed : m'.0.claimed ≡ m.0.claimed + begun
-  pub released : m'.0.released ≡ m.0.released + ended
-  pub aside : beside_blocks (aside_of m.0) (aside_of m'.0) ≡ aside_of m.0
+  pub made : (view_of m').made + ended ≡ (view_of m).made + begun
+  pub claimed : (view_of m').claimed ≡ (view_of m).claimed + begun
+  pub released : (view_of m').released ≡ (view_of m).released + ended
+  pub aside : beside_blocks (aside_of (view_of m)) (aside_of (view_of m')) ≡ aside_of (view_of m)
   pub notes : KeepsNotes board old new m m'
   pub fresh : List Seen
-  pub grown : m'.0.steps ≡ fresh ++ m.0.steps
+  pub grown : (view_of m').steps ≡ fresh ++ (view_of m).steps
   pub sees : SeesMore m m'

@@ -7,7 +7,8 @@ use Rattle.table_rules.specs.declared.view.View.{View}
 use Rattle.table_steps.specs.declared.block.Block.{Block}
 use Rattle.table_steps.specs.ScopeEntries.{MayEnter}
 use Rattle.table_steps.specs.Views.{Board, IsHandOf, knows}
-use Rattle.table_steps.specs.Claims.{Seated, root_name, IsUnnoted}
+use Rattle.table_steps.specs.Claims.{root_name, IsUnnoted}
+use Rattle.table_steps.specs.Seats.{Seated, view_of}
 use Rattle.count_scope.specs.Leaves.{disassociated, Leaves}
 use Rattle.home_items.specs.declared.entry.Entry.{Entry}
 use Rattle.home_items.specs.declared.item.Item.{Item}
@@ -32,7 +33,7 @@ root_of board f = block_root board f.block
 -- the block's generation, a start of the receiver node; and no two are in one block.
 pub record AreKept (board : Board Blueprint) (slots : List (Option Future))
     (m : Seated Item Entry) : Type 0 where
-  pub made : kept_in slots ≤ m.0.made
+  pub made : kept_in slots ≤ (view_of m).made
   pub each : (t : ℕ) (f : Future) → Has slots t f → IsListed board f.block m
   pub apart : (t u : ℕ) (f g : Future) → Has slots t f → Has slots u g
       → root_of board f ≡ root_of board g → t ≡ u
@@ -74,8 +75,8 @@ with_ended root aside = record (with_released root aside) { made = aside.made - 
 pub record Enters (board : Board Blueprint) (b : Block) (start : List Entry)
     (m m' : Seated Item Entry) : Type 0 where
   pub within : b.index < board.frame.layout.blocks
-  pub unnoted : IsUnnoted m.0 (block_root board b)
-  pub leaves : LeavesAside (with_spawned (block_root board b) start (aside_of m.0)) m m'
+  pub unnoted : IsUnnoted (view_of m) (block_root board b)
+  pub leaves : LeavesAside (with_spawned (block_root board b) start (aside_of (view_of m))) m m'
 
 -- The operation in the block completed so. The block was given back, beside whose words none was
 -- moved, and then the association left.
@@ -85,4 +86,4 @@ pub record Ends (board : Board Blueprint) (b : Block) (m m' : Seated Item Entry)
   pub given : Seated Item Entry
   pub moves : MovesAndGivesBack board b m given
   pub left : Leaves (disassociated given) m'
-  pub leaves : LeavesAside (with_ended (block_root board b) (aside_of m.0)) m m'
+  pub leaves : LeavesAside (with_ended (block_root board b) (aside_of (view_of m))) m m'

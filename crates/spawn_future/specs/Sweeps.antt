@@ -9,7 +9,7 @@ use Rattle.table_steps.specs.Slots.{noted_at}
 use Rattle.table_steps.specs.Steps.{control_index}
 use Rattle.table_steps.specs.Takes.{rest_word}
 use Rattle.table_steps.specs.Views.{Board}
-use Rattle.table_steps.specs.Claims.{Seated}
+use Rattle.table_steps.specs.Seats.{Seated, view_of}
 use Rattle.home_items.specs.declared.entry.Entry.{Entry}
 use Rattle.home_items.specs.declared.item.Item.{Item}
 use Rattle.exec_recv.specs.Asides.{Aside, aside_of, SeesMore}
@@ -70,12 +70,12 @@ IsOfNone board slots x =
 -- so many blocks given back. Notes of other roots are as they were.
 pub record EndsSome (board : Board Blueprint) (old : List (Option Future)) (count : ℕ)
     (m m' : Seated Item Entry) : Type 0 where
-  pub aside : beside_ended (aside_of m.0) (aside_of m'.0) ≡ aside_of m.0
-  pub made : m'.0.made + count ≡ m.0.made
-  pub released : m'.0.released ≡ m.0.released + count
-  pub noted : (x : Name) → IsOfNone board old x → noted_at m'.0 x ≡ noted_at m.0 x
+  pub aside : beside_ended (aside_of (view_of m)) (aside_of (view_of m')) ≡ aside_of (view_of m)
+  pub made : (view_of m').made + count ≡ (view_of m).made
+  pub released : (view_of m').released ≡ (view_of m).released + count
+  pub noted : (x : Name) → IsOfNone board old x → noted_at (view_of m') x ≡ noted_at (view_of m) x
   pub fresh : List Seen
-  pub grown : m'.0.steps ≡ fresh ++ m.0.steps
+  pub grown : (view_of m').steps ≡ fresh ++ (view_of m).steps
   pub sees : SeesMore m m'
 
 -- Of the first so many slots each future that is abandoned was ended, where it was complete, and

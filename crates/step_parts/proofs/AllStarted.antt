@@ -4,7 +4,7 @@ use Rattle.std.specs.Prelude.{ℤ, slice_index, Option}
 use Rattle.life_rules.specs.declared.event.Name.{Name}
 use Rattle.life_rules.specs.Views.{beside}
 use Rattle.plan_shape.specs.Blueprint.{Blueprint}
-use Rattle.table_steps.specs.Claims.{Seated}
+use Rattle.table_steps.specs.Seats.{Seated}
 use Rattle.table_steps.specs.Views.{Board, Stays}
 use Rattle.op_slot.specs.Tends.{HasPlaces}
 use Rattle.op_slot.proofs.Staying.{stays-here, stays-on}

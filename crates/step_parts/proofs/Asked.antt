@@ -21,7 +21,7 @@ use Rattle.table_rules.specs.declared.view.Held.{Held}
 use Rattle.table_rules.specs.ShownViews.{has_source_ref}
 use Rattle.table_steps.specs.Views.{Board}
 use Rattle.table_steps.specs.Callbacks.{callback_index}
-use Rattle.table_steps.specs.Claims.{Seated}
+use Rattle.table_steps.specs.Seats.{Seated}
 use Rattle.table_steps.specs.Sights.{spot_of, says_requested, seen_now, IsLookedAt, StillAsked, AgreesWithTold, KeepsAlive, ByNode}
 use Rattle.table_steps.specs.Slots.{has_seen, held_at}
 use Rattle.stop_calls.specs.declared.arming.Armed.{Armed}

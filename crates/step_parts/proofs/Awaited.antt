@@ -21,7 +21,7 @@ use Rattle.table_rules.specs.declared.view.Owed.{Owed}
 use Rattle.table_rules.specs.Named.{find_by, count_by, Each}
 use Rattle.table_steps.specs.Views.{Board, aim_at, aimed}
 use Rattle.table_steps.specs.Awaits.{owes_each, is_named, is_unnamed, CanAwait, AwaitsAt}
-use Rattle.table_steps.specs.Claims.{Seated}
+use Rattle.table_steps.specs.Seats.{Seated}
 use Rattle.table_steps.specs.Lefts.{LeavesControl}
 use Rattle.table_steps.specs.Owing.{owing, Owes}
 use Rattle.table_steps.specs.Slots.{slot_of, kids_of, knows_idle, kept as kept_at, has_seen}

@@ -12,7 +12,7 @@ use Rattle.plan_shape.specs.Blueprint.{Blueprint}
 use Rattle.table_rules.specs.declared.view.Held.{Held}
 use Rattle.table_steps.specs.Awaits.{CanAwait}
 use Rattle.table_steps.specs.Begins.{begun_as}
-use Rattle.table_steps.specs.Claims.{Seated}
+use Rattle.table_steps.specs.Seats.{Seated}
 use Rattle.table_steps.specs.Slots.{has_seen, knows_idle}
 use Rattle.table_steps.specs.Steps.{control_index}
 use Rattle.table_steps.specs.Views.{Board, IsPlaceIn, Stays}

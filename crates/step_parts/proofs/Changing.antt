@@ -6,7 +6,7 @@ use Rattle.std.specs.Option.{option_copied_mut}
 use Rattle.std.proofs.lemmas.Option.{same_Some}
 use Rattle.life_rules.specs.declared.event.Name.{Name}
 use Rattle.plan_shape.specs.Blueprint.{Blueprint}
-use Rattle.table_steps.specs.Claims.{Seated}
+use Rattle.table_steps.specs.Seats.{Seated}
 use Rattle.op_table.specs.Lends.{EndsWith}
 use Rattle.table_steps.specs.Slots.{home_at}
 use Rattle.table_steps.specs.Swaps.{HasHome, IsSwapped}

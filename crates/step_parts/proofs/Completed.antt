@@ -10,7 +10,7 @@ use Rattle.plan_rules.specs.Allowed.{IsFailure}
 use Rattle.plan_shape.specs.Blueprint.{Blueprint}
 use Rattle.table_rules.specs.declared.view.Held.{Held}
 use Rattle.table_steps.specs.Views.{Board}
-use Rattle.table_steps.specs.Claims.{Seated}
+use Rattle.table_steps.specs.Seats.{Seated}
 use Rattle.table_steps.specs.Finishes.{is_settled}
 use Rattle.table_steps.specs.Slots.{has_seen, held_at}
 use Rattle.op_slot.proofs.Tending.{swapped-home}

@@ -6,7 +6,7 @@ use Rattle.common_lemmas.proofs.Bool.{either}
 use Rattle.life_rules.specs.declared.event.Name.{Name}
 use Rattle.node_tree.specs.Tree.{is_child}
 use Rattle.plan_shape.specs.Blueprint.{Blueprint}
-use Rattle.table_steps.specs.Claims.{Seated}
+use Rattle.table_steps.specs.Seats.{Seated}
 use Rattle.table_steps.specs.Views.{Board, IsHandOf, Stays}
 use Rattle.op_slot.proofs.Staying.{stays-here, stays-on}
 use Rattle.home_items.specs.declared.entry.Entry.{Entry}

@@ -10,7 +10,7 @@ use Rattle.table_rules.specs.declared.view.Held.{Held}
 use Rattle.table_rules.specs.declared.view.Owed.{Owed}
 use Rattle.table_rules.specs.Named.{find_by}
 use Rattle.table_steps.specs.Views.{Board}
-use Rattle.table_steps.specs.Claims.{Seated}
+use Rattle.table_steps.specs.Seats.{Seated}
 use Rattle.table_steps.specs.Hearings.{HearsAs}
 use Rattle.table_steps.specs.Slots.{held_at}
 use Rattle.op_slot.specs.Tends.{Tends}

@@ -12,7 +12,7 @@ use Rattle.plan_shape.specs.Blueprint.{Blueprint}
 use Rattle.plan_kinds.specs.Small.{IsSmall}
 use Rattle.table_rules.specs.ShownViews.{has_source_ref}
 use Rattle.table_steps.specs.Views.{Board, IsPlaceIn, Stays, aim_at}
-use Rattle.table_steps.specs.Claims.{Seated}
+use Rattle.table_steps.specs.Seats.{Seated}
 use Rattle.table_steps.specs.Lefts.{LeavesControl}
 use Rattle.table_steps.specs.Rests.{CanRest, RestsAt}
 use Rattle.table_steps.specs.Slots.{slot_of, kept as kept_at, is_of_family, has_seen}

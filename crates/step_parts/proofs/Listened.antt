@@ -9,7 +9,7 @@ use Rattle.node_tree.specs.declared.node.TreeNode.{TreeNode}
 use Rattle.node_tree.specs.Tree.{nearest}
 use Rattle.plan_shape.specs.Blueprint.{Blueprint}
 use Rattle.table_steps.specs.Callbacks.{CanArm}
-use Rattle.table_steps.specs.Claims.{Seated}
+use Rattle.table_steps.specs.Seats.{Seated}
 use Rattle.table_steps.specs.Sights.{IsLookedAt, StillAsked, AgreesWithTold}
 use Rattle.table_steps.specs.Views.{Board, Stays}
 use Rattle.stop_calls.specs.declared.arming.Armed.{Armed}

@@ -12,7 +12,7 @@ use Rattle.table_words.specs.Layouts.{place_number}
 use Rattle.table_rules.specs.declared.view.Held.{Held}
 use Rattle.table_rules.specs.Named.{find_by, without}
 use Rattle.table_steps.specs.Views.{Board}
-use Rattle.table_steps.specs.Claims.{Seated}
+use Rattle.table_steps.specs.Seats.{Seated}
 use Rattle.table_steps.specs.Readings.{at_entry}
 use Rattle.table_steps.specs.Slots.{slot_of, kept, has_seen, held_at}
 use Rattle.op_slot.specs.Tends.{Tends}

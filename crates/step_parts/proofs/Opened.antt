@@ -9,7 +9,7 @@ use Rattle.life_kept.proofs.Trees.{child-within}
 use Rattle.node_tree.specs.Tree.{is_child}
 use Rattle.plan_shape.specs.Blueprint.{Blueprint}
 use Rattle.table_steps.specs.Views.{Board, Stays}
-use Rattle.table_steps.specs.Claims.{Seated}
+use Rattle.table_steps.specs.Seats.{Seated}
 use Rattle.table_steps.specs.Swaps.{HasHome, IsSwapped}
 use Rattle.op_slot.specs.Tends.{Tends}
 use Rattle.op_slot.proofs.Leaving.{tends-home}
@@ -64,11 +64,6 @@ full-named board x m can n done child full =
 pub own-home : (board : Board Blueprint) (x : Name) (hand : HandSeat) → MayStep board x hand → HasHome board.frame.layout hand.me x
 own-home board x hand may =
     tends-home board.frame x hand.me may.can.held (Some may.can.item) may.can.kid may.can.tends
-
--- what lies there
-pub own-lies : (board : Board Blueprint) (x : Name) (hand : HandSeat) (may : MayStep board x hand) (item : Item) →
-    Some may.can.item ≡ Some item → item ≡ may.can.item
-own-lies board x hand may item is = same_Some item may.can.item (sym is)
 
 module _ (board : Board Blueprint) (x : Name) (old new : HandSeat) (item : Item) (may : MayStep board x old) (stays : Stays board old new)
     (put : IsSwapped board.frame x (Some item) (Some item) old.me new.me) where

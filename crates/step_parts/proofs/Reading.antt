@@ -14,7 +14,8 @@ use Rattle.plan_shape.specs.Blueprint.{Blueprint}
 use Rattle.table_rules.specs.declared.view.View.{View}
 use Rattle.table_rules.specs.declared.view.Held.{Held}
 use Rattle.table_steps.specs.Views.{Board, IsPlaceIn}
-use Rattle.table_steps.specs.Claims.{Seated, logged}
+use Rattle.table_steps.specs.Claims.{logged}
+use Rattle.table_steps.specs.Seats.{Seated}
 use Rattle.table_steps.specs.Readings.{above_it, says_begun, notes_idle, KnowsIdle, HoldsAbove, IsBegunAs}
 use Rattle.table_steps.specs.Steps.{control_index}
 use Rattle.home_items.specs.declared.entry.Entry.{Entry}

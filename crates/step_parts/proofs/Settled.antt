@@ -22,7 +22,8 @@ use Rattle.table_rules.specs.Named.{count_by}
 use Rattle.table_rules.specs.ShownViews.{has_source_ref, scan_in}
 use Rattle.table_steps.specs.Views.{Board, Stays}
 use Rattle.table_steps.specs.Callbacks.{callback_index, is_registered, learns, left_by}
-use Rattle.table_steps.specs.Claims.{Seated, with_step}
+use Rattle.table_steps.specs.Claims.{with_step}
+use Rattle.table_steps.specs.Seats.{Seated}
 use Rattle.table_steps.specs.Finishes.{is_settled}
 use Rattle.table_steps.specs.Readings.{at_entry, notes_phase, Holds, IsPhaseAs}
 use Rattle.table_steps.specs.Slots.{held_at}

@@ -13,7 +13,7 @@ use Rattle.table_words.specs.Layouts.{place_number}
 use Rattle.table_rules.specs.declared.view.Held.{Held}
 use Rattle.table_rules.specs.Named.{find_by, without}
 use Rattle.table_steps.specs.Views.{Board, Stays}
-use Rattle.table_steps.specs.Claims.{Seated}
+use Rattle.table_steps.specs.Seats.{Seated}
 use Rattle.table_steps.specs.Finishes.{is_of_kids}
 use Rattle.table_steps.specs.Slots.{slot_of, kids_of, is_of_family, held_at}
 use Rattle.table_steps.specs.Steps.{control_index}

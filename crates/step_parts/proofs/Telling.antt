@@ -11,7 +11,7 @@ use Rattle.plan_shape.specs.Blueprint.{Blueprint}
 use Rattle.plan_kinds.specs.Small.{IsSmall}
 use Rattle.table_rules.specs.declared.view.Held.{Held}
 use Rattle.table_steps.specs.Views.{Board}
-use Rattle.table_steps.specs.Claims.{Seated}
+use Rattle.table_steps.specs.Seats.{Seated}
 use Rattle.table_steps.specs.Slots.{has_seen, held_at}
 use Rattle.home_items.specs.declared.entry.Entry.{Entry}
 use Rattle.home_items.specs.declared.item.Item.{Item}

@@ -1,7 +1,6 @@
 -- How a step takes what its node keeps of a child out of the node's home.
 use Rattle.std.proofs.Common.{◌≡◌, ℕ, ◌≤◌, List, arith, refl, sym, ap, ◌∙◌, subst}
 use Rattle.std.specs.Prelude.{Option, Some, None, IfSome}
-use Rattle.std.proofs.lemmas.Option.{same_Some}
 use Rattle.plan_rules.specs.declared.node.Node.{Node}
 use Rattle.plan_rules.specs.declared.node.Node.TheVariants.{Bulk, WhenAll}
 use Rattle.plan_shape.specs.Blueprint.{Blueprint}
@@ -32,11 +31,6 @@ use Rattle.step_parts.proofs.Telling.{kept-from}
 pub open-home : (board : Board Blueprint) (t : Stepping) (hand : HandSeat) → IsOpen board t hand → HasHome board.frame.layout hand.me t.name
 open-home board t hand is =
     tends-home board.frame t.name hand.me is.is.midway.held (Some is.inside) is.kid is.is.midway.tends
-
--- in which it goes on
-pub open-goes : (board : Board Blueprint) (t : Stepping) (hand : HandSeat) (is : IsOpen board t hand) (item : Item) → Some is.inside ≡ Some item →
-    GoesOn item
-open-goes board t hand is item same = subst (λ (i : Item). GoesOn i) (same_Some is.inside item same) is.is.midway.goes_on
 
 -- less is kept
 without-goes : (item : Item) → GoesOn item → GoesOn (without_parcel item)
@@ -104,10 +98,6 @@ rests-one start node at awaits parcel = subst (λ (o : Option Node). 1 ≤ least
     of (WhenAll children) awaits = absurd awaits
     of (Bulk child job) awaits = absurd awaits
     of n awaits = omega arith
-
--- So has the receiver node.
-pub rests-one-top : (start : List Entry) → start_node start ≡ None → (parcel : Delivery) → 1 ≤ least_of (Rest start (Some parcel))
-rests-one-top start at parcel = subst (λ (o : Option Node). 1 ≤ least_at_rest o (Some parcel)) (sym at) (omega arith)
 
 -- Where the homes of the children are empty, what was taken is a parcel of the child, which the node may rest with.
 module _ (board : Board Blueprint) (t : Stepping) (inside : Item) (old new : HandSeat) (is : IsOpenWith board t inside (λ _. None) old)

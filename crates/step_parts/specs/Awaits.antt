@@ -5,7 +5,7 @@ use Rattle.life_rules.specs.declared.words.ControlWord.TheVariants.{Busy}
 use Rattle.plan_kinds.specs.Small.{IsSmall}
 use Rattle.plan_shape.specs.Blueprint.{Blueprint}
 use Rattle.table_steps.specs.Awaits.{AwaitsAt}
-use Rattle.table_steps.specs.Claims.{Seated}
+use Rattle.table_steps.specs.Seats.{Seated}
 use Rattle.table_steps.specs.Lefts.{LeavesControl}
 use Rattle.table_steps.specs.Swaps.{IsSwapped}
 use Rattle.table_steps.specs.Views.{Board, Stays, aim_at}

@@ -1,7 +1,7 @@
 -- How what lies in the node's home is changed where it lies.
 use Rattle.std.specs.Prelude.{◌≡◌, Some}
 use Rattle.plan_shape.specs.Blueprint.{Blueprint}
-use Rattle.table_steps.specs.Claims.{Seated}
+use Rattle.table_steps.specs.Seats.{Seated}
 use Rattle.table_steps.specs.Slots.{home_at}
 use Rattle.table_steps.specs.Swaps.{IsSwapped}
 use Rattle.table_steps.specs.Views.{Board, Stays}

@@ -6,7 +6,7 @@ use Rattle.node_tree.specs.Tree.{is_root}
 use Rattle.plan_kinds.specs.Small.{IsSmall}
 use Rattle.plan_shape.specs.Blueprint.{Blueprint}
 use Rattle.table_steps.specs.Views.{Board}
-use Rattle.table_steps.specs.Claims.{Seated}
+use Rattle.table_steps.specs.Seats.{Seated}
 use Rattle.table_steps.specs.Swaps.{IsSwapped}
 use Rattle.home_items.specs.declared.entry.Entry.{Entry}
 use Rattle.home_items.specs.declared.item.Item.{Item}

@@ -8,7 +8,7 @@ use Rattle.plan_shape.specs.Blueprint.{Blueprint}
 use Rattle.table_words.specs.Layouts.{index}
 use Rattle.table_rules.specs.declared.view.Held.{Held}
 use Rattle.table_steps.specs.Views.{Board}
-use Rattle.table_steps.specs.Claims.{Seated}
+use Rattle.table_steps.specs.Seats.{Seated, view_of}
 use Rattle.table_steps.specs.Sights.{spot_of, says_requested, IsLookedAt}
 use Rattle.table_steps.specs.Slots.{has_seen, held_at}
 use Rattle.home_items.specs.declared.entry.Entry.{Entry}
@@ -18,11 +18,11 @@ use Rattle.exec_recv.specs.Since.{HasReadSince}
 
 -- whether the hand was told of a request on the source that x hears, when it came to hold x
 abbrev pub was_told : Name → Seated Item Entry → Bool
-was_told x m = option_map_or (λ (e : Held Entry). e.told) (held_at m.0 x) false
+was_told x m = option_map_or (λ (e : Held Entry). e.told) (held_at (view_of m) x) false
 
 -- it was, or it has seen one since
 abbrev pub has_heard : Board Blueprint → Name → Seated Item Entry → Bool
-has_heard board x m = has_seen board.frame.tree m.0 x || was_told x m
+has_heard board x m = has_seen board.frame.tree (view_of m) x || was_told x m
 
 -- a parcel of x may say so of what its node saw
 abbrev pub MaySee : Board Blueprint → Name → Bool → Seated Item Entry → Type 0
@@ -40,7 +40,7 @@ pub record Looked (board : Board Blueprint) (x : Name) (saw : Bool)
   pub read : MatchOption (source_for x (nearest board.frame.tree x.node)) (saw ≡ false)
       (λ source. HasReadSince (index board.frame.layout (spot_of source))
       (λ word. says_requested source word ≡ saw) m m')
-  pub yes : saw ≡ true → has_seen board.frame.tree m'.0 x ≡ true
+  pub yes : saw ≡ true → has_seen board.frame.tree (view_of m') x ≡ true
   pub no : saw ≡ false → hears_one board x ≡ true → has_heard board x m' ≡ false
 
 -- It looked once at the source that x hears, and did nothing else. Where x hears none, it did

@@ -6,7 +6,7 @@ use Rattle.node_tree.specs.Tree.{is_child}
 use Rattle.plan_shape.specs.Blueprint.{Blueprint}
 use Rattle.table_rules.specs.declared.view.Held.{Held}
 use Rattle.table_steps.specs.Views.{Board}
-use Rattle.table_steps.specs.Claims.{Seated}
+use Rattle.table_steps.specs.Seats.{Seated, view_of}
 use Rattle.table_steps.specs.Slots.{held_at, knows_idle}
 use Rattle.home_items.specs.declared.entry.Entry.{Entry}
 use Rattle.home_items.specs.declared.item.Item.{Item}
@@ -21,14 +21,14 @@ pub record AreKids (board : Board Blueprint) (x : Name) (children : List ℕ) : 
 pub record KnowsAllIdle (x : Name) (children : List ℕ) (count : ℕ) (m : Seated Item Entry) :
     Type 0 where
   pub held : Held Entry
-  pub holds : held_at m.0 x ≡ Some held
+  pub holds : held_at (view_of m) x ≡ Some held
   pub idle : (i : ℕ) → i < count → knows_idle held (slice_index children i) ≡ true
 
 -- the hand holds x still, and of each child of x of which it knew that it hasn't begun it still
 -- knows so
 pub record KeepsIdle (x : Name) (m m' : Seated Item Entry) : Type 0 where
-  pub held : (before : Held Entry) → held_at m.0 x ≡ Some before → Held Entry
-  pub holds : (before : Held Entry) (had : held_at m.0 x ≡ Some before) →
-      held_at m'.0 x ≡ Some (held before had)
-  pub still : (before : Held Entry) (had : held_at m.0 x ≡ Some before) (n : ℕ) →
+  pub held : (before : Held Entry) → held_at (view_of m) x ≡ Some before → Held Entry
+  pub holds : (before : Held Entry) (had : held_at (view_of m) x ≡ Some before) →
+      held_at (view_of m') x ≡ Some (held before had)
+  pub still : (before : Held Entry) (had : held_at (view_of m) x ≡ Some before) (n : ℕ) →
       knows_idle before n ≡ true → knows_idle (held before had) n ≡ true

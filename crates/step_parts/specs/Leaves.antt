@@ -7,7 +7,7 @@ use Rattle.life_rules.specs.Words.{resting_at}
 use Rattle.plan_kinds.specs.Small.{IsSmall}
 use Rattle.plan_shape.specs.Blueprint.{Blueprint}
 use Rattle.table_steps.specs.Views.{Board, aim_at}
-use Rattle.table_steps.specs.Claims.{Seated}
+use Rattle.table_steps.specs.Seats.{Seated}
 use Rattle.table_steps.specs.Lefts.{LeavesControl}
 use Rattle.table_steps.specs.Rests.{RestsAt}
 use Rattle.table_steps.specs.Swaps.{IsSwapped}

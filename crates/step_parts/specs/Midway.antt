@@ -5,8 +5,8 @@ use Rattle.node_tree.specs.Tree.{is_child}
 use Rattle.plan_shape.specs.Blueprint.{Blueprint}
 use Rattle.table_rules.specs.declared.view.Held.{Held}
 use Rattle.table_rules.specs.Named.{without}
-use Rattle.table_steps.specs.Views.{Board, IsPlaceIn, Stays}
-use Rattle.table_steps.specs.Claims.{Seated}
+use Rattle.table_steps.specs.Views.{Board, IsPlaceIn, Stays, knows}
+use Rattle.table_steps.specs.Seats.{Seated, view_of}
 use Rattle.table_steps.specs.Hearings.{HearsAs}
 use Rattle.table_steps.specs.Slots.{held_at}
 use Rattle.op_slot.specs.Tends.{IsCalm, HasPlaces, Tends}
@@ -35,7 +35,7 @@ module _ (board : Board Blueprint) (x : Name) where
     pub place : IsPlaceIn board x
     pub places : HasPlaces board.frame x
     pub calm : IsCalm m
-    pub unrun : m.0.runs ≡ []
+    pub unrun : (view_of m).runs ≡ []
     pub held : Held Entry
     pub tends : Tends board.frame x held (Some inside) kid m
     pub goes_on : GoesOn inside
@@ -45,7 +45,7 @@ module _ (board : Board Blueprint) (x : Name) where
     pub kinds : FitsChild start
     pub calmly : held.told ≡ false → NeedsNoRequest start
     pub key : plan_of start ≡ board.frame.over.value
-    pub hears : HearsAs board.frame.tree m.0 x held.told held.told_children
+    pub hears : HearsAs board.frame.tree (view_of m) x held.told held.told_children
     pub named : least ≤ held.named
     pub kids : (n : ℕ) (done : Item) → is_child board.frame.tree x.node n ≡ true →
         kid n ≡ Some done → IsDoneBelow held n done
@@ -64,9 +64,9 @@ module _ (board : Board Blueprint) (x : Name) where
   pub record KeepsOthers (m m' : Seated Item Entry) : Type 0 where
     pub aside : KeepsAside m m'
     pub moves : MovesWithin board x m m'
-    pub others : without (λ (e : Held Entry). e.name) m'.0.held x
-        ≡ without (λ (e : Held Entry). e.name) m.0.held x
-    pub owed : m'.0.owed ≡ m.0.owed
+    pub others : without (λ (e : Held Entry). e.name) (view_of m').held x
+        ≡ without (λ (e : Held Entry). e.name) (view_of m).held x
+    pub owed : (view_of m').owed ≡ (view_of m).owed
 
   -- and so is what it has of x, as far as a step rests on it
   pub record KeepsReady (m m' : Seated Item Entry) : Type 0 where
@@ -80,5 +80,5 @@ module _ (board : Board Blueprint) (x : Name) where
   pub record ChangesHomes (old new : HandSeat) : Type 0 where
     pub stays : Stays board old new
     pub beside : KeepsOthers old.me new.me
-    pub same_held : held_at new.me.0 x ≡ held_at old.me.0 x
+    pub same_held : held_at (knows new) x ≡ held_at (knows old) x
     pub heard : has_heard board x new.me ≡ has_heard board x old.me

@@ -5,7 +5,7 @@ use Rattle.life_rules.specs.Views.{beside}
 use Rattle.plan_shape.specs.Blueprint.{Blueprint}
 use Rattle.table_rules.specs.declared.view.Owed.{Owed}
 use Rattle.table_steps.specs.Views.{Board}
-use Rattle.table_steps.specs.Claims.{Seated}
+use Rattle.table_steps.specs.Seats.{Seated, view_of}
 use Rattle.table_steps.specs.Slots.{has_seen}
 use Rattle.op_slot.specs.Puts.{IsPut}
 use Rattle.home_items.specs.declared.entry.Entry.{Entry}
@@ -31,15 +31,15 @@ module _ (board : Board Blueprint) (y : Name) (below : List Entry) where
     pub node : node_of below ≡ y.node
     pub draws : drawn_of below ≡ owed.lot
     pub begins : BeginsBelow below
-    pub calmly : has_seen board.frame.tree m.0 y ≡ false → NeedsNoRequest below
+    pub calmly : has_seen board.frame.tree (view_of m) y ≡ false → NeedsNoRequest below
 
   -- The start lies in the home of y, which can begin. Where y was the last of the children of x
   -- whose homes were empty, it is one less.
   pub record PutsStart (m m' : Seated Item Entry) : Type 0 where
     pub put : IsPut board.frame y (Start below) m m'
     pub aside : KeepsAside m m'
-    pub held : m'.0.held ≡ m.0.held
-    pub owed : m'.0.owed ≡ m.0.owed
+    pub held : (view_of m').held ≡ (view_of m).held
+    pub owed : (view_of m').owed ≡ (view_of m).owed
     pub starts : CanStart board y m'
     pub less : (x : Name) (start : List Entry) (lot : List ℤ) (children : List ℕ) (left : ℕ) →
         HasPlaces board.frame x → AreKids board x children → left < length children →

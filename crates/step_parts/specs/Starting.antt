@@ -5,7 +5,7 @@ use Rattle.life_rules.specs.Views.{beside}
 use Rattle.plan_shape.specs.Blueprint.{Blueprint}
 use Rattle.table_rules.specs.declared.view.Owed.{Owed}
 use Rattle.table_steps.specs.Views.{Board, IsPlaceIn}
-use Rattle.table_steps.specs.Claims.{Seated}
+use Rattle.table_steps.specs.Seats.{Seated, view_of}
 use Rattle.table_steps.specs.Owing.{owing, Owes, AreOfItsBlock}
 use Rattle.op_slot.specs.Tends.{Owes as OwesWith}
 use Rattle.home_items.specs.declared.entry.Entry.{Entry}
@@ -18,8 +18,8 @@ pub record OwesBare (board : Board Blueprint) (y : Name) (owed : Owed Entry)
     (m : Seated Item Entry) : Type 0 where
   pub place : IsPlaceIn board y
   pub owes : OwesWith board.frame y owed None m
-  pub once : owing m.0 y ≤ 1
-  pub beside : AreOfItsBlock m.0 y
+  pub once : owing (view_of m) y ≤ 1
+  pub beside : AreOfItsBlock (view_of m) y
 
 -- as the start of this child of x is owed
 abbrev pub owed_below : Name → List Entry → List ℤ → ℕ → Owed Entry
@@ -36,4 +36,4 @@ pub record IsStarting (board : Board Blueprint) (x : Name) (start : List Entry) 
   pub bare : (i : ℕ) → i < left →
       OwesBare board (beside x (slice_index children i))
       (owed_below x start lot (slice_index children i)) m
-  pub each : (y : Name) → Owes m.0 y → IsAmong x children left y ⊎ CanStart board y m
+  pub each : (y : Name) → Owes (view_of m) y → IsAmong x children left y ⊎ CanStart board y m

@@ -11,8 +11,8 @@ use Rattle.op_table.specs.OnlyChild.{BeginsChild}
 use Rattle.table_steps.specs.Readings.{KnowsIdle, IsBegunAs}
 use Rattle.table_steps.specs.Slots.{has_seen}
 use Rattle.table_steps.specs.Swaps.{IsSwapped}
-use Rattle.table_steps.specs.Views.{Board}
-use Rattle.table_steps.specs.Claims.{Seated}
+use Rattle.table_steps.specs.Views.{Board, knows}
+use Rattle.table_steps.specs.Seats.{Seated}
 use Rattle.home_items.specs.contracts.item.ItemCargo.TheImpl.{ghosts}
 use Rattle.home_items.specs.declared.entry.Entry.{Entry}
 use Rattle.home_items.specs.declared.item.Item.{Item}
@@ -59,7 +59,7 @@ module _ (board : Board Blueprint) (t : Stepping) (n : ℕ) where
     pub child : is_child board.frame.tree t.name.node n ≡ true
     pub plain : IsNoPart (slice_get (plan_of t.start).nodes n)
     pub begins : BeginsBelow (start_with n args asked t.start)
-    pub calmly : has_seen board.frame.tree hand.me.0 (beside t.name n) ≡ false →
+    pub calmly : has_seen board.frame.tree (knows hand) (beside t.name n) ≡ false →
         NeedsNoRequest (start_with n args asked t.start)
     pub idle : KnowsIdle t.name n hand.me
 

@@ -8,7 +8,7 @@ use Rattle.plan_rules.specs.declared.node.Node.{Node}
 use Rattle.plan_shape.specs.Blueprint.{Blueprint}
 use Rattle.table_rules.specs.declared.view.Held.{Held}
 use Rattle.table_steps.specs.Views.{Board, Stays}
-use Rattle.table_steps.specs.Claims.{Seated}
+use Rattle.table_steps.specs.Seats.{Seated, view_of}
 use Rattle.table_steps.specs.Slots.{held_at, kids_of}
 use Rattle.op_slot.specs.Tends.{put_at}
 use Rattle.home_items.specs.declared.entry.Entry.{Entry}
@@ -48,7 +48,7 @@ TakesOne (Some node) child = AwaitsOne node × IfSome child (Contains (plain_chi
 -- the hand has just begun x: its callback was never registered, and no child has begun
 pub record HasJustBegun (board : Board Blueprint) (x : Name) (m : Seated Item Entry) : Type 0 where
   pub held : Held Entry
-  pub holds : held_at m.0 x ≡ Some held
+  pub holds : held_at (view_of m) x ≡ Some held
   pub named : held.named ≡ 0
   pub phase : held.phase ≡ Some Never
   pub idle : held.idle ≡ kids_of board.frame.tree x.node
@@ -115,7 +115,7 @@ module _ (board : Board Blueprint) (t : Stepping) where
     pub entry : Entry
     pub below : parcel.start ≡ entry ∷ t.start
     pub of : IsItemOf (Done parcel) n
-    pub draws : option_map_or (λ (e : Held Entry). e.lot) (held_at m.0 t.name) None
+    pub draws : option_map_or (λ (e : Held Entry). e.lot) (held_at (view_of m) t.name) None
         ≡ Some (drawn_of parcel.start)
     pub calmly : has_source board.frame.tree t.name.node ≡ false →
         has_heard board t.name m ≡ false → SawNoRequest (Done parcel)

@@ -102,13 +102,6 @@ three-some true true false f g h rest found e = e
 three-some true false c f g h rest found e = e
 three-some false b c f g h rest found e = e
 
-pub three-none : (a b c : Bool) (f g h : Fact) (rest : Option Fact) → unless a f (unless b g (unless c h None)) ≡ None → unless a f (unless b g (unless c h rest)) ≡ rest
-unfolding unless
-three-none true true true f g h rest e = refl
-three-none true true false f g h rest e = cc
-three-none true false c f g h rest e = cc
-three-none false b c f g h rest e = cc
-
 -- of three needs of which two hold the other fails
 pub middle-fails : (a b c : Bool) → (a && (b && c)) ≡ false → a ≡ true → c ≡ true → b ≡ false
 middle-fails true true c e p q = let wrong : true ≡ false = cc in cc

@@ -1,14 +1,13 @@
 -- What the cells of a view tell.
-use Rattle.std.proofs.Common.{◌≡◌, ℕ, ◌+◌, ◌<◌, ◌≤◌, Bool, true, false, ◌&&◌, refl, sym, ap, ◌∙◌, subst}
+use Rattle.std.proofs.Common.{◌≡◌, ℕ, ◌<◌, Bool, true, false, ◌&&◌, sym, ap, ◌∙◌, subst}
 use Rattle.std.specs.Prelude.{is_some, nat_lt, nat_le}
 use Rattle.std.proofs.lemmas.Bool.{and_parts, ltb-true}
 use Rattle.common_lemmas.specs.Sums.{one}
 use Rattle.exec_life.specs.Reading.{TellsView}
-use Rattle.exec_life.specs.ViewLists.{ViewLists, KnowsPlace, KnowsSource, scan_in}
-use Rattle.life_rules.specs.declared.event.Place.{Place}
+use Rattle.exec_life.specs.ViewLists.{ViewLists, KnowsSource, scan_in}
 use Rattle.life_rules.specs.declared.event.SourceAt.{SourceAt}
 use Rattle.life_rules.specs.declared.event.SourceAt.TheVariants.{Scope, At}
-use Rattle.life_rules.specs.States.{State, size, is_place}
+use Rattle.life_rules.specs.States.{State, size}
 use Rattle.life_rules.specs.StopSteps.{source_of}
 use Rattle.step_reasons.specs.Scanning.{is_known, scans}
 
@@ -16,15 +15,6 @@ use Rattle.step_reasons.specs.Scanning.{is_known, scans}
 pub one-least : (n : ℕ) (b : Bool) → n ≡ one b → b ≡ nat_le 1 n
 one-least n true e = ap (nat_le 1) (sym e)
 one-least n false e = ap (nat_le 1) (sym e)
-
--- a place that is there has cells
-pub place-knows : (s : State) (h : ℕ) (v : ViewLists) (p : Place) → TellsView s h v → is_place s p ≡ true → KnowsPlace v p
-place-knows s h v p tells there =
-    let parts = and_parts (nat_lt p.block s.blocks) (nat_lt p.node (size s)) there in
-    record {
-      block = subst (λ (n : ℕ). p.block < n) (sym tells.blocks) (ltb-true p.block s.blocks parts.0);
-      node = subst (λ (n : ℕ). p.node < n) (sym tells.nodes) (ltb-true p.node (size s) parts.1);
-    }
 
 pub source-knows : (s : State) (h : ℕ) (v : ViewLists) (at : SourceAt) → TellsView s h v → is_known s at ≡ true → KnowsSource v at
 source-knows s h v Scope tells known = tt

@@ -17,7 +17,8 @@ use Rattle.table_rules.specs.declared.view.Held.{Held}
 use Rattle.table_rules.specs.declared.view.Scanning.{Scanning}
 use Rattle.table_rules.specs.ShownViews.{has_source_ref}
 use Rattle.table_steps.specs.Views.{Board}
-use Rattle.table_steps.specs.Claims.{Seated, with_step}
+use Rattle.table_steps.specs.Claims.{with_step}
+use Rattle.table_steps.specs.Seats.{Seated}
 use Rattle.table_steps.specs.Remembers.{running}
 use Rattle.table_steps.specs.Requests.{asks}
 use Rattle.table_steps.specs.Rouses.{IsRoused}

@@ -11,7 +11,8 @@ use Rattle.listed_words.specs.Lists.{entry}
 use Rattle.table_rules.specs.declared.view.View.{View}
 use Rattle.table_steps.specs.Views.{Board}
 use Rattle.table_steps.specs.Callbacks.{callback_index}
-use Rattle.table_steps.specs.Claims.{Seated, word_index}
+use Rattle.table_steps.specs.Claims.{word_index}
+use Rattle.table_steps.specs.Seats.{Seated}
 use Rattle.table_steps.specs.Runs.{run_index}
 use Rattle.table_steps.specs.ScanOrders.{hears, is_next_place}
 use Rattle.table_steps.specs.ScanSeals.{CanSealScan}

@@ -19,7 +19,7 @@ use Rattle.table_rules.specs.declared.view.Scanning.{Scanning}
 use Rattle.table_rules.specs.Named.{count_by, without}
 use Rattle.table_rules.specs.ShownViews.{scan_in}
 use Rattle.table_steps.specs.Views.{Board}
-use Rattle.table_steps.specs.Claims.{Seated}
+use Rattle.table_steps.specs.Seats.{Seated}
 use Rattle.table_steps.specs.Requests.{asks_at}
 use Rattle.table_steps.specs.RunEnds.{passes_to, number_of}
 use Rattle.table_steps.specs.Sights.{IsSourceIn}

@@ -11,7 +11,7 @@ use Rattle.atomic_table.specs.declared.shared.Seat.{Seat}
 use Rattle.table_rules.specs.declared.view.View.{View}
 use Rattle.table_rules.specs.Named.{Each}
 use Rattle.table_steps.specs.Views.{Board, IsPlaceIn}
-use Rattle.table_steps.specs.Claims.{Seated}
+use Rattle.table_steps.specs.Seats.{Seated}
 use Rattle.table_steps.specs.RunEnds.{number_of}
 use Rattle.table_steps.specs.ScanSeals.{drops, IsScanSealed}
 use Rattle.table_steps.specs.Sights.{IsSourceIn, spot_of}

@@ -15,7 +15,8 @@ use Rattle.listed_words.specs.declared.seen.Seen.{Seen}
 use Rattle.listed_words.specs.Lists.{entry}
 use Rattle.table_rules.specs.ShownViews.{scan_in}
 use Rattle.table_steps.specs.Views.{Board}
-use Rattle.table_steps.specs.Claims.{Seated, logged, word_index}
+use Rattle.table_steps.specs.Claims.{logged, word_index}
+use Rattle.table_steps.specs.Seats.{Seated}
 use Rattle.table_steps.specs.Runs.{CanRun, HasPassed, HasRun, run_index, node_named, last_of, listed}
 use Rattle.table_steps.specs.ScanOrders.{hears, is_next_place}
 use Rattle.table_steps.specs.RunEnds.{passes_to}

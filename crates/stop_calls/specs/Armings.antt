@@ -8,7 +8,7 @@ use Rattle.node_tree.specs.Tree.{nearest, has_source}
 use Rattle.life_rules.specs.States.{source_for}
 use Rattle.atomic_table.specs.declared.shared.Seat.{Seat}
 use Rattle.table_rules.specs.declared.view.View.{View}
-use Rattle.table_steps.specs.Views.{Board}
+use Rattle.table_steps.specs.Views.{Board, knows}
 use Rattle.table_steps.specs.Callbacks.{IsArmed}
 use Rattle.table_rules.specs.ShownViews.{has_source_ref}
 use Rattle.table_steps.specs.Sights.{AgreesWithTold, IsLookedAt}
@@ -34,5 +34,5 @@ pub record IsArmedSo {P E O : Type 0} (board : Board O) (x : Name) (answer : Arm
   pub source : SourceRef
   pub nearest_is : source_for x (nearest board.frame.tree x.node) ≡ Some source
   pub looked : IsLookedAt board source (Some x) (is_asked answer) middle new
-  pub stands : has_source_ref old.me.0.seen source ≡ true → is_asked answer ≡ true
-  pub told : AgreesWithTold board.frame.tree old.me.0 source (is_asked answer)
+  pub stands : has_source_ref (knows old).seen source ≡ true → is_asked answer ≡ true
+  pub told : AgreesWithTold board.frame.tree (knows old) source (is_asked answer)

@@ -11,9 +11,10 @@ use Rattle.table_words.specs.Layouts.{index}
 use Rattle.atomic_table.specs.declared.shared.Seat.{Seat}
 use Rattle.listed_words.specs.declared.seen.Seen.{Seen}
 use Rattle.table_rules.specs.declared.view.View.{View}
-use Rattle.table_steps.specs.Views.{Board}
+use Rattle.table_steps.specs.Views.{Board, knows}
 use Rattle.table_steps.specs.Callbacks.{callback_index}
-use Rattle.table_steps.specs.Claims.{Seated, word_index}
+use Rattle.table_steps.specs.Claims.{word_index}
+use Rattle.table_steps.specs.Seats.{Seated, view_of}
 use Rattle.table_steps.specs.Hearings.{UnderScope}
 use Rattle.table_steps.specs.Remembers.{running}
 use Rattle.table_steps.specs.Runs.{run_index}
@@ -35,7 +36,7 @@ use Rattle.stop_calls.specs.Walks.{IsFound, IsThrough}
 -- the list grew by such steps alone
 pub record ListsOnly {P E : Type 0} (IsSuch : Seen → Type 0) (m m' : Seated P E) : Type 0 where
   pub made : List Seen
-  pub steps_are : m'.0.steps ≡ made ++ m.0.steps
+  pub steps_are : (view_of m').steps ≡ made ++ (view_of m).steps
   pub all_such : All IsSuch made
 
 -- the index of the source's word
@@ -91,17 +92,18 @@ module _ {P E O : Type 0} (board : Board O) (old new : Seat (Option P) (View P E
     pub settled : (answer : Settled) → IsSettled board x old new answer →
         ListsSome (callback_index board x) old.me new.me
     pub at_once : (answer : Settled) → IsSettled board x old new answer →
-        UnderScope board.frame.tree old.me.0 x (ListsOne (callback_index board x) old.me new.me)
-    pub ended : IsOver board x old new → 1 ≤ running old.me.0 x →
+        UnderScope board.frame.tree (knows old) x (ListsOne (callback_index board x) old.me new.me)
+    pub ended : IsOver board x old new → 1 ≤ running (knows old) x →
         ListsOne (callback_index board x) old.me new.me
-    pub was_over : IsOver board x old new → running old.me.0 x ≡ 0 → new.me.0.steps ≡ old.me.0.steps
+    pub was_over : IsOver board x old new → running (knows old) x ≡ 0 →
+        (knows new).steps ≡ (knows old).steps
 
   -- the newest step is on the callback's word, and those before it in this call are of a scan of
   -- the source
   pub record ListsRun (source : SourceRef) (x : Name) : Type 0 where
     pub newest : Seen
     pub others : List Seen
-    pub steps_are : new.me.0.steps ≡ newest ∷ others ++ old.me.0.steps
+    pub steps_are : (knows new).steps ≡ newest ∷ others ++ (knows old).steps
     pub index_is : newest.index ≡ callback_index board x
     pub all_there : All (IsOfWalk board source) others
 
@@ -111,8 +113,8 @@ module _ {P E O : Type 0} (board : Board O) (old new : Seat (Option P) (View P E
     pub found : (x : Name) → IsFound board before old new after x → ListsRun before.source x
     pub through : IsThrough board before old new after →
         ListsOnly (IsOfWalk board before.source) old.me new.me
-    pub none_left : IsThrough board before old new after → new.me.0.steps ≡ old.me.0.steps →
-        CanSealScan board.frame old.me.0 before.source
+    pub none_left : IsThrough board before old new after → (knows new).steps ≡ (knows old).steps →
+        CanSealScan board.frame (knows old) before.source
 
 module _ (P E O : Type 0) where
   abbrev pub SourcesListTheirSteps : Type 0

@@ -11,7 +11,7 @@ use Rattle.table_rules.specs.declared.view.View.{View}
 use Rattle.table_rules.specs.declared.view.Scanning.{Scanning}
 use Rattle.table_rules.specs.Named.{Each}
 use Rattle.table_steps.specs.Views.{Board}
-use Rattle.table_steps.specs.Claims.{Seated}
+use Rattle.table_steps.specs.Seats.{Seated, view_of}
 use Rattle.table_steps.specs.Remembers.{running}
 use Rattle.table_steps.specs.Sights.{IsSourceIn}
 use Rattle.stop_calls.specs.declared.scanning.Scan.{Scan}
@@ -77,13 +77,13 @@ module _ {P E O : Type 0} (board : Board O) (scan : Scan) (m : Seated P E) where
     pub is_one : IsSourceIn board scan.source
     pub from : ℕ
     pub outer : List Scanning
-    pub scans : m.0.scans ≡ scan_at scan.source from ∷ outer
+    pub scans : (view_of m).scans ≡ scan_at scan.source from ∷ outer
     pub above : AreOuter scan.source outer
-    pub stands : Stands board.frame.tree scan m.0
-    pub unrun : NoneHears board.frame.tree scan.source m.0.runs
+    pub stands : Stands board.frame.tree scan (view_of m)
+    pub unrun : NoneHears board.frame.tree scan.source (view_of m).runs
 
   -- and no callback that it runs is of a node below the source's: from inside a due of this scan
   -- one of the due's own source may begin
   pub record Nests : Type 0 where
     pub makes : Scans
-    pub around : AreAround scan.source m.0.runs
+    pub around : AreAround scan.source (view_of m).runs

@@ -10,7 +10,7 @@ use Rattle.table_rules.specs.declared.view.View.{View}
 use Rattle.table_rules.specs.declared.view.Held.{Held}
 use Rattle.table_rules.specs.Named.{find_by}
 use Rattle.table_rules.specs.ShownViews.{scan_in}
-use Rattle.table_steps.specs.Views.{Board}
+use Rattle.table_steps.specs.Views.{Board, knows}
 use Rattle.table_steps.specs.Remembers.{running}
 use Rattle.table_steps.specs.Hearings.{UnderScope}
 use Rattle.table_steps.specs.Callbacks.{is_registered, IsWithdrawn}
@@ -37,17 +37,17 @@ module _ {P E O : Type 0} (board : Board O) (x : Name) (old new : Seat (Option P
   -- the run ends; or it was over, since the callback was removed from inside it, and nothing is
   -- done
   pub record IsOver : Type 0 where
-    pub ends : 1 ≤ running old.me.0 x → IsRunEnded board x old new
-    pub was_removed : running old.me.0 x ≡ 0 → new.me ≡ old.me
+    pub ends : 1 ≤ running (knows old) x → IsRunEnded board x old new
+    pub was_removed : running (knows old) x ≡ 0 → new.me ≡ old.me
 
   -- the hand doesn't run the callback, and read this phase
   pub record IsReadAs (phase : CallbackPhase) : Type 0 where
-    pub unrun : running old.me.0 x ≡ 0
+    pub unrun : running (knows old) x ≡ 0
     pub told : IsWithdrawn board x phase old new
 
   -- the hand ran the callback, which is removed from inside
   pub record IsInside : Type 0 where
-    pub runs : 1 ≤ running old.me.0 x
+    pub runs : 1 ≤ running (knows old) x
     pub told : IsOwnWithdrawn board x old new
 
   -- what a try answers
@@ -77,4 +77,4 @@ module _ {P E O : Type 0} (board : Board O) (x : Name) where
     pub middle : Seat (Option P) (View P E)
     pub waited : Waits count old middle
     pub last : IsLastTry board x middle new answer
-    pub at_once : UnderScope board.frame.tree old.me.0 x (count ≡ 0)
+    pub at_once : UnderScope board.frame.tree (knows old) x (count ≡ 0)

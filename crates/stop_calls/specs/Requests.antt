@@ -8,7 +8,7 @@ use Rattle.table_words.specs.Controls.{source_read}
 use Rattle.table_words.specs.Layouts.{index}
 use Rattle.atomic_table.specs.declared.shared.Seat.{Seat}
 use Rattle.table_rules.specs.declared.view.View.{View}
-use Rattle.table_steps.specs.Views.{Board}
+use Rattle.table_steps.specs.Views.{Board, knows}
 use Rattle.table_steps.specs.Sights.{spot_of}
 use Rattle.table_steps.specs.Requests.{bits_asked, asks_at, HasAsked, IsWordOf}
 use Rattle.stop_calls.specs.declared.requesting.Request.{Request}
@@ -34,7 +34,7 @@ pub record IsAskedFor {P E O : Type 0} (board : Board O) (source : SourceRef) (f
   pub left : ℕ
   pub stamp_is : stamp_of left ≡ stamp_of word
   pub left_is : source_read left ≡ bits_asked failure (source_read word)
-  pub again : HasAsked old.me.0 source → answer ≡ Already
+  pub again : HasAsked (knows old) source → answer ≡ Already
   pub me_is : new.me ≡ asks_at source (index board.frame.layout (spot_of source)) word left old.me
 
 -- one without

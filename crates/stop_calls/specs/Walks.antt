@@ -6,7 +6,7 @@ use Rattle.life_rules.specs.declared.event.SourceRef.TheVariants.{Scope, Node}
 use Rattle.atomic_table.specs.declared.shared.Seat.{Seat}
 use Rattle.table_rules.specs.declared.view.View.{View}
 use Rattle.listed_words.specs.declared.seen.Seen.{Seen}
-use Rattle.table_steps.specs.Views.{Board}
+use Rattle.table_steps.specs.Views.{Board, knows}
 use Rattle.table_steps.specs.Runs.{CanRun, HasPassed, HasRun}
 use Rattle.table_steps.specs.RunEnds.{passes_to, number_of}
 use Rattle.table_steps.specs.ScanOrders.{is_next_place}
@@ -15,6 +15,7 @@ use Rattle.table_steps.specs.ScanSeals.{CanSealScan}
 use Rattle.stop_calls.specs.declared.scanning.Scan.{Scan}
 use Rattle.stop_calls.specs.declared.dues.Due.{Due}
 use Rattle.stop_calls.specs.Cursors.{cursor, Stands}
+use Rattle.table_steps.specs.Seats.{homes_of}
 
 -- a call may look at a place's callback: of the scope's source where it last read the place's
 -- block, as not free; of a node's always, since its block can't go away
@@ -36,7 +37,7 @@ module _ {P E O : Type 0} (board : Board O) (source : SourceRef) (read read' : O
   pub record ReadsBlock (block : ℕ) (free : Bool) : Type 0 where
     pub scope : source ≡ Scope
     pub within : block < board.frame.layout.blocks
-    pub next : CanSkip board.frame.tree old.me.0 block
+    pub next : CanSkip board.frame.tree (knows old) block
     pub told : IsSkipped board block free old new
 
   -- it was free: all its places are passed
@@ -54,7 +55,7 @@ module _ {P E O : Type 0} (board : Board O) (source : SourceRef) (read read' : O
     pub block : ℕ
     pub node : ℕ
     pub within : block < board.frame.layout.blocks
-    pub next : CanRun board.frame.tree old.me.0 source block node
+    pub next : CanRun board.frame.tree (knows old) source block node
     pub may : MayTry source read block
     pub told : HasPassed board source block node old new
     pub read_is : read' ≡ read
@@ -84,7 +85,10 @@ module _ {P E O : Type 0} (board : Board O) (before : Scan)
     pub begun : HasRun board before.source x.block x.node x middle new
     pub at : ℕ
     pub steps : List Seen
-    pub me_is : new.me ≡ (scanning_at before.source at (x ∷ old.me.0.runs) steps old.me.0, old.me.1)
+    pub me_is : new.me ≡ (
+      scanning_at before.source at (x ∷ (knows old).runs) steps (knows old),
+      homes_of old.me,
+    )
     pub block : x.block < board.frame.layout.blocks
     pub within : x.node < length board.frame.tree
     pub is_next : is_next_place board.frame.tree before.source at x.block x.node ≡ true
@@ -100,9 +104,12 @@ module _ {P E O : Type 0} (board : Board O) (before : Scan)
     pub passed : Walks board before.source count read old new
     pub at : ℕ
     pub steps : List Seen
-    pub me_is : new.me ≡ (scanning_at before.source at old.me.0.runs steps old.me.0, old.me.1)
-    pub stands : Stands board.frame.tree after new.me.0
-    pub none_left : CanSealScan board.frame new.me.0 before.source
+    pub me_is : new.me ≡ (
+      scanning_at before.source at (knows old).runs steps (knows old),
+      homes_of old.me,
+    )
+    pub stands : Stands board.frame.tree after (knows new)
+    pub none_left : CanSealScan board.frame (knows new) before.source
 
   abbrev pub IsScanned : Scan → Option Due → Type 0
   IsScanned after answer = MatchOption answer (IsThrough after) (λ due. IsFound after due.place)

@@ -8,7 +8,8 @@ use Rattle.table_rules.specs.declared.frame.Frame.{Frame}
 use Rattle.table_rules.specs.declared.view.View.{View}
 use Rattle.table_rules.specs.Running.{Running}
 use Rattle.table_rules.specs.Traces.{Traced}
-use Rattle.table_steps.specs.Claims.{with_step, ListsOne, Seated}
+use Rattle.table_steps.specs.Claims.{with_step, ListsOne}
+use Rattle.table_steps.specs.Seats.{Seated}
 use Rattle.table_kept.proofs.Tracing.{traced-step}
 
 -- a hand that stands for itself alone may make the step, which lists itself, and tells this

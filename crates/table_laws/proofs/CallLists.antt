@@ -21,7 +21,8 @@ use Rattle.table_steps.specs.declared.report.Report.{Report}
 use Rattle.table_steps.specs.declared.report.Report.TheVariants.{Last, Others}
 use Rattle.table_steps.specs.Callbacks.{IsWithdrawn, callback_index, withdraws, learns}
 use Rattle.table_steps.specs.Views.{Board}
-use Rattle.table_steps.specs.Claims.{Seated, IsAnswer, word_index, logged}
+use Rattle.table_steps.specs.Claims.{IsAnswer, word_index, logged}
+use Rattle.table_steps.specs.Seats.{Seated}
 use Rattle.table_steps.specs.declared.block.Block.{Block}
 use Rattle.table_steps.specs.Readings.{IsBegunAs, above_it, notes_idle, notes_phase, says_begun}
 use Rattle.table_steps.specs.Reports.{IsReportedAs}

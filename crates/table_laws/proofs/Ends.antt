@@ -31,7 +31,7 @@ use Rattle.table_rules.specs.Named.{count_by}
 use Rattle.table_rules.specs.ShownWords.{word_of, is_there, is_said, said_at}
 use Rattle.table_rules.specs.Scenes.{shown}
 use Rattle.table_rules.specs.Running.{Running}
-use Rattle.table_steps.specs.Claims.{Seated}
+use Rattle.table_steps.specs.Seats.{Seated}
 use Rattle.table_steps.specs.Readings.{above_it}
 use Rattle.table_steps.specs.Takes.{rest_word}
 use Rattle.table_steps.specs.Reports.{CanReport}

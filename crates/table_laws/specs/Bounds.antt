@@ -17,7 +17,7 @@ use Rattle.table_rules.specs.Named.{find_by}
 use Rattle.table_rules.specs.Scenes.{shown}
 use Rattle.table_rules.specs.Homes.{is_resting, done_below}
 use Rattle.table_rules.specs.Running.{Running}
-use Rattle.table_steps.specs.Claims.{Seated}
+use Rattle.table_steps.specs.Seats.{Seated, homes_of, view_of}
 use Rattle.table_steps.specs.Slots.{slot_of, kept}
 use Rattle.table_steps.specs.Finishes.{CanEnd}
 use Rattle.table_laws.specs.Laws.{Has}
@@ -51,8 +51,9 @@ module _ {P E O : Type 0} (cargo : Ghosts P E O) where
   abbrev pub FinishWithAll : Type 0
   FinishWithAll =
       (f : Frame O) (s : table.State (Option P) (View P E)) → Running cargo f s →
-      (h : ℕ) (m : Seated P E) (x : Name) (item : P) → Has s h m.0 → CanEnd cargo f m x →
-      kept (slot_of f.layout x) m.1 ≡ Some (Some item) → cargo.least item ≤ done_below (shown f s) x
+      (h : ℕ) (m : Seated P E) (x : Name) (item : P) → Has s h (view_of m) → CanEnd cargo f m x →
+      kept (slot_of f.layout x) (homes_of m) ≡ Some (Some item) →
+      cargo.least item ≤ done_below (shown f s) x
 
   -- of a node that a hand holds, as many children are done as its last await named
   abbrev pub HoldWithAll : Type 0

@@ -19,7 +19,8 @@ use Rattle.table_rules.specs.declared.view.View.{View}
 use Rattle.table_steps.specs.declared.block.Block.{Block}
 use Rattle.table_steps.specs.declared.report.Report.{Report}
 use Rattle.table_steps.specs.Views.{Board, aim_at}
-use Rattle.table_steps.specs.Claims.{Seated, IsAnswer, word_index}
+use Rattle.table_steps.specs.Claims.{IsAnswer, word_index}
+use Rattle.table_steps.specs.Seats.{Seated, view_of}
 use Rattle.table_steps.specs.Begins.{source_index}
 use Rattle.table_steps.specs.Callbacks.{IsArmed, IsWithdrawn, callback_index}
 use Rattle.table_steps.specs.Looks.{IsReadAs}
@@ -43,7 +44,7 @@ use Rattle.table_steps.specs.Takes.{IsTaken}
 pub record ListsOne {P E : Type 0} (at : ℕ) (m m' : Seated P E) : Type 0 where
   pub read : ℕ
   pub left : ℕ
-  pub steps_are : m'.0.steps ≡ entry at read left ∷ m.0.steps
+  pub steps_are : (view_of m').steps ≡ entry at read left ∷ (view_of m).steps
 
 -- it grew by two
 pub record ListsTwo {P E : Type 0} (first second : ℕ) (m m' : Seated P E) : Type 0 where
@@ -55,7 +56,7 @@ pub record ListsTwo {P E : Type 0} (first second : ℕ) (m m' : Seated P E) : Ty
 pub record ListsSome {P E : Type 0} (at : ℕ) (m m' : Seated P E) : Type 0 where
   pub newest : Seen
   pub others : List Seen
-  pub steps_are : m'.0.steps ≡ newest ∷ others ++ m.0.steps
+  pub steps_are : (view_of m').steps ≡ newest ∷ others ++ (view_of m).steps
   pub all_there : All (λ (e : Seen). e.index ≡ at) (newest ∷ others)
 
 module _ {P E O : Type 0} (cargo : Ghosts P E O) (board : Board O) (x : Name)
@@ -169,4 +170,5 @@ module _ (P E O : Type 0) where
 
 -- a list that grew is another, so a call that lists a step made one
 abbrev pub ListedIsMade : Type 0 → Type 0 → Type 0
-ListedIsMade P E = (at : ℕ) (m m' : Seated P E) → ListsSome at m m' → m'.0.steps ≡ m.0.steps → ⊥
+ListedIsMade P E =
+    (at : ℕ) (m m' : Seated P E) → ListsSome at m m' → (view_of m').steps ≡ (view_of m).steps → ⊥

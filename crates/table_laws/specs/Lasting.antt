@@ -16,7 +16,7 @@ use Rattle.table_rules.specs.ShownViews.{has_name}
 use Rattle.table_rules.specs.ShownWords.{scope_of}
 use Rattle.table_rules.specs.Scenes.{shown}
 use Rattle.table_rules.specs.Running.{Running}
-use Rattle.table_steps.specs.Views.{Board, IsPlaceIn}
+use Rattle.table_steps.specs.Views.{Board, IsPlaceIn, knows}
 use Rattle.table_steps.specs.Steps.{Finished}
 use Rattle.table_steps.specs.Sights.{IsSourceIn}
 use Rattle.table_steps.specs.ScanSeals.{IsScanSealed}
@@ -30,7 +30,7 @@ pub record StillLists {P E : Type 0} (steps : Seat (Option P) (View P E))
   pub hand : ℕ
   pub view : View P E
   pub at : Has s hand view
-  pub grew : GrewFrom steps.me.0.steps view.steps
+  pub grew : GrewFrom (knows steps).steps view.steps
 
 -- of the armed callback some hand has still to look whether a stop is requested, or has seen after
 -- the arming that it is

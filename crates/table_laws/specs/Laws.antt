@@ -22,8 +22,8 @@ use Rattle.table_rules.specs.ShownViews.{has_name}
 use Rattle.table_rules.specs.ShownWords.{word_of, scope_of}
 use Rattle.table_rules.specs.Scenes.{shown}
 use Rattle.table_rules.specs.Running.{Running}
-use Rattle.table_steps.specs.Views.{Board, IsPlaceIn}
-use Rattle.table_steps.specs.Claims.{Seated}
+use Rattle.table_steps.specs.Views.{Board, IsPlaceIn, knows}
+use Rattle.table_steps.specs.Seats.{Seated, view_of}
 use Rattle.table_steps.specs.Readings.{above_it}
 use Rattle.table_steps.specs.Begins.{CanBegin}
 use Rattle.table_steps.specs.Rests.{CanLeave}
@@ -51,9 +51,9 @@ module _ {P E O : Type 0} (cargo : Ghosts P E O) where
     pub unheld : (h : ℕ) (v : View P E) → Has s h v → count_by (λ e. e.name) v.held x ≡ 0
     pub unowed : (h : ℕ) (v : View P E) → Has s h v → count_by (λ e. e.name) v.owed x ≡ 0
     -- no hand may begin it
-    pub begin : (h : ℕ) (m : Seated P E) → Has s h m.0 → ¬ CanBegin cargo f m x
+    pub begin : (h : ℕ) (m : Seated P E) → Has s h (view_of m) → ¬ CanBegin cargo f m x
     -- no hand may await its children, leave it at rest, park it or finish it
-    pub leave : (h : ℕ) (m : Seated P E) → Has s h m.0 → ¬ CanLeave f m x
+    pub leave : (h : ℕ) (m : Seated P E) → Has s h (view_of m) → ¬ CanLeave f m x
     -- no hand may report a child of it
     pub report : (h : ℕ) (v : View P E) (child : Name) → Has s h v → above_it f.tree child ≡ x →
         ¬ CanReport f.tree v child
@@ -71,7 +71,7 @@ module _ {P E O : Type 0} (cargo : Ghosts P E O) where
   abbrev pub ParentsWait : Type 0
   ParentsWait =
       (f : Frame O) (s : table.State (Option P) (View P E)) → Running cargo f s →
-      (h : ℕ) (m : Seated P E) (x : Name) (n : ℕ) → Has s h m.0 → CanEnd cargo f m x →
+      (h : ℕ) (m : Seated P E) (x : Name) (n : ℕ) → Has s h (view_of m) → CanEnd cargo f m x →
       is_child f.tree x.node n ≡ true → is_idle (control_at (shown f s) (beside x n)) ≡ false →
       (is_done (control_at (shown f s) (beside x n)) ≡ true)
       × ((j : ℕ) (u : View P E) → Has s j u → count_by (λ e. e.name) u.reported (beside x n) ≡ 0)
@@ -80,7 +80,7 @@ module _ {P E O : Type 0} (cargo : Ghosts P E O) where
   abbrev pub ReleasesQuiet : Type 0
   ReleasesQuiet =
       (f : Frame O) (s : table.State (Option P) (View P E)) → Running cargo f s →
-      (h : ℕ) (m : Seated P E) (block generation : ℕ) → Has s h m.0 →
+      (h : ℕ) (m : Seated P E) (block generation : ℕ) → Has s h (view_of m) →
       CanReleaseBlock f block generation m → Quiet (shown f s) block
 
   -- a callback never runs again at its generation while some hand lists that it ran or was
@@ -122,5 +122,5 @@ module _ {P E O : Type 0} (cargo : Ghosts P E O) where
       (board : Board O) (x : Name) (old new : Seat (Option P) (View P E)) → IsPlaceIn board x →
       EndsIt board x old new → (s : table.State (Option P) (View P E)) →
       Running cargo board.frame s →
-      (h : ℕ) (v : View P E) → Has s h v → GrewFrom new.me.0.steps v.steps →
+      (h : ℕ) (v : View P E) → Has s h v → GrewFrom (knows new).steps v.steps →
       RunsNoMore board.frame s x

@@ -20,7 +20,8 @@ use Rattle.table_rules.specs.Named.{count_by, Each}
 use Rattle.table_steps.specs.declared.block.Block.{Block}
 use Rattle.table_steps.specs.Owing.{owing, OwesNoneThere}
 use Rattle.table_steps.specs.Views.{Board, aim_at}
-use Rattle.table_steps.specs.Claims.{Seated, root_name, Claimed}
+use Rattle.table_steps.specs.Claims.{root_name, Claimed}
+use Rattle.table_steps.specs.Seats.{Seated}
 use Rattle.table_steps.specs.Begins.{BeginsAt, IsRenewed}
 use Rattle.table_steps.specs.Awaits.{is_named, CanAwait, AwaitsAt}
 use Rattle.table_steps.specs.Remembers.{running, HasExactly, Remembers, ArePlacesOf}

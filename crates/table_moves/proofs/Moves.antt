@@ -30,7 +30,8 @@ use Rattle.table_rules.specs.ShownWords.{block_of, is_retired}
 use Rattle.table_rules.specs.ShownViews.{view_at, shown_view}
 use Rattle.table_rules.specs.Scenes.{shown}
 use Rattle.table_rules.specs.Running.{Running}
-use Rattle.table_steps.specs.Claims.{Seated, with_step, logged}
+use Rattle.table_steps.specs.Claims.{with_step, logged}
+use Rattle.table_steps.specs.Seats.{Seated}
 use Rattle.table_steps.specs.Begins.{CanBegin, begins as start_node}
 use Rattle.table_steps.specs.Takes.{takes_node}
 use Rattle.table_steps.specs.Steps.{control_index}

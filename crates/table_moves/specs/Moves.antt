@@ -17,7 +17,8 @@ use Rattle.table_rules.specs.declared.view.View.{View}
 use Rattle.table_rules.specs.Scenes.{shown}
 use Rattle.table_rules.specs.Running.{Running}
 use Rattle.table_steps.specs.Views.{Board, IsHandOf, IsPlaceIn, aim_at, knows}
-use Rattle.table_steps.specs.Claims.{Seated, logged}
+use Rattle.table_steps.specs.Claims.{logged}
+use Rattle.table_steps.specs.Seats.{Seated}
 use Rattle.table_steps.specs.Begins.{CanBegin}
 use Rattle.table_steps.specs.Lefts.{SaysControl}
 use Rattle.table_steps.specs.Takes.{MayServe, TakenAt}

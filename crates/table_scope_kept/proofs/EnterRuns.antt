@@ -26,7 +26,8 @@ use Rattle.table_rules.specs.ShownWords.{block_of}
 use Rattle.table_rules.specs.ShownViews.{shown_view}
 use Rattle.table_rules.specs.Scenes.{shown}
 use Rattle.table_rules.specs.Running.{Running}
-use Rattle.table_steps.specs.Claims.{with_step, ListsOne, Seated}
+use Rattle.table_steps.specs.Claims.{with_step, ListsOne}
+use Rattle.table_steps.specs.Seats.{Seated}
 use Rattle.table_steps.specs.Lefts.{plus_one}
 use Rattle.table_steps.specs.ScopeMoves.{MovesScopeAt, with_one_more}
 use Rattle.table_steps.specs.Slots.{IsSeated}

@@ -21,7 +21,8 @@ use Rattle.table_rules.specs.declared.frame.Frame.{Frame}
 use Rattle.table_rules.specs.declared.view.View.{View}
 use Rattle.table_rules.specs.Running.{Running}
 use Rattle.table_steps.specs.Lefts.{less_one}
-use Rattle.table_steps.specs.Claims.{Seated, with_step, ListsOne}
+use Rattle.table_steps.specs.Claims.{with_step, ListsOne}
+use Rattle.table_steps.specs.Seats.{Seated}
 use Rattle.table_steps.specs.Slots.{IsSeated}
 use Rattle.table_steps.specs.ScopeMoves.{IsMaking, MayLeaveScope, makes, leaves_scope, SealsAt, MovesScopeAt, with_one_less, as_used}
 use Rattle.table_kept.proofs.Standing.{Standing}

@@ -13,7 +13,8 @@ use Rattle.table_rules.specs.declared.frame.Frame.{Frame}
 use Rattle.table_rules.specs.declared.view.View.{View}
 use Rattle.table_rules.specs.declared.view.Owed.{Owed}
 use Rattle.table_steps.specs.Owing.{owing, AreOfItsBlock}
-use Rattle.table_steps.specs.Claims.{with_step, Seated}
+use Rattle.table_steps.specs.Claims.{with_step}
+use Rattle.table_steps.specs.Seats.{Seated, homes_of, view_of}
 use Rattle.table_steps.specs.Slots.{Aim, slot_of, kids_of, knows_idle, IsSeated, has_seen, home_at}
 use Rattle.table_steps.specs.Sheds.{shed}
 use Rattle.table_steps.specs.Rests.{lets_go, CanLeave}
@@ -48,7 +49,7 @@ pub record CanAwait {P E O : Type 0} (cargo : Ghosts P E O) (f : Frame O) (m : S
   pub item : P
   pub home : home_at f.layout m x ≡ Some (Some item)
   pub start : cargo.start item ≡ leave.held.start
-  pub fit : cargo.fits item x.node (has_seen f.tree m.0 x || leave.held.told)
+  pub fit : cargo.fits item x.node (has_seen f.tree (view_of m) x || leave.held.told)
   pub goes_on : ¬ cargo.ends item
   pub bound : cargo.least item ≤ length nodes
   pub some_child : 1 ≤ length nodes
@@ -62,11 +63,11 @@ pub record AwaitsAt {P E O : Type 0} (cargo : Ghosts P E O) (aim : Aim) (nodes :
   pub item : P
   pub home : home_at aim.layout m aim.name ≡ Some (Some item)
   pub me_is : m' ≡ (
-    with_step i read left (awaits aim.name (cargo.start item) (cargo.lot item) nodes m.0),
-    shed (is_unnamed aim.tree aim.layout aim.name nodes) m.1,
+    with_step i read left (awaits aim.name (cargo.start item) (cargo.lot item) nodes (view_of m)),
+    shed (is_unnamed aim.tree aim.layout aim.name nodes) (homes_of m),
   )
   pub seated : IsSeated aim.tree aim.layout m'
   -- before it the hand owed none of these children's starts, and all that it owed in the block was
   -- of the node's generation
-  pub unowed : (n : ℕ) → is_named nodes n ≡ true → owing m.0 (beside aim.name n) ≡ 0
-  pub beside_it : AreOfItsBlock m.0 aim.name
+  pub unowed : (n : ℕ) → is_named nodes n ≡ true → owing (view_of m) (beside aim.name n) ≡ 0
+  pub beside_it : AreOfItsBlock (view_of m) aim.name

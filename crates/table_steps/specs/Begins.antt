@@ -16,7 +16,8 @@ use Rattle.table_rules.specs.declared.view.Held.{Held}
 use Rattle.table_rules.specs.declared.view.Owed.{Owed}
 use Rattle.table_rules.specs.declared.view.Rooted.{Rooted}
 use Rattle.table_rules.specs.Named.{without}
-use Rattle.table_steps.specs.Claims.{with_step, Seated}
+use Rattle.table_steps.specs.Claims.{with_step}
+use Rattle.table_steps.specs.Seats.{Seated, homes_of, view_of}
 use Rattle.table_steps.specs.Lefts.{SaysSource, FoundSource, LeavesControl}
 use Rattle.table_steps.specs.Kids.{empty_slots}
 use Rattle.table_steps.specs.Slots.{Aim, kids_of, IsSeated, has_seen, owed_at, home_at}
@@ -60,7 +61,7 @@ begins tree x start told told_children v =
 pub record CanBegin {P E O : Type 0} (cargo : Ghosts P E O) (f : Frame O) (m : Seated P E)
     (x : Name) : Type 0 where
   pub owed : Owed E
-  pub owes : owed_at m.0 x ≡ Some owed
+  pub owes : owed_at (view_of m) x ≡ Some owed
   pub item : P
   pub home : home_at f.layout m x ≡ Some (Some item)
   pub entry : E
@@ -81,21 +82,21 @@ module _ {P E O : Type 0} (cargo : Ghosts P E O) where
     pub told : Bool
     pub told_children : Bool
     -- a request that the hand has seen still stands
-    pub seen : has_seen aim.tree m.0 aim.name ≡ true → told ≡ true
+    pub seen : has_seen aim.tree (view_of m) aim.name ≡ true → told ≡ true
     -- what the two bits say of the sources
-    pub hears : HearsAs aim.tree m.0 aim.name told told_children
+    pub hears : HearsAs aim.tree (view_of m) aim.name told told_children
     pub me_is : m' ≡ (
       with_step i read left
           (begins aim.tree aim.name (start_shown (home_at aim.layout m aim.name)) told
-          told_children m.0),
-      empty_slots aim.layout aim.name.block (kids_of aim.tree aim.name.node) m.1,
+          told_children (view_of m)),
+      empty_slots aim.layout aim.name.block (kids_of aim.tree aim.name.node) (homes_of m),
     )
     pub seated : IsSeated aim.tree aim.layout m → IsSeated aim.tree aim.layout m'
 
 -- the renewal: a store that writes the node's source as clear, as it read before
 pub record Renews {P E : Type 0} (x : Name) (i read left : ℕ) (m m' : Seated P E) : Type 0 where
   pub found : FoundSource x clear read
-  pub me_is : m' ≡ (with_step i read left m.0, m.1)
+  pub me_is : m' ≡ (with_step i read left (view_of m), homes_of m)
 
 -- the index of the source's word
 abbrev pub source_index : Aim → ℕ
@@ -108,7 +109,7 @@ pub record RenewsSource {P E : Type 0} (aim : Aim) (m m' : Seated P E) : Type 0 
   pub left : ℕ
   pub found : FoundSource aim.name clear read
   pub says : SaysSource aim.name clear left
-  pub did : m' ≡ (with_step (source_index aim) read left m.0, m.1)
+  pub did : m' ≡ (with_step (source_index aim) read left (view_of m), homes_of m)
 
 -- the source of a node that has one is renewed, at the node's generation, before the node begins
 abbrev pub IsRenewed : {P E : Type 0} → Aim → Seated P E → Seated P E → Type 0
@@ -122,7 +123,7 @@ pub record RenewedLast {P E : Type 0} (aim : Aim) (m : Seated P E) : Type 0 wher
   pub left : ℕ
   pub earlier : List Seen
   pub says : SaysSource aim.name clear left
-  pub steps_are : m.0.steps ≡ entry (source_index aim) read left ∷ earlier
+  pub steps_are : (view_of m).steps ≡ entry (source_index aim) read left ∷ earlier
 
 -- where the node has a source, the hand's newest step was its renewal
 abbrev pub HasRenewed : {P E : Type 0} → Aim → Seated P E → Type 0

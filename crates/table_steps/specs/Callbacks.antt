@@ -15,8 +15,9 @@ use Rattle.atomic_table.specs.declared.shared.Seat.{Seat}
 use Rattle.table_rules.specs.declared.view.View.{View}
 use Rattle.table_rules.specs.declared.view.Held.{Held}
 use Rattle.table_rules.specs.Named.{count_by}
-use Rattle.table_steps.specs.Views.{Board}
-use Rattle.table_steps.specs.Claims.{with_step, Seated}
+use Rattle.table_steps.specs.Views.{Board, knows}
+use Rattle.table_steps.specs.Claims.{with_step}
+use Rattle.table_steps.specs.Seats.{Seated, homes_of, view_of}
 use Rattle.table_steps.specs.Lefts.{SaysCallback, FoundCallback}
 use Rattle.table_steps.specs.Slots.{Aim, held_at}
 use Rattle.table_steps.specs.Hearings.{UnderScope}
@@ -43,7 +44,7 @@ arms x v = let w = notes_phase x Armed v in record w { unlooked = x ∷ v.unlook
 pub record FindsCallback {P E : Type 0} (x : Name) (before : CallbackPhase)
     (change : View P E → View P E) (i read left : ℕ) (m m' : Seated P E) : Type 0 where
   pub found : FoundCallback x before read
-  pub me_is : m' ≡ (with_step i read left (change m.0), m.1)
+  pub me_is : m' ≡ (with_step i read left (change (view_of m)), homes_of m)
 
 -- the hand's newest step found the node's callback word saying the one, and left it saying the
 -- other, at the name's generation; and changed so what the hand knows
@@ -53,7 +54,10 @@ pub record LeftCallback {P E O : Type 0} (board : Board O) (x : Name) (before ph
   pub left : ℕ
   pub found : FoundCallback x before read
   pub says : SaysCallback x phase left
-  pub me_is : new.me ≡ (with_step (callback_index board x) read left (change old.me.0), old.me.1)
+  pub me_is : new.me ≡ (
+    with_step (callback_index board x) read left (change (knows old)),
+    homes_of old.me,
+  )
 
 abbrev pub IsArmed : {P E O : Type 0} → Board O → Name → Seat (Option P) (View P E) →
     Seat (Option P) (View P E) → Type 0
@@ -99,11 +103,11 @@ abbrev pub WithdrawsAt : {P E : Type 0} → Aim → Step (Option P) → Seated P
 WithdrawsAt aim step m found m' =
     (m' ≡ (
       with_step step.word found (left_by aim.name.generation found)
-          (withdraws aim.tree aim.name (says_phase aim.name.generation found) m.0),
-      m.1,
+          (withdraws aim.tree aim.name (says_phase aim.name.generation found) (view_of m)),
+      homes_of m,
     ))
     × (is_registered (says_phase aim.name.generation found) ≡ true)
-    × UnderScope aim.tree m.0 aim.name (says_phase aim.name.generation found ≢ Running)
+    × UnderScope aim.tree (view_of m) aim.name (says_phase aim.name.generation found ≢ Running)
 
 -- the answer is the phase that was read: armed, and then the callback is removed, and the list says
 -- so; or it runs or ran, and then the word is as it was
@@ -113,9 +117,9 @@ pub record IsWithdrawn {P E O : Type 0} (board : Board O) (x : Name) (answer : C
   pub answer_is : answer ≡ says_phase x.generation word
   pub registered : is_registered answer ≡ true
   -- hand 0 alone runs callbacks on the scope's source
-  pub scope : UnderScope board.frame.tree old.me.0 x (answer ≢ Running)
+  pub scope : UnderScope board.frame.tree (knows old) x (answer ≢ Running)
   pub me_is : new.me ≡ (
     with_step (callback_index board x) word (left_by x.generation word)
-        (withdraws board.frame.tree x answer old.me.0),
-    old.me.1,
+        (withdraws board.frame.tree x answer (knows old)),
+    homes_of old.me,
   )

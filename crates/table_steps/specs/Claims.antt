@@ -6,21 +6,19 @@ use Rattle.life_rules.specs.declared.words.BlockState.TheVariants.{Free, Open}
 use Rattle.life_rules.specs.Words.{is_free}
 use Rattle.table_words.specs.Blocks.{block_read}
 use Rattle.table_words.specs.Layouts.{OfBlock, index, place_number}
-use Rattle.atomic_table.specs.Table.{Me, Step}
+use Rattle.atomic_table.specs.Table.{Step}
 use Rattle.listed_words.specs.Lists.{entry}
 use Rattle.table_rules.specs.declared.view.View.{View}
 use Rattle.atomic_table.specs.declared.shared.Seat.{Seat}
 use Rattle.table_steps.specs.declared.block.Block.{Block}
+use Rattle.table_steps.specs.Seats.{Seated, homes_of, view_of}
 use Rattle.table_steps.specs.Slots.{Aim, slot_of, IsSeated, noted_at}
 use Rattle.table_steps.specs.Owing.{OwesNoneThere}
-use Rattle.table_steps.specs.Views.{Board, aim_at}
+use Rattle.table_steps.specs.Views.{Board, aim_at, knows}
 
 -- the view has noted no start of x
 abbrev pub IsUnnoted : {P E : Type 0} → View P E → Name → Type 0
 IsUnnoted v x = noted_at v x ≡ None
-
-abbrev pub Seated : Type 0 → Type 0 → Type 0
-Seated P E = Me (Option P) (View P E)
 
 -- what an exchange left: its second operand where it found the first, and else what it found
 abbrev pub exchanged : {S : Type 0} → Step S → ℕ → ℕ
@@ -38,10 +36,10 @@ module _ {P E : Type 0} where
 
   -- this step is the newest of the list, and no hand was split off or joined
   pub record ListsOne (index read left : ℕ) (m m' : Seated P E) : Type 0 where
-    pub steps_are : m'.0.steps ≡ entry index read left ∷ m.0.steps
-    pub splits_are : m'.0.splits ≡ m.0.splits
-    pub joined_are : m'.0.joined ≡ m.0.joined
-    pub hands_are : m'.0.hands ≡ m.0.hands
+    pub steps_are : (view_of m').steps ≡ entry index read left ∷ (view_of m).steps
+    pub splits_are : (view_of m').splits ≡ (view_of m).splits
+    pub joined_are : (view_of m').joined ≡ (view_of m).joined
+    pub hands_are : (view_of m').hands ≡ (view_of m).hands
 
   -- the hand claimed one block more, and owes the start of its root, with nothing above it and no
   -- lot
@@ -54,7 +52,7 @@ module _ {P E : Type 0} where
 
   -- a load lists itself, and changes nothing else
   abbrev pub looks : Step (Option P) → Seated P E → ℕ → Seated P E → Type 0
-  looks step m found m' = m' ≡ (logged step.word found m.0, m.1)
+  looks step m found m' = m' ≡ (logged step.word found (view_of m), homes_of m)
 
   -- the exchange found what was expected: the hand owed no start in the block, and has noted none
   -- of the root. It owes the root's now, and has its home. Or it found another word, and changed
@@ -63,12 +61,12 @@ module _ {P E : Type 0} where
   claims aim step m found m' =
       (found ≡ step.first →
       (m' ≡ (
-        with_step step.word found step.second (owes_root aim.name m.0),
-        (slot_of aim.layout aim.name, None) ∷ m.1,
+        with_step step.word found step.second (owes_root aim.name (view_of m)),
+        (slot_of aim.layout aim.name, None) ∷ homes_of m,
       ))
       × (IsSeated aim.tree aim.layout m → IsSeated aim.tree aim.layout m')
-      × OwesNoneThere m.0 aim.name × IsUnnoted m.0 aim.name)
-      × (found ≢ step.first → m' ≡ (logged step.word found m.0, m.1))
+      × OwesNoneThere (view_of m) aim.name × IsUnnoted (view_of m) aim.name)
+      × (found ≢ step.first → m' ≡ (logged step.word found (view_of m), homes_of m))
 
 -- the root of the block at this generation
 abbrev pub root_name : {O : Type 0} → Board O → ℕ → ℕ → Name
@@ -96,18 +94,18 @@ module _ {P E O : Type 0} (board : Board O) (block : ℕ) where
     pub left : ℕ
     pub opened : block_read left ≡ record { generation = b.generation; state = Open }
     -- the hand has noted no start of the block's new root
-    pub unnoted : IsUnnoted old.me.0 (root_name board block b.generation)
+    pub unnoted : IsUnnoted (knows old) (root_name board block b.generation)
     pub me_is : new.me ≡ (
       with_step (word_index board block) word left
-          (owes_root (root_name board block b.generation) old.me.0),
-      (place_number board.frame.layout block (length board.frame.tree - 1), None) ∷ old.me.1,
+          (owes_root (root_name board block b.generation) (knows old)),
+      (place_number board.frame.layout block (length board.frame.tree - 1), None) ∷ homes_of old.me,
     )
 
   -- it found another word, and changed nothing
   pub record MissedFrom (word : ℕ) (old new : Seat (Option P) (View P E)) : Type 0 where
     pub other : ℕ
     pub differs : other ≢ word
-    pub me_is : new.me ≡ (logged (word_index board block) other old.me.0, old.me.1)
+    pub me_is : new.me ≡ (logged (word_index board block) other (knows old), homes_of old.me)
 
   -- the block's word was read as free, and the exchange won, and left it open
   pub record Claimed (b : Block) (old new : Seat (Option P) (View P E)) : Type 0 where
@@ -117,19 +115,19 @@ module _ {P E O : Type 0} (board : Board O) (block : ℕ) where
     pub left : ℕ
     pub opened : block_read left ≡ record { generation = b.generation; state = Open }
     -- the hand has noted no start of the block's new root
-    pub unnoted : IsUnnoted old.me.0 (root_name board block b.generation)
+    pub unnoted : IsUnnoted (knows old) (root_name board block b.generation)
     pub me_is : new.me ≡ (
       with_step (word_index board block) word left
           (owes_root (root_name board block b.generation)
-          (logged (word_index board block) word old.me.0)),
-      (place_number board.frame.layout block (length board.frame.tree - 1), None) ∷ old.me.1,
+          (logged (word_index board block) word (knows old))),
+      (place_number board.frame.layout block (length board.frame.tree - 1), None) ∷ homes_of old.me,
     )
 
   -- the word that the load read wasn't free
   pub record WasTaken (old new : Seat (Option P) (View P E)) : Type 0 where
     pub word : ℕ
     pub taken : is_free (block_read word).state ≡ false
-    pub me_is : new.me ≡ (logged (word_index board block) word old.me.0, old.me.1)
+    pub me_is : new.me ≡ (logged (word_index board block) word (knows old), homes_of old.me)
 
   -- it was free, and another hand moved it before this hand's exchange
   pub record WasMoved (old new : Seat (Option P) (View P E)) : Type 0 where
@@ -138,8 +136,8 @@ module _ {P E O : Type 0} (board : Board O) (block : ℕ) where
     pub other : ℕ
     pub differs : other ≢ word
     pub me_is : new.me ≡ (
-      logged (word_index board block) other (logged (word_index board block) word old.me.0),
-      old.me.1,
+      logged (word_index board block) other (logged (word_index board block) word (knows old)),
+      homes_of old.me,
     )
 
   abbrev pub Missed : Seat (Option P) (View P E) → Seat (Option P) (View P E) → Type 0

@@ -11,7 +11,8 @@ use Rattle.table_words.specs.Layouts.{place_number}
 use Rattle.table_rules.specs.declared.cargo.Cargo.{Ghosts}
 use Rattle.table_rules.specs.declared.frame.Frame.{Frame}
 use Rattle.table_rules.specs.declared.view.View.{View}
-use Rattle.table_steps.specs.Claims.{with_step, Seated}
+use Rattle.table_steps.specs.Claims.{with_step}
+use Rattle.table_steps.specs.Seats.{Seated, homes_of, view_of}
 use Rattle.table_steps.specs.Slots.{Aim, kids_of, is_of_family, IsSeated, has_seen, home_at}
 use Rattle.table_steps.specs.Sheds.{shed}
 use Rattle.table_steps.specs.Rests.{lets_go, CanLeave}
@@ -43,7 +44,7 @@ module _ {P E O : Type 0} (cargo : Ghosts P E O) (f : Frame O) (m : Seated P E) 
     pub item : P
     pub home : home_at f.layout m x ≡ Some (Some item)
     pub start : cargo.start item ≡ end.leave.held.start
-    pub fit : cargo.fits item x.node (has_seen f.tree m.0 x || end.leave.held.told)
+    pub fit : cargo.fits item x.node (has_seen f.tree (view_of m) x || end.leave.held.told)
     pub ends : cargo.ends item
 
   pub record CanFinish : Type 0 where
@@ -66,16 +67,16 @@ pub record FinishedAt {P E O : Type 0} (cargo : Ghosts P E O) (aim : Aim) (i rea
   pub item : P
   pub home : home_at aim.layout m aim.name ≡ Some (Some item)
   pub me_is : m' ≡ (
-    with_step i read left (owes_report aim.name (cargo.start item) item m.0),
-    shed (is_of_family aim.tree aim.layout aim.name) m.1,
+    with_step i read left (owes_report aim.name (cargo.start item) item (view_of m)),
+    shed (is_of_family aim.tree aim.layout aim.name) (homes_of m),
   )
   pub seated : IsSeated aim.tree aim.layout m'
 
 -- and at the root: it gave back those of its children, and keeps the root's
 pub record RootedAt {P E : Type 0} (aim : Aim) (i read left : ℕ) (m m' : Seated P E) : Type 0 where
   pub me_is : m' ≡ (
-    with_step i read left (has_root aim.name m.0),
-    shed (is_of_kids aim.tree aim.layout aim.name) m.1,
+    with_step i read left (has_root aim.name (view_of m)),
+    shed (is_of_kids aim.tree aim.layout aim.name) (homes_of m),
   )
   pub seated : IsSeated aim.tree aim.layout m'
 

@@ -10,7 +10,7 @@ use Rattle.life_rules.specs.Words.{clear}
 use Rattle.table_words.specs.Stamps.{stamp_of}
 use Rattle.table_words.specs.Controls.{control_read, callback_read, source_read}
 use Rattle.table_words.specs.Layouts.{OfControl, index}
-use Rattle.table_steps.specs.Claims.{Seated}
+use Rattle.table_steps.specs.Seats.{Seated}
 use Rattle.table_steps.specs.Readings.{says_at}
 use Rattle.table_steps.specs.Slots.{Aim}
 

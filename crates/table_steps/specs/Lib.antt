@@ -1,3 +1,4 @@
+pub mod Seats
 pub mod Views
 pub mod Shapes
 pub mod Owing

@@ -10,8 +10,9 @@ use Rattle.atomic_table.specs.declared.shared.Seat.{Seat}
 use Rattle.table_rules.specs.declared.view.View.{View}
 use Rattle.node_tree.specs.declared.context.Context.{Context}
 use Rattle.node_tree.specs.declared.context.Context.TheVariants.{Loop, Pool}
-use Rattle.table_steps.specs.Views.{Board}
+use Rattle.table_steps.specs.Views.{Board, knows}
 use Rattle.table_steps.specs.Claims.{logged}
+use Rattle.table_steps.specs.Seats.{homes_of}
 
 -- the node is ready in the loop
 abbrev pub is_ready_loop : ControlWord → Bool
@@ -39,7 +40,10 @@ is_ready_in Pool control = is_ready_pool control
 abbrev pub IsRead : {P E O : Type 0} → Board O → ℕ → ℕ → ℕ → Seat (Option P) (View P E) →
     Seat (Option P) (View P E) → Type 0
 IsRead board block node word old new =
-    new.me ≡ (logged (index board.frame.layout (OfControl block node)) word old.me.0, old.me.1)
+    new.me ≡ (
+      logged (index board.frame.layout (OfControl block node)) word (knows old),
+      homes_of old.me,
+    )
 
 -- the name is answered exactly where the word that was read passes the test, and the load is listed
 pub record IsReadAs {P E O : Type 0} (board : Board O) (block node : ℕ) (test : ControlWord → Bool)

@@ -14,7 +14,8 @@ use Rattle.table_words.specs.Layouts.{OfControl, OfCallback, index}
 use Rattle.table_rules.specs.declared.frame.Frame.{Frame}
 use Rattle.table_rules.specs.declared.view.View.{View}
 use Rattle.table_rules.specs.declared.view.Held.{Held}
-use Rattle.table_steps.specs.Claims.{logged, Seated}
+use Rattle.table_steps.specs.Claims.{logged}
+use Rattle.table_steps.specs.Seats.{Seated, homes_of, view_of}
 use Rattle.table_steps.specs.Slots.{held_at, knows_idle}
 
 -- the list, with its first entry of x changed so
@@ -53,14 +54,15 @@ says_phase generation word = says_at Never callback_read generation word
 -- what a load of the child's word tells the hand that holds its parent x
 abbrev pub reads_child : {P E : Type 0} → Name → Name → ℕ → ℕ → Seated P E → Seated P E
 reads_child x child i word m = (
-  logged i word (if says_begun child.generation word then m.0 else notes_idle x child.node m.0),
-  m.1,
+  logged i word (if says_begun child.generation word then view_of m
+      else notes_idle x child.node (view_of m)),
+  homes_of m,
 )
 
 -- the hand holds x, and knows that this child of it hasn't begun
 pub record KnowsIdle {P E : Type 0} (x : Name) (n : ℕ) (m : Seated P E) : Type 0 where
   pub held : Held E
-  pub holds : held_at m.0 x ≡ Some held
+  pub holds : held_at (view_of m) x ≡ Some held
   pub idle : knows_idle held n ≡ true
 
 -- and a child of which it knew so still hasn't
@@ -71,7 +73,8 @@ ChildReads x child i word m m' =
 
 -- what a load of the node's callback word tells the hand that holds it
 abbrev pub reads_phase : {P E : Type 0} → Name → ℕ → ℕ → Seated P E → Seated P E
-reads_phase x i word m = (logged i word (notes_phase x (says_phase x.generation word) m.0), m.1)
+reads_phase x i word m =
+    (logged i word (notes_phase x (says_phase x.generation word) (view_of m)), homes_of m)
 
 -- the hand holds the child's parent
 pub record HoldsAbove {P E : Type 0} (tree : List TreeNode) (v : View P E)

@@ -18,7 +18,8 @@ use Rattle.table_rules.specs.Named.{without, Each}
 use Rattle.table_rules.specs.Running.{Running}
 use Rattle.table_rules.specs.ShownViews.{has_name}
 use Rattle.table_rules.specs.ShownWords.{block_of}
-use Rattle.table_steps.specs.Claims.{with_step, Seated}
+use Rattle.table_steps.specs.Claims.{with_step}
+use Rattle.table_steps.specs.Seats.{Seated, homes_of, view_of}
 use Rattle.table_steps.specs.Slots.{Aim, slot_of, IsSeated, home_at}
 use Rattle.table_steps.specs.Sheds.{shed}
 
@@ -37,15 +38,15 @@ is_own_slot l root slot = slot_of l root == slot
 
 -- the hand has the finished root, and its home, which is empty
 pub record CanRelease {P E : Type 0} (l : Layout) (m : Seated P E) (root : Name) : Type 0 where
-  pub finished : has_name m.0.finished root ≡ true
+  pub finished : has_name (view_of m).finished root ≡ true
   pub home : home_at l m root ≡ Some None
 
 -- the store: the hand gave the root's home back
 pub record ReleasesAt {P E : Type 0} (aim : Aim) (i read left : ℕ)
     (m m' : Seated P E) : Type 0 where
   pub me_is : m' ≡ (
-    with_step i read left (releases aim.name m.0),
-    shed (is_own_slot aim.layout aim.name) m.1,
+    with_step i read left (releases aim.name (view_of m)),
+    shed (is_own_slot aim.layout aim.name) (homes_of m),
   )
   pub seated : IsSeated aim.tree aim.layout m'
 
@@ -84,7 +85,7 @@ module _ {P E O : Type 0} (cargo : Ghosts P E O) where
       (m' : Seated P E) : Type 0 where
     pub left : table.State (Option P) (View P E)
     pub runs : Running cargo f left
-    pub view : get_elem? left.views hand ≡ some m'.0
+    pub view : get_elem? left.views hand ≡ some (view_of m')
     pub reads : block_of f.layout left.words block ≡ now
     pub empty : AreHomesEmpty f.layout block left
 

@@ -28,8 +28,8 @@ pub record HasExactly (table : TableId) (count : Name → ℕ) (set : Marks) : T
 -- one set has exactly the names whose start the view owes, the other those whose callback it runs
 pub record Remembers {P E : Type 0} (seat : Seat (Option P) (View P E))
     (starts callbacks : Marks) : Type 0 where
-  pub owed : HasExactly seat.table_id (owing seat.me.0) starts
-  pub runs : HasExactly seat.table_id (running seat.me.0) callbacks
+  pub owed : HasExactly seat.table_id (owing (knows seat)) starts
+  pub runs : HasExactly seat.table_id (running (knows seat)) callbacks
 
 -- the seat is one of this table's, owes no start and runs no callback
 pub record OwesAndRunsNone {P E O : Type 0} (board : Board O)

@@ -23,7 +23,8 @@ use Rattle.table_rules.specs.declared.frame.Frame.{Frame}
 use Rattle.table_steps.specs.declared.report.Report.{Report}
 use Rattle.table_steps.specs.declared.report.Report.TheVariants.{Last, Others}
 use Rattle.table_steps.specs.Readings.{above_it}
-use Rattle.table_steps.specs.Claims.{with_step, Seated}
+use Rattle.table_steps.specs.Claims.{with_step}
+use Rattle.table_steps.specs.Seats.{Seated, homes_of, view_of}
 use Rattle.table_steps.specs.Lefts.{SaysControl, less_one}
 use Rattle.table_steps.specs.Slots.{Aim, slot_of, kids_of, IsSeated, reported_at, noted_at}
 use Rattle.table_steps.specs.Hearings.{HearsAs}
@@ -76,9 +77,9 @@ pub record LastAt {P E O : Type 0} (cargo : Ghosts P E O) (aim : Aim) (child : N
   pub content : ℕ → Option P
   pub me_is : m' ≡ (
     with_step i read left
-        (holds_last aim.name start named told told_children lot (reports_off child m.0)),
+        (holds_last aim.name start named told told_children lot (reports_off child (view_of m))),
     (slot_of aim.layout aim.name, Some item)
-        ∷ laid aim.layout aim.name.block (kids_of aim.tree aim.name.node) content m.1,
+        ∷ laid aim.layout aim.name.block (kids_of aim.tree aim.name.node) content (homes_of m),
   )
   -- the item shows the node's start, fits, is no completion, asks for no more children than were
   -- named, and has the lot of the node's last await
@@ -88,7 +89,7 @@ pub record LastAt {P E O : Type 0} (cargo : Ghosts P E O) (aim : Aim) (child : N
   pub bound : cargo.least item ≤ named
   pub lot_is : cargo.lot item ≡ lot
   pub key : Each (λ over. cargo.key start ≡ over) overs
-  pub noted : (e : Rooted E) → noted_at m.0 aim.name ≡ Some e → start ≡ e.start
+  pub noted : (e : Rooted E) → noted_at (view_of m) aim.name ≡ Some e → start ≡ e.start
   -- as many of the children's homes are full as were named. Each keeps a completion that fits the
   -- child, and whose start goes on with the node's and draws the lot
   pub count : total (λ n. one (is_child aim.tree aim.name.node n) * one (is_some (content n)))
@@ -104,8 +105,9 @@ pub record LastAt {P E O : Type 0} (cargo : Ghosts P E O) (aim : Aim) (child : N
       cargo.drawn (cargo.start kid) ≡ lot
   -- the home of the child that is reported keeps the item with which it finished, and the start
   -- with which it finished goes on with the node's
-  pub keeps : (e : Reported P E) → reported_at m.0 child ≡ Some e → content child.node ≡ Some e.item
-  pub descends : (e : Reported P E) → reported_at m.0 child ≡ Some e →
+  pub keeps : (e : Reported P E) → reported_at (view_of m) child ≡ Some e →
+      content child.node ≡ Some e.item
+  pub descends : (e : Reported P E) → reported_at (view_of m) child ≡ Some e →
       (entry : E) × (e.start ≡ entry ∷ start)
   -- where a stop was requested of the children and not above, and all their homes are full, a child
   -- failed without having seen a request
@@ -114,7 +116,7 @@ pub record LastAt {P E O : Type 0} (cargo : Ghosts P E O) (aim : Aim) (child : N
       (n : ℕ) × (kid : P) × (is_child aim.tree aim.name.node n ≡ true) × (content n ≡ Some kid)
       × cargo.fits kid aim.name.node false
   -- what the two bits say of the sources
-  pub hears : HearsAs aim.tree m.0 aim.name told told_children
+  pub hears : HearsAs aim.tree (view_of m) aim.name told told_children
   pub seated : IsSeated aim.tree aim.layout m → IsSeated aim.tree aim.layout m'
 
 -- the word said at the name's generation that so many children are pending, and says one less now
@@ -132,7 +134,7 @@ ReportsAt cargo aim child overs step m found m' =
     × (pending (control_read found) ≡ 1 →
     LastAt cargo aim child overs step.word found (less_one found) m m')
     × (pending (control_read found) ≢ 1 →
-    m' ≡ (with_step step.word found (less_one found) (reports_off child m.0), m.1))
+    m' ≡ (with_step step.word found (less_one found) (reports_off child (view_of m)), homes_of m))
 
 -- the answer says whether the word that was read had one pending. The one that was left has one
 -- less
@@ -151,6 +153,6 @@ IsReportedAs cargo f child Others m m' =
     × (m' ≡ (
       with_step (index f.layout
           (OfControl (above_it f.tree child).block (above_it f.tree child).node)) found left
-          (reports_off child m.0),
-      m.1,
+          (reports_off child (view_of m)),
+      homes_of m,
     ))

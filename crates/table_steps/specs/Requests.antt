@@ -19,8 +19,9 @@ use Rattle.table_rules.specs.declared.view.Held.{Held}
 use Rattle.table_rules.specs.declared.view.Reported.{Reported}
 use Rattle.table_rules.specs.Named.{count_by}
 use Rattle.table_rules.specs.ShownViews.{has_source_ref}
-use Rattle.table_steps.specs.Views.{Board}
-use Rattle.table_steps.specs.Claims.{with_step, Seated}
+use Rattle.table_steps.specs.Views.{Board, knows}
+use Rattle.table_steps.specs.Claims.{with_step}
+use Rattle.table_steps.specs.Seats.{Seated, homes_of, view_of}
 use Rattle.table_steps.specs.Slots.{has_seen, held_at, reported_at}
 use Rattle.table_steps.specs.Sights.{spot_of, KeepsAlive, StillAsked}
 
@@ -90,14 +91,14 @@ bits_asked failure bits = record bits { requested = true; failed = bits.failed |
 -- what the word that was read tells the hand
 abbrev pub asks_at : {P E : Type 0} → SourceRef → ℕ → ℕ → ℕ → Seated P E → Seated P E
 asks_at source i read left m =
-    (with_step i read left (asks source (not (source_read read).requested) m.0), m.1)
+    (with_step i read left (asks source (not (source_read read).requested) (view_of m)), homes_of m)
 
 -- what the step tells: that, and that a request that the hand has seen there still stood
 pub record AsksAt {P E : Type 0} (source : SourceRef) (i read left : ℕ)
     (m m' : Seated P E) : Type 0 where
   pub me_is : m' ≡ asks_at source i read left m
   pub is_of : IsWordOf source read
-  pub stands : StillAsked m.0 source (source_read read).requested
+  pub stands : StillAsked (view_of m) source (source_read read).requested
 
 -- the answer is the bits of the word that was read, and the word that was left has those of the
 -- request too. Where there was no request, the hand has begun a scan. A request that the hand has
@@ -110,9 +111,9 @@ pub record IsAsked {P E O : Type 0} (board : Board O) (source : SourceRef) (fail
   pub left : ℕ
   pub stamp_is : stamp_of left ≡ stamp_of word
   pub left_is : source_read left ≡ bits_asked failure answer
-  pub stands : StillAsked old.me.0 source answer.requested
+  pub stands : StillAsked (knows old) source answer.requested
   pub me_is : new.me ≡ (
     with_step (index board.frame.layout (spot_of source)) word left
-        (asks source (not answer.requested) old.me.0),
-    old.me.1,
+        (asks source (not answer.requested) (knows old)),
+    homes_of old.me,
   )

@@ -10,7 +10,8 @@ use Rattle.table_rules.specs.declared.view.View.{View}
 use Rattle.table_rules.specs.declared.view.Held.{Held}
 use Rattle.table_rules.specs.Named.{without}
 use Rattle.table_rules.specs.ShownViews.{scan_in}
-use Rattle.table_steps.specs.Claims.{with_step, Seated}
+use Rattle.table_steps.specs.Claims.{with_step}
+use Rattle.table_steps.specs.Seats.{Seated, homes_of, view_of}
 use Rattle.table_steps.specs.Slots.{Aim, is_of_family, kept, IsSeated, has_seen, held_at, home_at}
 use Rattle.table_steps.specs.Sheds.{shed}
 
@@ -22,10 +23,10 @@ lets_go x v = record v { held = without (λ e. e.name) v.held x }
 -- empty
 pub record CanLeave {P E O : Type 0} (f : Frame O) (m : Seated P E) (x : Name) : Type 0 where
   pub held : Held E
-  pub holds : held_at m.0 x ≡ Some held
-  pub unscanned : scan_in m.0.scans (Node x) ≡ None
+  pub holds : held_at (view_of m) x ≡ Some held
+  pub unscanned : scan_in (view_of m).scans (Node x) ≡ None
   pub kids : (n : ℕ) → is_child f.tree x.node n ≡ true →
-      kept (place_number f.layout x.block n) m.1 ≡ Some None
+      kept (place_number f.layout x.block n) (homes_of m) ≡ Some None
 
 -- it has an item in the node's home that shows the node's start, is no completion, fits by what the
 -- hand has seen of requests and was told when it came to hold the node, asks for no more children
@@ -36,7 +37,7 @@ pub record CanRest {P E O : Type 0} (cargo : Ghosts P E O) (f : Frame O) (m : Se
   pub item : P
   pub home : home_at f.layout m x ≡ Some (Some item)
   pub start : cargo.start item ≡ leave.held.start
-  pub fit : cargo.fits item x.node (has_seen f.tree m.0 x || leave.held.told)
+  pub fit : cargo.fits item x.node (has_seen f.tree (view_of m) x || leave.held.told)
   pub goes_on : ¬ cargo.ends item
   pub bound : cargo.least item ≤ leave.held.named
   pub rests : cargo.rests item x.node
@@ -44,7 +45,7 @@ pub record CanRest {P E O : Type 0} (cargo : Ghosts P E O) (f : Frame O) (m : Se
 -- the store: the hand holds the node no more, and gave back its home and those of its children
 pub record RestsAt {P E : Type 0} (aim : Aim) (i read left : ℕ) (m m' : Seated P E) : Type 0 where
   pub me_is : m' ≡ (
-    with_step i read left (lets_go aim.name m.0),
-    shed (is_of_family aim.tree aim.layout aim.name) m.1,
+    with_step i read left (lets_go aim.name (view_of m)),
+    shed (is_of_family aim.tree aim.layout aim.name) (homes_of m),
   )
   pub seated : IsSeated aim.tree aim.layout m'

@@ -19,8 +19,9 @@ use Rattle.listed_words.specs.Lists.{entry}
 use Rattle.table_rules.specs.declared.view.View.{View}
 use Rattle.table_rules.specs.Named.{Each}
 use Rattle.table_rules.specs.ShownViews.{scan_in}
-use Rattle.table_steps.specs.Views.{Board}
-use Rattle.table_steps.specs.Claims.{with_step, logged, Seated}
+use Rattle.table_steps.specs.Views.{Board, knows}
+use Rattle.table_steps.specs.Claims.{with_step, logged}
+use Rattle.table_steps.specs.Seats.{Seated, homes_of, view_of}
 use Rattle.table_steps.specs.Lefts.{SaysCallback}
 use Rattle.table_steps.specs.Slots.{Aim}
 use Rattle.table_steps.specs.RunEnds.{passes_to}
@@ -98,9 +99,9 @@ pub record IsNewest {P E : Type 0} (i word : ℕ) (v : View P E) : Type 0 where
 -- what the word that was read tells the hand: a place that isn't armed is passed
 abbrev pub meets_at : {P E : Type 0} → Aim → SourceRef → ℕ → ℕ → Seated P E → Seated P E
 meets_at aim source i word m = (
-  logged i word (if says_armed word then m.0
-      else passes_place aim.tree source aim.name.block aim.name.node m.0),
-  m.1,
+  logged i word (if says_armed word then view_of m
+      else passes_place aim.tree source aim.name.block aim.name.node (view_of m)),
+  homes_of m,
 )
 
 -- the exchange of a word that was read as armed found that word: the hand runs the callback of its
@@ -112,10 +113,10 @@ RunsAt aim source step m found m' =
     (found ≡ step.first →
     (m' ≡ (
       with_step step.word found step.second
-          (runs_place (node_named aim.name.block aim.name.node found) m.0),
-      m.1,
+          (runs_place (node_named aim.name.block aim.name.node found) (view_of m)),
+      homes_of m,
     ))
-    × IsOfScan aim.tree m.0 source (node_named aim.name.block aim.name.node found))
+    × IsOfScan aim.tree (view_of m) source (node_named aim.name.block aim.name.node found))
     × (found ≢ step.first →
     (m' ≡ meets_at aim source step.word found m)
     × (says_armed found ≡ true → stamp_of step.first < stamp_of found))
@@ -131,13 +132,13 @@ module _ {P E O : Type 0} (board : Board O) (source : SourceRef) (block node : �
     pub tries : List ℕ
     pub later : AreTries word tries
     pub name_is : name ≡ node_named block node (last_of word tries)
-    pub of_scan : IsOfScan board.frame.tree old.me.0 source name
+    pub of_scan : IsOfScan board.frame.tree (knows old) source name
     pub left : ℕ
     pub says : SaysCallback name Running left
     pub me_is : new.me ≡ (
       with_step (run_index board block node) (last_of word tries) left
-          (runs_place name (reads_on (run_index board block node) tries old.me.0)),
-      old.me.1,
+          (runs_place name (reads_on (run_index board block node) tries (knows old))),
+      homes_of old.me,
     )
 
   -- or the newest step read a word that isn't armed, and the scan has passed the place
@@ -149,8 +150,8 @@ module _ {P E O : Type 0} (board : Board O) (source : SourceRef) (block node : �
     pub me_is : new.me ≡ (
       logged (run_index board block node) last
           (passes_place board.frame.tree source block node
-          (reads_on (run_index board block node) tries old.me.0)),
-      old.me.1,
+          (reads_on (run_index board block node) tries (knows old))),
+      homes_of old.me,
     )
 
   abbrev pub IsRunFrom : ℕ → Option Name → Seat (Option P) (View P E) → Seat (Option P) (View P E) →
@@ -166,13 +167,13 @@ module _ {P E O : Type 0} (board : Board O) (source : SourceRef) (block node : �
     pub tries : List ℕ
     pub later : AreTries word tries
     pub name_is : name ≡ node_named block node (last_of word tries)
-    pub of_scan : IsOfScan board.frame.tree old.me.0 source name
+    pub of_scan : IsOfScan board.frame.tree (knows old) source name
     pub left : ℕ
     pub says : SaysCallback name Running left
     pub me_is : new.me ≡ (
       with_step (run_index board block node) (last_of word tries) left
-          (runs_place name (reads_on (run_index board block node) (word ∷ tries) old.me.0)),
-      old.me.1,
+          (runs_place name (reads_on (run_index board block node) (word ∷ tries) (knows old))),
+      homes_of old.me,
     )
 
   -- the steps read these words as armed, and the newest one that isn't: the scan has passed the
@@ -185,8 +186,8 @@ module _ {P E O : Type 0} (board : Board O) (source : SourceRef) (block node : �
     pub me_is : new.me ≡ (
       logged (run_index board block node) last
           (passes_place board.frame.tree source block node
-          (reads_on (run_index board block node) words old.me.0)),
-      old.me.1,
+          (reads_on (run_index board block node) words (knows old))),
+      homes_of old.me,
     )
 
   -- a name where the hand runs the place's callback, at that generation; none where its scan has

@@ -10,8 +10,9 @@ use Rattle.table_rules.specs.declared.frame.Frame.{Frame}
 use Rattle.table_rules.specs.declared.view.View.{View}
 use Rattle.table_rules.specs.declared.view.Scanning.{Scanning}
 use Rattle.table_rules.specs.ShownViews.{scan_in}
-use Rattle.table_steps.specs.Views.{Board}
-use Rattle.table_steps.specs.Claims.{with_step, Seated}
+use Rattle.table_steps.specs.Views.{Board, knows}
+use Rattle.table_steps.specs.Claims.{with_step}
+use Rattle.table_steps.specs.Seats.{Seated, homes_of, view_of}
 use Rattle.table_steps.specs.Requests.{IsWordOf}
 use Rattle.table_steps.specs.Sights.{spot_of}
 use Rattle.table_steps.specs.ScanOrders.{none_hears}
@@ -43,7 +44,7 @@ pub record SaysUnscanned (source : SourceRef) (word : ℕ) : Type 0 where
 pub record SealsScanAt {P E : Type 0} (source : SourceRef) (i read left : ℕ)
     (m m' : Seated P E) : Type 0 where
   pub found : SaysUnscanned source read
-  pub me_is : m' ≡ (with_step i read left (seals_scan source m.0), m.1)
+  pub me_is : m' ≡ (with_step i read left (seals_scan source (view_of m)), homes_of m)
 
 -- the source's word was read as requested and not yet scanned, and left as scanned, and the scan is
 -- sealed
@@ -55,6 +56,6 @@ pub record IsScanSealed {P E O : Type 0} (board : Board O) (source : SourceRef)
   pub stamp_is : stamp_of left ≡ stamp_of read
   pub left_is : source_read left ≡ record (source_read read) { scanned = true }
   pub me_is : new.me ≡ (
-    with_step (index board.frame.layout (spot_of source)) read left (seals_scan source old.me.0),
-    old.me.1,
+    with_step (index board.frame.layout (spot_of source)) read left (seals_scan source (knows old)),
+    homes_of old.me,
   )

@@ -6,7 +6,9 @@ use Rattle.table_words.specs.ScopeNumbers.{scope_read, scope_written}
 use Rattle.atomic_table.specs.declared.shared.Seat.{Seat}
 use Rattle.table_rules.specs.declared.view.View.{View}
 use Rattle.table_rules.specs.Grown.{KeepsBits}
-use Rattle.table_steps.specs.Claims.{with_step, logged, Seated}
+use Rattle.table_steps.specs.Claims.{with_step, logged}
+use Rattle.table_steps.specs.Seats.{Seated, homes_of, view_of}
+use Rattle.table_steps.specs.Views.{knows}
 
 -- the word with the used bit set, and that with the joined bit set
 abbrev pub as_used : ScopeWord → ScopeWord
@@ -50,13 +52,13 @@ module _ {P E : Type 0} where
   pub record ReadsScope (answer : ScopeWord) (old new : Seat (Option P) (View P E)) : Type 0 where
     pub word : ℕ
     pub answer_is : answer ≡ scope_read word
-    pub me_is : new.me ≡ (logged 0 word old.me.0, old.me.1)
+    pub me_is : new.me ≡ (logged 0 word (knows old), homes_of old.me)
 
   -- what a step tells that read this of the scope's word and left that: the word is so changed, and
   -- so is what the hand knows
   pub record MovesScopeAt (leaves : ScopeWord → ScopeWord) (change : ScopeWord → View P E →
       View P E) (i read left : ℕ) (m m' : Seated P E) : Type 0 where
-    pub me_is : m' ≡ (with_step i read left (change (scope_read read) m.0), m.1)
+    pub me_is : m' ≡ (with_step i read left (change (scope_read read) (view_of m)), homes_of m)
     pub left_is : scope_read left ≡ leaves (scope_read read)
 
   -- the step read this of the scope's word, left the word so changed, and changed so what the hand
@@ -67,7 +69,7 @@ module _ {P E : Type 0} where
     pub answer_is : answer ≡ scope_read read
     pub left : ℕ
     pub left_is : scope_read left ≡ leaves answer
-    pub me_is : new.me ≡ (with_step 0 read left (change old.me.0), old.me.1)
+    pub me_is : new.me ≡ (with_step 0 read left (change (knows old)), homes_of old.me)
 
   -- some word was read and left as used, and the association is made
   abbrev pub IsMade : Seat (Option P) (View P E) → Seat (Option P) (View P E) → Type 0
@@ -76,9 +78,9 @@ module _ {P E : Type 0} where
   -- the exchange found this word, which has no bits but its four and the count, and each that the
   -- hand's earlier steps read or left
   pub record SealsAt (i found left : ℕ) (m m' : Seated P E) : Type 0 where
-    pub me_is : m' ≡ (with_step i found left m.0, m.1)
+    pub me_is : m' ≡ (with_step i found left (view_of m), homes_of m)
     pub narrow : found < 2 ^ 36
-    pub bits : KeepsBits m.0.steps (scope_read found)
+    pub bits : KeepsBits (view_of m).steps (scope_read found)
 
   -- the word that was read was the one that says what was expected, and was left saying that the
   -- scope is joined; or it says something else, which is told, and stayed
@@ -86,9 +88,9 @@ module _ {P E : Type 0} where
       (old new : Seat (Option P) (View P E)) : Type 0 where
     pub word : ℕ
     pub left : ℕ
-    pub me_is : new.me ≡ (with_step 0 word left old.me.0, old.me.1)
+    pub me_is : new.me ≡ (with_step 0 word left (knows old), homes_of old.me)
     pub cause : MatchResult answer (λ _. (word ≡ scope_written expected)
         × (scope_read left ≡ as_joined expected))
         (λ read. (read ≢ expected) × (read ≡ scope_read word) × (left ≡ word))
     -- it has each bit that the hand's earlier steps read or left
-    pub bits : KeepsBits old.me.0.steps (scope_read word)
+    pub bits : KeepsBits (knows old).steps (scope_read word)

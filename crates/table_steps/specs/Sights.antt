@@ -18,7 +18,8 @@ use Rattle.table_rules.specs.declared.view.Reported.{Reported}
 use Rattle.table_rules.specs.Named.{count_by}
 use Rattle.table_rules.specs.ShownViews.{has_name, has_source_ref}
 use Rattle.table_steps.specs.Views.{Board}
-use Rattle.table_steps.specs.Claims.{logged, Seated}
+use Rattle.table_steps.specs.Claims.{logged}
+use Rattle.table_steps.specs.Seats.{Seated, homes_of, view_of}
 use Rattle.table_steps.specs.Slots.{held_at, owed_at, reported_at}
 
 -- where the source's word lies
@@ -85,8 +86,8 @@ module _ {P E : Type 0} where
   -- what the word that was read tells the hand
   abbrev pub looks_at : SourceRef → Option Name → ℕ → ℕ → Seated P E → Seated P E
   looks_at source after i word m = (
-    logged i word (sees source after (says_requested source word) m.0),
-    m.1,
+    logged i word (sees source after (says_requested source word) (view_of m)),
+    homes_of m,
   )
 
 -- the hand has a part in the operation of x, which can't end before: it holds a node of it, owes
@@ -127,8 +128,9 @@ AgreesWithTold {P} {E} tree v source answer =
 abbrev pub LooksAt : {P E : Type 0} → List TreeNode → SourceRef → Option Name → ℕ → ℕ → Seated P E →
     Seated P E → Type 0
 LooksAt tree source after i word m m' =
-    (m' ≡ looks_at source after i word m) × StillAsked m.0 source (says_requested source word)
-    × AgreesWithTold tree m.0 source (says_requested source word)
+    (m' ≡ looks_at source after i word m)
+    × StillAsked (view_of m) source (says_requested source word)
+    × AgreesWithTold tree (view_of m) source (says_requested source word)
 
 -- the answer is what the word that was read says, and the hand has noted it
 abbrev pub IsLookedAt : {P E O : Type 0} → Board O → SourceRef → Option Name → Bool →

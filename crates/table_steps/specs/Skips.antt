@@ -8,7 +8,8 @@ use Rattle.atomic_table.specs.declared.shared.Seat.{Seat}
 use Rattle.table_rules.specs.declared.view.View.{View}
 use Rattle.table_rules.specs.ShownViews.{scan_in}
 use Rattle.table_steps.specs.Views.{Board}
-use Rattle.table_steps.specs.Claims.{logged, word_index, Seated}
+use Rattle.table_steps.specs.Claims.{logged, word_index}
+use Rattle.table_steps.specs.Seats.{Seated, homes_of, view_of}
 use Rattle.table_steps.specs.RunEnds.{passes_to}
 use Rattle.table_steps.specs.ScanOrders.{is_next_place}
 
@@ -31,7 +32,7 @@ says_free word = is_free (block_read word).state
 -- what the word that was read tells the hand
 abbrev pub skips_at : {P E : Type 0} → List TreeNode → ℕ → ℕ → ℕ → Seated P E → Seated P E
 skips_at tree block i word m =
-    (logged i word (if says_free word then skips tree block m.0 else m.0), m.1)
+    (logged i word (if says_free word then skips tree block (view_of m) else view_of m), homes_of m)
 
 -- true exactly where the word that was read says that the block is free: then the scan has passed
 -- all its places

@@ -16,6 +16,7 @@ use Rattle.table_rules.specs.declared.view.Rooted.{Rooted}
 use Rattle.table_rules.specs.Named.{Each, find_by}
 use Rattle.table_rules.specs.ShownViews.{has_source_ref}
 use Rattle.table_steps.specs.Kids.{children_below}
+use Rattle.table_steps.specs.Seats.{homes_of, view_of}
 
 -- the node that a step is about, in a table over this tree
 pub record Aim : Type 0 where
@@ -57,7 +58,7 @@ noted_at v x = find_by (λ e. e.name) v.noted x
 -- what lies in the node's home: none where the hand hasn't the home
 abbrev pub home_at : {P E : Type 0} → Layout → View P E × List (ℕ × Option P) → Name →
     Option (Option P)
-home_at l m x = kept (slot_of l x) m.1
+home_at l m x = kept (slot_of l x) (homes_of m)
 
 -- the slot is that of the node, or of one of its children
 abbrev pub is_of_family : List TreeNode → Layout → Name → ℕ → Bool
@@ -80,9 +81,9 @@ AreApart (c ∷ cs) = Each (λ d. d.0 ≢ c.0) cs × AreApart cs
 -- the hand stands for itself alone, and carries each slot once, and only such as its view gives it
 pub record IsSeated {P E : Type 0} (tree : List TreeNode) (l : Layout)
     (m : View P E × List (ℕ × Option P)) : Type 0 where
-  pub apart : AreApart m.1
-  pub given : Each (λ c. has_slot tree l m.0 c.0 ≡ true) m.1
-  pub itself : m.0.hands ≡ 1
+  pub apart : AreApart (homes_of m)
+  pub given : Each (λ c. has_slot tree l (view_of m) c.0 ≡ true) (homes_of m)
+  pub itself : (view_of m).hands ≡ 1
 
 -- the hand has seen a request on the source that the node hears
 abbrev pub has_seen : {P E : Type 0} → List TreeNode → View P E → Name → Bool

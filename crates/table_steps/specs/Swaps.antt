@@ -4,7 +4,8 @@ use Rattle.life_rules.specs.declared.event.Name.{Name}
 use Rattle.table_words.specs.declared.layout.Layout.{Layout}
 use Rattle.table_words.specs.Layouts.{OfControl, index}
 use Rattle.table_rules.specs.declared.frame.Frame.{Frame}
-use Rattle.table_steps.specs.Claims.{logged, Seated}
+use Rattle.table_steps.specs.Claims.{logged}
+use Rattle.table_steps.specs.Seats.{Seated, homes_of, view_of}
 use Rattle.table_steps.specs.Slots.{Aim, slot_of, IsSeated, home_at}
 use Rattle.table_steps.specs.Sheds.{shed}
 use Rattle.table_steps.specs.Releases.{is_own_slot}
@@ -20,8 +21,8 @@ pub record TurnsTo {P E : Type 0} (aim : Aim) (i word : ℕ) (m m' : Seated P E)
   pub inside : Option P
   pub home : home_at aim.layout m aim.name ≡ Some inside
   pub me_is : m' ≡ (
-    logged i word m.0,
-    (slot_of aim.layout aim.name, inside) ∷ shed (is_own_slot aim.layout aim.name) m.1,
+    logged i word (view_of m),
+    (slot_of aim.layout aim.name, inside) ∷ shed (is_own_slot aim.layout aim.name) (homes_of m),
   )
   pub seated : IsSeated aim.tree aim.layout m'
 
@@ -32,6 +33,6 @@ pub record IsSwapped {P E O : Type 0} (f : Frame O) (x : Name) (new old : Option
   pub word : ℕ
   pub home : home_at f.layout m x ≡ Some old
   pub me_is : m' ≡ (
-    logged (index f.layout (OfControl x.block x.node)) word m.0,
-    (slot_of f.layout x, new) ∷ shed (is_own_slot f.layout x) m.1,
+    logged (index f.layout (OfControl x.block x.node)) word (view_of m),
+    (slot_of f.layout x, new) ∷ shed (is_own_slot f.layout x) (homes_of m),
   )

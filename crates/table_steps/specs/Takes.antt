@@ -15,7 +15,8 @@ use Rattle.table_rules.specs.declared.view.View.{View}
 use Rattle.table_rules.specs.declared.view.Rooted.{Rooted}
 use Rattle.table_rules.specs.Named.{Each}
 use Rattle.atomic_table.specs.Table.{Step}
-use Rattle.table_steps.specs.Claims.{with_step, logged, Seated}
+use Rattle.table_steps.specs.Claims.{with_step, logged}
+use Rattle.table_steps.specs.Seats.{Seated, homes_of, view_of}
 use Rattle.table_steps.specs.Lefts.{SaysControl}
 use Rattle.table_steps.specs.Kids.{empty_slots}
 use Rattle.table_steps.specs.Slots.{Aim, slot_of, kids_of, IsSeated, noted_at}
@@ -48,9 +49,9 @@ pub record TakenAt {P E : Type 0} {O : Type 0} (cargo : Ghosts P E O) (aim : Aim
   pub told_children : Bool
   pub item : P
   pub me_is : m' ≡ (
-    with_step i read left (takes_node aim.name start named told told_children m.0),
+    with_step i read left (takes_node aim.name start named told told_children (view_of m)),
     (slot_of aim.layout aim.name, Some item) ∷ empty_slots aim.layout aim.name.block
-        (kids_of aim.tree aim.name.node) m.1,
+        (kids_of aim.tree aim.name.node) (homes_of m),
   )
   -- the item shows the node's start, fits, is no completion, and asks for no more children than
   -- were named, which were no more than the node has
@@ -62,9 +63,9 @@ pub record TakenAt {P E : Type 0} {O : Type 0} (cargo : Ghosts P E O) (aim : Aim
   -- the start has the key of what the table was opened over, and is the one that the hand noted of
   -- a root
   pub key : Each (λ over. cargo.key start ≡ over) overs
-  pub noted : (e : Rooted E) → noted_at m.0 aim.name ≡ Some e → start ≡ e.start
+  pub noted : (e : Rooted E) → noted_at (view_of m) aim.name ≡ Some e → start ≡ e.start
   -- what the two bits say of the sources
-  pub hears : HearsAs aim.tree m.0 aim.name told told_children
+  pub hears : HearsAs aim.tree (view_of m) aim.name told told_children
   pub seated : IsSeated aim.tree aim.layout m → IsSeated aim.tree aim.layout m'
   -- the item is one that may rest there
   pub rests : cargo.rests item aim.name.node
@@ -75,7 +76,7 @@ abbrev pub TakesAt : {P E O : Type 0} → Ghosts P E O → Aim → List O → St
     ℕ → Seated P E → Type 0
 TakesAt cargo aim overs step m found m' =
     (found ≡ step.first → TakenAt cargo aim overs step.word found step.second m m')
-    × (found ≢ step.first → m' ≡ (logged step.word found m.0, m.1))
+    × (found ≢ step.first → m' ≡ (logged step.word found (view_of m), homes_of m))
 
 -- what is ready in a context rests there
 abbrev pub resting_in : Context → Resting
@@ -101,7 +102,7 @@ IsTaken cargo f x from answer m m' =
     (index f.layout (OfControl x.block x.node)) (rest_word x from) left m m')
     × (answer ≡ false →
     (found : ℕ) × (found ≢ rest_word x from)
-    × (m' ≡ (logged (index f.layout (OfControl x.block x.node)) found m.0, m.1)))
+    × (m' ≡ (logged (index f.layout (OfControl x.block x.node)) found (view_of m), homes_of m)))
 
 -- and so of a node that is ready in the context
 abbrev pub IsTakenOn : {P E O : Type 0} → Ghosts P E O → Frame O → Name → Context → Bool →

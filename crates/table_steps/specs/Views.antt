@@ -10,6 +10,7 @@ use Rattle.atomic_table.specs.declared.shared.Seat.{Seat}
 use Rattle.table_rules.specs.declared.frame.Frame.{Frame}
 use Rattle.table_rules.specs.declared.view.View.{View}
 use Rattle.table_steps.specs.Slots.{Aim, IsSeated}
+use Rattle.table_steps.specs.Seats.{view_of, homes_of}
 
 -- which table it is, and with what it was opened
 pub record Board (O : Type 0) : Type 0 where
@@ -18,7 +19,7 @@ pub record Board (O : Type 0) : Type 0 where
 
 -- the hand's view
 abbrev pub knows : {P E : Type 0} → Seat (Option P) (View P E) → View P E
-knows hand = hand.me.0
+knows hand = view_of hand.me
 
 -- the hand is one of this table's, and carries the homes that its view gives it, each once
 pub record IsHandOf {P E O : Type 0} (board : Board O)
@@ -107,6 +108,7 @@ pub record AreFreshHands {P E O : Type 0} (board : Board O) (count : ℕ)
     (all : List (Seat (Option P) (View P E))) : Type 0 where
   pub length_is : length all ≡ count
   pub each : (h : ℕ) (hand : Seat (Option P) (View P E)) → get_elem? all h ≡ some hand →
-      IsHandOf board hand × (hand.me.1 ≡ []) × (knows hand ≡ fresh_with h (knows hand).splits)
+      IsHandOf board hand × (homes_of hand.me ≡ [])
+      × (knows hand ≡ fresh_with h (knows hand).splits)
   pub splits : (hand : Seat (Option P) (View P E)) → get_elem? all 0 ≡ some hand →
       (knows hand).splits + 1 ≡ count

@@ -34,7 +34,8 @@ use Rattle.table_rules.specs.ShownViews.{shown_view, has_name}
 use Rattle.table_rules.specs.Scenes.{Scene, shown, scene}
 use Rattle.table_rules.specs.Notes.{is_still, IsHeldSo, IsKnown}
 use Rattle.table_rules.specs.Running.{Stands, Running}
-use Rattle.table_steps.specs.Claims.{with_step, Seated}
+use Rattle.table_steps.specs.Claims.{with_step}
+use Rattle.table_steps.specs.Seats.{Seated}
 use Rattle.table_steps.specs.Lefts.{FoundCallback}
 use Rattle.table_steps.specs.Slots.{IsSeated}
 use Rattle.table_steps.specs.Callbacks.{CanArm, arms, FindsCallback}

@@ -29,7 +29,8 @@ use Rattle.table_rules.specs.ShownWords.{word_of}
 use Rattle.table_rules.specs.Scenes.{shown}
 use Rattle.table_rules.specs.Notes.{is_still}
 use Rattle.table_rules.specs.Running.{Running}
-use Rattle.table_steps.specs.Claims.{logged, Seated, ListsOne}
+use Rattle.table_steps.specs.Claims.{logged, ListsOne}
+use Rattle.table_steps.specs.Seats.{Seated}
 use Rattle.table_steps.specs.Slots.{IsSeated}
 use Rattle.table_steps.specs.Readings.{notes_phase, above_it, says_at, says_begun, says_phase, notes_idle, reads_child, reads_phase, KnowsIdle, ChildReads, HoldsAbove, Holds}
 use Rattle.table_kept.proofs.Standing.{Standing}

@@ -3,7 +3,7 @@ use Rattle.std.specs.Prelude.{◌≡◌, ℕ, true, Option}
 use Rattle.life_rules.specs.StopSteps.{is_counting}
 use Rattle.atomic_table.specs.declared.shared.Seat.{Seat}
 use Rattle.table_rules.specs.declared.view.View.{View}
-use Rattle.table_steps.specs.Views.{Board, IsHandOf}
+use Rattle.table_steps.specs.Views.{Board, IsHandOf, knows}
 use Rattle.table_use.specs.declared.cargo.Entry.{Entry}
 use Rattle.table_use.specs.declared.cargo.Item.{Item}
 use Rattle.table_use.specs.Uses.{use_tree, IsIdle}
@@ -25,5 +25,5 @@ pub record IsReady (board : Board ℕ) (number : ℕ)
     (hand : Seat (Option Item) (View Item Entry)) : Type 0 where
   pub table : IsHandOf board hand
   pub member : MayAssociate board hand
-  pub number_is : hand.me.0.number ≡ number
+  pub number_is : (knows hand).number ≡ number
   pub idle : IsIdle hand.me

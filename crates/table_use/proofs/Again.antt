@@ -6,7 +6,7 @@ use Rattle.life_rules.specs.declared.words.CallbackPhase.TheVariants.{Never}
 use Rattle.life_rules.specs.declared.event.Name.{Name}
 use Rattle.table_rules.specs.declared.view.Held.{Held}
 use Rattle.table_steps.specs.Views.{Board, aimed}
-use Rattle.table_steps.specs.Claims.{Seated}
+use Rattle.table_steps.specs.Seats.{Seated}
 use Rattle.table_steps.specs.Finishes.{CanFinish, FinishesAt}
 use Rattle.table_steps.specs.Readings.{Holds, IsPhaseAs}
 use Rattle.table_steps.specs.Releases.{CanRelease, ReleasesAt}

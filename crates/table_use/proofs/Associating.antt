@@ -6,7 +6,7 @@ use Rattle.life_rules.specs.declared.scope.Refused.{Refused}
 use Rattle.atomic_table.specs.declared.shared.Seat.{Seat}
 use Rattle.table_rules.specs.declared.view.View.{View}
 use Rattle.listed_words.specs.declared.seen.Seen.{Seen}
-use Rattle.table_steps.specs.Claims.{Seated}
+use Rattle.table_steps.specs.Seats.{Seated}
 use Rattle.table_steps.specs.ScopeEntries.{MayEnter}
 use Rattle.table_steps.specs.Views.{Board, IsHandOf}
 use Rattle.count_scope.specs.declared.members.Association.{Association}

@@ -7,7 +7,7 @@ use Rattle.life_rules.specs.Views.{beside}
 use Rattle.life_kept.proofs.Trees.{child-parent}
 use Rattle.table_steps.specs.declared.report.Report.TheVariants.{Last}
 use Rattle.table_steps.specs.Views.{Board}
-use Rattle.table_steps.specs.Claims.{Seated}
+use Rattle.table_steps.specs.Seats.{Seated}
 use Rattle.table_steps.specs.Reports.{CanReport, IsReportedAs}
 use Rattle.table_steps.specs.Rests.{CanRest}
 use Rattle.table_steps.specs.Swaps.{HasHome}

@@ -4,7 +4,7 @@ use Rattle.std.specs.Prelude.{Option}
 use Rattle.atomic_table.specs.declared.shared.Seat.{Seat}
 use Rattle.table_rules.specs.declared.view.View.{View}
 use Rattle.table_steps.specs.Views.{Board}
-use Rattle.table_steps.specs.Claims.{Seated}
+use Rattle.table_steps.specs.Seats.{Seated}
 use Rattle.stop_calls.specs.Asides.{Passed, ScansOn}
 use Rattle.stop_calls.specs.Removals.{IsOver}
 use Rattle.stop_calls.proofs.Keeping.{comes-here, found-passed}

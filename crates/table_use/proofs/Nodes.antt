@@ -13,7 +13,8 @@ use Rattle.life_rules.specs.States.{source_for}
 use Rattle.life_kept.proofs.Trees.{child-parent}
 use Rattle.table_words.specs.Layouts.{place_number}
 use Rattle.table_rules.specs.declared.view.Held.{Held}
-use Rattle.table_steps.specs.Claims.{Seated, root_name}
+use Rattle.table_steps.specs.Claims.{root_name}
+use Rattle.table_steps.specs.Seats.{Seated}
 use Rattle.table_steps.specs.Views.{Board, IsPlaceIn}
 use Rattle.table_steps.specs.Finishes.{is_of_kids}
 use Rattle.table_steps.specs.Readings.{above_it, HoldsAbove}

@@ -16,7 +16,7 @@ use Rattle.table_steps.specs.declared.report.Report.TheVariants.{Last, Others}
 use Rattle.table_steps.specs.Views.{Board, aimed}
 use Rattle.table_steps.specs.Awaits.{AwaitsAt}
 use Rattle.table_steps.specs.Begins.{Begins, notes_start, start_shown}
-use Rattle.table_steps.specs.Claims.{Seated}
+use Rattle.table_steps.specs.Seats.{Seated}
 use Rattle.table_steps.specs.Finishes.{FinishesAt}
 use Rattle.table_steps.specs.Readings.{above_it, says_begun, notes_idle, IsBegunAs, IsPhaseAs}
 use Rattle.table_steps.specs.Reports.{IsReportedAs}

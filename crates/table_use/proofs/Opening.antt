@@ -18,7 +18,7 @@ use Rattle.table_words.specs.Layouts.{place_number}
 use Rattle.table_steps.specs.Views.{Board, aimed}
 use Rattle.table_steps.specs.Begins.{Begins}
 use Rattle.table_steps.specs.Callbacks.{CanArm}
-use Rattle.table_steps.specs.Claims.{Seated}
+use Rattle.table_steps.specs.Seats.{Seated}
 use Rattle.table_steps.specs.Readings.{Holds, IsPhaseAs}
 use Rattle.table_steps.specs.Rests.{CanRest}
 use Rattle.table_steps.specs.Slots.{slot_of, kept}

@@ -22,7 +22,8 @@ use Rattle.table_rules.specs.Named.{find_by}
 use Rattle.table_steps.specs.declared.block.Block.{Block}
 use Rattle.table_steps.specs.declared.report.Report.TheVariants.{Last}
 use Rattle.table_steps.specs.Views.{Board}
-use Rattle.table_steps.specs.Claims.{Seated, root_name, word_index}
+use Rattle.table_steps.specs.Claims.{root_name, word_index}
+use Rattle.table_steps.specs.Seats.{Seated}
 use Rattle.table_steps.specs.Readings.{above_it, Holds, HoldsAbove, IsBegunAs, IsPhaseAs, notes_idle, says_begun, says_phase}
 use Rattle.table_steps.specs.Reports.{IsReportedAs}
 use Rattle.table_steps.specs.Requests.{IsWordOf, asks_at}

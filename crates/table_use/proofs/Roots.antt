@@ -17,7 +17,7 @@ use Rattle.table_rules.specs.declared.view.Held.{Held}
 use Rattle.table_rules.specs.Named.{find_by, count_by}
 use Rattle.table_rules.specs.ShownViews.{scan_in}
 use Rattle.table_steps.specs.Views.{Board}
-use Rattle.table_steps.specs.Claims.{Seated}
+use Rattle.table_steps.specs.Seats.{Seated}
 use Rattle.table_steps.specs.Callbacks.{is_registered}
 use Rattle.table_steps.specs.Finishes.{is_settled, CanFinish}
 use Rattle.table_steps.specs.Readings.{at_entry, IsPhaseAs}

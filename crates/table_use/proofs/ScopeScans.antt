@@ -14,7 +14,7 @@ use Rattle.table_rules.specs.declared.view.Scanning.{Scanning}
 use Rattle.table_rules.specs.Named.{count_by}
 use Rattle.table_rules.specs.ShownViews.{scan_in}
 use Rattle.table_steps.specs.Views.{Board}
-use Rattle.table_steps.specs.Claims.{Seated}
+use Rattle.table_steps.specs.Seats.{Seated}
 use Rattle.table_steps.specs.Remembers.{running}
 use Rattle.table_steps.specs.RunEnds.{IsOwnWithdrawn}
 use Rattle.table_steps.specs.ScanSeals.{drops}

@@ -13,7 +13,8 @@ use Rattle.listed_words.specs.Lists.{entry}
 use Rattle.table_steps.specs.Views.{Board, aimed}
 use Rattle.table_steps.specs.Awaits.{AwaitsAt}
 use Rattle.table_steps.specs.Begins.{IsRenewed, Begins}
-use Rattle.table_steps.specs.Claims.{Seated, Missed}
+use Rattle.table_steps.specs.Claims.{Missed}
+use Rattle.table_steps.specs.Seats.{Seated}
 use Rattle.table_steps.specs.Finishes.{FinishedAt}
 use Rattle.table_steps.specs.Readings.{IsBegunAs, IsPhaseAs, says_begun, notes_idle, above_it}
 use Rattle.table_steps.specs.declared.report.Report.{Report}

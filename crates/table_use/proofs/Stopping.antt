@@ -11,7 +11,7 @@ use Rattle.table_rules.specs.declared.view.View.{View}
 use Rattle.table_steps.specs.declared.report.Report.{Report}
 use Rattle.table_steps.specs.declared.report.Report.TheVariants.{Others}
 use Rattle.table_steps.specs.Views.{Board, aimed}
-use Rattle.table_steps.specs.Claims.{Seated}
+use Rattle.table_steps.specs.Seats.{Seated}
 use Rattle.table_steps.specs.Readings.{above_it, Holds}
 use Rattle.table_steps.specs.Reports.{IsReportedAs}
 use Rattle.table_steps.specs.Lefts.{SaysControl, LeavesControl}

@@ -15,7 +15,8 @@ use Rattle.table_rules.specs.Named.{find_by}
 use Rattle.table_steps.specs.declared.block.Block.{Block}
 use Rattle.table_steps.specs.Views.{Board, aimed}
 use Rattle.table_steps.specs.Awaits.{is_named, AwaitsAt, CanAwait}
-use Rattle.table_steps.specs.Claims.{Seated, Missed}
+use Rattle.table_steps.specs.Claims.{Missed}
+use Rattle.table_steps.specs.Seats.{Seated}
 use Rattle.table_steps.specs.Readings.{IsBegunAs, HoldsAbove}
 use Rattle.table_steps.specs.Slots.{knows_idle}
 use Rattle.op_slot.specs.Searches.{IsMissedBelow, IsFound}

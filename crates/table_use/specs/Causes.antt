@@ -18,7 +18,7 @@ use Rattle.table_rules.specs.declared.view.View.{View}
 use Rattle.listed_words.specs.declared.seen.Seen.{Seen}
 use Rattle.listed_words.specs.Lists.{entry}
 use Rattle.table_steps.specs.Views.{Board}
-use Rattle.table_steps.specs.Claims.{Seated}
+use Rattle.table_steps.specs.Seats.{Seated, view_of}
 use Rattle.table_steps.specs.Readings.{says_begun, says_phase, Holds, HoldsAbove}
 use Rattle.table_steps.specs.Runs.{says_armed}
 use Rattle.table_steps.specs.Sights.{says_requested}
@@ -36,7 +36,7 @@ use Rattle.table_use.specs.Uses.{use_tree, IsRoot}
 
 -- the hand made further steps, or none
 abbrev pub GoesOn : Seated Item Entry → Seated Item Entry → Type 0
-GoesOn m m' = IsLonger m.0.steps m'.0.steps
+GoesOn m m' = IsLonger (view_of m).steps (view_of m').steps
 
 -- it made at least one, and the newest is of the spot's word, which it read saying so
 pub record HasJustRead (board : Board ℕ) (spot : Spot) (says : ℕ → Type 0)
@@ -45,8 +45,8 @@ pub record HasJustRead (board : Board ℕ) (spot : Spot) (says : ℕ → Type 0)
   pub left : ℕ
   pub said : says word
   pub earlier : List Seen
-  pub began : IsLonger m.0.steps earlier
-  pub newest : m'.0.steps ≡ entry (index board.frame.layout spot) word left ∷ earlier
+  pub began : IsLonger (view_of m).steps earlier
+  pub newest : (view_of m').steps ≡ entry (index board.frame.layout spot) word left ∷ earlier
 
 -- one of them is
 pub record HasRead (board : Board ℕ) (spot : Spot) (says : ℕ → Type 0)
@@ -86,7 +86,7 @@ module _ (board : Board ℕ) (m m' : Seated Item Entry) where
   HasBegun x =
       HasJustRead board (OfControl x.block x.node)
       (λ word. says_begun x.generation word ≡ true) m m'
-      × HoldsAbove board.frame.tree m'.0 x
+      × HoldsAbove board.frame.tree (view_of m') x
 
   -- it counted one report that is pending
   abbrev pub AwaitsOne : Name → Type 0
@@ -97,7 +97,7 @@ module _ (board : Board ℕ) (m m' : Seated Item Entry) where
   abbrev pub WasRegistered : Name → Type 0
   WasRegistered x =
       HasJustRead board (OfCallback x.block x.node)
-      (λ word. says_phase x.generation word ≢ Never) m m' × Holds m'.0 x
+      (λ word. says_phase x.generation word ≢ Never) m m' × Holds (view_of m') x
 
   -- or that it is armed
   abbrev pub WasArmed : Name → Type 0

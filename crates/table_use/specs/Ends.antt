@@ -12,7 +12,7 @@ use Rattle.listed_words.specs.Lists.{entry}
 use Rattle.table_rules.specs.declared.frame.Frame.{Frame}
 use Rattle.table_rules.specs.declared.view.View.{View}
 use Rattle.table_steps.specs.Views.{Board}
-use Rattle.table_steps.specs.Claims.{Seated}
+use Rattle.table_steps.specs.Seats.{Seated, homes_of, view_of}
 use Rattle.table_steps.specs.Readings.{above_it, Holds}
 use Rattle.table_steps.specs.Slots.{slot_of, kept}
 use Rattle.table_steps.specs.Lefts.{SaysControl}
@@ -40,7 +40,7 @@ module _ (f : Frame ℕ) (x : Name) (m : Seated Item Entry) where
   pub record IsLeft : Type 0 where
     pub read : ℕ
     pub left : ℕ
-    pub newest : AreNewest (on_control f x read left ∷ []) m.0
+    pub newest : AreNewest (on_control f x read left ∷ []) (view_of m)
     pub rests : SaysControl x ReadyPool left
 
   -- right after a step that left the node done, the hand found that its parent hadn't one child
@@ -52,7 +52,7 @@ module _ (f : Frame ℕ) (x : Name) (m : Seated Item Entry) where
     pub found : ℕ
     pub fewer : ℕ
     pub newest : AreNewest
-        (on_control f (above_it f.tree x) found fewer ∷ on_control f x read left ∷ []) m.0
+        (on_control f (above_it f.tree x) found fewer ∷ on_control f x read left ∷ []) (view_of m)
     pub counts : CountsDown (above_it f.tree x) found fewer
     pub others : pending (control_read found) ≢ 1
 
@@ -61,7 +61,7 @@ module _ (f : Frame ℕ) (x : Name) (m : Seated Item Entry) where
     pub read : ℕ
     pub left : ℕ
     pub found : ℕ
-    pub newest : AreNewest (on_control f x found found ∷ on_control f x read left ∷ []) m.0
+    pub newest : AreNewest (on_control f x found found ∷ on_control f x read left ∷ []) (view_of m)
     pub rested : SaysControl x ReadyPool left
     pub other : found ≢ rest_word x Pool
 
@@ -74,10 +74,10 @@ module _ (f : Frame ℕ) (x : Name) (m : Seated Item Entry) where
     pub says : SaysControl x (Busy 0) taken
     pub newest : AreNewest
         (on_control f x back back ∷ on_control f x out out ∷ on_control f x
-        (rest_word x Pool) taken ∷ []) m.0
-    pub held : Holds m.0 x
+        (rest_word x Pool) taken ∷ []) (view_of m)
+    pub held : Holds (view_of m) x
     pub item : Item
-    pub home : kept (slot_of f.layout x) m.1 ≡ Some (Some item)
+    pub home : kept (slot_of f.layout x) (homes_of m) ≡ Some (Some item)
     pub other : (env : Env) (value : ℕ) → item ≢ Kept env value
 
 module _ (board : Board ℕ) (m m' : Seated Item Entry) where

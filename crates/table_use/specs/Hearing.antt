@@ -6,7 +6,7 @@ use Rattle.life_rules.specs.declared.event.Name.{Name}
 use Rattle.life_rules.specs.declared.event.SourceRef.TheVariants.{Scope}
 use Rattle.table_rules.specs.declared.frame.Frame.{Frame}
 use Rattle.table_steps.specs.Views.{Board}
-use Rattle.table_steps.specs.Claims.{Seated}
+use Rattle.table_steps.specs.Seats.{Seated, view_of}
 use Rattle.stop_calls.specs.declared.scanning.Scan.{Scan}
 use Rattle.stop_calls.specs.declared.removing.Withdrawn.{Withdrawn}
 use Rattle.stop_calls.specs.declared.removing.Withdrawn.TheVariants.{NeverRan, Ran, OwnHand, Running}
@@ -42,4 +42,4 @@ settled_as Inside = Removed
 pub record AsksScope (board : Board ℕ) (scan : Scan) (m : Seated Item Entry) : Type 0 where
   pub makes : Scans board scan m
   pub source : scan.source ≡ Scope
-  pub runs : m.0.runs ≡ []
+  pub runs : (view_of m).runs ≡ []

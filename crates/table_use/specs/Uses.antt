@@ -16,7 +16,8 @@ use Rattle.table_rules.specs.declared.view.View.{View}
 use Rattle.table_rules.specs.Named.{find_by}
 use Rattle.table_steps.specs.Views.{Board}
 use Rattle.table_steps.specs.declared.block.Block.{Block}
-use Rattle.table_steps.specs.Claims.{Seated, root_name}
+use Rattle.table_steps.specs.Claims.{root_name}
+use Rattle.table_steps.specs.Seats.{Seated, homes_of, view_of}
 use Rattle.table_steps.specs.Lefts.{SaysControl}
 use Rattle.table_steps.specs.Steps.{LeftAllEmpty}
 use Rattle.op_slot.specs.Tends.{KeepsOwed, OwesReport, Owes, Tends}
@@ -95,7 +96,7 @@ module _ (f : Frame ℕ) (x : Name) where
     pub read : ℕ
     pub left : ℕ
     pub earlier : List Seen
-    pub steps_are : m.0.steps ≡ entry (control_at f x) read left ∷ earlier
+    pub steps_are : (view_of m).steps ≡ entry (control_at f x) read left ∷ earlier
     pub done : SaysControl x IsDone left
 
   -- the hand holds the node, which has this start, after the report of this child, which ended so.
@@ -127,7 +128,8 @@ pub record LeafFailed (root : Name) (m : Seated Item Entry) : Type 0 where
 
 -- the root began with the start of this env
 abbrev pub HasNoted : Name → Env → Seated Item Entry → Type 0
-HasNoted x env m = find_by (λ e. e.name) m.0.noted x ≡ Some (record { name = x; start = path env })
+HasNoted x env m =
+    find_by (λ e. e.name) (view_of m).noted x ≡ Some (record { name = x; start = path env })
 
 -- the number is the one for which the root began
 abbrev pub IsNotedNumber : Name → Seated Item Entry → ℕ → Type 0
@@ -147,24 +149,24 @@ HasEmptied board hand cargo =
 module _ (m : Seated Item Entry) where
   -- the hand runs no callback, and makes no scan
   pub record IsIdle : Type 0 where
-    pub runs : m.0.runs ≡ []
-    pub scans : m.0.scans ≡ []
+    pub runs : (view_of m).runs ≡ []
+    pub scans : (view_of m).scans ≡ []
 
 module _ (m m' : Seated Item Entry) where
   -- the hand runs the callbacks that it ran, and makes the scans that it made
   pub record KeepsPlays : Type 0 where
-    pub runs : m'.0.runs ≡ m.0.runs
-    pub scans : m'.0.scans ≡ m.0.scans
+    pub runs : (view_of m').runs ≡ (view_of m).runs
+    pub scans : (view_of m').scans ≡ (view_of m).scans
 
   -- it holds the nodes that it held, and what lies in its homes still lies there
   pub record KeepsHoldings : Type 0 where
-    pub held : m'.0.held ≡ m.0.held
-    pub slots : m'.1 ≡ m.1
-    pub number : m'.0.number ≡ m.0.number
+    pub held : (view_of m').held ≡ (view_of m).held
+    pub slots : homes_of m' ≡ homes_of m
+    pub number : (view_of m').number ≡ (view_of m).number
 
   -- it owes the reports that it owed
   abbrev pub KeepsReports : Type 0
-  KeepsReports = m'.0.reported ≡ m.0.reported
+  KeepsReports = (view_of m').reported ≡ (view_of m).reported
 
   -- both
   pub record IsStill : Type 0 where
@@ -173,7 +175,7 @@ module _ (m m' : Seated Item Entry) where
 
   -- it has noted what it had of roots, and no more
   abbrev pub KeepsNotes : Type 0
-  KeepsNotes = m'.0.noted ≡ m.0.noted
+  KeepsNotes = (view_of m').noted ≡ (view_of m).noted
 
 -- what it owes besides a leaf it still owes
 abbrev pub KeepsBesideLeaf : Frame ℕ → Name → Seated Item Entry → Seated Item Entry → Type 0

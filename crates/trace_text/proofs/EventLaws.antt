@@ -21,11 +21,10 @@ use Rattle.life_rules.specs.declared.event.SourceAt.{SourceAt}
 use Rattle.life_rules.specs.declared.event.SourceAt.TheVariants.{Scope, At}
 use Rattle.life_rules.specs.declared.scope.ScopeWord.{ScopeWord}
 use Rattle.trace_text.specs.declared.entry.Entry.{Entry}
-use Rattle.trace_text.specs.declared.entry.Choice.{Choice}
 use Rattle.trace_text.specs.Setups.{Setup}
-use Rattle.trace_text.specs.Texts.{blank, comma, dot, apart, place_text, source_text, children_text, resting_text, after_text, cause_text, bit_text, scope_text, event_text, entry_text, choice_text}
-use Rattle.trace_text.specs.Values.{has_node, has_block, has_place, has_source, has_children, has_event, has_entry, has_choice}
-use Rattle.trace_text.specs.Words.{Halves, both, number_in, numbers_in, place_in, source_in, children_in, resting_in, cause_in, bit_in, counted, with_joining, with_closed, with_used, counted_in, joining_in, closed_in, scope_in, block_kind_in, place_kind_in, bare_kind_in, look_in, plain_in, other_in, kind_event_in, event_in, entry_at, choice_at, entry_in, choice_in}
+use Rattle.trace_text.specs.Texts.{blank, comma, dot, apart, place_text, source_text, children_text, resting_text, after_text, cause_text, bit_text, scope_text, event_text, entry_text}
+use Rattle.trace_text.specs.Values.{has_node, has_block, has_place, has_source, has_children, has_event, has_entry}
+use Rattle.trace_text.specs.Words.{Halves, both, number_in, numbers_in, place_in, source_in, children_in, resting_in, cause_in, bit_in, counted, with_joining, with_closed, with_used, counted_in, joining_in, closed_in, scope_in, block_kind_in, place_kind_in, bare_kind_in, look_in, plain_in, other_in, kind_event_in, event_in, entry_at, entry_in}
 use Rattle.trace_text.proofs.WordLaws.{Lacks, cut_at-front, cut_at-none, in_halves-text, decimal-lacks, number_in-decimal, IsSmall, place_in-text, place-lacks}
 
 -- what the limits leave fits
@@ -218,12 +217,3 @@ entry-read o e few there =
     let fits = small e.hand o.hands parts.0 few.2 in
     in_halves-text entry_at number_in event_in blank (decimal e.hand) (event_text e.event) e.hand e.event
     (hand-blank e.hand fits) (number_in-decimal e.hand fits) (event-read o e.event few parts.1)
-
--- the line of a choice
-pub choice-read : (o : Setup) (c : Choice) → Few o → has_choice o c ≡ true → choice_in (choice_text c) ≡ Some c
-unfolding choice_in
-choice-read o c few there =
-    let parts = and_parts (nat_lt c.hand o.hands) (nat_lt c.choice (2 ^ 32)) there in
-    let fits = small c.hand o.hands parts.0 few.2 in
-    in_halves-text choice_at number_in number_in blank (decimal c.hand) (decimal c.choice) c.hand c.choice
-    (hand-blank c.hand fits) (number_in-decimal c.hand fits) (number_in-decimal c.choice (ltb-true c.choice (2 ^ 32) parts.1))

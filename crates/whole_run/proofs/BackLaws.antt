@@ -14,7 +14,7 @@ use Rattle.table_kept.proofs.AnyOf.{any-left}
 use Rattle.table_rules.specs.Named.{AnyOf, Each}
 use Rattle.table_rules.specs.Traces.{all_steps}
 use Rattle.table_rules.specs.declared.view.View.{View}
-use Rattle.record_operations.specs.Ends.{HasJoined, IsEnded}
+use Rattle.record_operations.specs.Ends.{IsEnded}
 use Rattle.table_steps.specs.Closings.{AreAllBack, ClosedTable, HasNothing, IsCountedBy, IsScopeLeft, LeavesScope, claimed_by, released_by, steps_of}
 use Rattle.table_steps.specs.Views.{Board, IsHandOf, knows}
 use Rattle.run_tally.specs.Gathered.{Gathered}
@@ -26,17 +26,6 @@ use Rattle.whole_run.specs.Opened.{AreBack, IsTableFor}
 -- what a hand of a table over a plan is
 abbrev TheHand : Type 0
 TheHand = Seat (Option Item) (View Item Entry)
-
--- a spare hand on which the scope was joined ends a run
-pub joined-ended : (on : Board Blueprint → Type 0) (board : Board Blueprint) (hand : TheHand) → on board → IsSpare board hand → HasJoined (knows hand) → IsEnded on hand
-joined-ended on board hand holds spare joined = record {
-  board = board;
-  is_on = holds;
-  hand_of = spare.hand_of;
-  nothing = spare.nothing;
-  even = spare.even;
-  joined = joined;
-}
 
 -- a mark of one table alone tells on which the run ended
 pub ended-on : (on : Board Blueprint → Type 0) (board : Board Blueprint) (hand : TheHand) → ((other : Board Blueprint) → on other → other ≡ board) →

@@ -232,10 +232,6 @@ pub popped-with : (desk : Option Desk) (rest all : List Desk) → all ≡ rest +
 popped-with (Some desk) rest all is = is
 popped-with None rest all is = is ∙ append-nil rest
 
-pub popped-length : (desk : Option Desk) (had has : ℕ) → MatchOption desk ((had ≡ 0) × (has ≡ 0)) (λ _. has + 1 ≡ had) → MatchOption desk (has ≡ had) (λ _. has + 1 ≡ had)
-popped-length (Some desk) had has fewer = fewer
-popped-length None had has none = none.1 ∙ sym none.0
-
 -- it is hand 0's, where there is one
 pub popped-last : (desk : Option Desk) (rest all : List Desk) (had has : ℕ) → all ≡ rest ++ option_to_list desk → had ≡ length all →
     MatchOption desk ((had ≡ 0) × (has ≡ 0)) (λ _. has + 1 ≡ had) → last_desk all ≡ desk

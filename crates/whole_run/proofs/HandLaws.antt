@@ -11,7 +11,6 @@ use Rattle.plan_kinds.specs.Runnable.{IsRunnable}
 use Rattle.plan_shape.specs.Blueprint.{Blueprint}
 use Rattle.run_workers.specs.Crews.{CanServe, IsSpare}
 use Rattle.table_rules.specs.declared.view.View.{View}
-use Rattle.record_operations.specs.Opened.{IsUnusedHand}
 use Rattle.table_steps.specs.Closings.{HasNothing, claimed_by}
 use Rattle.table_steps.specs.Views.{AreFreshHands, Board, IsHandOf, fresh_with, knows}
 use Rattle.whole_run.specs.Opened.{CanRunOn, IsFreshHand}
@@ -35,12 +34,6 @@ untouched-spare board number hand of fresh = record {
       (record { held = refl; owed = refl; reported = refl; finished = refl; runs = refl; scans = refl; made = refl; making = refl; refused = refl });
   even = ap (λ (v : View Item Entry). v.claimed) fresh ∙ sym (ap (λ (v : View Item Entry). v.released) fresh);
 }
-
-pub fresh-spare : (board : Board Blueprint) (hand : TheHand) → IsFreshHand board hand → IsSpare board hand
-fresh-spare board hand fresh = untouched-spare board 0 hand fresh.hand_of fresh.fresh
-
-pub back-spare : (board : Board Blueprint) (hand back : TheHand) → IsFreshHand board hand → back ≡ hand → IsSpare board back
-back-spare board hand back fresh is = subst (λ (h : TheHand). IsSpare board h) (sym is) (fresh-spare board hand fresh)
 
 -- the first hand of a new table
 pub first-fresh : (board : Board Blueprint) (workers : ℕ) (all : List TheHand) (hand : TheHand) → AreFreshHands board (workers + 1) all → hand ≡ slice_index_or all 0 hand → IsFreshHand board hand
@@ -88,13 +81,3 @@ rest-unclaimed board workers (first ∷ others) rest fresh is =
 pub all-serve : (board : Board Blueprint) (plan : Blueprint) (window : ℕ) (stepped : Blueprint) (hands : List TheHand) → CanRunOn board plan window stepped → All (IsSpare board) hands → All (CanServe board stepped) hands
 all-serve board plan window stepped hands runs spare =
     λ k d low. record { over = stepped-over board plan window stepped runs; kinds = stepped-runs board plan window stepped runs; spare = spare k d low }
-
--- a hand that has done nothing may begin a run
-pub fresh-unused : (board : Board Blueprint) (hand : TheHand) → IsFreshHand board hand → IsUnusedHand board hand
-fresh-unused board hand fresh = record {
-  hand_of = fresh.hand_of;
-  first = ap (λ (v : View Item Entry). v.number) fresh.fresh;
-  nothing = (fresh-spare board hand fresh).nothing;
-  unasked = ap (λ (v : View Item Entry). v.requested) fresh.fresh;
-  even = (fresh-spare board hand fresh).even;
-}

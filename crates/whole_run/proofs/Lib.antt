@@ -1,6 +1,5 @@
 mod HandLaws
 mod BackLaws
-mod JoinLaws
 mod OwnLaws
 mod DeskLaws
 mod FrontLaws

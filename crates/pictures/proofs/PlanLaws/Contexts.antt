@@ -1,14 +1,12 @@
 -- What each step of a walk gives.
-use Rattle.std.proofs.Common.{◌≡◌, ◌⊎◌, ℕ, zero, suc, ◌+◌, ◌<◌, ◌≤◌, ◌-◌, List, [], ◌∷◌, length, take, drop, get_or, Option, Some, Result, Ok, Err, refl, ap, ◌∙◌, inl, inr, arith}
+use Rattle.std.proofs.Common.{◌≡◌, ◌⊎◌, ℕ, zero, suc, ◌≤◌, List, length, Option, Some, Result, Ok, Err, refl, ap, ◌∙◌, inl, inr, arith}
 use Rattle.std.specs.Prelude.{slice_get, OnOk}
 use Rattle.std.specs.Option.{option_map_or}
-use Rattle.std.proofs.lemmas.List.Sums.{fold_more}
-use Rattle.std.proofs.lemmas.List.{take_all}
 use Rattle.std.proofs.lemmas.Option.{slice_get_past}
 use Rattle.plan_rules.specs.declared.node.Node.{Node}
 use Rattle.plan_kinds.specs.Runs.{run_by, bodies_of}
 use Rattle.pictures.specs.declared.plans.home.Home.{Home}
-use Rattle.pictures.specs.Plans.Homes.{either, home_below, home_behind}
+use Rattle.pictures.specs.Plans.Homes.{home_below, home_behind}
 use Rattle.pictures.specs.Plans.Ends.{Ends, end_case, end_of, end_of_all, end_of_children}
 
 -- no step down is taken
@@ -27,21 +25,6 @@ end_of-node nodes (suc steps) below n start node one at =
     let same : steps ≡ below = omega arith in
     ap (λ (o : Option Node). option_map_or (end_case (end_of nodes steps) start) o start) at
     ∙ ap (λ s. end_case (end_of nodes s) start node) same
-
--- one node more
-pub end_of_all-more : (below : Ends) (start others : Home) (numbers : List ℕ) (i d : ℕ) → i < length numbers → end_of_all below start others (take (i + 1) numbers) ≡ either (end_of_all below start others (take i numbers)) (below (get_or numbers i d) start)
-end_of_all-more below start others numbers i d here =
-    fold_more (λ home n. either home (below n start)) others numbers i d here
-
--- the first child, and then the others
-pub end_of_children-first : (below : Ends) (start : Home) (numbers : List ℕ) → 0 < length numbers → end_of_all below start (below (get_or numbers 0 0) start) (take (length numbers - 1) (drop 1 numbers)) ≡ end_of_children below start numbers
-end_of_children-first below start [] some = absurd (omega arith)
-end_of_children-first below start (n ∷ ns) some =
-    ap (end_of_all below start (below n start)) (take_all (length (n ∷ ns) - 1) ns (omega arith))
-
-pub end_of_children-none : (below : Ends) (start : Home) (numbers : List ℕ) → length numbers ≡ 0 → end_of_children below start numbers ≡ start
-end_of_children-none below start [] none = refl
-end_of_children-none below start (n ∷ ns) none = absurd (omega arith)
 
 -- where a node completes, put together as the code does
 pub end_of-parts : (below : Ends) (start entering own all result : Home) (node : Node) (children bodies : List ℕ) → entering ≡ home_below node start → children ≡ run_by node → bodies ≡ bodies_of node → own ≡ end_of_children below entering children → all ≡ end_of_all below own own bodies → result ≡ home_behind node all → result ≡ end_case below start node

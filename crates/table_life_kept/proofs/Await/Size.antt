@@ -11,7 +11,7 @@ use Rattle.life_kept.proofs.Members.{count-different}
 use Rattle.life_kept.proofs.Trees.{child-within}
 use Rattle.table_rules.specs.declared.cargo.Cargo.{Ghosts}
 use Rattle.table_rules.specs.declared.frame.Frame.{Frame}
-use Rattle.table_steps.specs.Claims.{Seated}
+use Rattle.table_steps.specs.Seats.{Seated}
 use Rattle.table_steps.specs.Slots.{knows_idle}
 use Rattle.table_steps.specs.Awaits.{CanAwait}
 

@@ -29,7 +29,8 @@ use Rattle.table_rules.specs.ShownViews.{view_at, shown_view}
 use Rattle.table_rules.specs.Scenes.{shown, scene}
 use Rattle.table_rules.specs.Grown.{HasBitsOfSource, IsLaterSource}
 use Rattle.table_rules.specs.Running.{Stands, Running}
-use Rattle.table_steps.specs.Claims.{with_step, Seated}
+use Rattle.table_steps.specs.Claims.{with_step}
+use Rattle.table_steps.specs.Seats.{Seated}
 use Rattle.table_steps.specs.Lefts.{FoundSource}
 use Rattle.table_steps.specs.Begins.{Renews}
 use Rattle.table_kept.proofs.Standing.{Standing}

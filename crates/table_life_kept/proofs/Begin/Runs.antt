@@ -37,7 +37,8 @@ use Rattle.table_rules.specs.Scenes.{Out, Empty, home_in, Scene, shown, scene}
 use Rattle.table_rules.specs.Notes.{IsOwedSo, children_are_requested}
 use Rattle.table_rules.specs.Running.{Stands, Running}
 use Rattle.table_steps.specs.Views.{aimed}
-use Rattle.table_steps.specs.Claims.{with_step, Seated}
+use Rattle.table_steps.specs.Claims.{with_step}
+use Rattle.table_steps.specs.Seats.{Seated}
 use Rattle.table_steps.specs.Lefts.{FindsControl}
 use Rattle.table_steps.specs.Slots.{slot_of, kids_of, kept, IsSeated}
 use Rattle.table_steps.specs.Begins.{begins, CanBegin, HasRenewed, BeginsAt, start_shown}

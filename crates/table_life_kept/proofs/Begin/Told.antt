@@ -18,7 +18,8 @@ use Rattle.table_rules.specs.declared.cargo.Cargo.{Ghosts}
 use Rattle.table_rules.specs.declared.frame.Frame.{Frame}
 use Rattle.table_rules.specs.Running.{Running}
 use Rattle.table_steps.specs.Views.{aimed}
-use Rattle.table_steps.specs.Claims.{with_step, Seated}
+use Rattle.table_steps.specs.Claims.{with_step}
+use Rattle.table_steps.specs.Seats.{Seated}
 use Rattle.table_steps.specs.Lefts.{FoundControl, FindsControl, LeavesControl}
 use Rattle.table_steps.specs.Kids.{empty_slots}
 use Rattle.table_steps.specs.Slots.{Aim, slot_of, kids_of, kept, AreApart, IsSeated}

@@ -11,7 +11,8 @@ use Rattle.table_rules.specs.declared.view.View.{View}
 use Rattle.table_steps.specs.declared.block.Block.{Block}
 use Rattle.table_steps.specs.Slots.{Aim, slot_of}
 use Rattle.table_steps.specs.Views.{Board, aim_at}
-use Rattle.table_steps.specs.Claims.{Seated, IsUnnoted, logged, owes_root, root_name, word_index, Claimed, ClaimedFrom, Missed, MissedFrom, with_step}
+use Rattle.table_steps.specs.Claims.{IsUnnoted, logged, owes_root, root_name, word_index, Claimed, ClaimedFrom, Missed, MissedFrom, with_step}
+use Rattle.table_steps.specs.Seats.{Seated}
 
 pub won : (P E : Type 0) {O : Type 0} (board : Board O) (block found generation i was left : ℕ) (aim : Aim) (old new : Seat (Option P) (View P E)) →
     generation ≡ (block_read found).generation → i ≡ word_index board block → was ≡ found →

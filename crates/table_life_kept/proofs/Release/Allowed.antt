@@ -23,7 +23,8 @@ use Rattle.table_rules.specs.Running.{Running}
 use Rattle.table_rules.specs.Scenes.{Empty, home_in}
 use Rattle.table_rules.specs.ShownWords.{block_of, is_there}
 use Rattle.table_steps.specs.Views.{aimed}
-use Rattle.table_steps.specs.Claims.{with_step, Seated}
+use Rattle.table_steps.specs.Claims.{with_step}
+use Rattle.table_steps.specs.Seats.{Seated}
 use Rattle.table_steps.specs.Slots.{Aim, slot_of, is_of_family, has_slot, IsSeated}
 use Rattle.table_steps.specs.Sheds.{shed}
 use Rattle.table_steps.specs.Releases.{releases, is_own_slot, CanRelease, ReleasesAt, open_at, word_after, LeftEmpty, StayEmpty, TellsRelease, LeavesBlock}

@@ -17,7 +17,8 @@ use Rattle.table_rules.specs.Scenes.{shown}
 use Rattle.table_rules.specs.Running.{Running}
 use Rattle.table_steps.specs.Views.{aimed}
 use Rattle.table_steps.specs.Lefts.{less_one}
-use Rattle.table_steps.specs.Claims.{with_step, Seated}
+use Rattle.table_steps.specs.Claims.{with_step}
+use Rattle.table_steps.specs.Seats.{Seated}
 use Rattle.table_steps.specs.Slots.{Aim}
 use Rattle.table_steps.specs.Reports.{CanReport, reports_off, ReportsAt}
 use Rattle.table_kept.proofs.Standing.{Standing}

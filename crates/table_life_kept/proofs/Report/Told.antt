@@ -18,7 +18,8 @@ use Rattle.table_steps.specs.Views.{aimed}
 use Rattle.table_steps.specs.Lefts.{less_one}
 use Rattle.table_steps.specs.declared.report.Report.{Report}
 use Rattle.table_steps.specs.declared.report.Report.TheVariants.{Last, Others}
-use Rattle.table_steps.specs.Claims.{with_step, Seated}
+use Rattle.table_steps.specs.Claims.{with_step}
+use Rattle.table_steps.specs.Seats.{Seated}
 use Rattle.table_steps.specs.Slots.{Aim, IsSeated}
 use Rattle.table_steps.specs.Readings.{above_it}
 use Rattle.table_steps.specs.Reports.{CanReport, reports_off, LastAt, ReportsAt, IsReportedAs, CountsDown}

@@ -12,7 +12,7 @@ use Rattle.table_rules.specs.declared.cargo.Cargo.{Ghosts}
 use Rattle.table_rules.specs.declared.frame.Frame.{Frame}
 use Rattle.table_rules.specs.Running.{Running}
 use Rattle.table_steps.specs.Views.{aimed}
-use Rattle.table_steps.specs.Claims.{Seated}
+use Rattle.table_steps.specs.Seats.{Seated}
 use Rattle.table_steps.specs.Lefts.{FindsControl}
 use Rattle.table_steps.specs.Slots.{IsSeated}
 use Rattle.table_steps.specs.Rests.{CanRest, RestsAt}

@@ -18,7 +18,8 @@ use Rattle.table_rules.specs.declared.frame.Frame.{Frame}
 use Rattle.table_rules.specs.Running.{Running}
 use Rattle.table_steps.specs.Views.{aimed}
 use Rattle.table_steps.specs.Lefts.{SaysControl, FoundControl, FindsControl, LeavesControl}
-use Rattle.table_steps.specs.Claims.{logged, Seated, ListsOne}
+use Rattle.table_steps.specs.Claims.{logged, ListsOne}
+use Rattle.table_steps.specs.Seats.{Seated}
 use Rattle.table_steps.specs.Slots.{Aim, IsSeated}
 use Rattle.table_steps.specs.Rests.{CanRest, RestsAt}
 use Rattle.table_steps.specs.Takes.{MayServe, TakenAt, TakesAt, IsTaken, rest_word}

@@ -25,7 +25,8 @@ use Rattle.table_rules.specs.declared.view.View.{View}
 use Rattle.table_rules.specs.Scenes.{Full, shown, scene}
 use Rattle.table_rules.specs.Notes.{children_are_requested}
 use Rattle.table_rules.specs.Running.{Running}
-use Rattle.table_steps.specs.Claims.{with_step, logged, Seated}
+use Rattle.table_steps.specs.Claims.{with_step, logged}
+use Rattle.table_steps.specs.Seats.{Seated}
 use Rattle.table_steps.specs.Slots.{kids_of, IsSeated}
 use Rattle.table_steps.specs.Takes.{takes_node, TakenAt, TakesAt}
 use Rattle.table_kept.proofs.Standing.{Standing}

@@ -18,7 +18,8 @@ use Rattle.table_rules.specs.ShownWords.{is_there}
 use Rattle.table_rules.specs.Scenes.{Empty, home_in, scene}
 use Rattle.table_rules.specs.Running.{Stands, Running}
 use Rattle.table_steps.specs.Views.{aimed}
-use Rattle.table_steps.specs.Claims.{logged, Seated}
+use Rattle.table_steps.specs.Claims.{logged}
+use Rattle.table_steps.specs.Seats.{Seated}
 use Rattle.table_steps.specs.Slots.{Aim, slot_of, has_slot, kept, IsSeated}
 use Rattle.table_steps.specs.Sheds.{shed}
 use Rattle.table_steps.specs.Releases.{is_own_slot}

@@ -6,7 +6,7 @@ use Rattle.table_words.specs.Layouts.{OfControl, index}
 use Rattle.atomic_table.specs.Table.{rest}
 use Rattle.table_rules.specs.declared.frame.Frame.{Frame}
 use Rattle.table_steps.specs.Views.{aimed}
-use Rattle.table_steps.specs.Claims.{Seated}
+use Rattle.table_steps.specs.Seats.{Seated}
 use Rattle.table_steps.specs.Slots.{Aim, slot_of, IsSeated}
 use Rattle.table_steps.specs.Swaps.{TurnsTo, IsSwapped}
 

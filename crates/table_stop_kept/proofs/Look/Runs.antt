@@ -31,7 +31,7 @@ use Rattle.table_rules.specs.Scenes.{Scene, shown, scene}
 use Rattle.table_rules.specs.Homes.{HomesStand}
 use Rattle.table_rules.specs.Notes.{IsPast, IsPastSource, IsHeldSo, IsKnown, children_are_requested}
 use Rattle.table_rules.specs.Running.{Stands, Running}
-use Rattle.table_steps.specs.Claims.{Seated}
+use Rattle.table_steps.specs.Seats.{Seated}
 use Rattle.table_steps.specs.Slots.{IsSeated}
 use Rattle.table_steps.specs.Sights.{spot_of, says_requested, seen_after_now, unlooked_now, looks_at, LooksAt, MayLookAfter, StillAsked, AgreesWithTold, sees}
 use Rattle.table_kept.proofs.Standing.{Standing}

@@ -34,7 +34,8 @@ use Rattle.table_rules.specs.ShownViews.{shown_view}
 use Rattle.table_rules.specs.Scenes.{Scene, shown, scene}
 use Rattle.table_rules.specs.Items.{HasFailedChild}
 use Rattle.table_rules.specs.Running.{Running}
-use Rattle.table_steps.specs.Claims.{with_step, Seated}
+use Rattle.table_steps.specs.Claims.{with_step}
+use Rattle.table_steps.specs.Seats.{Seated}
 use Rattle.table_steps.specs.Slots.{IsSeated}
 use Rattle.table_steps.specs.Sights.{spot_of, has_one}
 use Rattle.table_steps.specs.Requests.{mask, asks, asks_at, AsksAt, IsWordOf, OwesFailed, MayAskScope, MayForward, HasAsked, MayRequest}

@@ -21,7 +21,8 @@ use Rattle.table_rules.specs.declared.view.View.{View}
 use Rattle.table_rules.specs.Scenes.{shown}
 use Rattle.table_rules.specs.Running.{Running}
 use Rattle.table_steps.specs.Views.{aimed}
-use Rattle.table_steps.specs.Claims.{with_step, logged, Seated}
+use Rattle.table_steps.specs.Claims.{with_step, logged}
+use Rattle.table_steps.specs.Seats.{Seated}
 use Rattle.table_steps.specs.ScanOrders.{hears}
 use Rattle.table_steps.specs.Runs.{says_armed, place_named, node_named, runs_place, passes_place, meets_at, CanRun, IsOfScan, IsNewest}
 use Rattle.table_kept.proofs.Standing.{Standing}

@@ -12,7 +12,8 @@ use Rattle.table_words.specs.Stamps.{stamp_of}
 use Rattle.atomic_table.specs.declared.shared.Seat.{Seat}
 use Rattle.table_rules.specs.declared.view.View.{View}
 use Rattle.table_steps.specs.Views.{Board, aim_at}
-use Rattle.table_steps.specs.Claims.{logged, Seated, with_step}
+use Rattle.table_steps.specs.Claims.{logged, with_step}
+use Rattle.table_steps.specs.Seats.{Seated}
 use Rattle.table_steps.specs.Slots.{Aim}
 use Rattle.table_steps.specs.Runs.{says_armed, place_named, node_named, run_index, runs_place, passes_place, last_of, reads_on, meets_at, CanRun, IsOfScan, IsNewest, RanFrom, PassedFrom, IsRunFrom, IsRun}
 

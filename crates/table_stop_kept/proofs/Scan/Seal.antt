@@ -34,7 +34,8 @@ use Rattle.table_rules.specs.ShownViews.{shown_view}
 use Rattle.table_rules.specs.Scenes.{Scene, shown, scene}
 use Rattle.table_rules.specs.Notes.{IsKnown}
 use Rattle.table_rules.specs.Running.{Running}
-use Rattle.table_steps.specs.Claims.{with_step, Seated}
+use Rattle.table_steps.specs.Claims.{with_step}
+use Rattle.table_steps.specs.Seats.{Seated}
 use Rattle.table_steps.specs.Slots.{IsSeated}
 use Rattle.table_steps.specs.Sights.{spot_of, says_requested, has_one}
 use Rattle.table_steps.specs.ScanSeals.{CanSealScan, seals_scan, SaysUnscanned, SealsScanAt}

@@ -33,7 +33,8 @@ use Rattle.table_rules.specs.Scenes.{Scene, shown, scene}
 use Rattle.table_rules.specs.Notes.{IsKnown}
 use Rattle.table_rules.specs.Running.{Running}
 use Rattle.table_steps.specs.Views.{aimed}
-use Rattle.table_steps.specs.Claims.{logged, Seated, ListsOne}
+use Rattle.table_steps.specs.Claims.{logged, ListsOne}
+use Rattle.table_steps.specs.Seats.{Seated}
 use Rattle.table_steps.specs.Slots.{Aim, IsSeated}
 use Rattle.table_steps.specs.Skips.{CanSkip, skips, says_free, skips_at}
 use Rattle.table_kept.proofs.Standing.{Standing}

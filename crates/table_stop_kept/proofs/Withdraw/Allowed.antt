@@ -25,7 +25,8 @@ use Rattle.table_rules.specs.declared.view.Held.{Held}
 use Rattle.table_rules.specs.Scenes.{shown}
 use Rattle.table_rules.specs.Running.{Running}
 use Rattle.table_steps.specs.Views.{aimed}
-use Rattle.table_steps.specs.Claims.{with_step, ListsOne, Seated}
+use Rattle.table_steps.specs.Claims.{with_step, ListsOne}
+use Rattle.table_steps.specs.Seats.{Seated}
 use Rattle.table_steps.specs.Slots.{Aim, IsSeated}
 use Rattle.table_steps.specs.Hearings.{UnderScope}
 use Rattle.table_steps.specs.Readings.{says_phase, notes_phase}

@@ -1,4 +1,4 @@
-use Rattle.std.proofs.Common.{◌≡◌, ◌≤◌, length, arith}
+use Rattle.std.proofs.Common.{◌≤◌, length, arith}
 use Rattle.exec_bulk.specs.Rows.{numbers_in}
 use Rattle.exec_bulk.proofs.Joined.{joins-none, joins-some}
 use Rattle.exec_bulk.proofs.Making.{numbers-none}
