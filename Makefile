@@ -1,7 +1,7 @@
 # `make try` runs the sample before any proof, in under a minute on four free cores.
 # `make run` proves exec_run and the libraries below it, side by side, and runs the sample; seconds later. On a new machine
-# with four free cores at 2.5 GHz it took 46 minutes by the clock and 136 of a processor (docs/GATE.md).
-# `make programs` proves exec_show and exec_join besides: all three took 28 minutes on a faster machine.
+# with four free cores at 2.5 GHz it took 29 minutes by the clock and 88 of a processor (docs/GATE.md).
+# `make programs` proves exec_show and exec_join besides: all three took 28 minutes on another machine.
 # `make test` is the gate: everything is proved, and the proved program is tested.
 # `make stress` runs the proved program some thousand times with 1 to 16 workers, for at most half an hour.
 # `make bench` measures the proved program, with mawk, jq and mlr beside it where they are installed (bench/measure.py),
