@@ -22,8 +22,8 @@ impl<S: Drop, V: Lists> Hand<S, V> {
         table: &'a StepTable<S, V, K, P>,
         slot: usize,
     ) -> &'a mut S
-        requires { (self.old.table_id ≡ table.now.table_id)
-            × ((old : S) × (self.old.me.1 ≡ (slot, old) ∷ rest self.old.me.1)) }
+        requires table { self.old.table_id ≡ table.now.table_id }
+        requires taken { (old : S) × (self.old.me.1 ≡ (slot, old) ∷ rest self.old.me.1) }
         ensures* writes_back { sem 𝓛 (follows (the_row S.row V.row V.Lists) S.row
             self.entry.ghost_name result.ghost_name (seat_with self.old slot)) }
         ensures value { self.old.me.1 ≡ (slot, result.now) ∷ rest self.old.me.1 }

@@ -15,9 +15,10 @@ use atomic_table::{Join, Play, Split, TableRule};
 impl<S: Drop, V: Lists, K, P: TableRule<S, V, K>> StepTable<S, V, K, P> {
     /// Reads the word, and leaves it.
     pub fn load<M: Play<S, V>>(&self, hand: &mut Hand<S, V>, word: usize) -> u64
-        requires { (hand.old.table_id ≡ self.now.table_id) × (word < self.now.table_id.words)
-            × Allows (P.holds self.now.key) self.now.table_id.slots hand.old.id hand.old.me word
-            (λ n. n) (λ n m. Listed V.steps V.splits word n n
+        requires table { hand.old.table_id ≡ self.now.table_id }
+        requires within { word < self.now.table_id.words }
+        requires allows { Allows (P.holds self.now.key) self.now.table_id.slots
+            hand.old.id hand.old.me word (λ n. n) (λ n m. Listed V.steps V.splits word n n
             (M.then (step self.now.table_id.slots word 0 0 none) hand.old.me n)
             hand.old.me m) }
         ensures { (hand.new.table_id ≡ hand.old.table_id) × (hand.new.id ≡ hand.old.id)
@@ -31,9 +32,10 @@ impl<S: Drop, V: Lists, K, P: TableRule<S, V, K>> StepTable<S, V, K, P> {
     /// Writes the word, and lists what it found there: so it is a swap, which costs the same on
     /// this processor.
     pub fn store<M: Play<S, V>>(&self, hand: &mut Hand<S, V>, word: usize, new: u64)
-        requires { (hand.old.table_id ≡ self.now.table_id) × (word < self.now.table_id.words)
-            × Allows (P.holds self.now.key) self.now.table_id.slots hand.old.id hand.old.me word
-            (λ _. new) (λ n m. Listed V.steps V.splits word n new
+        requires table { hand.old.table_id ≡ self.now.table_id }
+        requires within { word < self.now.table_id.words }
+        requires allows { Allows (P.holds self.now.key) self.now.table_id.slots
+            hand.old.id hand.old.me word (λ _. new) (λ n m. Listed V.steps V.splits word n new
             (M.then (step self.now.table_id.slots word new 0 none) hand.old.me n)
             hand.old.me m) }
         ensures { (hand.new.table_id ≡ hand.old.table_id) × (hand.new.id ≡ hand.old.id)
@@ -47,9 +49,11 @@ impl<S: Drop, V: Lists, K, P: TableRule<S, V, K>> StepTable<S, V, K, P> {
 
     /// Reads the word, and sets these bits in it.
     pub fn fetch_or<M: Play<S, V>>(&self, hand: &mut Hand<S, V>, word: usize, bits: u64) -> u64
-        requires { (hand.old.table_id ≡ self.now.table_id) × (word < self.now.table_id.words)
-            × Allows (P.holds self.now.key) self.now.table_id.slots hand.old.id hand.old.me word
-            (λ n. bit_or n bits) (λ n m. Listed V.steps V.splits word n (bit_or n bits)
+        requires table { hand.old.table_id ≡ self.now.table_id }
+        requires within { word < self.now.table_id.words }
+        requires allows { Allows (P.holds self.now.key) self.now.table_id.slots
+            hand.old.id hand.old.me word (λ n. bit_or n bits)
+            (λ n m. Listed V.steps V.splits word n (bit_or n bits)
             (M.then (step self.now.table_id.slots word bits 0 none) hand.old.me n)
             hand.old.me m) }
         ensures { (hand.new.table_id ≡ hand.old.table_id) × (hand.new.id ≡ hand.old.id)
@@ -63,9 +67,10 @@ impl<S: Drop, V: Lists, K, P: TableRule<S, V, K>> StepTable<S, V, K, P> {
 
     /// Reads the word, and adds to it, modulo 2^64.
     pub fn fetch_add<M: Play<S, V>>(&self, hand: &mut Hand<S, V>, word: usize, more: u64) -> u64
-        requires { (hand.old.table_id ≡ self.now.table_id) × (word < self.now.table_id.words)
-            × Allows (P.holds self.now.key) self.now.table_id.slots hand.old.id hand.old.me word
-            (λ n. (n + more) % 2 ^ 64)
+        requires table { hand.old.table_id ≡ self.now.table_id }
+        requires within { word < self.now.table_id.words }
+        requires allows { Allows (P.holds self.now.key) self.now.table_id.slots
+            hand.old.id hand.old.me word (λ n. (n + more) % 2 ^ 64)
             (λ n m. Listed V.steps V.splits word n ((n + more) % 2 ^ 64)
             (M.then (step self.now.table_id.slots word more 0 none) hand.old.me n)
             hand.old.me m) }
@@ -80,9 +85,10 @@ impl<S: Drop, V: Lists, K, P: TableRule<S, V, K>> StepTable<S, V, K, P> {
 
     /// Reads the word, and subtracts from it, modulo 2^64.
     pub fn fetch_sub<M: Play<S, V>>(&self, hand: &mut Hand<S, V>, word: usize, less: u64) -> u64
-        requires { (hand.old.table_id ≡ self.now.table_id) × (word < self.now.table_id.words)
-            × Allows (P.holds self.now.key) self.now.table_id.slots hand.old.id hand.old.me word
-            (λ n. (n + (2 ^ 64 - less)) % 2 ^ 64)
+        requires table { hand.old.table_id ≡ self.now.table_id }
+        requires within { word < self.now.table_id.words }
+        requires allows { Allows (P.holds self.now.key) self.now.table_id.slots
+            hand.old.id hand.old.me word (λ n. (n + (2 ^ 64 - less)) % 2 ^ 64)
             (λ n m. Listed V.steps V.splits word n ((n + (2 ^ 64 - less)) % 2 ^ 64)
             (M.then (step self.now.table_id.slots word less 0 none) hand.old.me n)
             hand.old.me m) }
@@ -103,9 +109,10 @@ impl<S: Drop, V: Lists, K, P: TableRule<S, V, K>> StepTable<S, V, K, P> {
         old: u64,
         new: u64,
     ) -> u64
-        requires { (hand.old.table_id ≡ self.now.table_id) × (word < self.now.table_id.words)
-            × Allows (P.holds self.now.key) self.now.table_id.slots hand.old.id hand.old.me word
-            (λ n. either (n == old) new n)
+        requires table { hand.old.table_id ≡ self.now.table_id }
+        requires within { word < self.now.table_id.words }
+        requires allows { Allows (P.holds self.now.key) self.now.table_id.slots
+            hand.old.id hand.old.me word (λ n. either (n == old) new n)
             (λ n m. Listed V.steps V.splits word n (either (n == old) new n)
             (M.then (step self.now.table_id.slots word old new none) hand.old.me n)
             hand.old.me m) }

@@ -1,5 +1,5 @@
 -- A hand remembers the same after a step that changed neither what it owes nor what it runs.
-use Rattle.std.proofs.Common.{◌≡◌, ℕ, Bool, true, false, cond, ◌+◌, ◌-◌, List, refl, ap, ◌∙◌, inl, inr}
+use Rattle.std.proofs.Common.{◌≡◌, ℕ, ◌∷◌, Bool, true, false, cond, ◌+◌, ◌-◌, List, refl, ap, ◌∙◌, inl, inr}
 use Rattle.std.specs.Prelude.{Option, nat_le}
 use Rattle.node_tree.specs.declared.node.TreeNode.{TreeNode}
 use Rattle.life_rules.specs.declared.event.Name.{Name}
@@ -11,6 +11,7 @@ use Rattle.life_rules.specs.Words.{is_armed}
 use Rattle.life_rules.specs.Scopes.{is_refused}
 use Rattle.node_tree.specs.Tree.{is_root}
 use Rattle.common_lemmas.proofs.Bool.{either}
+use Rattle.atomic_table.specs.Table.{rest}
 use Rattle.atomic_table.specs.declared.shared.Seat.{Seat}
 use Rattle.name_set.specs.Sets.{Marks}
 use Rattle.table_rules.specs.declared.cargo.Cargo.{Ghosts}
@@ -27,6 +28,7 @@ use Rattle.table_steps.specs.Readings.{says_begun, notes_idle, notes_phase}
 use Rattle.table_steps.specs.Callbacks.{learns, withdraws}
 use Rattle.table_steps.specs.Skips.{says_free, skips}
 use Rattle.table_steps.specs.Slots.{Aim}
+use Rattle.table_steps.specs.Swaps.{TurnsTo}
 use Rattle.table_steps.specs.Finishes.{FinishesAt}
 use Rattle.table_steps.specs.Takes.{IsTaken}
 use Rattle.table_steps.specs.Reports.{IsReportedAs}
@@ -125,3 +127,14 @@ module _ {P E : Type 0} where
     remembers-moved stays did same =
         remembers-still stays.same.0
         (ap (λ m. m.0.owed) did.me_is ∙ same.0, ap (λ m. m.0.runs) did.me_is ∙ same.1)
+
+  -- after a load that turned the hand to a home, whatever is left there
+  pub remembers-turned : {seat : Seat (Option P) (View P E)} {starts callbacks : Marks}
+      {aim : Aim} {i word : ℕ} (turned : Seat (Option P) (View P E)) →
+      Remembers seat starts callbacks → turned.table_id ≡ seat.table_id →
+      TurnsTo aim i word seat.me turned.me → (slot : ℕ) (left : Option P) →
+      Remembers (record turned { me = (turned.me.0, (slot, left) ∷ rest turned.me.1) })
+      starts callbacks
+  remembers-turned turned was table did slot left =
+      remembers-still was table
+      (ap (λ m. m.0.owed) did.me_is, ap (λ m. m.0.runs) did.me_is)

@@ -9,19 +9,24 @@ use Rattle.table_hands_kept.proofs.Hands.{hand-seated}
 use Rattle.table_stop_kept.proofs.ArmRuns.{arms-at, arm-seated}
 use Rattle.op_table.proofs.table.OpTable.arm_at.Goals as goal
 
-pub store-requires : goal.store-requires
-store-requires g c =
+pub store-requires-clause-table : goal.store-requires-clause-table
+store-requires-clause-table g c =
+    c.requires.table.table_is ∙ sym (ap (λ b. b.table_id) c.self.view_is)
+
+pub store-requires-clause-within : goal.store-requires-clause-within
+store-requires-clause-within g c =
     let counts = c.self.invariant.2 in
-    let within = c.callback-index.ensures.within in (
-      c.requires.table.table_is ∙ sym (ap (λ b. b.table_id) c.self.view_is),
-      omega (arith, counts, within),
-      arms-at g.P.Cargo c.args.self.now.frame c.self.inside.table.key _ c.args.seat.now.id
-          c.callback-index.result c.callback_number-armed.result c.args.name g.K.Subject.aim.name c.args.seat.now.me
-          (sym (ap (λ b. b.frame) c.self.view_is) ∙ sym c.self.invariant.0)
-          (c.callback-index.ensures.value ∙ ap (λ b. index b.frame.layout (OfCallback c.args.name.block c.args.name.node)) c.self.view_is)
-          (ap (λ a. a.name) c.requires.subject) c.requires.needs
-          c.callback_number-armed.ensures.stamp c.callback_number-armed.ensures.phase c.requires.table.seated.itself,
-    )
+    let within = c.callback-index.ensures.within in
+    omega (arith, counts, within)
+
+pub store-requires-clause-allows : goal.store-requires-clause-allows
+store-requires-clause-allows g c =
+    arms-at g.P.Cargo c.args.self.now.frame c.self.inside.table.key _ c.args.seat.now.id
+    c.callback-index.result c.callback_number-armed.result c.args.name g.K.Subject.aim.name c.args.seat.now.me
+    (sym (ap (λ b. b.frame) c.self.view_is) ∙ sym c.self.invariant.0)
+    (c.callback-index.ensures.value ∙ ap (λ b. index b.frame.layout (OfCallback c.args.name.block c.args.name.node)) c.self.view_is)
+    (ap (λ a. a.name) c.requires.subject) c.requires.needs
+    c.callback_number-armed.ensures.stamp c.callback_number-armed.ensures.phase c.requires.table.seated.itself
 
 pub returns-clause-stays : goal.returns-clause-stays
 returns-clause-stays g c =

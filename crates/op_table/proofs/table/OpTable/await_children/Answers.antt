@@ -1,5 +1,7 @@
 use Rattle.std.proofs.Common.{◌≡◌, length, sym, ap, ◌∙◌, subst}
 use Rattle.table_steps.specs.Awaits.{CanAwait}
+use Rattle.table_steps.specs.Steps.{Awaited}
+use Rattle.table_steps.specs.Views.{IsHandOf, Stays}
 use Rattle.table_kept.proofs.Remembering.{IsLaid, places-here, of-its_block}
 use Rattle.table_life_kept.proofs.RememberTold.{remembers-awaited, named-places}
 use Rattle.op_table.proofs.table.OpTable.await_children.Goals as goal
@@ -34,3 +36,22 @@ invariant_of-hand g c =
     g.P.Cargo _ _ _ c.args.name c.args.children.now
     (subst (λ s. CanAwait g.P.Cargo c.args.self.now.frame s.me c.args.name c.args.children.now) (sym c.hand.view_is) c.requires.needs)
     c.await_at.ensures.awaits.did c.add_children.ensures.added
+
+pub await_at-requires-clause-table : goal.await_at-requires-clause-table
+await_at-requires-clause-table g c κs _ =
+    subst (IsHandOf c.args.self.now) (sym c.hand.view_is) c.requires.table
+
+pub await_at-requires-clause-needs : goal.await_at-requires-clause-needs
+await_at-requires-clause-needs g c κs _ =
+    subst (λ s. CanAwait g.P.Cargo c.args.self.now.frame s.me c.args.name c.args.children.now)
+    (sym c.hand.view_is) c.requires.needs
+
+pub returns-clause-stays : goal.returns-clause-stays
+returns-clause-stays g c =
+    subst (λ s. Stays c.args.self.now s c.await_at.new.seat) c.hand.view_is c.await_at.ensures.stays
+
+pub returns-clause-awaits : goal.returns-clause-awaits
+returns-clause-awaits g c =
+    subst (λ s. Awaited c.args.self.now c.args.name s c.await_at.new.seat g.P.Cargo
+    c.args.children.now)
+    c.hand.view_is c.await_at.ensures.awaits

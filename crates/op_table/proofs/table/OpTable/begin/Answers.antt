@@ -1,5 +1,5 @@
 use Rattle.std.proofs.Common.{sym, ◌∙◌, subst}
-use Rattle.table_steps.specs.Views.{aim_at}
+use Rattle.table_steps.specs.Views.{aim_at, IsHandOf, Stays}
 use Rattle.table_steps.specs.Begins.{CanBegin, Begins}
 use Rattle.table_life_kept.proofs.Begin.Told.{can-renewed, has-renewed, begun-goes-on}
 use Rattle.table_kept.proofs.Remembering.{has-owed}
@@ -51,4 +51,23 @@ returns-clause-begun g c =
       began = c.begin_at.ensures.begun;
       goes_on = begun-goes-on g.P.Cargo c.args.self.now.frame _ _ _ c.args.name c.hand.inside.seat.me c.renew.new.seat.me
           c.begin_at.new.seat.me can c.renew.ensures.renewed c.begin_at.ensures.begun.did c.begin_at.ensures.stays.hand.seated;
+    })
+
+pub renew-requires-clause-table : goal.renew-requires-clause-table
+renew-requires-clause-table g c =
+    λ κs _. subst (IsHandOf c.args.self.now) (sym c.hand.view_is) c.requires.table
+
+pub renew-requires-clause-needs : goal.renew-requires-clause-needs
+renew-requires-clause-needs g c =
+    λ κs _. subst (λ s. CanBegin g.P.Cargo c.args.self.now.frame s.me c.args.name)
+    (sym c.hand.view_is) c.requires.needs
+
+pub returns-clause-stays : goal.returns-clause-stays
+returns-clause-stays g c =
+    let last = c.begin_at.ensures.stays in
+    let first = c.renew.ensures.stays in
+    subst (λ s. Stays c.args.self.now s c.begin_at.new.seat) c.hand.view_is
+    (record {
+      same = (last.same.0 ∙ first.same.0, last.same.1 ∙ first.same.1);
+      hand = last.hand;
     })

@@ -1,6 +1,6 @@
 use Rattle.std.proofs.Common.{◌≡◌, length, refl, sym, ◌∙◌, subst}
 use Rattle.life_rules.specs.Views.{beside}
-use Rattle.table_steps.specs.Views.{aim_at}
+use Rattle.table_steps.specs.Views.{aim_at, IsHandOf, Stays}
 use Rattle.table_life_kept.proofs.Begin.Told.{can-renewed, has-renewed, begun-goes-on}
 use Rattle.op_table.specs.OnlyChild.{CanBeginChild, BeginsChild}
 use Rattle.op_table.proofs.OnlyChild.{child-place, still-empty, then-begins, remembers-child}
@@ -77,4 +77,23 @@ returns-clause-begins g c =
             c.renew.new.seat.me c.begin_at.new.seat.me begins c.renew.ensures.renewed c.begin_at.ensures.begun.did
             c.begin_at.ensures.stays.hand.seated;
       };
+    })
+
+pub await_at-requires-clause-table : goal.await_at-requires-clause-table
+await_at-requires-clause-table g c =
+    λ κs _. subst (IsHandOf c.args.self.now) (sym c.hand.view_is) c.requires.table
+
+pub returns-clause-stays : goal.returns-clause-stays
+returns-clause-stays g c =
+    let begun = c.begin_at.ensures.stays in
+    let renewed = c.renew.ensures.stays.same in
+    let filled = c.fill_at.ensures.stays.same in
+    let waiting = c.await_at.ensures.stays.same in
+    subst (λ s. Stays c.args.self.now s c.begin_at.new.seat) c.hand.view_is
+    (record {
+      same = (
+        begun.same.0 ∙ renewed.0 ∙ filled.0 ∙ waiting.0,
+        begun.same.1 ∙ renewed.1 ∙ filled.1 ∙ waiting.1,
+      );
+      hand = begun.hand;
     })

@@ -7,15 +7,20 @@ use Rattle.table_hands_kept.proofs.Hands.{hand-logged}
 use Rattle.table_life_kept.proofs.Claim.Told.{told, seen_at}
 use Rattle.op_table.proofs.table.OpTable.claim_at.Goals as goal
 
-pub load-found-requires : goal.load-found-requires
-load-found-requires g c =
+pub load-found-requires-clause-table : goal.load-found-requires-clause-table
+load-found-requires-clause-table g c =
+    c.requires.table.table_is ∙ sym (ap (λ b. b.table_id) c.self.view_is)
+
+pub load-found-requires-clause-within : goal.load-found-requires-clause-within
+load-found-requires-clause-within g c =
     let counts = c.self.invariant.2 in
-    let within = c.block-index.ensures.within in (
-      c.requires.table.table_is ∙ sym (ap (λ b. b.table_id) c.self.view_is),
-      omega (arith, counts, within),
-      looks_allowed g.P.Cargo c.self.inside.table.key _ c.args.seat.now.id c.block-index.result
-          c.args.seat.now.me.0 c.args.seat.now.me.1 c.requires.table.seated.itself,
-    )
+    let within = c.block-index.ensures.within in
+    omega (arith, counts, within)
+
+pub load-found-requires-clause-allows : goal.load-found-requires-clause-allows
+load-found-requires-clause-allows g c =
+    looks_allowed g.P.Cargo c.self.inside.table.key _ c.args.seat.now.id c.block-index.result
+    c.args.seat.now.me.0 c.args.seat.now.me.1 c.requires.table.seated.itself
 
 pub returns-in-Free-clause-claimed : goal.returns-in-Free-clause-claimed
 returns-in-Free-clause-claimed g c =
@@ -46,3 +51,9 @@ returns-in-Open g c =
       });
       owed = tt;
     }
+
+pub claim_from-requires-clause-table : goal.claim_from-requires-clause-table
+claim_from-requires-clause-table g c κs _ = (
+    hand-logged c.args.self.now c.args.seat.now c.load-found.new.hand c.requires.table
+    (c.load-found.ensures.0, c.load-found.ensures.1) c.block-index.result c.load-found.result
+    c.load-found.ensures.2.rest).hand

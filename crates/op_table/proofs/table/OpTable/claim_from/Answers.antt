@@ -9,21 +9,26 @@ use Rattle.table_life_kept.proofs.Claim.Allowed.{claims_at}
 use Rattle.table_life_kept.proofs.Claim.Told.{won}
 use Rattle.op_table.proofs.table.OpTable.claim_from.Goals as goal
 
-pub compare_exchange-was-requires : goal.compare_exchange-was-requires
-compare_exchange-was-requires g c =
-    let frame = sym (ap (λ b. b.frame) c.self.view_is) ∙ sym c.self.invariant.0 in
+pub compare_exchange-was-requires-clause-table : goal.compare_exchange-was-requires-clause-table
+compare_exchange-was-requires-clause-table g c =
+    c.requires.table.table_is ∙ sym (ap (λ b. b.table_id) c.self.view_is)
+
+pub compare_exchange-was-requires-clause-within : goal.compare_exchange-was-requires-clause-within
+compare_exchange-was-requires-clause-within g c =
     let counts = c.self.invariant.2 in
-    let within = c.block-index.ensures.within in (
-      c.requires.table.table_is ∙ sym (ap (λ b. b.table_id) c.self.view_is),
-      omega (arith, counts, within),
-      claims_at g.P.Cargo c.args.self.now.frame c.self.inside.table.key _ c.args.seat.now.id c.args.block
-          c.block-index.result c.args.found c.block_number-open.result c.args.seat.now.me
-          (root_name c.args.self.now c.args.block (block_read c.args.found).generation) g.K.Subject.aim frame
-          c.requires.table.seated.itself c.requires.block (c.block-index.ensures.value ∙ ap (λ b. index b.frame.layout (OfBlock c.args.block)) c.self.view_is) c.requires.free
-          (c.block_number-open.ensures.reads
-          ∙ ap (λ (n : ℕ). record { generation = n; state = Open }) c.stamp-generation.ensures)
-          refl c.requires.subject c.requires.table.seated.itself,
-    )
+    let within = c.block-index.ensures.within in
+    omega (arith, counts, within)
+
+pub compare_exchange-was-requires-clause-allows : goal.compare_exchange-was-requires-clause-allows
+compare_exchange-was-requires-clause-allows g c =
+    let frame = sym (ap (λ b. b.frame) c.self.view_is) ∙ sym c.self.invariant.0 in
+    claims_at g.P.Cargo c.args.self.now.frame c.self.inside.table.key _ c.args.seat.now.id c.args.block
+    c.block-index.result c.args.found c.block_number-open.result c.args.seat.now.me
+    (root_name c.args.self.now c.args.block (block_read c.args.found).generation) g.K.Subject.aim frame
+    c.requires.table.seated.itself c.requires.block (c.block-index.ensures.value ∙ ap (λ b. index b.frame.layout (OfBlock c.args.block)) c.self.view_is) c.requires.free
+    (c.block_number-open.ensures.reads
+    ∙ ap (λ (n : ℕ). record { generation = n; state = Open }) c.stamp-generation.ensures)
+    refl c.requires.subject c.requires.table.seated.itself
 
 pub returns-then-was-found-clause-claimed : goal.returns-then-was-found-clause-claimed
 returns-then-was-found-clause-claimed g c =

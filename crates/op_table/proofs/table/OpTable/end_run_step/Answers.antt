@@ -1,5 +1,6 @@
 use Rattle.std.proofs.Common.{sym, ap, subst}
-use Rattle.table_steps.specs.RunEnds.{CanEndRun}
+use Rattle.table_steps.specs.RunEnds.{CanEndRun, IsRunEnded}
+use Rattle.table_steps.specs.Views.{IsHandOf, Stays}
 use Rattle.table_stop_kept.proofs.Run.Remembered.{has-run, remembers-ended}
 use Rattle.op_table.proofs.table.OpTable.end_run_step.Goals as goal
 
@@ -15,3 +16,20 @@ invariant_of-hand g c =
     remembers-ended c.hand.inside.seat c.hand.inside.owed c.hand.inside.runs c.hand.invariant c.end_run_at.new.seat
     c.remove.new.self c.end_run_at.ensures.stays.same.0 c.remove.ensures.layout (ap (λ m. m.0.owed) left) c.args.name can.runs
     (ap (λ m. m.0.runs) left) c.remove.ensures.has
+
+pub end_run_at-requires-clause-table : goal.end_run_at-requires-clause-table
+end_run_at-requires-clause-table g c κs _ =
+    subst (IsHandOf c.args.self.now) (sym c.hand.view_is) c.requires.table
+
+pub end_run_at-requires-clause-needs : goal.end_run_at-requires-clause-needs
+end_run_at-requires-clause-needs g c κs _ =
+    subst (λ s. CanEndRun s.me.0 c.args.name) (sym c.hand.view_is) c.requires.needs
+
+pub returns-clause-stays : goal.returns-clause-stays
+returns-clause-stays g c =
+    subst (λ s. Stays c.args.self.now s c.end_run_at.new.seat) c.hand.view_is c.end_run_at.ensures.stays
+
+pub returns-clause-ended : goal.returns-clause-ended
+returns-clause-ended g c =
+    subst (λ s. IsRunEnded c.args.self.now c.args.name s c.end_run_at.new.seat) c.hand.view_is
+    c.end_run_at.ensures.ended

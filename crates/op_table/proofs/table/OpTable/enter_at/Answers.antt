@@ -10,15 +10,20 @@ use Rattle.table_hands_kept.proofs.Hands.{hand-seated}
 use Rattle.table_scope_kept.proofs.EnterRuns.{enters-at, entered-seated}
 use Rattle.op_table.proofs.table.OpTable.enter_at.Goals as goal
 
-pub fetch_add-word-requires : goal.fetch_add-word-requires
-fetch_add-word-requires g c =
-    let counts = c.self.invariant.2 in (
-      c.requires.table.table_is ∙ sym (ap (λ b. b.table_id) c.self.view_is),
-      omega (arith, counts),
-      enters-at g.P.Cargo c.args.self.now.frame c.self.inside.table.key _ c.args.seat.now.id g.K.Room.most c.args.seat.now.me
-          (sym (ap (λ b. b.frame) c.self.view_is) ∙ sym c.self.invariant.0)
-          c.requires.room (subst (λ b. b.frame.most ≤ MOST_ASSOCIATIONS) c.self.view_is c.self.invariant.1.most) c.requires.enters c.requires.table.seated.itself,
-    )
+pub fetch_add-word-requires-clause-table : goal.fetch_add-word-requires-clause-table
+fetch_add-word-requires-clause-table g c =
+    c.requires.table.table_is ∙ sym (ap (λ b. b.table_id) c.self.view_is)
+
+pub fetch_add-word-requires-clause-within : goal.fetch_add-word-requires-clause-within
+fetch_add-word-requires-clause-within g c =
+    let counts = c.self.invariant.2 in
+    omega (arith, counts)
+
+pub fetch_add-word-requires-clause-allows : goal.fetch_add-word-requires-clause-allows
+fetch_add-word-requires-clause-allows g c =
+    enters-at g.P.Cargo c.args.self.now.frame c.self.inside.table.key _ c.args.seat.now.id g.K.Room.most c.args.seat.now.me
+    (sym (ap (λ b. b.frame) c.self.view_is) ∙ sym c.self.invariant.0)
+    c.requires.room (subst (λ b. b.frame.most ≤ MOST_ASSOCIATIONS) c.self.view_is c.self.invariant.1.most) c.requires.enters c.requires.table.seated.itself
 
 pub returns-clause-stays : goal.returns-clause-stays
 returns-clause-stays g c =

@@ -11,14 +11,16 @@ use Rattle.op_table.proofs.table.OpTable.fill_at.Goals as goal
 pub turn_to-slot-requires-clause-home : goal.turn_to-slot-requires-clause-home
 turn_to-slot-requires-clause-home g c = λ κs _. record { inside = None; home = c.requires.empty }
 
-pub slot_mut-home-requires : goal.slot_mut-home-requires
-slot_mut-home-requires g c = (
-  c.turn_to-slot.ensures.same.0 ∙ (c.requires.table.table_is ∙ sym (ap (λ b. b.table_id) c.self.view_is)),
-  turned-first c.turn_to-slot.result (aim_at c.args.self.now c.args.name)
-      (index c.args.self.now.frame.layout (OfControl c.args.name.block c.args.name.node))
-      c.turn_to-slot.ensures.turned.0 c.args.seat.now.me c.turn_to-slot.new.seat.me
-      c.turn_to-slot.ensures.turned.1 c.turn_to-slot.ensures.slot,
-)
+pub slot_mut-home-requires-clause-table : goal.slot_mut-home-requires-clause-table
+slot_mut-home-requires-clause-table g c =
+    c.turn_to-slot.ensures.same.0 ∙ (c.requires.table.table_is ∙ sym (ap (λ b. b.table_id) c.self.view_is))
+
+pub slot_mut-home-requires-clause-taken : goal.slot_mut-home-requires-clause-taken
+slot_mut-home-requires-clause-taken g c =
+    turned-first c.turn_to-slot.result (aim_at c.args.self.now c.args.name)
+    (index c.args.self.now.frame.layout (OfControl c.args.name.block c.args.name.node))
+    c.turn_to-slot.ensures.turned.0 c.args.seat.now.me c.turn_to-slot.new.seat.me
+    c.turn_to-slot.ensures.turned.1 c.turn_to-slot.ensures.slot
 
 pub unreachable-requires : goal.unreachable-requires
 unreachable-requires g c =

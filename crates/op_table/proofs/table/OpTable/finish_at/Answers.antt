@@ -4,19 +4,24 @@ use Rattle.table_hands_kept.proofs.Hands.{hand-aimed}
 use Rattle.table_life_kept.proofs.Finish.Allowed.{finishes-at, finishes-told, finished-seated}
 use Rattle.op_table.proofs.table.OpTable.finish_at.Goals as goal
 
-pub store-requires : goal.store-requires
-store-requires g c =
+pub store-requires-clause-table : goal.store-requires-clause-table
+store-requires-clause-table g c =
+    c.requires.table.table_is ∙ sym (ap (λ b. b.table_id) c.self.view_is)
+
+pub store-requires-clause-within : goal.store-requires-clause-within
+store-requires-clause-within g c =
     let counts = c.self.invariant.2 in
-    let within = c.control-index.ensures.within in (
-      c.requires.table.table_is ∙ sym (ap (λ b. b.table_id) c.self.view_is),
-      omega (arith, counts, within),
-      finishes-at g.P.Cargo c.args.self.now.frame c.self.inside.table.key _ c.args.seat.now.id
-          c.control-index.result c.control_number-done.result c.args.name g.K.Subject.aim c.args.seat.now.me
-          (sym (ap (λ b. b.frame) c.self.view_is) ∙ sym c.self.invariant.0)
-          (c.control-index.ensures.value ∙ ap (λ b. index b.frame.layout (OfControl c.args.name.block c.args.name.node)) c.self.view_is)
-          c.requires.subject c.requires.table.seated c.requires.needs c.control_number-done.ensures.stamp
-          c.control_number-done.ensures.control c.requires.table.seated.itself,
-    )
+    let within = c.control-index.ensures.within in
+    omega (arith, counts, within)
+
+pub store-requires-clause-allows : goal.store-requires-clause-allows
+store-requires-clause-allows g c =
+    finishes-at g.P.Cargo c.args.self.now.frame c.self.inside.table.key _ c.args.seat.now.id
+    c.control-index.result c.control_number-done.result c.args.name g.K.Subject.aim c.args.seat.now.me
+    (sym (ap (λ b. b.frame) c.self.view_is) ∙ sym c.self.invariant.0)
+    (c.control-index.ensures.value ∙ ap (λ b. index b.frame.layout (OfControl c.args.name.block c.args.name.node)) c.self.view_is)
+    c.requires.subject c.requires.table.seated c.requires.needs c.control_number-done.ensures.stamp
+    c.control_number-done.ensures.control c.requires.table.seated.itself
 
 pub returns-clause-finished : goal.returns-clause-finished
 returns-clause-finished g c =

@@ -6,13 +6,18 @@ use Rattle.table_hands_kept.proofs.Hands.{hand-listed}
 use Rattle.table_scope_kept.proofs.ScopeLeft.{sets-joining}
 use Rattle.op_table.proofs.table.OpTable.join_at.Goals as goal
 
-pub fetch_or-word-requires : goal.fetch_or-word-requires
-fetch_or-word-requires g c =
-    let counts = c.self.invariant.2 in (
-      c.requires.table.table_is ∙ sym (ap (λ b. b.table_id) c.self.view_is),
-      omega (arith, counts),
-      sets-joining g.P.Cargo c.self.inside.table.key _ c.args.seat.now.id c.args.seat.now.me c.requires.table.seated.itself,
-    )
+pub fetch_or-word-requires-clause-table : goal.fetch_or-word-requires-clause-table
+fetch_or-word-requires-clause-table g c =
+    c.requires.table.table_is ∙ sym (ap (λ b. b.table_id) c.self.view_is)
+
+pub fetch_or-word-requires-clause-within : goal.fetch_or-word-requires-clause-within
+fetch_or-word-requires-clause-within g c =
+    let counts = c.self.invariant.2 in
+    omega (arith, counts)
+
+pub fetch_or-word-requires-clause-allows : goal.fetch_or-word-requires-clause-allows
+fetch_or-word-requires-clause-allows g c =
+    sets-joining g.P.Cargo c.self.inside.table.key _ c.args.seat.now.id c.args.seat.now.me c.requires.table.seated.itself
 
 pub returns-clause-stays : goal.returns-clause-stays
 returns-clause-stays g c =

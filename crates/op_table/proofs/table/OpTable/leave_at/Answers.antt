@@ -6,13 +6,18 @@ use Rattle.table_hands_kept.proofs.Hands.{hand-seated}
 use Rattle.table_scope_kept.proofs.ScopeAllowed.{leaves_allowed, left-seated}
 use Rattle.op_table.proofs.table.OpTable.leave_at.Goals as goal
 
-pub fetch_sub-word-requires : goal.fetch_sub-word-requires
-fetch_sub-word-requires g c =
-    let counts = c.self.invariant.2 in (
-      c.requires.table.table_is ∙ sym (ap (λ b. b.table_id) c.self.view_is),
-      omega (arith, counts),
-      leaves_allowed g.P.Cargo c.self.inside.table.key _ c.args.seat.now.id c.args.seat.now.me c.requires.leaves c.requires.table.seated.itself,
-    )
+pub fetch_sub-word-requires-clause-table : goal.fetch_sub-word-requires-clause-table
+fetch_sub-word-requires-clause-table g c =
+    c.requires.table.table_is ∙ sym (ap (λ b. b.table_id) c.self.view_is)
+
+pub fetch_sub-word-requires-clause-within : goal.fetch_sub-word-requires-clause-within
+fetch_sub-word-requires-clause-within g c =
+    let counts = c.self.invariant.2 in
+    omega (arith, counts)
+
+pub fetch_sub-word-requires-clause-allows : goal.fetch_sub-word-requires-clause-allows
+fetch_sub-word-requires-clause-allows g c =
+    leaves_allowed g.P.Cargo c.self.inside.table.key _ c.args.seat.now.id c.args.seat.now.me c.requires.leaves c.requires.table.seated.itself
 
 pub returns-clause-stays : goal.returns-clause-stays
 returns-clause-stays g c =

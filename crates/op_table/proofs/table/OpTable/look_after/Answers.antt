@@ -6,18 +6,23 @@ use Rattle.table_hands_kept.proofs.Hands.{hand-seated}
 use Rattle.table_stop_kept.proofs.Look.Runs.{look-at, look-seated}
 use Rattle.op_table.proofs.table.OpTable.look_after.Goals as goal
 
-pub load-word-requires : goal.load-word-requires
-load-word-requires g c =
+pub load-word-requires-clause-table : goal.load-word-requires-clause-table
+load-word-requires-clause-table g c =
+    c.requires.table.table_is ∙ sym (ap (λ b. b.table_id) c.self.view_is)
+
+pub load-word-requires-clause-within : goal.load-word-requires-clause-within
+load-word-requires-clause-within g c =
     let counts = c.self.invariant.2 in
-    let within = c.source_index-index.ensures.within in (
-      c.requires.table.table_is ∙ sym (ap (λ b. b.table_id) c.self.view_is),
-      omega (arith, counts, within),
-      look-at g.P.Cargo c.args.self.now.frame c.self.inside.table.key _ c.args.seat.now.id
-          c.source_index-index.result g.K.Regard.tree c.args.source g.K.Regard.source c.args.after g.K.Regard.after c.args.seat.now.me
-          (sym (ap (λ b. b.frame) c.self.view_is) ∙ sym c.self.invariant.0) c.requires.tree_is
-          (c.source_index-index.ensures.value ∙ ap (λ b. index b.frame.layout (spot_of c.args.source)) c.self.view_is)
-          c.requires.source_is c.requires.after_is c.requires.source.spot c.requires.after c.requires.table.seated.itself,
-    )
+    let within = c.source_index-index.ensures.within in
+    omega (arith, counts, within)
+
+pub load-word-requires-clause-allows : goal.load-word-requires-clause-allows
+load-word-requires-clause-allows g c =
+    look-at g.P.Cargo c.args.self.now.frame c.self.inside.table.key _ c.args.seat.now.id
+    c.source_index-index.result g.K.Regard.tree c.args.source g.K.Regard.source c.args.after g.K.Regard.after c.args.seat.now.me
+    (sym (ap (λ b. b.frame) c.self.view_is) ∙ sym c.self.invariant.0) c.requires.tree_is
+    (c.source_index-index.ensures.value ∙ ap (λ b. index b.frame.layout (spot_of c.args.source)) c.self.view_is)
+    c.requires.source_is c.requires.after_is c.requires.source.spot c.requires.after c.requires.table.seated.itself
 
 pub returns-clause-looked : goal.returns-clause-looked
 returns-clause-looked g c = (

@@ -6,13 +6,18 @@ use Rattle.table_hands_kept.proofs.Hands.{hand-seated}
 use Rattle.table_scope_kept.proofs.ScopeAllowed.{makes_allowed, made-seated}
 use Rattle.op_table.proofs.table.OpTable.mark_used_at.Goals as goal
 
-pub fetch_or-word-requires : goal.fetch_or-word-requires
-fetch_or-word-requires g c =
-    let counts = c.self.invariant.2 in (
-      c.requires.table.table_is ∙ sym (ap (λ b. b.table_id) c.self.view_is),
-      omega (arith, counts),
-      makes_allowed g.P.Cargo c.self.inside.table.key _ c.args.seat.now.id c.args.seat.now.me c.requires.making c.requires.table.seated.itself,
-    )
+pub fetch_or-word-requires-clause-table : goal.fetch_or-word-requires-clause-table
+fetch_or-word-requires-clause-table g c =
+    c.requires.table.table_is ∙ sym (ap (λ b. b.table_id) c.self.view_is)
+
+pub fetch_or-word-requires-clause-within : goal.fetch_or-word-requires-clause-within
+fetch_or-word-requires-clause-within g c =
+    let counts = c.self.invariant.2 in
+    omega (arith, counts)
+
+pub fetch_or-word-requires-clause-allows : goal.fetch_or-word-requires-clause-allows
+fetch_or-word-requires-clause-allows g c =
+    makes_allowed g.P.Cargo c.self.inside.table.key _ c.args.seat.now.id c.args.seat.now.me c.requires.making c.requires.table.seated.itself
 
 pub returns-clause-stays : goal.returns-clause-stays
 returns-clause-stays g c =

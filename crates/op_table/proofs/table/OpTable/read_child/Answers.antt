@@ -7,18 +7,23 @@ use Rattle.table_hands_kept.proofs.Hands.{hand-seated}
 use Rattle.table_stop_kept.proofs.ReadAllowed.{child-at, child-seated}
 use Rattle.op_table.proofs.table.OpTable.read_child.Goals as goal
 
-pub load-word-requires : goal.load-word-requires
-load-word-requires g c =
+pub load-word-requires-clause-table : goal.load-word-requires-clause-table
+load-word-requires-clause-table g c =
+    c.requires.table.table_is ∙ sym (ap (λ b. b.table_id) c.self.view_is)
+
+pub load-word-requires-clause-within : goal.load-word-requires-clause-within
+load-word-requires-clause-within g c =
     let counts = c.self.invariant.2 in
-    let within = c.control-index.ensures.within in (
-      c.requires.table.table_is ∙ sym (ap (λ b. b.table_id) c.self.view_is),
-      omega (arith, counts, within),
-      child-at g.P.Cargo c.args.self.now.frame c.self.inside.table.key _ c.args.seat.now.id
-          c.control-index.result c.args.child g.K.Subject.aim.name g.J.Subject.aim.name c.args.seat.now.me
-          (sym (ap (λ b. b.frame) c.self.view_is) ∙ sym c.self.invariant.0)
-          (c.control-index.ensures.value ∙ ap (λ b. index b.frame.layout (OfControl c.args.child.block c.args.child.node)) c.self.view_is)
-          (ap (λ a. a.name) c.requires.parent) (ap (λ a. a.name) c.requires.child) c.requires.holds c.requires.table.seated.itself,
-    )
+    let within = c.control-index.ensures.within in
+    omega (arith, counts, within)
+
+pub load-word-requires-clause-allows : goal.load-word-requires-clause-allows
+load-word-requires-clause-allows g c =
+    child-at g.P.Cargo c.args.self.now.frame c.self.inside.table.key _ c.args.seat.now.id
+    c.control-index.result c.args.child g.K.Subject.aim.name g.J.Subject.aim.name c.args.seat.now.me
+    (sym (ap (λ b. b.frame) c.self.view_is) ∙ sym c.self.invariant.0)
+    (c.control-index.ensures.value ∙ ap (λ b. index b.frame.layout (OfControl c.args.child.block c.args.child.node)) c.self.view_is)
+    (ap (λ a. a.name) c.requires.parent) (ap (λ a. a.name) c.requires.child) c.requires.holds c.requires.table.seated.itself
 
 pub returns-clause-begun : goal.returns-clause-begun
 returns-clause-begun g c =

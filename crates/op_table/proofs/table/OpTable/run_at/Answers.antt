@@ -7,30 +7,35 @@ use Rattle.table_stop_kept.proofs.Run.Allowed.{meets-at, met-seated}
 use Rattle.table_stop_kept.proofs.Run.Told.{newest-logged, met-armed, met-unarmed, from-armed}
 use Rattle.op_table.proofs.table.OpTable.run_at.Goals as goal
 
-pub load-word-requires : goal.load-word-requires
-load-word-requires g c =
+pub load-word-requires-clause-table : goal.load-word-requires-clause-table
+load-word-requires-clause-table g c =
+    c.requires.table.table_is ∙ sym (ap (λ b. b.table_id) c.self.view_is)
+
+pub load-word-requires-clause-within : goal.load-word-requires-clause-within
+load-word-requires-clause-within g c =
     let counts = c.self.invariant.2 in
-    let within = c.callback-index.ensures.within in (
-      c.requires.table.table_is ∙ sym (ap (λ b. b.table_id) c.self.view_is),
-      omega (arith, counts, within),
-      meets-at g.P.Cargo c.args.self.now.frame c.self.inside.table.key (record {
-        slots = _;
-        id = c.args.seat.now.id;
-        cell = c.callback-index.result;
-        source = c.args.source;
-        other_source = g.J.Regard.source;
-        block = c.args.block;
-        place = c.args.node;
-        aim = g.K.Subject.aim;
-        seated = c.args.seat.now.me;
-        same = sym (ap (λ b. b.frame) c.self.view_is) ∙ sym c.self.invariant.0;
-        i_is = c.callback-index.ensures.value ∙ ap (λ b. index b.frame.layout (OfCallback c.args.block c.args.node)) c.self.view_is;
-        aim_is = c.requires.subject;
-        t_is = c.requires.source_is;
-        can = c.requires.needs;
-        within = c.requires.block;
-      }) c.requires.table.seated.itself,
-    )
+    let within = c.callback-index.ensures.within in
+    omega (arith, counts, within)
+
+pub load-word-requires-clause-allows : goal.load-word-requires-clause-allows
+load-word-requires-clause-allows g c =
+    meets-at g.P.Cargo c.args.self.now.frame c.self.inside.table.key (record {
+      slots = _;
+      id = c.args.seat.now.id;
+      cell = c.callback-index.result;
+      source = c.args.source;
+      other_source = g.J.Regard.source;
+      block = c.args.block;
+      place = c.args.node;
+      aim = g.K.Subject.aim;
+      seated = c.args.seat.now.me;
+      same = sym (ap (λ b. b.frame) c.self.view_is) ∙ sym c.self.invariant.0;
+      i_is = c.callback-index.ensures.value ∙ ap (λ b. index b.frame.layout (OfCallback c.args.block c.args.node)) c.self.view_is;
+      aim_is = c.requires.subject;
+      t_is = c.requires.source_is;
+      can = c.requires.needs;
+      within = c.requires.block;
+    }) c.requires.table.seated.itself
 
 pub run_from-requires-clause-table : goal.run_from-requires-clause-table
 run_from-requires-clause-table g c κs within = (

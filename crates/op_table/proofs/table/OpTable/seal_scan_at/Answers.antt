@@ -9,18 +9,23 @@ use Rattle.table_hands_kept.proofs.Hands.{hand-seated}
 use Rattle.table_stop_kept.proofs.Scan.Seal.{seals-at, seal-seated, left-scanned}
 use Rattle.op_table.proofs.table.OpTable.seal_scan_at.Goals as goal
 
-pub fetch_or-word-requires : goal.fetch_or-word-requires
-fetch_or-word-requires g c =
+pub fetch_or-word-requires-clause-table : goal.fetch_or-word-requires-clause-table
+fetch_or-word-requires-clause-table g c =
+    c.requires.table.table_is ∙ sym (ap (λ b. b.table_id) c.self.view_is)
+
+pub fetch_or-word-requires-clause-within : goal.fetch_or-word-requires-clause-within
+fetch_or-word-requires-clause-within g c =
     let counts = c.self.invariant.2 in
-    let within = c.source_index-index.ensures.within in (
-      c.requires.table.table_is ∙ sym (ap (λ b. b.table_id) c.self.view_is),
-      omega (arith, counts, within),
-      seals-at g.P.Cargo c.args.self.now.frame c.self.inside.table.key _ c.args.seat.now.id
-          c.source_index-index.result c.args.source g.K.Regard.source c.args.seat.now.me
-          (sym (ap (λ b. b.frame) c.self.view_is) ∙ sym c.self.invariant.0)
-          (c.source_index-index.ensures.value ∙ ap (λ b. index b.frame.layout (spot_of c.args.source)) c.self.view_is)
-          c.requires.source_is c.requires.source.spot c.requires.source.is_one c.requires.needs c.requires.table.seated.itself,
-    )
+    let within = c.source_index-index.ensures.within in
+    omega (arith, counts, within)
+
+pub fetch_or-word-requires-clause-allows : goal.fetch_or-word-requires-clause-allows
+fetch_or-word-requires-clause-allows g c =
+    seals-at g.P.Cargo c.args.self.now.frame c.self.inside.table.key _ c.args.seat.now.id
+    c.source_index-index.result c.args.source g.K.Regard.source c.args.seat.now.me
+    (sym (ap (λ b. b.frame) c.self.view_is) ∙ sym c.self.invariant.0)
+    (c.source_index-index.ensures.value ∙ ap (λ b. index b.frame.layout (spot_of c.args.source)) c.self.view_is)
+    c.requires.source_is c.requires.source.spot c.requires.source.is_one c.requires.needs c.requires.table.seated.itself
 
 pub returns-clause-stays : goal.returns-clause-stays
 returns-clause-stays g c =

@@ -6,18 +6,23 @@ use Rattle.table_hands_kept.proofs.Hands.{hand-seated}
 use Rattle.table_stop_kept.proofs.Scan.Skip.{skips-at, skip-seated}
 use Rattle.op_table.proofs.table.OpTable.skip_at.Goals as goal
 
-pub load-word-requires : goal.load-word-requires
-load-word-requires g c =
+pub load-word-requires-clause-table : goal.load-word-requires-clause-table
+load-word-requires-clause-table g c =
+    c.requires.table.table_is ∙ sym (ap (λ b. b.table_id) c.self.view_is)
+
+pub load-word-requires-clause-within : goal.load-word-requires-clause-within
+load-word-requires-clause-within g c =
     let counts = c.self.invariant.2 in
-    let within = c.block-index.ensures.within in (
-      c.requires.table.table_is ∙ sym (ap (λ b. b.table_id) c.self.view_is),
-      omega (arith, counts, within),
-      skips-at g.P.Cargo c.args.self.now.frame c.self.inside.table.key _ c.args.seat.now.id
-          c.block-index.result c.args.first g.K.Subject.aim c.args.seat.now.me
-          (sym (ap (λ b. b.frame) c.self.view_is) ∙ sym c.self.invariant.0)
-          (c.block-index.ensures.value ∙ ap (λ b. index b.frame.layout (OfBlock c.args.first.block)) c.self.view_is)
-          c.requires.subject c.requires.needs c.requires.block c.requires.table.seated.itself,
-    )
+    let within = c.block-index.ensures.within in
+    omega (arith, counts, within)
+
+pub load-word-requires-clause-allows : goal.load-word-requires-clause-allows
+load-word-requires-clause-allows g c =
+    skips-at g.P.Cargo c.args.self.now.frame c.self.inside.table.key _ c.args.seat.now.id
+    c.block-index.result c.args.first g.K.Subject.aim c.args.seat.now.me
+    (sym (ap (λ b. b.frame) c.self.view_is) ∙ sym c.self.invariant.0)
+    (c.block-index.ensures.value ∙ ap (λ b. index b.frame.layout (OfBlock c.args.first.block)) c.self.view_is)
+    c.requires.subject c.requires.needs c.requires.block c.requires.table.seated.itself
 
 pub returns-clause-stays : goal.returns-clause-stays
 returns-clause-stays g c =

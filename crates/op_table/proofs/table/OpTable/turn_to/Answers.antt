@@ -5,17 +5,22 @@ use Rattle.table_steps.specs.Swaps.{TurnsTo}
 use Rattle.table_life_kept.proofs.Turn.Allowed.{turns-at}
 use Rattle.op_table.proofs.table.OpTable.turn_to.Goals as goal
 
-pub load-requires : goal.load-requires
-load-requires g c =
+pub load-requires-clause-table : goal.load-requires-clause-table
+load-requires-clause-table g c =
+    c.requires.table.table_is ∙ sym (ap (λ b. b.table_id) c.self.view_is)
+
+pub load-requires-clause-within : goal.load-requires-clause-within
+load-requires-clause-within g c =
     let counts = c.self.invariant.2 in
-    let within = c.control-index.ensures.within in (
-      c.requires.table.table_is ∙ sym (ap (λ b. b.table_id) c.self.view_is),
-      omega (arith, counts, within),
-      turns-at g.P.Cargo c.args.self.now.frame c.self.inside.table.key _ c.args.seat.now.id
-          c.control-index.result c.args.name g.K.Subject.aim c.args.seat.now.me
-          (sym (ap (λ b. b.frame) c.self.view_is) ∙ sym c.self.invariant.0) c.requires.subject c.requires.table.seated
-          c.requires.home c.requires.table.seated.itself,
-    )
+    let within = c.control-index.ensures.within in
+    omega (arith, counts, within)
+
+pub load-requires-clause-allows : goal.load-requires-clause-allows
+load-requires-clause-allows g c =
+    turns-at g.P.Cargo c.args.self.now.frame c.self.inside.table.key _ c.args.seat.now.id
+    c.control-index.result c.args.name g.K.Subject.aim c.args.seat.now.me
+    (sym (ap (λ b. b.frame) c.self.view_is) ∙ sym c.self.invariant.0) c.requires.subject c.requires.table.seated
+    c.requires.home c.requires.table.seated.itself
 
 pub returns-clause-slot : goal.returns-clause-slot
 returns-clause-slot g c =

@@ -10,21 +10,26 @@ use Rattle.table_hands_kept.proofs.Hands.{hand-seated}
 use Rattle.table_stop_kept.proofs.Withdraw.Allowed.{withdraws-at, withdrawn-seated}
 use Rattle.op_table.proofs.table.OpTable.withdraw_at.Goals as goal
 
-pub compare_exchange-was-requires : goal.compare_exchange-was-requires
-compare_exchange-was-requires g c =
+pub compare_exchange-was-requires-clause-table : goal.compare_exchange-was-requires-clause-table
+compare_exchange-was-requires-clause-table g c =
+    c.requires.table.table_is ∙ sym (ap (λ b. b.table_id) c.self.view_is)
+
+pub compare_exchange-was-requires-clause-within : goal.compare_exchange-was-requires-clause-within
+compare_exchange-was-requires-clause-within g c =
     let counts = c.self.invariant.2 in
-    let within = c.callback-index.ensures.within in (
-      c.requires.table.table_is ∙ sym (ap (λ b. b.table_id) c.self.view_is),
-      omega (arith, counts, within),
-      withdraws-at g.P.Cargo c.args.self.now.frame c.self.inside.table.key _ c.args.seat.now.id
-          c.callback-index.result c.callback_number-armed.result c.callback_number-removed.result c.args.name g.K.Subject.aim c.args.seat.now.me
-          (sym (ap (λ b. b.frame) c.self.view_is) ∙ sym c.self.invariant.0)
-          (c.callback-index.ensures.value ∙ ap (λ b. index b.frame.layout (OfCallback c.args.name.block c.args.name.node)) c.self.view_is)
-          c.requires.subject c.requires.needs c.callback_number-armed.ensures.value
-          c.callback_number-armed.ensures.stamp c.callback_number-armed.ensures.phase
-          c.callback_number-removed.ensures.value
-          c.callback_number-removed.ensures.stamp c.callback_number-removed.ensures.phase c.requires.table.seated.itself,
-    )
+    let within = c.callback-index.ensures.within in
+    omega (arith, counts, within)
+
+pub compare_exchange-was-requires-clause-allows : goal.compare_exchange-was-requires-clause-allows
+compare_exchange-was-requires-clause-allows g c =
+    withdraws-at g.P.Cargo c.args.self.now.frame c.self.inside.table.key _ c.args.seat.now.id
+    c.callback-index.result c.callback_number-armed.result c.callback_number-removed.result c.args.name g.K.Subject.aim c.args.seat.now.me
+    (sym (ap (λ b. b.frame) c.self.view_is) ∙ sym c.self.invariant.0)
+    (c.callback-index.ensures.value ∙ ap (λ b. index b.frame.layout (OfCallback c.args.name.block c.args.name.node)) c.self.view_is)
+    c.requires.subject c.requires.needs c.callback_number-armed.ensures.value
+    c.callback_number-armed.ensures.stamp c.callback_number-armed.ensures.phase
+    c.callback_number-removed.ensures.value
+    c.callback_number-removed.ensures.stamp c.callback_number-removed.ensures.phase c.requires.table.seated.itself
 
 pub returns-clause-stays : goal.returns-clause-stays
 returns-clause-stays g c =
