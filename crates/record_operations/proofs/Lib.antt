@@ -16,3 +16,4 @@ mod Held
 mod Cleared
 mod Changed
 pub mod ServedSounding
+mod Associated

@@ -1,6 +1,7 @@
 -- Calls on the scope change a hand's associations and its list of steps, and nothing else of what it knows.
 use Rattle.std.proofs.Common.{◌≡◌, ℕ, ◌+◌, ◌-◌, true, List, [], ◌∷◌, refl, ap, ◌∙◌, arith}
-use Rattle.std.specs.Prelude.{Ok, Err}
+use Rattle.std.specs.Prelude.{Option, Ok, Err}
+use Rattle.atomic_table.specs.declared.shared.Seat.{Seat}
 use Rattle.count_scope.specs.declared.joining.JoinStart.{JoinStart}
 use Rattle.count_scope.specs.declared.members.Association.{Association}
 use Rattle.count_scope.specs.Associations.{CountsOne}
@@ -25,6 +26,7 @@ use Rattle.exec_recv.specs.Asides.{aside_of}
 use Rattle.node_walks.specs.Resting.{IsAtRest}
 use Rattle.run_loop.specs.declared.looped.Loop.{Loop as Looped}
 use Rattle.run_loop.specs.Loops.{HasDelays, IsReady}
+use Rattle.record_operations.specs.Calls.{LeavesSame}
 
 -- the hand has so many associations now, and made steps
 pub record Moves (made : ℕ) (v w : View Item Entry) : Type 0 where
@@ -64,6 +66,30 @@ moved-ready board made old new ready next delays hand did =
       delays = delays;
     }
 
+-- so it is where its hand alone is another
+pub rehanded : (board : Board Blueprint) (made : ℕ) (loop : Looped)
+    (hand : Seat (Option Item) (View Item Entry)) → IsReady board loop → IsHandOf board hand →
+    Moves made (knows loop.hand) (knows hand) → IsReady board (record loop { hand = hand })
+rehanded board made loop hand ready here did =
+    moved-ready board made loop (record loop { hand = hand }) ready refl ready.delays here did
+
+-- where it has as many associations as before all is the same
+pub moved-same : (m m' : Seated Item Entry) → Moves m.0.made m.0 m'.0 → LeavesSame m m'
+moved-same m m' did = record {
+  is = moved-aside m.0.made m.0 m'.0 did;
+  sees = moved-sees m.0.made m.0 m'.0 did;
+}
+
+pub same-here : (m : Seated Item Entry) → LeavesSame m m
+same-here m = record { is = refl; sees = λ source seen. seen }
+
+pub same-on : (m between m' : Seated Item Entry) → LeavesSame m between →
+    LeavesSame between m' → LeavesSame m m'
+same-on m between m' first next = record {
+  is = next.is ∙ first.is;
+  sees = λ source seen. next.sees source (first.sees source seen);
+}
+
 -- tries of a seal only list steps
 tried-moves : (made read left last : ℕ) (v : View Item Entry) (words : List ℕ) →
     Moves made v (tried words last (with_step 0 read left (record v { made = made })))
@@ -101,3 +127,22 @@ module _ (m m' : Seated Item Entry) where
 
   pub read-moves : {A : Type 0} (says : ScopeWord → A) (answer : A) → Reads says answer m m' → Moves m.0.made m.0 m'.0
   read-moves says answer did = after m.0.made did.word did.word 0 [] did.me_is
+
+-- the scope was closed, and then its join was started
+module _ (board : Board Blueprint) (loop : Looped)
+    (closed started : Seat (Option Item) (View Item Entry))
+    (closes : Closes loop.hand.me closed.me) (answer : JoinStart)
+    (starts : Starts answer closed.me started.me) where
+  pub joining-ready : IsReady board loop → IsHandOf board closed → IsHandOf board started →
+      IsReady board (record loop { hand = started })
+  joining-ready ready first next =
+      rehanded board closed.me.0.made (record loop { hand = closed }) started
+      (rehanded board loop.hand.me.0.made loop closed ready first
+      (closed-moves loop.hand.me closed.me closes)) next
+      (started-moves closed.me started.me answer starts)
+
+  pub joining-same : LeavesSame loop.hand.me started.me
+  joining-same =
+      same-on loop.hand.me closed.me started.me
+      (moved-same loop.hand.me closed.me (closed-moves loop.hand.me closed.me closes))
+      (moved-same closed.me started.me (started-moves closed.me started.me answer starts))

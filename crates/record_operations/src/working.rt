@@ -74,7 +74,7 @@ impl<'a, T: Stepper, B: OnTable> TableRun<'a, T, B> {
             if self.has_free(ticket) {
                 return;
             }
-            let _completion = self.leave(ticket);
+            drop(self.leave(ticket));
             self.go_round(rt, alloc);
             self.serve_spawned(rt, alloc);
         }

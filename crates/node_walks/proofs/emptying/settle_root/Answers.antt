@@ -1,3 +1,4 @@
+use Rattle.op_slot.proofs.Staying.{stays-on}
 use Rattle.node_walks.proofs.Settled.{can-read, read-settled, read-empty, read-keeps, read-moves, read-owed, may-withdraw, armed-settled, ran-settled, settled-on}
 use Rattle.node_walks.proofs.emptying.settle_root.Goals as goal
 
@@ -13,6 +14,14 @@ pub try_withdraw-requires-clause-needs : goal.try_withdraw-requires-clause-needs
 try_withdraw-requires-clause-needs c κs =
     may-withdraw c.args.table.now c.args.root c.args.hand.now.me c.phase_of.new.hand.me c.requires.empty c.phase_of.result
     c.phase_of.ensures.phase (c.may_run.ensures.yes c.if-not-may_run.false)
+
+pub returns-in-NeverRan-clause-stays : goal.returns-in-NeverRan-clause-stays
+returns-in-NeverRan-clause-stays c =
+    stays-on c.args.table.now c.args.hand.now c.phase_of.new.hand c.try_withdraw.new.hand c.phase_of.ensures.stays c.try_withdraw.ensures.stays
+
+pub returns-in-Ran-clause-stays : goal.returns-in-Ran-clause-stays
+returns-in-Ran-clause-stays c =
+    stays-on c.args.table.now c.args.hand.now c.phase_of.new.hand c.try_withdraw.new.hand c.phase_of.ensures.stays c.try_withdraw.ensures.stays
 
 pub returns-in-NeverRan-clause-settles : goal.returns-in-NeverRan-clause-settles
 returns-in-NeverRan-clause-settles c =

@@ -26,6 +26,12 @@ returns-then-not-take_up g c =
       mail = g.met.M.Mail.none c.args.mail.now;
     }
 
+pub take_up-requires-clause-hand : goal.take_up-requires-clause-hand
+take_up-requires-clause-hand g c = rw (← c.site.view_is) at c.requires.hand
+
+pub go_on-requires-clause-hand : goal.go_on-requires-clause-hand
+go_on-requires-clause-hand g c κs within = rw (← c.site.view_is) c.take_up.ensures.stays.hand
+
 pub go_on-requires-clause-can : goal.go_on-requires-clause-can
 go_on-requires-clause-can g c κs within =
     let site = rw (← c.site.view_is) at c.requires.site in

@@ -44,6 +44,24 @@ serve-requires-clause-rests g c κs within =
     looked-rests (index c.site.inside.table.now.frame.layout (OfControl c.args.block c.args.node)) c.ready_at.ensures.read.word c.loop.hand.me
     c.ready_at.new.hand.me c.ready_at.ensures.read.me_is c.loop.invariant.rests
 
+pub ready_at-requires-clause-table : goal.ready_at-requires-clause-table
+ready_at-requires-clause-table g c κs = (rw (← c.site.view_is) at c.loop.invariant.stays).hand
+
+pub ready_at-requires-clause-block : goal.ready_at-requires-clause-block
+ready_at-requires-clause-block g c κs = rw (← c.site.view_is) at c.requires.block
+
+pub ready_at-requires-clause-node : goal.ready_at-requires-clause-node
+ready_at-requires-clause-node g c κs = rw (← c.site.view_is) at c.requires.node
+
+pub serve-requires-clause-hand : goal.serve-requires-clause-hand
+serve-requires-clause-hand g c κs within = rw (← c.site.view_is) c.ready_at.ensures.stays.hand
+
+pub serve-requires-clause-site : goal.serve-requires-clause-site
+serve-requires-clause-site g c κs within = c.requires.site
+
+pub serve-requires-clause-sync : goal.serve-requires-clause-sync
+serve-requires-clause-sync g c κs within = c.requires.sync
+
 pub loop-preserved : goal.loop-preserved
 loop-preserved g c =
     let before = c.loop.invariant in

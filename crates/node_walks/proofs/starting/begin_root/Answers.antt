@@ -2,11 +2,13 @@ use Rattle.std.proofs.Common.{sym, ap, subst}
 use Rattle.life_rules.specs.declared.event.Name.{Name}
 use Rattle.table_steps.specs.Begins.{Begins, CanBegin}
 use Rattle.table_steps.specs.Claims.{root_name}
-use Rattle.table_steps.specs.Views.{aimed}
+use Rattle.plan_shape.specs.Blueprint.{Blueprint}
+use Rattle.table_steps.specs.Views.{Board, aimed}
 use Rattle.op_slot.proofs.Staying.{stays-on}
 use Rattle.home_items.specs.contracts.item.ItemCargo.TheImpl.{ghosts}
 use Rattle.exec_recv.specs.Asides.{Aside}
 use Rattle.node_walks.specs.Resting.{CanGoOn}
+use Rattle.node_walks.specs.Starts.{MissesEach}
 use Rattle.node_walks.specs.Stepped.{OnlySteps}
 use Rattle.node_walks.proofs.Claimed.{missed-number, missed-rests}
 use Rattle.node_walks.proofs.Started.{has-begun, placed-begins, begun-can, started-leaves}
@@ -14,6 +16,12 @@ use Rattle.node_walks.proofs.starting.begin_root.Goals as goal
 
 pub place-requires-clause-over : goal.place-requires-clause-over
 place-requires-clause-over g c = (rw (← c.site.view_is) at c.requires.site).over
+
+pub place-requires-clause-hand : goal.place-requires-clause-hand
+place-requires-clause-hand g c = rw (← c.site.view_is) at c.requires.hand
+
+pub place-requires-clause-start : goal.place-requires-clause-start
+place-requires-clause-start g c = rw (← c.site.view_is) at c.requires.start
 
 pub begin-requires-clause-needs : goal.begin-requires-clause-needs
 begin-requires-clause-needs g c κs =
@@ -23,6 +31,9 @@ begin-requires-clause-needs g c κs =
     let placed = c.place.new.hand.me in
     subst (λ (x : Name). CanBegin ghosts board.frame placed x) (sym {b = root} c.root-root.ensures.name)
     (placed-begins board b c.args.env c.args.hand.now.me placed c.in-Ok.ensures.placed)
+
+pub go_on-requires-clause-hand : goal.go_on-requires-clause-hand
+go_on-requires-clause-hand g c κs within = rw (← c.site.view_is) c.begin.ensures.stays.hand
 
 pub go_on-requires-clause-can : goal.go_on-requires-clause-can
 go_on-requires-clause-can g c κs within =
@@ -98,6 +109,16 @@ returns-clause-number g c =
     (started-leaves board b c.args.env m begun
     (has-begun board _ b c.args.env m c.place.new.hand.me begun c.root-root.result site.over c.in-Ok.ensures.placed
     c.root-root.ensures.name c.begin.ensures.begun c.begin.ensures.stays.hand.seated.apart) c.go_on.new.hand.me c.go_on.ensures.aside).is
+
+pub returns-in-Err-clause-stays : goal.returns-in-Err-clause-stays
+returns-in-Err-clause-stays g c = rw (← c.site.view_is) c.place.ensures.stays
+
+pub returns-in-Err-clause-none : goal.returns-in-Err-clause-none
+returns-in-Err-clause-none g c =
+    subst (λ (board : Board Blueprint). MissesEach board c.args.from c.args.hand.now c.place.new.hand) c.site.view_is c.in-Err.ensures.none
+
+pub returns-in-Err-clause-mail : goal.returns-in-Err-clause-mail
+returns-in-Err-clause-mail g c = g.met.M.Mail.none c.args.mail.now
 
 pub returns-in-Err-clause-number : goal.returns-in-Err-clause-number
 returns-in-Err-clause-number g c =

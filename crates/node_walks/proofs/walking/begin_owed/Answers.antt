@@ -1,4 +1,5 @@
 use Rattle.std.proofs.Common.{refl, sym, subst}
+use Rattle.op_slot.proofs.Staying.{stays-here}
 use Rattle.exec_recv.proofs.Asiding.{aside-here}
 use Rattle.exec_recv.proofs.Begun.{owed-still}
 use Rattle.exec_recv.proofs.BegunAside.{begun-aside}
@@ -8,10 +9,22 @@ use Rattle.node_walks.specs.Walks.{FindsOwed}
 use Rattle.node_walks.proofs.Going.{only-rests, begun-goes}
 use Rattle.node_walks.proofs.walking.begin_owed.Goals as goal
 
+pub owed-requires-clause-table : goal.owed-requires-clause-table
+owed-requires-clause-table g c κs = rw (← c.site.view_is) at c.requires.hand
+
+pub begin-requires-clause-table : goal.begin-requires-clause-table
+begin-requires-clause-table g c κs = rw (← c.site.view_is) at c.requires.hand
+
 pub begin-requires-clause-needs : goal.begin-requires-clause-needs
 begin-requires-clause-needs g c κs =
     let owes = rw (← c.site.view_is) at c.requires.owes in
     (owes.has.starts c.in_ok-name.name c.in_ok-name.ensures.owes).begin
+
+pub returns-clause-stays : goal.returns-clause-stays
+returns-clause-stays g c = rw (← c.site.view_is) c.begin.ensures.stays
+
+pub returns-in_err-name-clause-stays : goal.returns-in_err-name-clause-stays
+returns-in_err-name-clause-stays g c = stays-here c.args.site.now c.args.hand.now c.requires.hand
 
 pub returns-clause-aside : goal.returns-clause-aside
 returns-clause-aside g c =

@@ -1,5 +1,7 @@
 use Rattle.std.proofs.Common.{inl, inr, refl}
 use Rattle.life_rules.specs.Views.{beside}
+use Rattle.op_slot.proofs.Staying.{stays-here}
+use Rattle.exec_recv.proofs.Asiding.{aside-here}
 use Rattle.node_walks.proofs.Going.{goes-to, let-go}
 use Rattle.node_walks.proofs.walking.find_next.Goals as goal
 
@@ -63,3 +65,15 @@ returns-in-Rest-clause-heard g c =
 
 pub returns-in-Go-clause-heard : goal.returns-in-Go-clause-heard
 returns-in-Go-clause-heard g c = rw c.in-Go.is refl
+
+pub returns-in-Go-clause-stays : goal.returns-in-Go-clause-stays
+returns-in-Go-clause-stays g c = stays-here c.args.site.now c.args.hand.now c.requires.hand
+
+pub returns-in-Go-clause-aside : goal.returns-in-Go-clause-aside
+returns-in-Go-clause-aside g c = aside-here c.args.hand.now.me
+
+pub returns-in-Go-clause-mail : goal.returns-in-Go-clause-mail
+returns-in-Go-clause-mail g c = g.met.M.Mail.none c.args.mail.now
+
+pub returns-in-Rest-clause-mail : goal.returns-in-Rest-clause-mail
+returns-in-Rest-clause-mail g c = g.met.M.Mail.none c.args.mail.now

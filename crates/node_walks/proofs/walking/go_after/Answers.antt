@@ -78,3 +78,45 @@ returns-in-None-find_next-clause-walks g c =
     leads-last g.M.Mail.hears g.T.Stepper.does c.args.site.now c.args.name c.args.next c.args.hand.now.me c.args.mail.now c.loop.last c.loop.ended
     c.loop.hand.me c.loop.mail c.loop.invariant.walks m found.new.mail found.ensures.heard
     (subst (λ (o : Option Name). LeadsTo c.args.site.now c.loop.last c.loop.ended o c.loop.hand.me m) c.in-None-find_next.is found.ensures.follows)
+
+pub step-ended-requires : goal.step-ended-requires
+step-ended-requires g c =
+    let before = c.loop.invariant in
+    let goes = rw c.in-Go.is at before.after.stepped.goes in
+    let can = goes-to c.args.site.now c.requires.site.over.is_tree c.loop.last before.after.before c.loop.hand.me c.loop.ended before.after.can
+    before.after.stepped (beside c.loop.last c.in-Go.node) goes in
+    record { may = record { site = c.requires.site; of = before.stays.hand; can = can.can; starts = can.starts } }
+
+pub find_next-requires-clause-after : goal.find_next-requires-clause-after
+find_next-requires-clause-after g c κs within = c.loop.invariant.after
+
+pub find_next-requires-clause-hand : goal.find_next-requires-clause-hand
+find_next-requires-clause-hand g c κs within = c.loop.invariant.stays.hand
+
+pub find_next-requires-clause-site : goal.find_next-requires-clause-site
+find_next-requires-clause-site g c κs within = c.requires.site
+
+pub find_next-requires-clause-sync : goal.find_next-requires-clause-sync
+find_next-requires-clause-sync g c κs within = c.requires.sync
+
+pub step-ended-requires-in-Some-find_next : goal.step-ended-requires-in-Some-find_next
+step-ended-requires-in-Some-find_next g c =
+    let found = c.find_next in
+    let goes = subst (λ (o : Option Name). GoesOn c.args.site.now o found.new.hand.me) c.in-Some-find_next.is found.ensures.next in
+    record { may = record { site = c.requires.site; of = found.ensures.stays.hand; can = goes.can; starts = goes.starts } }
+
+pub returns-in-None-find_next-clause-stays : goal.returns-in-None-find_next-clause-stays
+returns-in-None-find_next-clause-stays g c =
+    stays-on c.args.site.now c.args.hand.now c.loop.hand c.find_next.new.hand c.loop.invariant.stays c.find_next.ensures.stays
+
+pub returns-in-None-find_next-clause-rests : goal.returns-in-None-find_next-clause-rests
+returns-in-None-find_next-clause-rests g c =
+    subst (λ (o : Option Name). GoesOn c.args.site.now o c.find_next.new.hand.me) c.in-None-find_next.is c.find_next.ensures.next
+
+pub returns-in-None-find_next-clause-aside : goal.returns-in-None-find_next-clause-aside
+returns-in-None-find_next-clause-aside g c =
+    aside-on c.args.hand.now.me c.loop.hand.me c.find_next.new.hand.me c.loop.invariant.aside c.find_next.ensures.aside
+
+pub returns-in-None-find_next-clause-mail : goal.returns-in-None-find_next-clause-mail
+returns-in-None-find_next-clause-mail g c =
+    g.met.M.Mail.on c.args.mail.now c.loop.mail c.find_next.new.mail c.loop.invariant.mail c.find_next.ensures.mail

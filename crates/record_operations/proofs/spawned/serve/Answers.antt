@@ -13,6 +13,9 @@ pub turn-served-requires-clause-site : goal.turn-served-requires-clause-site
 turn-served-requires-clause-site g c κs within =
     rw c.of.ensures (over-site c.args.table.now (g.T.Stepper.plan c.args.stepper.now) c.requires.over c.requires.kinds)
 
+pub sweep-ended-requires-clause-keeping : goal.sweep-ended-requires-clause-keeping
+sweep-ended-requires-clause-keeping g c = rw c.of.ensures at c.turn-served.ensures.keeping
+
 pub returns-clause-serves : goal.returns-clause-serves
 returns-clause-serves g c =
     let board = c.args.table.now in

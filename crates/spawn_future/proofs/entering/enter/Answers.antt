@@ -1,11 +1,40 @@
 use Rattle.std.proofs.Common.{refl, sym, subst}
 use Rattle.plan_shape.specs.Blueprint.{Blueprint}
 use Rattle.table_steps.specs.Views.{Board}
+use Rattle.op_slot.proofs.Staying.{stays-on}
 use Rattle.node_walks.specs.Starts.{MissesEach}
 use Rattle.node_walks.proofs.Walked.{any-goes}
 use Rattle.spawn_future.proofs.Entered.{entered, missed-has, missed-back}
 use Rattle.spawn_future.proofs.Moved.{associated-moves, refused-moves, left-moves, moved-rests, moved-leaves}
 use Rattle.spawn_future.proofs.entering.enter.Goals as goal
+
+pub associate-requires-clause-table : goal.associate-requires-clause-table
+associate-requires-clause-table g c κs = rw (← c.site.view_is) at c.requires.hand
+
+pub begin_root-requires-clause-hand : goal.begin_root-requires-clause-hand
+begin_root-requires-clause-hand g c κs within = (rw c.site.view_is at c.associate.ensures.stays).hand
+
+pub disassociate-requires-clause-table : goal.disassociate-requires-clause-table
+disassociate-requires-clause-table g c κs = (rw (← c.site.view_is) at c.begin_root.ensures.stays).hand
+
+pub returns-in-Err-clause-stays : goal.returns-in-Err-clause-stays
+returns-in-Err-clause-stays g c = rw c.site.view_is at c.associate.ensures.stays
+
+pub returns-in-Err-clause-mail : goal.returns-in-Err-clause-mail
+returns-in-Err-clause-mail g c = g.met.M.Mail.none c.args.mail.now
+
+pub returns-in-Ok-begin_root-clause-stays : goal.returns-in-Ok-begin_root-clause-stays
+returns-in-Ok-begin_root-clause-stays g c =
+    stays-on c.args.site.now c.args.hand.now c.associate.new.hand c.begin_root.new.hand (rw c.site.view_is at c.associate.ensures.stays)
+    c.begin_root.ensures.stays
+
+pub returns-in-Err-begin_root-clause-stays : goal.returns-in-Err-begin_root-clause-stays
+returns-in-Err-begin_root-clause-stays g c =
+    let board = c.args.site.now in
+    let old = c.args.hand.now in
+    stays-on board old c.begin_root.new.hand c.disassociate.new.hand
+    (stays-on board old c.associate.new.hand c.begin_root.new.hand (rw c.site.view_is at c.associate.ensures.stays) c.begin_root.ensures.stays)
+    (rw c.site.view_is at c.disassociate.ensures.stays)
 
 pub begin_root-requires-clause-rests : goal.begin_root-requires-clause-rests
 begin_root-requires-clause-rests g c κs within =

@@ -11,3 +11,6 @@ returns g c =
     rw (← c.site.view_is)
     (awaits-many _ _ _ _ _ _ (rw (← c.site.view_is) at c.requires.may) (rw (← c.site.view_is) at c.rest-name.ensures.changes) _
     c.await_children.ensures.stays (rw c.rest-name.ensures.name at c.await_children.ensures.awaits))
+
+pub await_children-requires-clause-table : goal.await_children-requires-clause-table
+await_children-requires-clause-table g c κs = (rw (← c.site.view_is) at c.rest-name.ensures.changes.stays).hand

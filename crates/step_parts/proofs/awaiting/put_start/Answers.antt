@@ -23,3 +23,6 @@ returns-clause-puts g c =
     record { word = left.word; home = (can-put-start _ _ _ _ may).home; me_is = left.me_is } in
     rw (← c.site.view_is)
     (puts-start _ _ _ _ may _ (subst (λ (i : Item). IsPut f c.args.child i c.args.hand.now.me hand.me) c.starting.ensures put))
+
+pub home_mut-requires-clause-table : goal.home_mut-requires-clause-table
+home_mut-requires-clause-table g c κs = rw (← c.site.view_is) at c.requires.hand

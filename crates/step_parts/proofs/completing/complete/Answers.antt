@@ -54,3 +54,9 @@ returns g c =
     (λ start. c.end-failed.ensures.ended ∙ ap (λ s. Done (parcel_with s c.args.done.now c.args.saw)) start)
     _ (if-there _ (c.item_mut.follows.holds c.end-failed.new.self) c.in-Some.is))
     _ _ (rw (← c.site.view_is) at c.deliver.ensures.steps) (rw (← c.site.view_is) at c.deliver.ensures.delivers))
+
+pub item_mut-requires-clause-table : goal.item_mut-requires-clause-table
+item_mut-requires-clause-table g c κs = (rw (← c.site.view_is) at c.settle.ensures.keeps.stays).hand
+
+pub item_mut-requires-clause-place : goal.item_mut-requires-clause-place
+item_mut-requires-clause-place g c κs = rw (← c.site.view_is, ← c.taken.view_is) at c.requires.may.taken.ready.is.place

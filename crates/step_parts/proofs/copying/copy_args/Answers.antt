@@ -10,3 +10,9 @@ returns-clause-keeps g c =
     rw (← c.site.view_is, ← c.taken.view_is)
     (lent-keeps _ _ _ (rw (← c.site.view_is, ← c.taken.view_is) at c.requires.taken) c.item_mut.result c.item_mut.ensures.value
     c.in-Some.item c.in-Some.is _ (if-there _ (c.item_mut.follows.holds c.in-Some.item.now) c.in-Some.is))
+
+pub item_mut-requires-clause-table : goal.item_mut-requires-clause-table
+item_mut-requires-clause-table g c κs = (rw (← c.site.view_is) at c.requires.taken.stays).hand
+
+pub item_mut-requires-clause-place : goal.item_mut-requires-clause-place
+item_mut-requires-clause-place g c κs = rw (← c.site.view_is, ← c.taken.view_is) at c.requires.taken.ready.is.place

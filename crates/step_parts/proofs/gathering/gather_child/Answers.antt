@@ -58,3 +58,6 @@ returns-in-None-home g c =
       gathered = tt;
       stays = λ none. refl;
     }
+
+pub home_mut-requires-clause-table : goal.home_mut-requires-clause-table
+home_mut-requires-clause-table g c κs = (rw (← c.site.view_is) at c.requires.opened.is.stays).hand

@@ -1,5 +1,5 @@
 use Rattle.std.proofs.Common.{◌∙◌}
-use Rattle.step_parts.proofs.Listened.{near-is, hear-keeps, hear-looks, hear-once, deaf-keeps, deaf-once}
+use Rattle.step_parts.proofs.Listened.{near-is, hear-keeps, hear-looks, hear-once, deaf-keeps, deaf-looks, deaf-once}
 use Rattle.step_parts.proofs.hearing.hear.Goals as goal
 
 pub returns-in-Some-clause-keeps : goal.returns-in-Some-clause-keeps
@@ -38,5 +38,15 @@ pub returns-in-None-clause-once : goal.returns-in-None-clause-once
 returns-in-None-clause-once g c =
     rw (← c.site.view_is, ← c.taken.view_is)
     (deaf-once c.site.inside.table.now _ c.args.hand.now (rw (← c.site.view_is, ← c.taken.view_is) at c.requires.taken)
+    (near-is c.site.inside.table.now c.taken.inside.name c.tree.result.now c.source_above.result c.tree.ensures.tree c.source_above.ensures.nearest
+    ∙ c.in-None.is))
+
+pub stop_requested-requires-clause-table : goal.stop_requested-requires-clause-table
+stop_requested-requires-clause-table g c κs = (rw (← c.site.view_is) at c.requires.taken.stays).hand
+
+pub returns-in-None-clause-looked : goal.returns-in-None-clause-looked
+returns-in-None-clause-looked g c =
+    rw (← c.site.view_is, ← c.taken.view_is)
+    (deaf-looks c.site.inside.table.now _ c.args.hand.now (rw (← c.site.view_is, ← c.taken.view_is) at c.requires.taken)
     (near-is c.site.inside.table.now c.taken.inside.name c.tree.result.now c.source_above.result c.tree.ensures.tree c.source_above.ensures.nearest
     ∙ c.in-None.is))

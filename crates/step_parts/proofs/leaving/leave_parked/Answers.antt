@@ -13,3 +13,6 @@ returns g c =
     rw (← c.site.view_is)
     (leaves-at _ _ _ _ _ (rw (← c.site.view_is) at c.requires.may) (rw (← c.site.view_is) at c.rest-name.ensures.changes)
     IsParked _ _ refl c.park.ensures.stays (rw c.rest-name.ensures.name at c.park.ensures.rests))
+
+pub park-requires-clause-table : goal.park-requires-clause-table
+park-requires-clause-table g c κs = (rw (← c.site.view_is) at c.rest-name.ensures.changes.stays).hand

@@ -16,3 +16,9 @@ returns-clause-changes g c =
     c.in-Some.item c.in-Some.is c.keep_done.new.self _
     (λ start. c.keep_done.ensures ∙ ap (λ s. Rest s (Some (delivery_of c.args.label c.args.done.now))) start)
     _ (if-there _ (c.item_mut.follows.holds c.keep_done.new.self) c.in-Some.is))
+
+pub item_mut-requires-clause-table : goal.item_mut-requires-clause-table
+item_mut-requires-clause-table g c κs = (rw (← c.site.view_is) at c.requires.taken.stays).hand
+
+pub item_mut-requires-clause-place : goal.item_mut-requires-clause-place
+item_mut-requires-clause-place g c κs = rw (← c.site.view_is, ← c.taken.view_is) at c.requires.taken.ready.is.place

@@ -1,6 +1,6 @@
-use Rattle.std.proofs.Common.{ap, ◌∙◌}
+use Rattle.std.proofs.Common.{false, refl, ap, ◌∙◌}
 use Rattle.std.specs.Prelude.{is_some}
-use Rattle.step_parts.proofs.Listened.{near-is, armed-keeps, armed-listens, armed-idle, deaf-keeps}
+use Rattle.step_parts.proofs.Listened.{near-is, armed-keeps, armed-listens, armed-idle, deaf-keeps, deaf-listens}
 use Rattle.step_parts.proofs.Asked.{idle-here}
 use Rattle.step_parts.proofs.listening.listen.Goals as goal
 
@@ -34,3 +34,14 @@ returns-in-None-clause-keeps g c =
 
 pub returns-in-None-clause-idle : goal.returns-in-None-clause-idle
 returns-in-None-clause-idle g c = idle-here c.args.taken.now.name c.args.hand.now.me
+
+pub arm-armed-requires-clause-table : goal.arm-armed-requires-clause-table
+arm-armed-requires-clause-table g c κs = (rw (← c.site.view_is) at c.requires.taken.stays).hand
+
+pub returns-in-None-clause-listens : goal.returns-in-None-clause-listens
+returns-in-None-clause-listens g c =
+    rw (← c.site.view_is, ← c.taken.view_is)
+    (deaf-listens c.site.inside.table.now _ c.args.hand.now (rw (← c.site.view_is, ← c.taken.view_is) at c.requires.taken)
+    (near-is c.site.inside.table.now c.taken.inside.name c.tree.result.now c.source_above.result c.tree.ensures.tree c.source_above.ensures.nearest
+    ∙ c.in-None.is)
+    false refl)

@@ -12,3 +12,6 @@ returns-clause-settled g c =
     rw (← c.taken.view_is)
     (withdraw-settles c.site.inside.table.now _ c.withdraw-settled.result c.args.hand.now c.withdraw-settled.new.hand
     (rw (← c.site.view_is, ← c.taken.view_is) at c.requires.taken) c.withdraw-settled.ensures.settled)
+
+pub withdraw-settled-requires-clause-table : goal.withdraw-settled-requires-clause-table
+withdraw-settled-requires-clause-table g c κs within = (rw (← c.site.view_is) at c.requires.taken.stays).hand

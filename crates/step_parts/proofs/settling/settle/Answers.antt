@@ -38,3 +38,6 @@ returns-else-must_withdraw-clause-settled g c =
     (read-settles c.site.inside.table.now _ c.phase_of-phase.result c.args.hand.now c.phase_of-phase.new.hand
     (rw (← c.site.view_is, ← c.taken.view_is) at c.requires.taken) c.phase_of-phase.ensures.phase
     (c.must_withdraw.ensures.no c.if-must_withdraw.false))
+
+pub phase_of-phase-requires-clause-table : goal.phase_of-phase-requires-clause-table
+phase_of-phase-requires-clause-table g c κs = (rw (← c.site.view_is) at c.requires.taken.stays).hand

@@ -29,3 +29,9 @@ returns g c =
     (lent-rests _ _ _ (rw (← c.site.view_is, ← c.taken.view_is) at c.requires.may).taken c.item_mut.result c.item_mut.ensures.value
     c.in-Some.item c.in-Some.is c.rest.new.self c.rest.ensures _ (if-there _ (c.item_mut.follows.holds c.rest.new.self) c.in-Some.is))
     _ _ (rw (← c.site.view_is, ← c.taken.view_is) at c.go_below.ensures))
+
+pub item_mut-requires-clause-table : goal.item_mut-requires-clause-table
+item_mut-requires-clause-table g c κs = (rw (← c.site.view_is) at c.requires.may.taken.stays).hand
+
+pub item_mut-requires-clause-place : goal.item_mut-requires-clause-place
+item_mut-requires-clause-place g c κs = rw (← c.site.view_is, ← c.taken.view_is) at c.requires.may.taken.ready.is.place

@@ -37,3 +37,6 @@ returns g c =
     rw (← c.site.view_is, ← c.taken.view_is)
     (idle-again _ _ _ _ _ (rw (← c.site.view_is, ← c.taken.view_is) at c.requires.may) c.has_begun.new.hand c.has_begun.ensures.stays c.has_begun.result c.has_begun.ensures.begun
     c.if-has_begun.false _ _ (rw (← c.site.view_is, ← c.taken.view_is) at c.start_child.ensures))
+
+pub has_begun-requires-clause-table : goal.has_begun-requires-clause-table
+has_begun-requires-clause-table g c κs = (rw (← c.site.view_is) at c.requires.may.taken.stays).hand

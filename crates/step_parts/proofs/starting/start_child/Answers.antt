@@ -70,3 +70,9 @@ returns-in-None-one_int g c =
     (if-there _ (c.item_mut.follows.holds c.copy_resting-copy.new.item) c.in-Some.is)
     _ _ (rw (← c.site.view_is, ← c.taken.view_is) at c.go_on_apart.ensures.awaits)
     (rw (← c.site.view_is, ← c.taken.view_is) at c.go_on_apart.ensures.ends))
+
+pub item_mut-requires-clause-table : goal.item_mut-requires-clause-table
+item_mut-requires-clause-table g c κs = (rw (← c.site.view_is) at c.requires.may.taken.stays).hand
+
+pub item_mut-requires-clause-place : goal.item_mut-requires-clause-place
+item_mut-requires-clause-place g c κs = rw (← c.site.view_is, ← c.taken.view_is) at c.requires.may.taken.ready.is.place

@@ -1,6 +1,8 @@
 use Rattle.std.proofs.Common.{inl, inr, ◌∙◌}
 use Rattle.step_parts.proofs.Started.{run-may, run-starts, run-still}
 use Rattle.step_parts.proofs.Topped.{top-leaves}
+use Rattle.home_items.specs.Entries.{carried_of}
+use Rattle.step_parts.proofs.Begun.{rest-lies}
 use Rattle.step_parts.proofs.starting.start_top.Goals as goal
 
 pub go_below-requires-clause-may : goal.go_below-requires-clause-may
@@ -27,3 +29,8 @@ returns-in-None g c =
       keeps = c.in-None.ensures.changes;
       left = c.leave_at_rest.ensures;
     })
+
+pub go_below-requires-clause-lies : goal.go_below-requires-clause-lies
+go_below-requires-clause-lies g c =
+    rest-lies c.args.site.now c.args.taken c.args.child (carried_of c.args.taken.start) c.asked-asked.result c.args.hand.now c.rest_and_copy.new.hand
+    c.in-Some.ensures.changes

@@ -1,4 +1,4 @@
-use Rattle.std.proofs.Common.{ℕ, Option, sym, subst}
+use Rattle.std.proofs.Common.{ℕ, Option, None, sym, subst}
 use Rattle.home_items.specs.Parcels.{Delivery}
 use Rattle.exec_recv.specs.Sites.{node_at}
 use Rattle.step_parts.specs.declared.found.Found.TheVariants.{Back, Again}
@@ -36,3 +36,8 @@ returns-in-None-clause-found g c =
     (subst (λ (o : Option ℕ). TakesOne (node_at board c.args.taken.name) o) c.in-None.is c.requires.one)
     (subst (λ (o : Option ℕ). IsOnlyChild board c.args.taken.name o) c.in-None.is c.requires.only) c.requires.opened
     c.take_kept-kept-in-None.result c.take_kept-kept-in-None.ensures)
+
+pub take_kept-kept-requires : goal.take_kept-kept-requires
+take_kept-kept-requires g c =
+    let opened = c.requires.opened in
+    record { opened = record { inside = opened.inside; kid = λ _. None; is = c.take_back.ensures.takes.own opened.inside opened.kid opened.is } }

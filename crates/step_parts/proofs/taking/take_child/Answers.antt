@@ -37,3 +37,6 @@ returns-in-None-home g c =
     (subst (λ z. IsSwapped c.site.inside.table.now.frame (record c.taken.inside.name { node = c.args.child }) z z c.args.hand.now.me hand.me)
     c.in-None-home.is left.swapped)
     tt)
+
+pub home_mut-requires-clause-table : goal.home_mut-requires-clause-table
+home_mut-requires-clause-table g c κs = (rw (← c.site.view_is) at c.requires.opened.is.stays).hand

@@ -17,3 +17,9 @@ returns g c =
     (subst (λ z. IsSwapped c.site.inside.table.now.frame c.taken.inside.name (Some z) (Some c.in-Some.item.now) c.args.hand.now.me hand.me)
     c.take_kept.ensures.left left.swapped)
     c.take_kept.result c.take_kept.ensures.taken c.take_kept.ensures.lawful)
+
+pub item_mut-requires-clause-table : goal.item_mut-requires-clause-table
+item_mut-requires-clause-table g c κs = (rw (← c.site.view_is) at c.requires.opened.is.stays).hand
+
+pub item_mut-requires-clause-place : goal.item_mut-requires-clause-place
+item_mut-requires-clause-place g c κs = rw (← c.site.view_is, ← c.taken.view_is) at c.requires.opened.is.midway.place

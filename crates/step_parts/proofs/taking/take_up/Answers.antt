@@ -12,3 +12,9 @@ returns g c =
     (takes-up c.site.inside.table.now c.args.name c.args.hand.now (c.item_mut.follows.lender c.in-Some.item.now) c.in-Some.item.now
     (rw (← c.site.view_is) at c.requires.may) left.stays left.swapped c.known.ensures c.state.result c.state.ensures _ c.of.ensures _
     c.of-origin.ensures)
+
+pub item_mut-requires-clause-table : goal.item_mut-requires-clause-table
+item_mut-requires-clause-table g c κs = rw (← c.site.view_is) at c.requires.may.of
+
+pub item_mut-requires-clause-place : goal.item_mut-requires-clause-place
+item_mut-requires-clause-place g c κs = rw (← c.site.view_is) at c.requires.may.can.place

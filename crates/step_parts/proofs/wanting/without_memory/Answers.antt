@@ -52,3 +52,9 @@ returns g c =
     c.in-Some.item c.in-Some.is)))
     ∙ c.if-later.false)
     (rw (← c.site.view_is, ← c.taken.view_is) at c.want_memory.ensures))
+
+pub item_mut-requires-clause-table : goal.item_mut-requires-clause-table
+item_mut-requires-clause-table g c κs = (rw (← c.site.view_is) at c.requires.may.taken.stays).hand
+
+pub item_mut-requires-clause-place : goal.item_mut-requires-clause-place
+item_mut-requires-clause-place g c κs = rw (← c.site.view_is, ← c.taken.view_is) at c.requires.may.taken.ready.is.place

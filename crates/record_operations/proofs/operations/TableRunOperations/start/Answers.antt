@@ -6,8 +6,11 @@ use Rattle.exec_value.specs.declared.data.Datum.{Datum}
 use Rattle.exec_value.specs.Kinds.{HasKind}
 use Rattle.home_items.specs.Entries.{carried_of}
 use Rattle.exec_recv.specs.Asides.{Aside}
+use Rattle.exec_recv.specs.Over.{IsOver}
 use Rattle.node_walks.specs.Starts.{CanRun}
 use Rattle.run_loop.specs.Loops.{deck_of}
+use Rattle.plan_kinds.specs.Runnable.{IsRunnable}
+use Rattle.plan_shape.specs.Blueprint.{Blueprint}
 use Rattle.record_loop.specs.Works.{BeginsTicket, KeepsWork}
 use Rattle.record_operations.specs.Runs.{Run, run_of, work_of}
 use Rattle.record_operations.proofs.Changed.{shown-free, shown-start, entered-by, has-entered-sound, has-entered-begins}
@@ -96,3 +99,50 @@ returns-in-Err-clause-refused g c =
             noted = ap (λ (a : Aside). a.noted) c.in-Err.ensures.same.is;
           })),
     )
+
+pub enter-requires-clause-over : goal.enter-requires-clause-over
+enter-requires-clause-over g c κs within =
+    let table = c.self.invariant.sound.table in
+    subst (λ (p : Blueprint). IsOver c.self.inside.table.now p) (sym table.stepped_is) table.over
+
+pub enter-requires-clause-kinds : goal.enter-requires-clause-kinds
+enter-requires-clause-kinds g c κs within =
+    let table = c.self.invariant.sound.table in
+    subst IsRunnable (sym table.stepped_is) table.kinds
+
+pub put-requires-clause-free : goal.put-requires-clause-free
+put-requires-clause-free g c =
+    let inside = c.self.inside in
+    let lent : c.deref.result.now ≡ inside.operations.items = cc in
+    shown-free c.deref.result.now inside.operations.items inside.next c.is_free.result lent c.is_free.ensures c.if-not-is_free.false
+
+pub overflow_add-self : goal.overflow_add-self
+overflow_add-self g c =
+    let tickets = c.self.invariant.sound.tickets in
+    let within = tickets.within in
+    let few = tickets.few in
+    omega (arith, within, few)
+
+pub nonzero_rem-self : goal.nonzero_rem-self
+nonzero_rem-self g c =
+    let items = c.self.inside.operations.items in
+    let count : length c.put.new.operations.items ≡ length items =
+    ap length c.put.ensures ∙ length-set items c.self.inside.next (Some c.in-Ok.operation) in
+    let within = c.self.invariant.sound.tickets.within in
+    omega (arith, count, within)
+
+pub overflow_cast-result : goal.overflow_cast-result
+overflow_cast-result g c =
+    let tickets = c.self.invariant.sound.tickets in
+    let within = tickets.within in
+    let few = tickets.few in
+    omega (arith, within, few)
+
+pub into_one-requires : goal.into_one-requires
+into_one-requires g c =
+    let plan = c.self.inside.plan.now in
+    let asked = c.self.inside.requested in
+    let began = shown-start plan c.of_record-env.result c.one.result c.args.number c.args.datum asked c.of_record-env.ensures c.one.ensures in
+    ap length
+    (c.into_args.ensures ∙ ap carried_of (c.in-Err.ensures.back ∙ began)
+    ∙ carries-datum plan c.self.invariant.sound.table.over.is_plan c.args.datum c.args.number asked)

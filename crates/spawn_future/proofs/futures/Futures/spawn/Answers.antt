@@ -1,11 +1,11 @@
-use Rattle.std.proofs.Common.{refl, sym, subst}
+use Rattle.std.proofs.Common.{refl, sym, subst, arith}
 use Rattle.std.specs.Prelude.{List, Option}
 use Rattle.spawn_future.specs.declared.future.Future.{Future}
 use Rattle.spawn_future.specs.Keeping.{IsKeeping}
 use Rattle.spawn_future.specs.Slots.{IsFree, WaitsNowhere}
 use Rattle.spawn_future.proofs.Fresh.{all-full}
 use Rattle.spawn_future.proofs.Kept.{keeping-same}
-use Rattle.spawn_future.proofs.Slotted.{put-slots, has-room}
+use Rattle.spawn_future.proofs.Slotted.{put-slots, has-room, kept-most}
 use Rattle.spawn_future.proofs.Spawned.{kept-out-same, kept-out-refuses, spawned-keeping}
 use Rattle.spawn_future.proofs.futures.Futures.spawn.Goals as goal
 
@@ -61,3 +61,8 @@ returns-in-Err-clause-refused g c =
 pub returns-in-None-clause-refused : goal.returns-in-None-clause-refused
 returns-in-None-clause-refused g c =
     record { back_is = refl; because = (all-full c.args.self.now c.in-None.ensures.none, refl) }
+
+pub overflow_add-self : goal.overflow_add-self
+overflow_add-self g c =
+    let most = kept-most c.self.inside.slots.items c.self.inside.kept c.self.invariant in
+    omega (arith, most)

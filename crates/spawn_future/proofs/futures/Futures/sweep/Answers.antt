@@ -3,6 +3,8 @@ use Rattle.std.specs.Bool.{OnTrue, OnFalse}
 use Rattle.op_slot.proofs.Staying.{stays-here, stays-on}
 use Rattle.spawn_future.specs.Sweeps.{EndsSlot, LeavesSlot, SweepsFirst, SweepsTo}
 use Rattle.spawn_future.proofs.Swept.{each-more, swept-none, slot-left, slot-ended, swept-all}
+use Rattle.std.proofs.lemmas.List.Sums.{count_by-le-length}
+use Rattle.std.specs.Prelude.{is_some}
 use Rattle.spawn_future.proofs.futures.Futures.sweep.Goals as goal
 use Rattle.spawn_future.proofs.futures.Futures.sweep.Goals.{then-sweep_slot, else-sweep_slot}
 
@@ -75,3 +77,10 @@ returns-clause-swept g c =
     let past = c.loop-slot-test.false in
     swept-all c.args.table.now c.loop-slot.slot c.loop-slot.ended c.args.self.now c.loop-slot.self c.args.hand.now.me c.loop-slot.hand.me
     (omega (arith, count, past)) is.swept
+
+pub overflow_add-ended : goal.overflow_add-ended
+overflow_add-ended g c =
+    let kept = c.loop-slot.invariant.swept.kept in
+    let few = c.loop-slot.invariant.few in
+    let most = count_by-le-length is_some c.args.self.now in
+    omega (arith, kept, few, most)
