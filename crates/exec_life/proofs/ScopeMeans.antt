@@ -31,6 +31,14 @@ rouse-means d w h p state set =
     words-means d w _ state (control-blocks d.words w p.block p.node ReadyLoop set)
     (means-control d w p.block p.node ReadyLoop set)
 
+-- a write to the scope's word alone
+pub scope-means : (d : StateLists) (w : WordLists) (word : ScopeWord) → IsState d →
+    w ≡ record d.words { scope = word } → Means (record d { words = w }) (with_scope (machine d) word)
+scope-means d w word state set =
+    words-means d w _ state
+    (blocks-stay d.words w (ap (λ (u : WordLists). u.blocks) set) (ap (λ (u : WordLists). u.nodes) set))
+    (ap (λ (u : WordLists). machine (record d { words = u })) set)
+
 -- as many associations are in the view as the scope's word counts, at most
 pub few-associations : (d : StateLists) (h : ℕ) (v : ViewLists) → HasView d h v →
     (v.made + v.making + v.refused ≤ d.words.scope.count) × (d.words.scope.count < 2 ^ 32 - 1)

@@ -1,4 +1,5 @@
 pub mod NumberLemmas
+mod KindLemmas
 pub mod RowLemmas
 pub mod SumLemmas
 pub mod TextLemmas

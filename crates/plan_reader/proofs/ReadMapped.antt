@@ -30,3 +30,8 @@ any-mapped Q f (Bad faults) meets = tt
 pub mapped-any : {A B : Type 0} (Q : B → Type 0) (f : A → B) (r : Reading A) (s : Reading B)
     → ((a : A) → Q (f a)) → s ≡ mapped f r → IfGood s Q
 mapped-any Q f r s meets is = subst (λ x. IfGood x Q) (sym is) (any-mapped Q f r meets)
+
+-- what is asked of each value is met where one was read
+pub good-each : {A : Type 0} (P : A → Type 0) (r : Reading A) → ((a : A) → P a) → IfGood r P
+good-each P (Good a) meets = meets a
+good-each P (Bad faults) meets = tt

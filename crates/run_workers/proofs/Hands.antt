@@ -1,6 +1,6 @@
 -- What serving leaves of a spare hand.
 use Rattle.std.proofs.Common.{◌≡◌, ◌<◌, zero, suc, ◌+◌, List, [], ◌∷◌, ◌++◌, length, All, ◌-◌, rules, refl, sym, ap, ◌∙◌, subst, inl, inr, arith}
-use Rattle.std.specs.Prelude.{Option, Some, Contains, slice_index_or}
+use Rattle.std.specs.Prelude.{Option, Some, None, IfSome, Contains, option_to_list, slice_index_or}
 use Rattle.std.proofs.lemmas.List.Elements.{All-append}
 use Rattle.atomic_table.specs.declared.shared.Seat.{Seat}
 use Rattle.listed_words.specs.declared.seen.Seen.{Seen}
@@ -14,7 +14,8 @@ use Rattle.home_items.specs.declared.entry.Entry.{Entry}
 use Rattle.home_items.specs.declared.item.Item.{Item}
 use Rattle.exec_recv.specs.Asides.{KeepsAside}
 use Rattle.steal_pool.specs.Works.{IsReady, HasEnded}
-use Rattle.run_workers.specs.Crews.{IsSpare, HasServed, ReadsJoined}
+use Rattle.deck_relay.specs.declared.desk.Desk.{Desk}
+use Rattle.run_workers.specs.Crews.{CanServe, GivesBack, IsSpare, HasServed, ReadsJoined}
 
 abbrev pub TheHand : Type 0
 TheHand = Seat (Option Item) (View Item Entry)
@@ -98,3 +99,40 @@ last-of P all last holds some is =
     let there = is last some in
     let same : last ≡ slice_index_or all (length all - 1) last = search rules in
     subst P (sym same) (holds (length all - 1) last (omega arith))
+
+-- the one that was taken, where there was one
+last-held : (P : TheHand → Type 0) (rest : List TheHand) (last : TheHand) →
+    All P (rest ++ last ∷ []) → P last
+last-held P [] last holds = holds 0 last (omega arith)
+last-held P (first ∷ rest) last holds =
+    last-held P rest last (λ k d low. holds (suc k) d (omega arith))
+
+pub if-taken : (P : TheHand → Type 0) (rest all : List TheHand) (r : Option TheHand) → All P all →
+    all ≡ rest ++ option_to_list r → IfSome r P
+if-taken P rest all (Some last) holds is =
+    last-held P rest last (subst (λ (hands : List TheHand). All P hands) is holds)
+if-taken P rest all None holds is = tt
+
+-- none of these
+pub none-served : (board : Board Blueprint) (hands : List TheHand) → hands ≡ [] →
+    All (HasServed board) hands
+none-served board hands is =
+    subst (λ (them : List TheHand). All (HasServed board) them) (sym is)
+    (λ k d low. absurd (omega arith))
+
+-- so it is of what a promise holds
+pub gives-back : (board seen : Board Blueprint) (hand held : TheHand) (desk kept : Option Desk)
+    (back : TheHand) (again : Option Desk) → seen ≡ board → held ≡ hand → kept ≡ desk →
+    GivesBack board hand desk back again → GivesBack seen held kept back again
+gives-back board seen hand held desk kept back again is is' is'' gives =
+    subst (λ (b : Board Blueprint). GivesBack b held kept back again) (sym is)
+    (subst (λ (h : TheHand). GivesBack board h kept back again) (sym is')
+    (subst (λ (d : Option Desk). GivesBack board hand d back again) (sym is'') gives))
+
+-- what a hand may serve it still may, under other names
+pub still-can : (board seen : Board Blueprint) (plan read : Blueprint) (hand held : TheHand) →
+    seen ≡ board → read ≡ plan → held ≡ hand → CanServe board plan hand → CanServe seen read held
+still-can board seen plan read hand held is is' is'' can =
+    subst (λ (b : Board Blueprint). CanServe b read held) (sym is)
+    (subst (λ (p : Blueprint). CanServe board p held) (sym is')
+    (subst (λ (h : TheHand). CanServe board plan h) (sym is'') can))

@@ -15,6 +15,18 @@ desks-here desks =
       each = λ k before after at at'. subst (λ d. OnlyPosts before d) (got before after (sym at ∙ at')) (posts-here before);
     }
 
+-- the room that was there stays
+pub room-stays : (old took has new : ℕ) → took ≡ old → took ≤ has → new ≡ has → old ≤ new
+room-stays old took has new same within is = omega arith
+
+pub room-same : (old new : ℕ) → new ≡ old → old ≤ new
+room-same old new is = omega arith
+
+-- and there is a place for what was taken
+pub room-for : (had took has cap cap_took cap_has : ℕ) → took + 1 ≡ had → has ≡ took → had ≤ cap →
+    cap_took ≡ cap → cap_took ≤ cap_has → has < cap_has
+room-for had took has cap cap_took cap_has fewer same within is more = omega arith
+
 -- desks that are left so
 module _ (Same : Desk → Desk → Type 0) where
   -- so it is of the desk that was given, and of the one that is given back

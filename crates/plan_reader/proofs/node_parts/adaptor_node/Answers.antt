@@ -1,4 +1,4 @@
-use Rattle.std.proofs.Common.{ap, ◌∙◌, rules}
+use Rattle.std.proofs.Common.{refl, ap, ◌∙◌, rules}
 use Rattle.std.specs.Prelude.{IsTrue}
 use Rattle.exec_value.specs.ErrorName.{is_error_name}
 use Rattle.node_tree.specs.declared.context.Context.{Context}
@@ -6,7 +6,7 @@ use Rattle.plan_rules.specs.Images.{has_maybe}
 use Rattle.plan_rules.specs.declared.node.Node.TheVariants as node
 use Rattle.plan_parts.specs.Reading.{mapped}
 use Rattle.plan_shape.specs.Conditions.{IsLawfulJob, MeetsConditions}
-use Rattle.plan_reader.proofs.ReadMapped.{mapped-any, mapped-good, mapped-is}
+use Rattle.plan_reader.proofs.ReadMapped.{good-each, mapped-any, mapped-good, mapped-is}
 use Rattle.plan_reader.proofs.node_parts.adaptor_node.Goals as goal
 
 pub returns-in_ok-job_at-in-Then : goal.returns-in_ok-job_at-in-Then
@@ -90,3 +90,28 @@ returns-in_ok-name_at-in-StoppedAsError c =
       conditions = mapped-good (λ name. IsTrue (is_error_name name)) MeetsConditions f
           step.field-0 map.result (λ error holds. holds) made step.ensures.name;
     }
+
+pub returns-in-Unstoppable-clause-value : goal.returns-in-Unstoppable-clause-value
+returns-in-Unstoppable-clause-value c = rw c.in-Unstoppable.is refl
+
+pub map-requires : goal.map-requires
+map-requires c = good-each _ c.in_ok-job_at-in-Then.field-0 (λ job. tt)
+
+pub map-requires-in-UponError : goal.map-requires-in-UponError
+map-requires-in-UponError c = good-each _ c.in_ok-job_at-in-UponError.field-0 (λ job. tt)
+
+pub map-requires-in-UponStopped : goal.map-requires-in-UponStopped
+map-requires-in-UponStopped c = good-each _ c.in_ok-job_at-in-UponStopped.field-0 (λ job. tt)
+
+pub map-requires-in-StartsOn : goal.map-requires-in-StartsOn
+map-requires-in-StartsOn c = good-each _ c.context_at.result (λ on. tt)
+
+pub map-requires-in-ContinuesOn : goal.map-requires-in-ContinuesOn
+map-requires-in-ContinuesOn c = good-each _ c.context_at-in-ContinuesOn.result (λ on. tt)
+
+pub map-requires-in-StoppedAsOptional : goal.map-requires-in-StoppedAsOptional
+map-requires-in-StoppedAsOptional c = good-each _ c.of_at.result (λ of. tt)
+
+pub map-requires-in-StoppedAsError : goal.map-requires-in-StoppedAsError
+map-requires-in-StoppedAsError c =
+    good-each _ c.in_ok-name_at-in-StoppedAsError.field-0 (λ error. tt)

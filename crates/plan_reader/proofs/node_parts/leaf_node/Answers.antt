@@ -1,4 +1,4 @@
-use Rattle.std.proofs.Common.{ap, ◌∙◌, rules, ◌≤◌}
+use Rattle.std.proofs.Common.{refl, ap, ◌∙◌, rules, ◌≤◌}
 use Rattle.std.specs.Prelude.{All, IsTrue}
 use Rattle.exec_value.specs.ErrorName.{is_error_name}
 use Rattle.exec_value.specs.Kinds.{IsConstant}
@@ -6,7 +6,7 @@ use Rattle.plan_rules.specs.declared.node.Node.TheVariants as node
 use Rattle.plan_parts.specs.Reading.{mapped}
 use Rattle.plan_shape.specs.Conditions.{MeetsConditions}
 use Rattle.plan_shape.specs.declared.limits.TheConstants.{MOST_TURNS}
-use Rattle.plan_reader.proofs.ReadMapped.{mapped-any, mapped-good, mapped-is}
+use Rattle.plan_reader.proofs.ReadMapped.{good-each, mapped-any, mapped-good, mapped-is}
 use Rattle.plan_reader.proofs.node_parts.leaf_node.Goals as goal
 
 pub returns-in_ok-constants_at-in-Just : goal.returns-in_ok-constants_at-in-Just
@@ -66,3 +66,24 @@ returns-in-ReadEnv c =
       value = rw c.in-ReadEnv.is (made ∙ ap (mapped f) step.ensures);
       conditions = mapped-any MeetsConditions f step.result map.result (λ query. tt) made;
     }
+
+pub returns-in-Input-clause-value : goal.returns-in-Input-clause-value
+returns-in-Input-clause-value c = rw c.in-Input.is refl
+
+pub returns-in-JustStopped-clause-value : goal.returns-in-JustStopped-clause-value
+returns-in-JustStopped-clause-value c = rw c.in-JustStopped.is refl
+
+pub map-requires : goal.map-requires
+map-requires c = good-each _ c.in_ok-constants_at-in-Just.field-0 (λ values. tt)
+
+pub map-requires-in-JustError : goal.map-requires-in-JustError
+map-requires-in-JustError c = good-each _ c.in_ok-name_at-in-JustError.field-0 (λ error. tt)
+
+pub map-requires-in-Schedule : goal.map-requires-in-Schedule
+map-requires-in-Schedule c = good-each _ c.context_at.result (λ context. tt)
+
+pub map-requires-in-Delay : goal.map-requires-in-Delay
+map-requires-in-Delay c = good-each _ c.count_at.result (λ turns. tt)
+
+pub map-requires-in-ReadEnv : goal.map-requires-in-ReadEnv
+map-requires-in-ReadEnv c = good-each _ c.query_at.result (λ query. tt)

@@ -5,7 +5,7 @@ use Rattle.plan_shape.specs.Conditions.{IsLawfulJob, MeetsConditions}
 use Rattle.plan_reader.specs.NodeParts.{picking}
 use Rattle.plan_reader.specs.declared.node_word.Let.{Let}
 use Rattle.plan_reader.specs.declared.node_word.Let.TheVariants.{Value, Error, Stopped}
-use Rattle.plan_reader.proofs.ReadMapped.{mapped-good, mapped-is}
+use Rattle.plan_reader.proofs.ReadMapped.{good-each, mapped-good, mapped-is}
 use Rattle.plan_reader.proofs.node_parts.let_node.Goals as goal
 
 picking-meets : (binding : Let) (child : ℕ) (bodies : List ℕ) (job : Job) → IsLawfulJob job
@@ -25,3 +25,6 @@ returns c =
       conditions = mapped-good IsLawfulJob MeetsConditions f step.field-0 c.map-made.result
           (picking-meets c.args.binding c.args.child c.args.bodies) made step.ensures.lawful;
     }
+
+pub map-made-requires : goal.map-made-requires
+map-made-requires c = good-each _ c.in_ok-job_at.field-0 (λ job. tt)

@@ -72,3 +72,6 @@ returns-else-submit_where g c =
           (desk-on c.submit_where.new.self.desk c.get_up.new.self.desk c.serve_place.new.mail.desk c.get_up.ensures
           c.serve_place.ensures.mail);
     }
+
+pub serve_place-requires-clause-hand : goal.serve_place-requires-clause-hand
+serve_place-requires-clause-hand g c κs within = (rw c.site.view_is at c.ready_at.ensures.stays).hand

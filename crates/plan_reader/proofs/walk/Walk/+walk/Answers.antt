@@ -1,9 +1,10 @@
 use Rattle.std.proofs.Common.{◌≡◌, ◌<◌, map, sym, ap, ◌∙◌, subst, arith, rules}
 use Rattle.std.specs.Prelude.{OnOk, codes}
-use Rattle.serde_json.specs.View.{view}
+use Rattle.serde_json.specs.View.{view, items_view}
 use Rattle.plan_reader.specs.NodeWords.{node_named}
-use Rattle.plan_reader.specs.Walked.{Walked}
+use Rattle.plan_reader.specs.Walked.{Listed, Walked, each, walk}
 use Rattle.std.proofs.lemmas.Grind.{common_steps}
+use Rattle.std.proofs.lemmas.List.{at_drop_all}
 use Rattle.plan_reader.proofs.DescentLemmas.{adaptor-roots, child-tidy, leaf-roots, let-roots, list-roots, next-leads, one-root, two-roots}
 use Rattle.plan_reader.proofs.RootedWalk.{leads-tidy}
 use Rattle.plan_reader.proofs.WalkLemmas.{walk-zero, walk-no_name, walk-named, walk-known}
@@ -103,3 +104,17 @@ each-values-preserved t c = record {
       c.push.new.self.items c.last.result c.values.invariant.leads c.in_ok-node.ensures c.last.ensures
       c.in_ok-push.ensures.items;
 }
+
+pub each-returns-clause-walked : goal.each-returns-clause-walked
+each-returns-clause-walked t c =
+    let st : Listed = record { walked = c.values.self; numbers = c.values.numbers.items } in
+    let all = at_drop_all (λ values. each (walk c.args.levels) (items_view values) st)
+    c.args.values.now c.values.value-index c.values-test.false in
+    sym (ap (λ (l : Listed). l.walked) (c.values.invariant.so_far ∙ all))
+
+pub each-returns-clause-numbers : goal.each-returns-clause-numbers
+each-returns-clause-numbers t c =
+    let st : Listed = record { walked = c.values.self; numbers = c.values.numbers.items } in
+    let all = at_drop_all (λ values. each (walk c.args.levels) (items_view values) st)
+    c.args.values.now c.values.value-index c.values-test.false in
+    sym (ap (λ (l : Listed). l.numbers) (c.values.invariant.so_far ∙ all))
