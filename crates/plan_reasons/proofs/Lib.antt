@@ -1,3 +1,4 @@
 mod Counted
 mod Joined
 mod Keys
+mod Chosen

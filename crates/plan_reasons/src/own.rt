@@ -150,8 +150,8 @@ pub fn own_faults(alloc: Global, is_first: bool, value: &Value) -> Result<Faults
 }
 
 /// Whether a job was read, and is none over elements.
-fn is_other_job(reading: Reading<Job>) -> bool
-    ensures { result ≡ is_other_job reading }
+fn is_other_job(reading: &Reading<Job>) -> bool
+    ensures { result ≡ is_other_job reading.now }
 {
     match reading {
         Reading::Good(job) => !job.is_element(),
@@ -164,7 +164,14 @@ pub fn bars_bulk(alloc: Global, word: Option<NodeWord>, value: &Value) -> Result
     ensures { IfOk result (λ bars. bars ≡ bars_bulk word (view value.now)) }
 {
     match word {
-        Some(NodeWord::Bulk) => Ok(is_other_job(job_at(alloc, value, "job")?)),
+        Some(NodeWord::Bulk) => match job_at(alloc, value, "job") {
+            Err(error) => Err(error),
+            Ok(reading) => {
+                let bars = is_other_job(&reading);
+                drop(reading);
+                Ok(bars)
+            }
+        },
         _ => Ok(false),
     }
 }

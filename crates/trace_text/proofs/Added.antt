@@ -1,10 +1,10 @@
 -- How a text is put together.
-use Rattle.std.proofs.Common.{◌≡◌, ℕ, ◌+◌, ◌-◌, ◌<◌, ◌≤◌, List, [], ◌∷◌, ◌++◌, length, take, drop, get_or, arith, sym, ap, subst, ◌∙◌, append_assoc}
+use Rattle.std.proofs.Common.{◌≡◌, ℕ, ◌+◌, ◌-◌, ◌<◌, ◌≤◌, List, [], ◌∷◌, ◌++◌, length, take, drop, get_or, arith, sym, ap, subst, ◌∙◌, append_assoc, Result, Ok, Err, OnOk}
 use Rattle.std.specs.Fmt.{decimal}
 use Rattle.std.specs.List.{flat_map}
 use Rattle.std.proofs.lemmas.List.{append-nil, flat_map_more, take_more, take_all}
 use Rattle.trace_text.specs.Adding.{Adds}
-use Rattle.trace_text.specs.Texts.{comma, children_text}
+use Rattle.trace_text.specs.Texts.{apart, blank, comma, children_text}
 
 -- nothing was added
 pub adds_none : {old : List ℕ} → Adds old old []
@@ -18,6 +18,16 @@ adds_join {old} {mid} {new} {a} {b} p q =
 -- the same bytes under another name
 pub adds_same : {old new a b : List ℕ} → a ≡ b → Adds old new a → Adds old new b
 adds_same {old} {new} e p = subst (Adds old new) e p
+
+-- the same, where the second part may have failed
+pub adds_then : {T E : Type 0} (r : Result T E) {old mid a : List ℕ} (new b : List ℕ) → Adds old mid a → OnOk r (Adds mid new b) → OnOk r (Adds old new (a ++ b))
+adds_then (Ok x) new b p q = adds_join p q
+adds_then (Err e) new b p q = q
+
+-- one part was added, with a blank behind it, and then another
+pub adds_apart : {T E : Type 0} (r : Result T E) (a : List ℕ) {old mid : List ℕ} (new b : List ℕ) → Adds old mid (apart a []) → OnOk r (Adds mid new b) → OnOk r (Adds old new (apart a b))
+adds_apart (Ok x) a new b p q = adds_same (append_assoc a (blank ∷ []) b) (adds_join p q)
+adds_apart (Err e) a new b p q = q
 
 -- numbers with commas between them are the first, and each later one behind a comma
 pub children_text-cons : (n : ℕ) (ns : List ℕ) → decimal n ++ flat_map (λ m. comma ∷ decimal m) ns ≡ children_text (n ∷ ns)

@@ -31,8 +31,7 @@ pub fn put_place(place: Place, out: &mut Vec<u8>) -> Result<(), AllocError>
 {
     put_number(place.block, out)?;
     put(b".", out)?;
-    put_number(place.node, out)?;
-    Ok(())
+    put_number(place.node, out)
 }
 
 /// Adds a source: the scope's, or a place.
@@ -75,8 +74,7 @@ fn put_next(number: u32, out: &mut Vec<u8>) -> Result<(), AllocError>
     ensures { OnOk result (Adds out.old.items out.new.items (comma ∷ decimal number)) }
 {
     put(b",", out)?;
-    put_number(number, out)?;
-    Ok(())
+    put_number(number, out)
 }
 
 pub fn put_resting(to: Resting, out: &mut Vec<u8>) -> Result<(), AllocError>
@@ -130,6 +128,5 @@ pub fn put_scope(word: ScopeWord, out: &mut Vec<u8>) -> Result<(), AllocError>
     put_bit(word.closed, out)?;
     put_bit(word.joining, out)?;
     put_bit(word.joined, out)?;
-    put_number(word.count, out)?;
-    Ok(())
+    put_number(word.count, out)
 }

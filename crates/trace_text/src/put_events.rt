@@ -37,8 +37,7 @@ fn put_word(word: &[u8], out: &mut Vec<u8>) -> Result<(), AllocError>
     ensures { OnOk result (Adds out.old.items out.new.items (apart word.now [])) }
 {
     put(word, out)?;
-    put(b" ", out)?;
-    Ok(())
+    put(b" ", out)
 }
 
 fn put_at_block(kind: BlockKind, block: u32, out: &mut Vec<u8>) -> Result<(), AllocError>
@@ -71,8 +70,7 @@ fn put_await(place: Place, children: &[u32], out: &mut Vec<u8>) -> Result<(), Al
     put(b"await ", out)?;
     put_place(place, out)?;
     put(b" ", out)?;
-    put_children(children, out)?;
-    Ok(())
+    put_children(children, out)
 }
 
 fn put_rest(place: Place, to: Resting, out: &mut Vec<u8>) -> Result<(), AllocError>
@@ -81,8 +79,7 @@ fn put_rest(place: Place, to: Resting, out: &mut Vec<u8>) -> Result<(), AllocErr
     put(b"rest ", out)?;
     put_place(place, out)?;
     put(b" ", out)?;
-    put_resting(to, out)?;
-    Ok(())
+    put_resting(to, out)
 }
 
 fn put_look(source: SourceAt, after: Option<Place>, out: &mut Vec<u8>) -> Result<(), AllocError>
@@ -90,8 +87,7 @@ fn put_look(source: SourceAt, after: Option<Place>, out: &mut Vec<u8>) -> Result
 {
     put(b"look ", out)?;
     put_source(source, out)?;
-    put_after(after, out)?;
-    Ok(())
+    put_after(after, out)
 }
 
 fn put_request(source: SourceAt, failure: bool, out: &mut Vec<u8>) -> Result<(), AllocError>
@@ -100,8 +96,7 @@ fn put_request(source: SourceAt, failure: bool, out: &mut Vec<u8>) -> Result<(),
     put(b"request ", out)?;
     put_source(source, out)?;
     put(b" ", out)?;
-    put_cause(failure, out)?;
-    Ok(())
+    put_cause(failure, out)
 }
 
 fn put_run(source: SourceAt, place: Place, out: &mut Vec<u8>) -> Result<(), AllocError>
@@ -110,22 +105,19 @@ fn put_run(source: SourceAt, place: Place, out: &mut Vec<u8>) -> Result<(), Allo
     put(b"run ", out)?;
     put_source(source, out)?;
     put(b" ", out)?;
-    put_place(place, out)?;
-    Ok(())
+    put_place(place, out)
 }
 
 fn put_seal_scan(source: SourceAt, out: &mut Vec<u8>) -> Result<(), AllocError>
     ensures { OnOk result (Adds out.old.items out.new.items (event_text (SealScan source))) }
 {
     put(b"seal_scan ", out)?;
-    put_source(source, out)?;
-    Ok(())
+    put_source(source, out)
 }
 
 fn put_seal(expected: ScopeWord, out: &mut Vec<u8>) -> Result<(), AllocError>
     ensures { OnOk result (Adds out.old.items out.new.items (event_text (Seal expected))) }
 {
     put(b"seal ", out)?;
-    put_scope(expected, out)?;
-    Ok(())
+    put_scope(expected, out)
 }

@@ -1,7 +1,7 @@
 //! How lines are written. Each call adds to the end of `out`.
-ghost use Rattle.std.specs.Prelude.{OnOk, ◌++◌, ◌∷◌, []};
+ghost use Rattle.std.specs.Prelude.{OnOk, ◌++◌, ◌∷◌, [], decimal};
 ghost use Rattle.trace_text.specs.Adding.{Adds};
-ghost use Rattle.trace_text.specs.Texts.{line_feed, entry_text, choice_text, node_text, parent_text, mark_text, kind_text, numbers_text, lines, setup_text};
+ghost use Rattle.trace_text.specs.Texts.{apart, line_feed, entry_text, choice_text, node_text, parent_text, mark_text, kind_text, numbers_text, lines, setup_text};
 
 use crate::entry::{Choice, Entry};
 use crate::opening::Opening;
@@ -26,8 +26,7 @@ fn put_entry(entry: &Entry, out: &mut Vec<u8>) -> Result<(), AllocError>
         (Adds out.old.items out.new.items (entry_text entry.now ++ line_feed ∷ [])) }
 {
     put_entry_text(entry, out)?;
-    put(b"\n", out)?;
-    Ok(())
+    put(b"\n", out)
 }
 
 /// Adds the text of an entry.
@@ -36,8 +35,7 @@ pub fn put_entry_text(entry: &Entry, out: &mut Vec<u8>) -> Result<(), AllocError
 {
     put_number(entry.hand, out)?;
     put(b" ", out)?;
-    put_event(&entry.event, out)?;
-    Ok(())
+    put_event(&entry.event, out)
 }
 
 /// Adds the text of a choice.
@@ -46,8 +44,7 @@ pub fn put_choice_text(choice: Choice, out: &mut Vec<u8>) -> Result<(), AllocErr
 {
     put_number(choice.hand, out)?;
     put(b" ", out)?;
-    put_number(choice.choice, out)?;
-    Ok(())
+    put_number(choice.choice, out)
 }
 
 fn put_parent(parent: Option<u32>, out: &mut Vec<u8>) -> Result<(), AllocError>
@@ -76,8 +73,7 @@ fn put_node(node: TreeNode, out: &mut Vec<u8>) -> Result<(), AllocError>
     ensures { OnOk result (Adds out.old.items out.new.items (node_text node ++ line_feed ∷ [])) }
 {
     put_node_text(node, out)?;
-    put(b"\n", out)?;
-    Ok(())
+    put(b"\n", out)
 }
 
 /// Adds the text of a node.
@@ -87,8 +83,7 @@ pub fn put_node_text(node: TreeNode, out: &mut Vec<u8>) -> Result<(), AllocError
     put(b"node ", out)?;
     put_parent(node.parent, out)?;
     put(b" ", out)?;
-    put_mark(node, out)?;
-    Ok(())
+    put_mark(node, out)
 }
 
 // Adds the lines of a tree's nodes.
@@ -110,6 +105,14 @@ fn put_kind(kind: ScopeKind, out: &mut Vec<u8>) -> Result<(), AllocError>
     }
 }
 
+// Adds a number, and the blank behind it.
+fn put_number_apart(number: u32, out: &mut Vec<u8>) -> Result<(), AllocError>
+    ensures { OnOk result (Adds out.old.items out.new.items (apart (decimal number) [])) }
+{
+    put_number(number, out)?;
+    put(b" ", out)
+}
+
 /// Adds the numbers of an opening.
 pub fn put_numbers(
     nodes: u32,
@@ -123,16 +126,12 @@ pub fn put_numbers(
         (Adds out.old.items out.new.items (numbers_text nodes blocks hands kind most)) }
 {
     put(b"exec ", out)?;
-    put_number(nodes, out)?;
-    put(b" ", out)?;
-    put_number(blocks, out)?;
-    put(b" ", out)?;
-    put_number(hands, out)?;
-    put(b" ", out)?;
+    put_number_apart(nodes, out)?;
+    put_number_apart(blocks, out)?;
+    put_number_apart(hands, out)?;
     put_kind(kind, out)?;
     put(b" ", out)?;
-    put_number(most, out)?;
-    Ok(())
+    put_number(most, out)
 }
 
 /// Adds the lines of an opening.

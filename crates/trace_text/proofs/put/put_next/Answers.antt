@@ -1,5 +1,5 @@
-use Rattle.trace_text.proofs.Added.{adds_join}
+use Rattle.trace_text.proofs.Added.{adds_then}
 use Rattle.trace_text.proofs.put.put_next.Goals as goal
 
 pub returns : goal.returns
-returns c = adds_join c.in_ok-put.ensures c.in_ok-put_number.ensures
+returns c = adds_then c.put_number.result _ _ c.in_ok-put.ensures c.put_number.ensures

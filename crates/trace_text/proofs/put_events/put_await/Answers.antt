@@ -1,0 +1,9 @@
+use Rattle.trace_text.proofs.Added.{adds_then}
+use Rattle.trace_text.proofs.put_events.put_await.Goals as goal
+
+pub returns : goal.returns
+returns c =
+    let r = c.put_children.result in
+    adds_then r _ _ c.in_ok-put.ensures
+    (adds_then r _ _ c.in_ok-put_place.ensures
+    (adds_then r _ _ c.in_ok-put-2.ensures c.put_children.ensures))
