@@ -38,7 +38,7 @@ use Rattle.exec_engine.specs.declared.tally.Tally.{Tally}
 use Rattle.exec_engine.specs.declared.task.Origin.{Origin}
 use Rattle.exec_engine.specs.declared.task.Origin.TheVariants.{Source, Generated}
 use Rattle.exec_engine.specs.declared.task.Task.{Task}
-use Rattle.exec_engine.specs.Closes.{ClosesRun, Runs}
+use Rattle.exec_engine.specs.Closes.{ClosesRun, Runs, TakesOver}
 use Rattle.exec_engine.specs.Says.{terms_for}
 use Rattle.exec_engine.specs.Statuses.{status_of}
 use Rattle.exec_engine.specs.Tallies.{AreInOrder, IsNew, IsTallyOf}
@@ -154,42 +154,37 @@ pub new-ordered : (task : Task) (tally : Tally) → IsNew tally → AreInOrder t
 new-ordered task tally new =
     subst (λ (t : Option (ClosedTable Item Entry Blueprint) × Option Given). AreInOrder task t.0 t.1) (λ j. (sym new.unopened j, sym new.ungiven j)) tt
 
--- and for a run to its workers
-pub takes-ordered : (task : Task) (asked workers : ℕ) (answer : Result Account AllocError) (old new : Tally) → asked ≡ MOST_WORKERS → workers ≤ task.workers
-    → IfOk answer (λ (a : Account). AreGiven task.order asked workers a.given) → IsNew old → IfOk answer (λ (a : Account). new.closing ≡ Some a.closing)
-    → IfOk answer (λ (a : Account). new.given ≡ a.given) → OnErr answer (new ≡ old) → AreInOrder task new.closing new.given
-takes-ordered task asked workers (Ok account) old new all few has was closing given same =
-    subst (λ (t : Option (ClosedTable Item Entry Blueprint) × Option Given). AreInOrder task t.0 t.1) (λ j. (sym closing j, sym given j))
-    (by account.given has)
+-- a run gave them out to its workers in the order of its task
+pub given-ordered : (task : Task) (asked workers : ℕ) (answer : Result Account AllocError) → asked ≡ MOST_WORKERS → workers ≤ task.workers
+    → IfOk answer (λ (a : Account). AreGiven task.order asked workers a.given) → IfOk answer (λ (a : Account). AreInOrder task (Some a.closing) a.given)
+given-ordered task asked workers (Ok account) all few has = by account.given has
   where
     by : (o : Option Given) → AreGiven task.order asked workers o → AreInOrder task (Some account.closing) o
     by (Some told) is = record { workers = workers; few = few; given = subst (λ (n : ℕ). HasGiven task.order n workers told) all is }
     by None is = absurd is
-takes-ordered task asked workers (Err e) old new all few has was closing given same =
-    subst (λ (t : Tally). AreInOrder task t.closing t.given) (sym same) (new-ordered task old was)
+given-ordered task asked workers (Err e) all few has = tt
 
--- what a tally that was new told of a run's answer
-pub record Takings (answer : Result Account AllocError) (old new : Tally) (status : Status) : Type 0 where
-  pub before : IsNew old
-  pub collected : IfOk answer (λ (a : Account). new.collected ≡ a.tally)
-  pub closing : IfOk answer (λ (a : Account). new.closing ≡ Some a.closing)
-  pub status_is : IfOk answer (λ (a : Account). status ≡ status_of a.ending)
-  pub same : OnErr answer (new ≡ old)
-  pub no_memory : OnErr answer (status ≡ NoMemory)
+-- and the tally that takes over its answer tells it
+pub takes-ordered : (task : Task) (answer : Result Account AllocError) (old new : Tally) → IfOk answer (λ (a : Account). AreInOrder task (Some a.closing) a.given) → IsNew old
+    → IfOk answer (λ (a : Account). new.closing ≡ Some a.closing) → IfOk answer (λ (a : Account). new.given ≡ a.given) → OnErr answer (new ≡ old) → AreInOrder task new.closing new.given
+takes-ordered task (Ok account) old new ordered was closing given same =
+    subst (λ (t : Option (ClosedTable Item Entry Blueprint) × Option Given). AreInOrder task t.0 t.1) (λ j. (sym closing j, sym given j)) ordered
+takes-ordered task (Err e) old new ordered was closing given same =
+    subst (λ (t : Tally). AreInOrder task t.closing t.given) (sym same) (new-ordered task old was)
 
 -- there was no memory to begin with
 none-runs : (plan : Blueprint) (task : Task) (before after : Streams) (old new : Tally) (status : Status) → IsNew old → new ≡ old → status ≡ NoMemory → IsUnbegun before after → Runs plan task before after new status
 none-runs plan task before after old new status uncounted same is unbegun = inl (record { is = is; unbegun = unbegun; uncounted = subst IsNew (sym same) uncounted })
 
 module _ (plan : Blueprint) (task : Task) (window : ℕ) (sized : window ≡ window_of plan task.window) (old new : Tally) (status : Status) where
-  pub source-runs : (before after : Streams) (form : Form) (answer : Result Account AllocError) → task.origin ≡ Source form → Takings answer old new status
+  pub source-runs : (before after : Streams) (form : Form) (answer : Result Account AllocError) → task.origin ≡ Source form → TakesOver answer old new status
       → IfOk answer (EndsRun plan window form before after) → IfOk answer (λ (a : Account). IsClosedFor plan window a.tally a.closing) → OnErr answer (IsUnbegun before after) → Runs plan task before after new status
   source-runs before after form (Ok account) is took ends closed unbegun =
       let told : TookOver account new = record { collected = took.collected; closing = took.closing } in
       inr (account.ending, source-closes plan task window sized account new told closed before after form is ends, took.status_is)
   source-runs before after form (Err e) is took ends closed unbegun = none-runs plan task before after old new status took.before took.same took.no_memory unbegun
 
-  pub generated-runs : (source : SourceView) (reads : Option (List ReadStart)) (first last : Streams) (kind : Kind) (count : ℕ) (answer : Result Account AllocError) → kind ≡ plan.settings.input → task.origin ≡ Generated count → Takings answer old new status
+  pub generated-runs : (source : SourceView) (reads : Option (List ReadStart)) (first last : Streams) (kind : Kind) (count : ℕ) (answer : Result Account AllocError) → kind ≡ plan.settings.input → task.origin ≡ Generated count → TakesOver answer old new status
       → IsShownBy (generated_text kind count) (generated_lines kind count) → first.source ≡ steady_view (generated_text kind count) → last.source.faults ≡ 0
       → IfOk answer (EndsRun plan window Summary first last) → IfOk answer (λ (a : Account). IsClosedFor plan window a.tally a.closing) → OnErr answer (IsUnbegun first last)
       → Runs plan task (streams source reads first.sink) (streams source reads last.sink) new status

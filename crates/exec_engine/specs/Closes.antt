@@ -1,11 +1,13 @@
 -- How a run whose plan was opened ends.
-use Rattle.std.specs.Prelude.{◌≡◌, ◌≢◌, ◌⊎◌, ◌≤◌, false, ℕ, List, []}
+use Rattle.std.specs.Prelude.{◌≡◌, ◌≢◌, ◌⊎◌, ◌≤◌, false, ℕ, List, [], Some, Result, IfOk, OnErr}
+use Rattle.std.specs.declared.alloc.AllocError.{AllocError}
 use Rattle.exec_io.specs.Causes.{Rose}
 use Rattle.exec_value.specs.declared.outcome.Outcome.{Outcome}
 use Rattle.plan_shape.specs.Blueprint.{Blueprint}
 use Rattle.record_lines.specs.declared.ending.End.TheVariants.{Fault}
 use Rattle.record_loop.specs.declared.ending.Ending.{Ending}
 use Rattle.record_loop.specs.Printing.{Finished, HoldsAllBut}
+use Rattle.whole_run.specs.declared.account.Account.{Account}
 use Rattle.whole_run.specs.Endings.{IsUnbegun, Streams, begins}
 use Rattle.line_rules.specs.Lawful.{Lawful}
 use Rattle.line_rules.specs.PlanTerms.{window_of}
@@ -57,3 +59,19 @@ Runs plan task before after tally status =
     FindsNoMemory before after tally status
     ⊎ ((ending : Ending) × ClosesRun plan task before after ending tally
     × (status ≡ status_of ending))
+
+-- A tally that was new takes over this answer of a run, with this status.
+pub record TakesOver (answer : Result Account AllocError) (old new : Tally) (status : Status)
+    : Type 0 where
+  pub before : IsNew old
+  pub collected : IfOk answer (λ (a : Account). new.collected ≡ a.tally)
+  pub closing : IfOk answer (λ (a : Account). new.closing ≡ Some a.closing)
+  pub status_is : IfOk answer (λ (a : Account). status ≡ status_of a.ending)
+  pub same : OnErr answer (new ≡ old)
+  pub no_memory : OnErr answer (status ≡ NoMemory)
+
+-- Whatever tally takes over this answer tells of the run.
+abbrev pub AnswersRun : Blueprint → Task → Streams → Streams → Result Account AllocError
+    → Type 0
+AnswersRun plan task before after answer = (old new : Tally) (status : Status)
+    → TakesOver answer old new status → Runs plan task before after new status

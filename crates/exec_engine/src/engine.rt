@@ -55,6 +55,7 @@ pub fn run<R: Threads + Wait + Sync, F: Shelf, S: RecordSource, K: Sink, N: Sink
 {
     *tally = Tally::new();
     let Some(command) = read_words(words) else {
+        drop(backends);
         refuse(usage_lines(), &mut system.notes);
         return Status::Usage;
     };
@@ -75,19 +76,25 @@ pub fn run<R: Threads + Wait + Sync, F: Shelf, S: RecordSource, K: Sink, N: Sink
             let task = Task::of_gen(plan, count, options);
             run_task(rt, alloc, task, system, backends, gate, tally)
         }
-        Command::Replay { file } => replay_file(
-            alloc,
-            file,
-            &mut system.shelf,
-            &mut system.out,
-            &mut system.notes,
-        ),
-        Command::Check { file } => check_file(
-            alloc,
-            file,
-            &mut system.shelf,
-            &mut system.out,
-            &mut system.notes,
-        ),
+        Command::Replay { file } => {
+            drop(backends);
+            let System {
+                shelf,
+                out,
+                notes,
+                ..
+            } = system;
+            replay_file(alloc, file, shelf, out, notes)
+        }
+        Command::Check { file } => {
+            drop(backends);
+            let System {
+                shelf,
+                out,
+                notes,
+                ..
+            } = system;
+            check_file(alloc, file, shelf, out, notes)
+        }
     }
 }
