@@ -1,11 +1,12 @@
 //! How futures are spawned, polled, abandoned and swept, over a table of a few blocks.
-ghost use Rattle.std.specs.Prelude.{◌≤◌, IfOk, IfSome};
+ghost use Rattle.std.specs.Prelude.{◌≤◌, IfSome};
 ghost use Rattle.std.specs.Thread.{IsSync};
 ghost use Rattle.plan_kinds.specs.Runnable.{IsRunnable};
 ghost use Rattle.exec_recv.specs.Over.{IsOver};
 ghost use Rattle.exec_recv.specs.Sites.{IsSite};
 ghost use Rattle.node_walks.specs.Starts.{CanRun};
 ghost use Rattle.spawn_future.specs.Keeping.{IsKeeping};
+ghost use Rattle.spawn_future.specs.Slots.{WaitsNowhere};
 ghost use Rattle.hand_tests.specs.Ready.{IsFirst};
 
 use exec_recv::Site;
@@ -18,7 +19,6 @@ use plan_shape::Plan;
 use spawn_future::{Env, Futures, Item, Mail, Polled, SpawnFault, Stepper};
 use std::alloc::Global;
 use std::sync::Wait;
-use std::test::Fail;
 
 mod acts;
 
@@ -41,7 +41,7 @@ impl Mail for NoMail {
 }
 
 // What a spawn came to.
-#[derive(Clone, Copy, Debug, PartialEq, Eq)]
+#[derive(Clone, Copy, PartialEq, Eq)]
 enum Spawn {
     Spawned,
     Full,
@@ -52,7 +52,7 @@ enum Spawn {
 }
 
 // What a poll came to.
-#[derive(Clone, Copy, Debug, PartialEq, Eq)]
+#[derive(Clone, Copy, PartialEq, Eq)]
 enum Poll {
     // the value 5, and no request was seen
     Five,
@@ -75,22 +75,41 @@ fn read(alloc: Global, bytes: &[u8]) -> Option<Plan>
     }
 }
 
+// The plan with this root.
+fn plan_of(alloc: Global, root: &str) -> Option<Plan>
+    ensures { IfSome result (λ plan. IsRunnable plan) }
+{
+    match format!(in alloc; "{{\"version\":2,\"input\":\"int\",\"root\":{root}}}") {
+        Ok(text) => {
+            let plan = read(alloc, text.as_bytes());
+            drop(text);
+            plan
+        }
+        Err(_) => None,
+    }
+}
+
 // A table of so many blocks over the plan, and its one hand. Its scope takes two associations.
-fn opened(alloc: Global, plan: &Plan, blocks: u32) -> Result<(OpTable<Item>, Hand<Item>), Fail>
+fn opened(alloc: Global, plan: &Plan, blocks: u32) -> Option<(OpTable<Item>, Hand<Item>)>
     requires some { 1 ≤ blocks }
     requires few { blocks ≤ 3 }
-    ensures over { IfOk result (λ t. IsOver t.0 plan.now) }
-    ensures hand { IfOk result (λ t. IsFirst t.0 t.1) }
+    ensures over { IfSome result (λ t. IsOver t.0 plan.now) }
+    ensures hand { IfSome result (λ t. IsFirst t.0 t.1) }
 {
     let tree = plan.tree();
-    let (table, mut hands) = OpTable::open(alloc, tree, plan, blocks, 1, ScopeKind::Simple, 2)?;
-    // Asked for what they say of every tree and of every plan.
-    let over = table.tree();
-    let nodes = over.size();
-    let size = plan.size();
-    let _ = (nodes, size);
-    let hand = hands.swap_remove(0);
-    Ok((table, hand))
+    match OpTable::open(alloc, tree, plan, blocks, 1, ScopeKind::Simple, 2) {
+        Ok((table, mut hands)) => {
+            // Asked for what they say of every tree and of every plan.
+            let over = table.tree();
+            let nodes = over.size();
+            let size = plan.size();
+            let _ = (nodes, size);
+            let hand = hands.swap_remove(0);
+            drop(hands);
+            Some((table, hand))
+        }
+        Err(_) => None,
+    }
 }
 
 // The start of the plan's operation for the record `5`, of number 1.
@@ -114,6 +133,14 @@ fn owner(node: u32) -> Name {
     }
 }
 
+// Whether it is the value 5.
+fn is_five(done: &Completion) -> bool {
+    match done {
+        Completion::Value(data) => matches!(data.as_slice(), [Datum::Int(5)]),
+        _ => false,
+    }
+}
+
 // Polls the owner's future.
 fn poll_for<T: Stepper, R>(
     site: &Site<R, T>,
@@ -126,16 +153,61 @@ fn poll_for<T: Stepper, R>(
     ensures keeping { IsKeeping site.now futures.new hand.new }
 {
     match futures.poll(site.table, hand, owner, site.gate) {
-        Polled::Ready(Completion::Value(data), false) => {
-            if matches!(data.as_slice(), [Datum::Int(5)]) {
+        Polled::Ready(done, asked) => {
+            let five = is_five(&done);
+            drop(done);
+            if five && !asked {
                 Poll::Five
             } else {
                 Poll::Other
             }
         }
-        Polled::Ready(_, _) => Poll::Other,
         Polled::Waiting => Poll::Waiting,
         Polled::Unknown => Poll::Unknown,
+    }
+}
+
+// What the spawn's answer says.
+fn spawn_of(answer: Result<(), SpawnFault>) -> Spawn {
+    match answer {
+        Ok(()) => Spawn::Spawned,
+        Err(SpawnFault::Full(env)) => {
+            drop(env);
+            Spawn::Full
+        }
+        Err(SpawnFault::Scope(env, _)) => {
+            drop(env);
+            Spawn::Scope
+        }
+        Err(SpawnFault::NoBlock(env)) => {
+            drop(env);
+            Spawn::NoBlock
+        }
+    }
+}
+
+// Spawns an operation for an owner that is known to wait for none.
+fn spawn_first<T: Stepper, R: Wait + Sync>(
+    site: &Site<R, T>,
+    hand: &mut Hand<Item>,
+    futures: &mut Futures,
+    owner: Name,
+) -> Spawn
+    requires sync { IsSync R.row }
+    requires site { IsSite site.now }
+    requires keeping { IsKeeping site.now futures.old hand.old }
+    requires unowned { WaitsNowhere owner futures.old }
+    ensures keeping { IsKeeping site.now futures.new hand.new }
+{
+    let Some(env) = started(site) else {
+        return Spawn::Not;
+    };
+    match env.child() {
+        Some(first) => spawn_of(futures.spawn(site, hand, owner, first, env, &mut NoMail)),
+        None => {
+            drop(env);
+            Spawn::Not
+        }
     }
 }
 
@@ -151,20 +223,12 @@ fn spawn_for<T: Stepper, R: Wait + Sync>(
     requires keeping { IsKeeping site.now futures.old hand.old }
     ensures keeping { IsKeeping site.now futures.new hand.new }
 {
-    let Some(env) = started(site) else {
-        return Spawn::Not;
-    };
-    let Some(first) = env.child() else {
-        return Spawn::Not;
-    };
     match futures.poll(site.table, hand, owner, site.gate) {
-        Polled::Unknown => {}
-        Polled::Waiting | Polled::Ready(_, _) => return Spawn::Not,
-    }
-    match futures.spawn(site, hand, owner, first, env, &mut NoMail) {
-        Ok(()) => Spawn::Spawned,
-        Err(SpawnFault::Full(_)) => Spawn::Full,
-        Err(SpawnFault::Scope(_, _)) => Spawn::Scope,
-        Err(SpawnFault::NoBlock(_)) => Spawn::NoBlock,
+        Polled::Unknown => spawn_first(site, hand, futures, owner),
+        Polled::Waiting => Spawn::Not,
+        Polled::Ready(done, _) => {
+            drop(done);
+            Spawn::Not
+        }
     }
 }

@@ -1,5 +1,9 @@
 //! The tests, by what they use, and how they open a table, start an operation and wait for it.
-ghost use Rattle.std.specs.Prelude.{◌≡◌, IfOk, IfSome};
+//!
+//! A function of the tests answers `false` or nothing on want of memory too, and a test asserts
+//! what its functions answer. What is alive at an exit is dropped there kind by kind, which a proof
+//! of the function pays for. So one function opens a loop and its table, and another uses them.
+ghost use Rattle.std.specs.Prelude.{◌≡◌, IfSome};
 ghost use Rattle.std.specs.Thread.{IsSync};
 ghost use Rattle.plan_kinds.specs.Runnable.{IsRunnable};
 ghost use Rattle.exec_recv.specs.Over.{IsOver};
@@ -10,6 +14,7 @@ ghost use Rattle.node_walks.specs.Starts.{CanRun};
 ghost use Rattle.node_tests.specs.Ready.{IsFirst};
 
 mod bulks;
+mod cases;
 mod decks;
 mod delays;
 mod kinds;
@@ -31,7 +36,6 @@ use plan_shape::Plan;
 use run_loop::{Block, Env, Item, Loop, Site, Stepper, Waited};
 use std::alloc::Global;
 use std::sync::Wait;
-use std::test::Fail;
 
 // A test turns so often at most.
 const MOST_TURNS: u32 = 64;
@@ -51,19 +55,49 @@ fn read(alloc: Global, bytes: &[u8]) -> Option<Plan>
 }
 
 // A table of one block over the plan, and its one hand.
-fn opened(alloc: Global, plan: &Plan) -> Result<(OpTable<Item>, Hand<Item>), Fail>
-    ensures over { IfOk result (λ t. IsOver t.0 plan.now) }
-    ensures hand { IfOk result (λ t. IsFirst t.0 t.1) }
+fn opened(alloc: Global, plan: &Plan) -> Option<(OpTable<Item>, Hand<Item>)>
+    ensures over { IfSome result (λ t. IsOver t.0 plan.now) }
+    ensures hand { IfSome result (λ t. IsFirst t.0 t.1) }
 {
     let tree = plan.tree();
-    let (table, mut hands) = OpTable::open(alloc, tree, plan, 1, 1, ScopeKind::Simple, 1)?;
-    // Asked for what they say of every tree and of every plan.
-    let over = table.tree();
-    let nodes = over.size();
-    let size = plan.size();
-    let _ = (nodes, size);
-    let hand = hands.swap_remove(0);
-    Ok((table, hand))
+    match OpTable::open(alloc, tree, plan, 1, 1, ScopeKind::Simple, 1) {
+        Ok((table, mut hands)) => {
+            // Asked for what they say of every tree and of every plan.
+            let over = table.tree();
+            let nodes = over.size();
+            let size = plan.size();
+            let _ = (nodes, size);
+            let hand = hands.swap_remove(0);
+            drop(hands);
+            Some((table, hand))
+        }
+        Err(fault) => {
+            drop(fault);
+            None
+        }
+    }
+}
+
+// A table of one block over the plan, and a loop on its one hand, which helps the pool or doesn't.
+fn looping(alloc: Global, plan: &Plan, helps: bool) -> Option<(OpTable<Item>, Loop)>
+    requires kinds { IsRunnable plan.now }
+    ensures over { IfSome result (λ t. IsOver t.0 plan.now) }
+    ensures ready { IfSome result (λ t. IsReady t.0 t.1) }
+{
+    let Some((table, hand)) = opened(alloc, plan) else {
+        return None;
+    };
+    match Loop::open(alloc, plan, &table, hand) {
+        Ok(mut looped) => {
+            looped.help_pool(helps);
+            Some((table, looped))
+        }
+        Err(hand) => {
+            drop(hand);
+            drop(table);
+            None
+        }
+    }
 }
 
 // The start of the plan's operation for the record `5`, of number 1.
@@ -76,6 +110,30 @@ fn started<R, T>(site: &Site<R, T>, asked: bool) -> Option<Env>
         return None;
     }
     Some(Env::of_record(site.plan, Data::one(site.alloc, datum), 1, asked))
+}
+
+// Starts that operation. The block in which it runs.
+fn starts<T: Stepper, R: Wait + Sync>(
+    site: &Site<R, T>,
+    looped: &mut Loop,
+    asked: bool,
+) -> Option<Block>
+    requires sync { IsSync R.row }
+    requires ready { IsReady site.now looped.old }
+    requires site { IsSite site.now }
+    ensures ready { IsReady site.now looped.new }
+    ensures listed { IfSome result (λ block. IsListed site.now block looped.new.hand.me) }
+{
+    let Some(env) = started(site, asked) else {
+        return None;
+    };
+    match looped.start(site, env) {
+        Ok(block) => Some(block),
+        Err(env) => {
+            drop(env);
+            None
+        }
+    }
 }
 
 // How many turns the loop takes until the operation in this block can be collected, or the most.
@@ -99,66 +157,105 @@ fn turns_until<T: Stepper, R: Wait + Sync>(
     MOST_TURNS
 }
 
-// Starts that operation, and counts the turns, in the pool too, until it can be collected.
-fn turned<T: Stepper, R: Wait + Sync>(
-    rt: &R,
-    alloc: Global,
-    plan: &Plan,
-    stepper: &T,
+// Starts that operation, and counts the turns until it can be collected.
+fn turns_of<T: Stepper, R: Wait + Sync>(
+    site: &Site<R, T>,
+    looped: &mut Loop,
     asked: bool,
-) -> Result<u32, Fail>
+) -> Option<u32>
     requires sync { IsSync R.row }
-    requires kinds { IsRunnable plan.now }
-    requires stepper { T.plan stepper.now ≡ plan.now }
+    requires ready { IsReady site.now looped.old }
+    requires site { IsSite site.now }
 {
-    let (table, hand) = opened(alloc, plan)?;
-    let Ok(mut looped) = Loop::open(alloc, plan, &table, hand) else {
-        return Ok(MOST_TURNS);
-    };
-    looped.help_pool(true);
-    let site = Site::of(rt, alloc, &table, stepper);
-    let Some(env) = started(&site, asked) else {
-        return Ok(MOST_TURNS);
-    };
-    let Ok(block) = looped.start(&site, env) else {
-        return Ok(MOST_TURNS);
-    };
-    Ok(turns_until(&site, &mut looped, block))
-}
-
-// Starts it, and takes turns, in the pool too, until it can be collected.
-fn waited<T: Stepper, R: Wait + Sync>(
-    rt: &R,
-    alloc: Global,
-    plan: &Plan,
-    stepper: &T,
-    asked: bool,
-) -> Result<Option<Completion>, Fail>
-    requires sync { IsSync R.row }
-    requires kinds { IsRunnable plan.now }
-    requires stepper { T.plan stepper.now ≡ plan.now }
-{
-    let (table, hand) = opened(alloc, plan)?;
-    let Ok(mut looped) = Loop::open(alloc, plan, &table, hand) else {
-        return Ok(None);
-    };
-    looped.help_pool(true);
-    let site = Site::of(rt, alloc, &table, stepper);
-    let Some(env) = started(&site, asked) else {
-        return Ok(None);
-    };
-    match looped.sync_wait(&site, env) {
-        Waited::Completed(found) => Ok(Some(found.completion)),
-        Waited::NoBlock(_) => Ok(None),
+    match starts(site, looped, asked) {
+        Some(block) => Some(turns_until(site, looped, block)),
+        None => None,
     }
 }
 
-// The plan with this root.
-fn plan_of(alloc: Global, root: &str) -> Result<Option<Plan>, Fail>
-    ensures { IfOk result (λ read. IfSome read (λ plan. IsRunnable plan)) }
+// Starts it, and takes turns until it can be collected.
+fn completion_of<T: Stepper, R: Wait + Sync>(
+    site: &Site<R, T>,
+    looped: &mut Loop,
+    asked: bool,
+) -> Option<Completion>
+    requires sync { IsSync R.row }
+    requires ready { IsReady site.now looped.old }
+    requires site { IsSite site.now }
 {
-    let text = format!(in alloc; "{{\"version\":2,\"input\":\"int\",\"root\":{root}}}")?;
-    Ok(read(alloc, text.as_bytes()))
+    let Some(env) = started(site, asked) else {
+        return None;
+    };
+    match looped.sync_wait(site, env) {
+        Waited::Completed(found) => Some(found.completion),
+        Waited::NoBlock(env) => {
+            drop(env);
+            None
+        }
+    }
+}
+
+// How many turns the plan's operation takes, in the pool too, in a loop that is opened for it.
+fn turned<R: Wait + Sync>(rt: &R, alloc: Global, plan: &Plan, asked: bool) -> Option<u32>
+    requires sync { IsSync R.row }
+    requires kinds { IsRunnable plan.now }
+{
+    let Some((table, mut looped)) = looping(alloc, plan, true) else {
+        return None;
+    };
+    let stepper = NodeSteps::of(plan, &OpenGate);
+    let site = Site::of(rt, alloc, &table, &stepper);
+    let turns = turns_of(&site, &mut looped, asked);
+    drop(looped);
+    drop(table);
+    turns
+}
+
+// What it completes with there, past this gate.
+fn waited<G: Gate, R: Wait + Sync>(
+    rt: &R,
+    alloc: Global,
+    plan: &Plan,
+    gate: &G,
+    asked: bool,
+) -> Option<Completion>
+    requires sync { IsSync R.row }
+    requires kinds { IsRunnable plan.now }
+{
+    let Some((table, mut looped)) = looping(alloc, plan, true) else {
+        return None;
+    };
+    let stepper = NodeSteps::of(plan, gate);
+    let site = Site::of(rt, alloc, &table, &stepper);
+    let done = completion_of(&site, &mut looped, asked);
+    drop(looped);
+    drop(table);
+    done
+}
+
+// The plan with this root.
+fn plan_of(alloc: Global, root: &str) -> Option<Plan>
+    ensures { IfSome result (λ plan. IsRunnable plan) }
+{
+    match format!(in alloc; "{{\"version\":2,\"input\":\"int\",\"root\":{root}}}") {
+        Ok(text) => {
+            let plan = read(alloc, text.as_bytes());
+            drop(text);
+            plan
+        }
+        Err(_) => None,
+    }
+}
+
+// Whether this line is written of an operation that completed so.
+fn is_line(alloc: Global, done: Completion, line: &str) -> bool {
+    let outcome = Outcome::Done(done);
+    let mut told = MemSink::new(alloc, 4096, Vec::new(alloc));
+    let put = put_line(1, &outcome, &mut told).is_ok();
+    drop(outcome);
+    let same = told.bytes() == line.as_bytes();
+    drop(told);
+    put && same
 }
 
 // Whether the operation of the plan with this root completes with this line, past this
@@ -170,49 +267,28 @@ fn completes_past<G: Gate, R: Wait + Sync>(
     root: &str,
     asked: bool,
     line: &str,
-) -> Result<bool, Fail>
+) -> bool
     requires sync { IsSync R.row }
 {
-    let Some(plan) = plan_of(alloc, root)? else {
-        return Ok(false);
+    let Some(plan) = plan_of(alloc, root) else {
+        return false;
     };
-    let stepper = NodeSteps::of(&plan, gate);
-    let Some(done) = waited(rt, alloc, &plan, &stepper, asked)? else {
-        return Ok(false);
-    };
-    let mut told = MemSink::new(alloc, 4096, Vec::new(alloc));
-    let put = put_line(1, &Outcome::Done(done), &mut told);
-    Ok(put.is_ok() && told.bytes() == line.as_bytes())
+    let done = waited(rt, alloc, &plan, gate, asked);
+    drop(plan);
+    match done {
+        Some(done) => is_line(alloc, done, line),
+        None => false,
+    }
 }
 
-// The same past an open gate.
-fn completes<R: Wait + Sync>(
-    rt: &R,
-    alloc: Global,
-    root: &str,
-    asked: bool,
-    line: &str,
-) -> Result<bool, Fail>
+// How many turns the operation of the plan with this root takes until it can be collected.
+fn turns_at<R: Wait + Sync>(rt: &R, alloc: Global, root: &str, asked: bool) -> Option<u32>
     requires sync { IsSync R.row }
 {
-    completes_past(rt, alloc, &OpenGate, root, asked, line)
-}
-
-// Whether the operation of the plan with this root can be collected after so many turns,
-// and after none before.
-fn takes_turns<R: Wait + Sync>(
-    rt: &R,
-    alloc: Global,
-    root: &str,
-    asked: bool,
-    turns: u32,
-) -> Result<bool, Fail>
-    requires sync { IsSync R.row }
-{
-    let Some(plan) = plan_of(alloc, root)? else {
-        return Ok(false);
+    let Some(plan) = plan_of(alloc, root) else {
+        return None;
     };
-    let gate = OpenGate;
-    let stepper = NodeSteps::of(&plan, &gate);
-    Ok(turned(rt, alloc, &plan, &stepper, asked)? == turns)
+    let turns = turned(rt, alloc, &plan, asked);
+    drop(plan);
+    turns
 }

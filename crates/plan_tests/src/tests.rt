@@ -9,6 +9,7 @@ mod writing;
 
 use exec_value::Kind;
 use node_tree::ScopeKind;
+use plan_builder::{Built, Plan, PlanBuilder};
 use plan_rules::Settings;
 
 /// Int records, and no stop.
@@ -28,3 +29,25 @@ const OF_VERSION_1: Settings = Settings {
     stop_after: None,
     on_error_stop: false,
 };
+
+/// The plan of ints that was built, with this root, where there is one.
+fn finished(builder: PlanBuilder, root: Built) -> Option<Plan> {
+    match root {
+        Ok(root) => builder.finish(root, OF_INTS).ok(),
+        Err(_) => {
+            drop(builder);
+            None
+        }
+    }
+}
+
+/// The same of the first version.
+fn finished_in_1(builder: PlanBuilder, root: Built) -> Option<Plan> {
+    match root {
+        Ok(root) => builder.finish(root, OF_VERSION_1).ok(),
+        Err(_) => {
+            drop(builder);
+            None
+        }
+    }
+}

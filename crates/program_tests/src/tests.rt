@@ -6,22 +6,13 @@ mod backends;
 mod closings;
 mod crews;
 mod engine;
+mod faults;
 mod joins;
 mod statuses;
 mod words;
 
-use backends::Called;
-use exec_io::{MemShelf, MemSink};
+use exec_io::{MemShelf, MemSink, MemSource};
 use std::alloc::{AllocError, Global};
-
-/// What a call of `run` left.
-#[derive(Drop)]
-struct Ran {
-    called: Called,
-    shelf: MemShelf,
-    out: MemSink,
-    notes: MemSink,
-}
 
 /// A sink that takes at most `most` bytes a write, and fails at the calls of these numbers.
 fn sink(alloc: Global, most: usize, fails: &[u64]) -> Result<MemSink, AllocError> {
@@ -33,4 +24,11 @@ fn shelf(alloc: Global, name: &str, text: &[u8], fails: &[u64]) -> Result<MemShe
     let names = vec![in alloc; String::from_str(alloc, name)?]?;
     let texts = vec![in alloc; text.to_vec(alloc)?]?;
     Ok(MemShelf::new(names, texts, fails.to_vec(alloc)?))
+}
+
+/// A source of these bytes, of which the reads of these numbers fail.
+fn source(alloc: Global, bytes: &[u8], fails: &[u64]) -> Result<MemSource, AllocError> {
+    let bytes = bytes.to_vec(alloc)?;
+    let fails = fails.to_vec(alloc)?;
+    Ok(MemSource::new(bytes, fails))
 }

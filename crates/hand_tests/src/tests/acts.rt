@@ -1,23 +1,24 @@
 //! What tests do with futures, one after the other, and whether it is told so.
 ghost use Rattle.std.specs.Prelude.{◌≤◌};
 ghost use Rattle.std.specs.Thread.{IsSync};
+ghost use Rattle.plan_kinds.specs.Runnable.{IsRunnable};
 ghost use Rattle.exec_recv.specs.Sites.{IsSite};
 ghost use Rattle.spawn_future.specs.Keeping.{IsKeeping};
 
-use super::{NoMail, Poll, Spawn, opened, owner, poll_for, read, spawn_for};
+use super::{NoMail, Poll, Spawn, opened, owner, plan_of, poll_for, spawn_for};
 use count_scope::close;
 use exec_recv::{OpenGate, Site};
 use node_stepper::NodeSteps;
 use node_tree::Context;
 use node_walks::serve_place;
 use op_table::Hand;
+use plan_shape::Plan;
 use spawn_future::{Futures, Item, Stepper};
 use std::alloc::Global;
 use std::sync::Wait;
-use std::test::Fail;
 
 // What a test does, and what is told of it.
-#[derive(Clone, Copy, Debug)]
+#[derive(Clone, Copy)]
 enum Act {
     Spawns(u32, Spawn),
     Polls(u32, Poll),
@@ -98,8 +99,60 @@ fn all_told<T: Stepper, R: Wait + Sync>(
     as_told
 }
 
-// Whether all that is done with so many slots and so many blocks is told so, over the plan with
-// this root.
+// The same of futures that are kept for it, and which are swept and closed then.
+fn told_and_ended<T: Stepper, R: Wait + Sync>(
+    site: &Site<R, T>,
+    hand: &mut Hand<Item>,
+    futures: Futures,
+    acts: &[Act],
+) -> bool
+    requires sync { IsSync R.row }
+    requires site { IsSite site.now }
+    requires keeping { IsKeeping site.now futures hand.old }
+{
+    let mut kept = futures;
+    let told = all_told(site, hand, &mut kept, acts);
+    end(site, hand, kept);
+    told
+}
+
+// Whether all that is done with so many slots and so many blocks is told so, over this plan.
+fn are_told_over<R: Wait + Sync>(
+    rt: &R,
+    alloc: Global,
+    plan: &Plan,
+    most: u32,
+    blocks: u32,
+    acts: &[Act],
+) -> bool
+    requires sync { IsSync R.row }
+    requires kinds { IsRunnable plan.now }
+    requires some { 1 ≤ most }
+    requires few { most ≤ 3 }
+    requires some_blocks { 1 ≤ blocks }
+    requires few_blocks { blocks ≤ 3 }
+{
+    let Some((table, mut hand)) = opened(alloc, plan, blocks) else {
+        return false;
+    };
+    match Futures::open(alloc, most) {
+        Ok(futures) => {
+            let stepper = NodeSteps::of(plan, &OpenGate);
+            let site = Site::of(rt, alloc, &table, &stepper);
+            let told = told_and_ended(&site, &mut hand, futures, acts);
+            drop(hand);
+            drop(table);
+            told
+        }
+        Err(_) => {
+            drop(hand);
+            drop(table);
+            false
+        }
+    }
+}
+
+// The same over the plan with this root.
 fn are_told<R: Wait + Sync>(
     rt: &R,
     alloc: Global,
@@ -107,29 +160,26 @@ fn are_told<R: Wait + Sync>(
     most: u32,
     blocks: u32,
     acts: &[Act],
-) -> Result<bool, Fail>
+) -> bool
     requires sync { IsSync R.row }
     requires some { 1 ≤ most }
     requires few { most ≤ 3 }
     requires some_blocks { 1 ≤ blocks }
     requires few_blocks { blocks ≤ 3 }
 {
-    let text = format!(in alloc; "{{\"version\":2,\"input\":\"int\",\"root\":{root}}}")?;
-    let Some(plan) = read(alloc, text.as_bytes()) else {
-        return Ok(false);
+    let Some(plan) = plan_of(alloc, root) else {
+        return false;
     };
-    let gate = OpenGate;
-    let stepper = NodeSteps::of(&plan, &gate);
-    let (table, mut hand) = opened(alloc, &plan, blocks)?;
-    let mut futures = Futures::open(alloc, most)?;
-    let site = Site::of(rt, alloc, &table, &stepper);
-    let told = all_told(&site, &mut hand, &mut futures, acts);
-    end(&site, &mut hand, futures);
-    Ok(told)
+    let told = are_told_over(rt, alloc, &plan, most, blocks, acts);
+    drop(plan);
+    told
 }
 
+/// A value at once.
+const INPUT: &str = r#"{"do":"input"}"#;
+
 #[test]
-fn a_future_is_polled_once(rt: HostRuntime) -> Result<(), Fail> {
+fn a_future_is_polled_once(rt: HostRuntime) {
     let acts = [
         Act::Polls(1, Poll::Unknown),
         Act::Spawns(1, Spawn::Spawned),
@@ -143,14 +193,12 @@ fn a_future_is_polled_once(rt: HostRuntime) -> Result<(), Fail> {
         Act::Polls(1, Poll::Five),
         Act::Keeps(0),
     ];
-    assert!(rt; are_told(&rt, rt.alloc(), r#"{"do":"input"}"#, 2, 2, &acts)?);
-    Ok(())
+    assert!(rt; are_told(&rt, rt.alloc(), INPUT, 2, 2, &acts));
 }
 
 #[test]
-fn a_refusal_keeps_nothing(rt: HostRuntime) -> Result<(), Fail> {
+fn a_refusal_keeps_nothing(rt: HostRuntime) {
     let alloc = rt.alloc();
-    let root = r#"{"do":"input"}"#;
     let full = [
         Act::Spawns(1, Spawn::Spawned),
         Act::Spawns(2, Spawn::Full),
@@ -158,7 +206,7 @@ fn a_refusal_keeps_nothing(rt: HostRuntime) -> Result<(), Fail> {
         Act::Spawns(2, Spawn::Spawned),
         Act::Polls(2, Poll::Five),
     ];
-    assert!(rt; are_told(&rt, alloc, root, 1, 3, &full)?);
+    assert!(rt; are_told(&rt, alloc, INPUT, 1, 3, &full));
     let many = [
         Act::Spawns(1, Spawn::Spawned),
         Act::Spawns(2, Spawn::Spawned),
@@ -168,7 +216,7 @@ fn a_refusal_keeps_nothing(rt: HostRuntime) -> Result<(), Fail> {
         Act::Spawns(3, Spawn::Scope),
         Act::Polls(2, Poll::Five),
     ];
-    assert!(rt; are_told(&rt, alloc, root, 3, 3, &many)?);
+    assert!(rt; are_told(&rt, alloc, INPUT, 3, 3, &many));
     let blocks = [
         Act::Spawns(1, Spawn::Spawned),
         Act::Spawns(2, Spawn::NoBlock),
@@ -177,12 +225,11 @@ fn a_refusal_keeps_nothing(rt: HostRuntime) -> Result<(), Fail> {
         Act::Spawns(3, Spawn::Spawned),
         Act::Polls(3, Poll::Five),
     ];
-    assert!(rt; are_told(&rt, alloc, root, 3, 1, &blocks)?);
-    Ok(())
+    assert!(rt; are_told(&rt, alloc, INPUT, 3, 1, &blocks));
 }
 
 #[test]
-fn an_abandoned_operation_runs_to_its_end(rt: HostRuntime) -> Result<(), Fail> {
+fn an_abandoned_operation_runs_to_its_end(rt: HostRuntime) {
     let acts = [
         Act::Spawns(1, Spawn::Spawned),
         Act::Polls(1, Poll::Waiting),
@@ -204,12 +251,11 @@ fn an_abandoned_operation_runs_to_its_end(rt: HostRuntime) -> Result<(), Fail> {
         Act::Keeps(0),
     ];
     let root = r#"{"do":"starts_on","on":"pool","child":{"do":"input"}}"#;
-    assert!(rt; are_told(&rt, rt.alloc(), root, 2, 2, &acts)?);
-    Ok(())
+    assert!(rt; are_told(&rt, rt.alloc(), root, 2, 2, &acts));
 }
 
 #[test]
-fn the_node_that_is_asked_for_is_served(rt: HostRuntime) -> Result<(), Fail> {
+fn the_node_that_is_asked_for_is_served(rt: HostRuntime) {
     let acts = [
         Act::Spawns(1, Spawn::Spawned),
         Act::Spawns(2, Spawn::Spawned),
@@ -224,6 +270,5 @@ fn the_node_that_is_asked_for_is_served(rt: HostRuntime) -> Result<(), Fail> {
     ];
     let root =
         r#"{"do":"then","child":{"do":"schedule","on":"pool"},"job":{"job":"give","values":[5]}}"#;
-    assert!(rt; are_told(&rt, rt.alloc(), root, 2, 2, &acts)?);
-    Ok(())
+    assert!(rt; are_told(&rt, rt.alloc(), root, 2, 2, &acts));
 }

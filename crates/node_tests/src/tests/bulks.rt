@@ -5,8 +5,8 @@ use super::completes_past;
 use exec_recv::{Gate, Point};
 use std::alloc::Global;
 use std::cell::Cell;
+use std::process::Abort;
 use std::sync::Wait;
-use std::test::Fail;
 
 /// The eight parts of a bulk whose child is node 0: a bit for each node.
 const EIGHT: u32 = 0b1_1111_1110;
@@ -29,74 +29,107 @@ impl Gate for Parts {
     }
 }
 
-// Whether a bulk over this row completes with this line, and each of these parts ran, once, and no
-// other.
-fn runs_parts<R: Wait + Sync>(
-    rt: &R,
-    alloc: Global,
-    row: &str,
-    job: &str,
-    parts: u32,
-    line: &str,
-) -> Result<bool, Fail>
-    requires { IsSync R.row }
+// Which parts of the operation of the plan with this root ran, each once, where it completes with
+// this line.
+fn parts_of<R: Wait + Sync>(rt: &R, alloc: Global, root: &str, line: &str) -> Option<u32>
+    requires sync { IsSync R.row }
 {
     let gate = Parts {
         jobs: Cell::new(0),
         nodes: Cell::new(0),
     };
-    let root = format!(in alloc;
+    let completes = completes_past(rt, alloc, &gate, root, false, line);
+    let nodes = gate.nodes.get();
+    if !completes || gate.jobs.get() != nodes.count_ones() {
+        return None;
+    }
+    Some(nodes)
+}
+
+// The same of a bulk over this row.
+fn parts_over<R: Wait + Sync>(
+    rt: &R,
+    alloc: Global,
+    job: &str,
+    row: &str,
+    line: &str,
+) -> Option<u32>
+    requires sync { IsSync R.row }
+{
+    let made = format!(in alloc;
         r#"{{"do":"bulk","child":{{"do":"just","values":[{row}]}},"job":{job}}}"#
-    )?;
-    let completes = completes_past(rt, alloc, &gate, &root, false, line)?;
-    Ok(completes && gate.nodes.get() == parts && gate.jobs.get() == parts.count_ones())
+    );
+    match made {
+        Ok(root) => {
+            let parts = parts_of(rt, alloc, &root, line);
+            drop(root);
+            parts
+        }
+        Err(_) => None,
+    }
+}
+
+// Asserts of each row that a bulk over it completes with its line, and each of its parts runs,
+// once, and no other.
+fn all_run<R: Wait + Abort + Sync>(rt: &R, alloc: Global, job: &str, cases: &[(&str, u32, &str)])
+    requires sync { IsSync R.row }
+{
+    for case in cases {
+        let parts = parts_over(rt, alloc, job, case.0, case.2);
+        assert!(rt; parts == Some(case.1), "{}", case.0);
+    }
 }
 
 #[test]
-fn a_row_has_a_part_for_each_number_and_eight_at_most(rt: HostRuntime) -> Result<(), Fail> {
-    let alloc = rt.alloc();
-    for (row, parts, line) in [
-        ("[]", 0, "1 value []\n"),
-        ("[0]", 0b10, "1 value [0]\n"),
-        ("[0,0,0,0,0,0,0]", 0b1111_1110, "1 value [0,1,2,3,4,5,6]\n"),
-        ("[0,0,0,0,0,0,0,0]", EIGHT, "1 value [0,1,2,3,4,5,6,7]\n"),
-        (
-            "[0,0,0,0,0,0,0,0,0]",
-            EIGHT,
-            "1 value [0,1,2,3,4,5,6,7,8]\n",
-        ),
-        (
-            "[0,0,0,0,0,0,0,0,0,0,0,0,0,0,0,0,0,0,0,0]",
-            EIGHT,
-            "1 value [0,1,2,3,4,5,6,7,8,9,10,11,12,13,14,15,16,17,18,19]\n",
-        ),
-    ] {
-        let job = r#"{"job":"index"}"#;
-        assert!(rt; runs_parts(&rt, alloc, row, job, parts, line)?);
-    }
-    Ok(())
+fn a_row_has_a_part_for_each_number_and_eight_at_most(rt: HostRuntime) {
+    let job = r#"{"job":"index"}"#;
+    all_run(
+        &rt,
+        rt.alloc(),
+        job,
+        &[
+            ("[]", 0, "1 value []\n"),
+            ("[0]", 0b10, "1 value [0]\n"),
+            ("[0,0,0,0,0,0,0]", 0b1111_1110, "1 value [0,1,2,3,4,5,6]\n"),
+            ("[0,0,0,0,0,0,0,0]", EIGHT, "1 value [0,1,2,3,4,5,6,7]\n"),
+            (
+                "[0,0,0,0,0,0,0,0,0]",
+                EIGHT,
+                "1 value [0,1,2,3,4,5,6,7,8]\n",
+            ),
+            (
+                "[0,0,0,0,0,0,0,0,0,0,0,0,0,0,0,0,0,0,0,0]",
+                EIGHT,
+                "1 value [0,1,2,3,4,5,6,7,8,9,10,11,12,13,14,15,16,17,18,19]\n",
+            ),
+        ],
+    );
 }
 
 #[test]
-fn the_least_index_that_fails_is_told_and_all_parts_run(rt: HostRuntime) -> Result<(), Fail> {
-    let alloc = rt.alloc();
-    for (row, line) in [
-        (
-            "[1,1,1,1,1,1,1,1,1,1,1,0,1,1,1,1,1,1,1,0]",
-            "1 error out-of-range@11\n",
-        ),
-        (
-            "[1,1,0,0,1,1,1,1,1,1,1,1,1,1,1,1,1,1,1,0]",
-            "1 error out-of-range@2\n",
-        ),
-        (
-            "[1,1,1,1,1,1,1,1,1,1,1,1,1,1,1,1,1,1,1,0]",
-            "1 error out-of-range@19\n",
-        ),
-        ("[0,0,0,0,0,0,0,0,0]", "1 error out-of-range@0\n"),
-    ] {
-        let job = r#"{"job":"within","lo":1,"hi":1}"#;
-        assert!(rt; runs_parts(&rt, alloc, row, job, EIGHT, line)?);
-    }
-    Ok(())
+fn the_least_index_that_fails_is_told_and_all_parts_run(rt: HostRuntime) {
+    let job = r#"{"job":"within","lo":1,"hi":1}"#;
+    all_run(
+        &rt,
+        rt.alloc(),
+        job,
+        &[
+            (
+                "[1,1,1,1,1,1,1,1,1,1,1,0,1,1,1,1,1,1,1,0]",
+                EIGHT,
+                "1 error out-of-range@11\n",
+            ),
+            (
+                "[1,1,0,0,1,1,1,1,1,1,1,1,1,1,1,1,1,1,1,0]",
+                EIGHT,
+                "1 error out-of-range@2\n",
+            ),
+            (
+                "[1,1,1,1,1,1,1,1,1,1,1,1,1,1,1,1,1,1,1,0]",
+                EIGHT,
+                "1 error out-of-range@19\n",
+            ),
+            ("[0,0,0,0,0,0,0,0,0]", EIGHT, "1 error out-of-range@0\n"),
+        ],
+    );
 }

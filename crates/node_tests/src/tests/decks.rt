@@ -8,7 +8,7 @@ ghost use Rattle.node_walks.specs.Completes.{IsListed};
 ghost use Rattle.run_loop.specs.Loops.{IsReady};
 ghost use Rattle.node_tests.specs.Ready.{IsFirst};
 
-use super::names::begins;
+use super::names::{begins, collects};
 use super::{opened, plan_of};
 use deck_relay::{Deck, Relay};
 use exec_recv::OpenGate;
@@ -20,9 +20,13 @@ use plan_shape::Plan;
 use run_loop::{Block, Drained, Item, Loop, LoopPost, Site, Stepper};
 use std::alloc::Global;
 use std::sync::Wait;
-use std::test::Fail;
 
-// What the loop drains where this name was posted, and how many nodes a poll takes then. The
+// Whether the queue was emptied of one name.
+fn is_one(moved: Drained) -> bool {
+    matches!(moved, Drained::Emptied(1))
+}
+
+// Whether the loop drains one name where this one was posted, and a poll takes one node then. The
 // operation in the block is left to be collected.
 fn hears<T: Stepper, R: Wait + Sync>(
     site: &Site<R, T>,
@@ -30,7 +34,7 @@ fn hears<T: Stepper, R: Wait + Sync>(
     block: Block,
     name: Name,
     post: &mut LoopPost,
-) -> (Drained, u32)
+) -> bool
     requires sync { IsSync R.row }
     requires ready { IsReady site.now looped.old }
     requires site { IsSite site.now }
@@ -42,7 +46,15 @@ fn hears<T: Stepper, R: Wait + Sync>(
     let _posted = post.post(site.rt, name);
     let moved = looped.drain(site.rt, post);
     let taken = looped.poll(site);
-    (moved, taken)
+    let one = is_one(moved);
+    one & (taken == 1)
+}
+
+// Whether this deck steals the name.
+fn is_stolen<R: Wait + Sync>(rt: &R, thief: &mut Deck, name: Name) -> bool
+    requires sync { IsSync R.row }
+{
+    thief.take(rt) == Some(name)
 }
 
 // Whether a name that the loop leaves ready in the pool is stolen by another deck, so that the loop
@@ -59,21 +71,44 @@ fn travels<T: Stepper, R: Wait + Sync>(
     requires site { IsSite site.now }
 {
     let (block, name) = begins(site, looped)?;
-    let stolen = thief.take(site.rt) == Some(name);
-    let (moved, taken) = hears(site, looped, block, name, post);
-    drop(looped.collect(site.table, block, site.gate)?);
-    let (_second, _left) = begins(site, looped)?;
+    let stolen = is_stolen(site.rt, thief, name);
+    let heard = hears(site, looped, block, name, post);
+    if !collects(site, looped, block) {
+        return None;
+    }
+    let _begun = begins(site, looped)?;
     let fetched = looped.poll(site);
-    Some(stolen && moved == Drained::Emptied(1) && taken == 1 && fetched == 1)
+    Some(stolen && heard && fetched == 1)
 }
 
-// A deck for a loop, one that steals from it, and a post of the loop's queue.
-fn ways(alloc: Global) -> Result<Option<(Deck, Deck, LoopPost)>, Fail> {
-    let mut decks = Relay::open(alloc, 1)?;
-    let (_queue, mut posts) = LoopQueue::open(alloc, 1)?;
-    match (decks.pop(), decks.pop(), posts.pop()) {
-        (Some(own), Some(thief), Some(post)) => Ok(Some((own, thief, post))),
-        _ => Ok(None),
+// The last of what was opened.
+fn last<T: Drop>(mut list: Vec<T>) -> Option<T> {
+    let one = list.pop();
+    drop(list);
+    one
+}
+
+// A deck for a loop, and one that steals from it.
+fn two_decks(alloc: Global) -> Option<(Deck, Deck)> {
+    match Relay::open(alloc, 1) {
+        Ok(mut decks) => {
+            let own = decks.swap_remove(1);
+            let thief = decks.swap_remove(0);
+            drop(decks);
+            Some((own, thief))
+        }
+        Err(_) => None,
+    }
+}
+
+// A post of a loop's queue.
+fn one_post(alloc: Global) -> Option<LoopPost> {
+    match LoopQueue::open(alloc, 1) {
+        Ok((queue, posts)) => {
+            drop(queue);
+            last(posts)
+        }
+        Err(_) => None,
     }
 }
 
@@ -91,6 +126,7 @@ fn helping(
     ensures { IfSome result (λ looped. IsReady table.now looped) }
 {
     let Ok(looped) = Loop::open(alloc, plan, table, hand) else {
+        drop(deck);
         return None;
     };
     let mut looped = looped.with_deck(deck);
@@ -98,31 +134,89 @@ fn helping(
     Some(looped)
 }
 
-// The same of a loop that helps the pool and has the last of two decks, and which has it still
-// afterwards.
-fn travels_between_decks<R: Wait + Sync>(rt: &R, alloc: Global, root: &str) -> Result<bool, Fail>
+// A table of one block over the plan, and such a loop on its one hand.
+fn decked(alloc: Global, plan: &Plan, deck: Deck) -> Option<(OpTable<Item>, Loop)>
+    requires kinds { IsRunnable plan.now }
+    ensures over { IfSome result (λ t. IsOver t.0 plan.now) }
+    ensures ready { IfSome result (λ t. IsReady t.0 t.1) }
+{
+    match opened(alloc, plan) {
+        Some((table, hand)) => match helping(alloc, plan, &table, hand, deck) {
+            Some(looped) => Some((table, looped)),
+            None => {
+                drop(table);
+                None
+            }
+        },
+        None => {
+            drop(deck);
+            None
+        }
+    }
+}
+
+// The same of a loop that helps the pool and has this deck, and which has it still afterwards.
+fn travels_over<R: Wait + Sync>(
+    rt: &R,
+    alloc: Global,
+    plan: &Plan,
+    own: Deck,
+    thief: &mut Deck,
+    post: &mut LoopPost,
+) -> bool
+    requires sync { IsSync R.row }
+    requires kinds { IsRunnable plan.now }
+{
+    let Some((table, mut looped)) = decked(alloc, plan, own) else {
+        return false;
+    };
+    let stepper = NodeSteps::of(plan, &OpenGate);
+    let site = Site::of(rt, alloc, &table, &stepper);
+    let travelled = travels(&site, &mut looped, thief, post);
+    let (hand, deck) = looped.into_parts();
+    drop(hand);
+    drop(table);
+    let kept = deck.is_some();
+    drop(deck);
+    travelled == Some(true) && kept
+}
+
+// The same with a post and the last of two decks that are opened for it.
+fn travels_between<R: Wait + Sync>(rt: &R, alloc: Global, plan: &Plan) -> bool
+    requires sync { IsSync R.row }
+    requires kinds { IsRunnable plan.now }
+{
+    let Some(mut post) = one_post(alloc) else {
+        return false;
+    };
+    match two_decks(alloc) {
+        Some((own, mut thief)) => {
+            let travelled = travels_over(rt, alloc, plan, own, &mut thief, &mut post);
+            drop(thief);
+            drop(post);
+            travelled
+        }
+        None => {
+            drop(post);
+            false
+        }
+    }
+}
+
+// The same of the plan with this root.
+fn travels_between_decks<R: Wait + Sync>(rt: &R, alloc: Global, root: &str) -> bool
     requires sync { IsSync R.row }
 {
-    let Some(plan) = plan_of(alloc, root)? else {
-        return Ok(false);
+    let Some(plan) = plan_of(alloc, root) else {
+        return false;
     };
-    let Some((own, mut thief, mut post)) = ways(alloc)? else {
-        return Ok(false);
-    };
-    let stepper = NodeSteps::of(&plan, &OpenGate);
-    let (table, hand) = opened(alloc, &plan)?;
-    let Some(mut looped) = helping(alloc, &plan, &table, hand, own) else {
-        return Ok(false);
-    };
-    let site = Site::of(rt, alloc, &table, &stepper);
-    let travelled = travels(&site, &mut looped, &mut thief, &mut post);
-    let (_hand, deck) = looped.into_parts();
-    Ok(travelled == Some(true) && deck.is_some())
+    let travelled = travels_between(rt, alloc, &plan);
+    drop(plan);
+    travelled
 }
 
 #[test]
-fn a_name_that_is_stolen_comes_back_by_the_queue(rt: HostRuntime) -> Result<(), Fail> {
+fn a_name_that_is_stolen_comes_back_by_the_queue(rt: HostRuntime) {
     let root = r#"{"do":"starts_on","on":"pool","child":{"do":"input"}}"#;
-    assert!(rt; travels_between_decks(&rt, rt.alloc(), root)?);
-    Ok(())
+    assert!(rt; travels_between_decks(&rt, rt.alloc(), root));
 }

@@ -1,19 +1,21 @@
 //! A loop takes the nodes that it was told of in the order in which it was told.
 ghost use Rattle.std.specs.Thread.{IsSync};
+ghost use Rattle.plan_kinds.specs.Runnable.{IsRunnable};
 ghost use Rattle.exec_recv.specs.Sites.{IsSite};
 ghost use Rattle.run_loop.specs.Loops.{IsReady};
 
-use super::{MOST_TURNS, opened, plan_of, started, turns_until};
+use super::{MOST_TURNS, looping, plan_of, turns_of};
 use exec_recv::{Gate, Point};
 use life_rules::Name;
 use node_stepper::NodeSteps;
 use node_tree::Context;
 use op_table::OpTable;
+use plan_shape::Plan;
 use run_loop::{Item, Loop, Site, Stepper};
 use std::alloc::Global;
+use std::process::Abort;
 use std::sync::Wait;
 use std::sync::atomic::{AtomicU64, Ordering};
-use std::test::Fail;
 
 /// Two children, each of which waits in the loop.
 const ROOT: &str =
@@ -62,55 +64,76 @@ fn ends<T: Stepper, R: Wait + Sync>(site: &Site<R, T>, looped: &mut Loop) -> boo
     requires ready { IsReady site.now looped.old }
     requires site { IsSite site.now }
 {
-    let Some(env) = started(site, false) else {
-        return false;
-    };
-    let Ok(block) = looped.start(site, env) else {
-        return false;
-    };
-    turns_until(site, looped, block) < MOST_TURNS
+    match turns_of(site, looped, false) {
+        Some(turns) => turns < MOST_TURNS,
+        None => false,
+    }
 }
 
 // The numbers of the nodes that the loop tries to take, where it was told of these two before they
 // were ready, and is told of each again when it is. None where the operation didn't end.
-fn tried<R: Wait + Sync>(
+fn tried_over<R: Wait + Sync>(
     rt: &R,
     alloc: Global,
+    plan: &Plan,
     before: u32,
     behind: u32,
-) -> Result<Option<u64>, Fail>
+) -> Option<u64>
     requires sync { IsSync R.row }
+    requires kinds { IsRunnable plan.now }
 {
-    let Some(plan) = plan_of(alloc, ROOT)? else {
-        return Ok(None);
-    };
     let gate = Tries {
         nodes: AtomicU64::new(0),
     };
-    let stepper = NodeSteps::of(&plan, &gate);
-    let (table, hand) = opened(alloc, &plan)?;
-    let Ok(mut looped) = Loop::open(alloc, &plan, &table, hand) else {
-        return Ok(None);
+    let Some((table, mut looped)) = looping(alloc, plan, false) else {
+        return None;
     };
     tells(rt, &table, &mut looped, before);
     tells(rt, &table, &mut looped, behind);
-    if !ends(&Site::of(rt, alloc, &table, &stepper), &mut looped) {
-        return Ok(None);
+    let stepper = NodeSteps::of(plan, &gate);
+    let site = Site::of(rt, alloc, &table, &stepper);
+    let ended = ends(&site, &mut looped);
+    drop(looped);
+    drop(table);
+    if ended {
+        Some(gate.nodes.load(Ordering::SeqCst))
+    } else {
+        None
     }
-    Ok(Some(gate.nodes.load(Ordering::SeqCst)))
+}
+
+// The same over a plan that is read for it.
+fn tried<R: Wait + Sync>(rt: &R, alloc: Global, before: u32, behind: u32) -> Option<u64>
+    requires sync { IsSync R.row }
+{
+    let Some(plan) = plan_of(alloc, ROOT) else {
+        return None;
+    };
+    let nodes = tried_over(rt, alloc, &plan, before, behind);
+    drop(plan);
+    nodes
+}
+
+// Asserts of each two nodes that the loop tries these where it was told of them.
+fn all_try<R: Wait + Abort + Sync>(rt: &R, alloc: Global, cases: &[(u32, u32, u64)])
+    requires sync { IsSync R.row }
+{
+    for case in cases {
+        let nodes = tried(rt, alloc, case.0, case.1);
+        assert!(rt; nodes == Some(case.2), "{}", case.2);
+    }
 }
 
 #[test]
-fn names_are_taken_as_they_were_told(rt: HostRuntime) -> Result<(), Fail> {
-    let alloc = rt.alloc();
-    assert_eq!(rt; tried(&rt, alloc, FIRST, SECOND)?, Some(1313));
-    assert_eq!(rt; tried(&rt, alloc, SECOND, FIRST)?, Some(3113));
-    Ok(())
+fn names_are_taken_as_they_were_told(rt: HostRuntime) {
+    all_try(
+        &rt,
+        rt.alloc(),
+        &[(FIRST, SECOND, 1313), (SECOND, FIRST, 3113)],
+    );
 }
 
 #[test]
-fn a_name_of_no_place_is_passed_over(rt: HostRuntime) -> Result<(), Fail> {
-    let alloc = rt.alloc();
-    assert_eq!(rt; tried(&rt, alloc, 4_294_967_295, SECOND)?, Some(313));
-    Ok(())
+fn a_name_of_no_place_is_passed_over(rt: HostRuntime) {
+    all_try(&rt, rt.alloc(), &[(4_294_967_295, SECOND, 313)]);
 }

@@ -1,21 +1,30 @@
 //! The limits of plans are shown by tests/cases/, which the program runs. Here stands what no plan
 //! file can ask for, and the tree of a plan.
-use super::{OF_INTS, OF_VERSION_1};
+use super::{OF_VERSION_1, finished, finished_in_1};
 use exec_job::Job;
 use exec_value::{Data, Datum, Kind, Txt};
-use plan_builder::{BuildFault, Built, Context, Node, NodeId, PlanBuilder, Query};
+use plan_builder::{BuildFault, Built, Context, Node, NodeId, Plan, PlanBuilder, Query};
 use std::alloc::Global;
 use std::test::Fail;
 
+// Whether a new builder tells of each child that it can't take. The children here are one that is
+// named twice, and one that there isn't.
+fn tells_of_children(builder: &mut PlanBuilder, twice: Vec<NodeId>) -> bool {
+    let input = matches!(builder.input(), Ok(0));
+    let twice = matches!(builder.when_all(twice), Err(BuildFault::UsedChild(0)));
+    let bulk = matches!(builder.bulk(0, Job::Add(1)), Ok(9));
+    let then = matches!(builder.then(0, Job::Neg), Err(BuildFault::UsedChild(0)));
+    let unstoppable = matches!(builder.unstoppable(8), Err(BuildFault::UsedChild(8)));
+    input && twice && bulk && then && unstoppable
+}
+
 #[test]
 fn a_child_that_cant_be_taken_is_told(rt: HostRuntime) -> Result<(), Fail> {
-    let twice = vec![in rt.alloc(); 0, 7, 0]?;
+    let twice = Vec::from_slice(rt.alloc(), &[0, 7, 0])?;
     let mut builder = PlanBuilder::new(rt.alloc());
-    assert!(rt; builder.input() == Ok(0));
-    assert!(rt; builder.when_all(twice) == Err(BuildFault::UsedChild(0)));
-    assert!(rt; builder.bulk(0, Job::Add(1)) == Ok(9));
-    assert!(rt; builder.then(0, Job::Neg) == Err(BuildFault::UsedChild(0)));
-    assert!(rt; builder.unstoppable(8) == Err(BuildFault::UsedChild(8)));
+    let told = tells_of_children(&mut builder, twice);
+    drop(builder);
+    assert!(rt; told);
     Ok(())
 }
 
@@ -33,17 +42,20 @@ fn fault_of_root(alloc: Global, root: NodeId) -> Option<BuildFault> {
     let mut builder = PlanBuilder::new(alloc);
     match loose(&mut builder) {
         Ok(_) => builder.finish(root, OF_VERSION_1).err(),
-        Err(fault) => Some(fault),
+        Err(fault) => {
+            drop(builder);
+            Some(fault)
+        }
     }
 }
 
 #[test]
-fn the_first_cause_against_a_plan_is_told(rt: HostRuntime) -> Result<(), Fail> {
+fn the_first_cause_against_a_plan_is_told(rt: HostRuntime) {
     let alloc = rt.alloc();
-    assert!(rt; fault_of_root(alloc, 3) == Some(BuildFault::UsedChild(3)));
-    assert!(rt; fault_of_root(alloc, 4) == Some(BuildFault::Loose(0)));
-    assert!(rt; fault_of_root(alloc, 0) == Some(BuildFault::Loose(1)));
-    Ok(())
+    let used = matches!(fault_of_root(alloc, 3), Some(BuildFault::UsedChild(3)));
+    let first = matches!(fault_of_root(alloc, 4), Some(BuildFault::Loose(0)));
+    let second = matches!(fault_of_root(alloc, 0), Some(BuildFault::Loose(1)));
+    assert!(rt; used && first && second);
 }
 
 // A `when_all` ahead of a bulk.
@@ -56,18 +68,32 @@ fn ahead(alloc: Global, builder: &mut PlanBuilder) -> Built {
     builder.ahead(all, bulk)
 }
 
+// Whether the tree of that plan has each node below its parent.
+fn is_ahead(plan: &Plan) -> bool {
+    let tree = plan.tree();
+    tree.size() == 15
+        && tree.node(1).parent == Some(2)
+        && tree.node(4).parent == Some(12)
+        && tree.node(2).parent == Some(14)
+        && tree.node(2).source
+        && tree.node(12).parent == Some(13)
+        && !tree.node(12).source
+}
+
 #[test]
-fn the_first_child_of_an_ahead_stands_under_the_receiver(rt: HostRuntime) -> Result<(), Fail> {
+fn the_first_child_of_an_ahead_stands_under_the_receiver(rt: HostRuntime) {
     let alloc = rt.alloc();
     let mut builder = PlanBuilder::new(alloc);
-    let root = ahead(alloc, &mut builder)?;
-    let plan = builder.finish(root, OF_INTS)?;
-    let tree = plan.tree();
-    assert!(rt; tree.size() == 15);
-    assert!(rt; tree.node(1).parent == Some(2) && tree.node(4).parent == Some(12));
-    assert!(rt; tree.node(2).parent == Some(14) && tree.node(2).source);
-    assert!(rt; tree.node(12).parent == Some(13) && !tree.node(12).source);
-    Ok(())
+    let root = ahead(alloc, &mut builder);
+    let told = match finished(builder, root) {
+        Some(plan) => {
+            let told = is_ahead(&plan);
+            drop(plan);
+            told
+        }
+        None => false,
+    };
+    assert!(rt; told);
 }
 
 // Each adaptor, over an error.
@@ -95,22 +121,31 @@ fn lets(alloc: Global, builder: &mut PlanBuilder) -> Built {
     builder.let_stopped(error, Job::Sum, bodies)
 }
 
-#[test]
-fn calls_add_their_nodes(rt: HostRuntime) -> Result<(), Fail> {
-    let alloc = rt.alloc();
-    let mut builder = PlanBuilder::new(alloc);
-    let root = lets(alloc, &mut builder)?;
-    let plan = builder.finish(root, OF_VERSION_1)?;
-    assert!(rt; plan.size() == 13);
-    assert!(rt;
-        matches!(
+// Whether the plan of all that has its nodes.
+fn has_nodes(plan: &Plan) -> bool {
+    plan.size() == 13
+        && matches!(
             plan.node(4),
             Node::ContinuesOn {
                 child: 3,
                 on: Context::Pool
             }
         )
-    );
-    assert!(rt; matches!(plan.node(11), Node::Delay(1_000_000)));
-    Ok(())
+        && matches!(plan.node(11), Node::Delay(1_000_000))
+}
+
+#[test]
+fn calls_add_their_nodes(rt: HostRuntime) {
+    let alloc = rt.alloc();
+    let mut builder = PlanBuilder::new(alloc);
+    let root = lets(alloc, &mut builder);
+    let told = match finished_in_1(builder, root) {
+        Some(plan) => {
+            let told = has_nodes(&plan);
+            drop(plan);
+            told
+        }
+        None => false,
+    };
+    assert!(rt; told);
 }

@@ -1,20 +1,20 @@
 //! The calls of a run over records: how much a read asks for, and when a turn comes. No clause says
 //! it, since each record ends as it may without it.
 ghost use Rattle.std.specs.Prelude.{◌≡◌};
+ghost use Rattle.std.specs.Thread.{IsSync};
 ghost use Rattle.exec_io.specs.Memory.{source_view};
 ghost use Rattle.plain_runs.specs.PlainWork.{plain_work, WantsMemory};
 
-use super::OF_INTS;
-use super::runs::{adding, run};
+use super::runs::{adding_plan, ending_over};
 use exec_io::{Failed, MemSink, MemSource, Source};
 use exec_value::{Completion, Datum, Kind};
 use line_rules::may_run;
 use plain_runs::PlainRuns;
-use plan_builder::PlanBuilder;
+use plan_builder::Plan;
 use record_lines::End;
 use record_loop::{Form, Generated, Operations, run_records};
 use sig_check::check;
-use std::alloc::Global;
+use std::alloc::{AllocError, Global};
 use std::sync::Wait;
 use std::test::Fail;
 
@@ -41,22 +41,25 @@ impl Source for NotedSource {
     }
 }
 
+/// Where there is memory for so many bytes of one line.
+fn noted(alloc: Global) -> Result<NotedSource, AllocError> {
+    let line = vec![in alloc; b'7'; 140_000]?;
+    Ok(NotedSource {
+        source: MemSource::new(line, Vec::new(alloc)),
+        lengths: [0; MOST_CALLS],
+        reads: 0,
+    })
+}
+
 #[test]
 fn each_read_asks_for_a_whole_piece(rt: HostRuntime) -> Result<(), Fail> {
     let alloc = rt.alloc();
-    let mut source = NotedSource {
-        source: MemSource::new(vec![in alloc; b'7'; 140_000]?, Vec::new(alloc)),
-        lengths: [0; MOST_CALLS],
-        reads: 0,
-    };
-    let ran = run(
-        &rt,
-        alloc,
-        &mut source,
-        MemSink::new(alloc, 4096, Vec::new(alloc)),
-    )?;
-    assert!(rt; source.lengths == [65_536, 65_536, 65_536, 65_536, 0, 0, 0, 0]);
-    assert!(rt; ran.out.bytes() == b"1 bad-record\n".as_slice());
+    let mut source = noted(alloc)?;
+    let out = MemSink::new(alloc, 4096, Vec::new(alloc));
+    let ran = ending_over(&rt, alloc, &mut source, out, b"1 bad-record\n").is_some();
+    let lengths = source.lengths;
+    drop(source);
+    assert!(rt; ran && lengths == [65_536, 65_536, 65_536, 65_536, 0, 0, 0, 0]);
     Ok(())
 }
 
@@ -104,11 +107,12 @@ impl<'a> Operations for Reluctant<'a> {
         datum: Datum,
     ) -> Result<u32, Datum> {
         self.note(Call::Start);
-        if !self.refused {
+        if self.refused {
+            self.runs.start(rt, alloc, number, datum)
+        } else {
             self.refused = true;
-            return Err(datum);
+            Err(datum)
         }
-        self.runs.start(rt, alloc, number, datum)
     }
 
     fn turn<R: Wait + Sync>(&mut self, rt: &R, alloc: Global) {
@@ -118,11 +122,12 @@ impl<'a> Operations for Reluctant<'a> {
 
     fn collect<R: Wait + Sync>(&mut self, rt: &R, ticket: u32) -> Option<Completion> {
         self.note(Call::Collect);
-        if !self.delayed {
+        if self.delayed {
+            self.runs.collect(rt, ticket)
+        } else {
             self.delayed = true;
-            return None;
+            None
         }
-        self.runs.collect(rt, ticket)
     }
 
     fn request<R: Wait + Sync>(&mut self, rt: &R) {
@@ -130,46 +135,72 @@ impl<'a> Operations for Reluctant<'a> {
     }
 }
 
+/// What they are asked for by a run of one record.
+const TRIES: [Call; MOST_CALLS] = [
+    Call::Start,
+    Call::Turn,
+    Call::Start,
+    Call::Collect,
+    Call::Turn,
+    Call::Collect,
+    Call::None,
+    Call::None,
+];
+
+/// Whether a run over a plan asks them for this.
+fn asks_by_turns<R: Wait + Sync>(
+    rt: &R,
+    alloc: Global,
+    plan: &Plan,
+    source: &mut MemSource,
+    out: &mut MemSink,
+) -> bool
+    requires { IsSync R.row }
+{
+    match check(alloc, plan) {
+        Ok(sigs) => drop(sigs),
+        Err(_) => return false,
+    }
+    let settings = *plan.settings();
+    if !may_run(&settings) {
+        return false;
+    }
+    match PlainRuns::open(alloc, plan, 2) {
+        Ok(runs) => {
+            let mut asked = Reluctant {
+                runs,
+                refused: false,
+                delayed: false,
+                calls: [Call::None; MOST_CALLS],
+                count: 0,
+            };
+            let form = Form::Lines;
+            let ran = run_records(rt, alloc, settings, 2, form, &mut asked, source, out);
+            let calls = asked.calls;
+            drop(asked);
+            ran.is_ok() && calls == TRIES
+        }
+        Err(_) => false,
+    }
+}
+
 #[test]
 fn a_turn_lies_between_two_tries(rt: HostRuntime) -> Result<(), Fail> {
     let alloc = rt.alloc();
-    let mut builder = PlanBuilder::new(alloc);
-    let root = adding(&mut builder)?;
-    let plan = builder.finish(root, OF_INTS)?;
-    check(alloc, &plan)?;
-    let settings = *plan.settings();
-    assert!(rt; may_run(&settings));
-    let mut operations = Reluctant {
-        runs: PlainRuns::open(alloc, &plan, 2)?,
-        refused: false,
-        delayed: false,
-        calls: [Call::None; MOST_CALLS],
-        count: 0,
-    };
     let mut source = MemSource::new(b"5\n".to_vec(alloc)?, Vec::new(alloc));
     let mut out = MemSink::new(alloc, 4096, Vec::new(alloc));
-    run_records(
-        &rt,
-        alloc,
-        settings,
-        2,
-        Form::Lines,
-        &mut operations,
-        &mut source,
-        &mut out,
-    )?;
-    let tries = [
-        Call::Start,
-        Call::Turn,
-        Call::Start,
-        Call::Collect,
-        Call::Turn,
-        Call::Collect,
-        Call::None,
-        Call::None,
-    ];
-    assert!(rt; operations.calls == tries);
-    assert!(rt; out.bytes() == b"1 value 6\n".as_slice());
+    let asked = match adding_plan(alloc) {
+        Some(plan) => {
+            let asked = asks_by_turns(&rt, alloc, &plan, &mut source, &mut out);
+            drop(plan);
+            asked
+        }
+        None => false,
+    };
+    drop(source);
+    let told = out.bytes() == b"1 value 6\n".as_slice();
+    drop(out);
+    assert!(rt; asked && told);
     Ok(())
 }
 
@@ -177,13 +208,14 @@ fn a_turn_lies_between_two_tries(rt: HostRuntime) -> Result<(), Fail> {
 fn generated_records_run_as_any_others(rt: HostRuntime) -> Result<(), Fail> {
     let alloc = rt.alloc();
     let mut source = Generated::new(alloc, Kind::Int, 3)?;
-    let ran = run(
-        &rt,
-        alloc,
-        &mut source,
-        MemSink::new(alloc, 4096, Vec::new(alloc)),
-    )?;
-    assert!(rt; ran.out.bytes() == b"1 value 7937\n2 value 15856\n3 value 23775\n".as_slice());
-    assert!(rt; ran.ending.end() == End::Ended);
+    let out = MemSink::new(alloc, 4096, Vec::new(alloc));
+    let lines = b"1 value 7937\n2 value 15856\n3 value 23775\n";
+    let ending = ending_over(&rt, alloc, &mut source, out, lines);
+    drop(source);
+    let told = match ending {
+        Some(ending) => ending.end() == End::Ended,
+        None => false,
+    };
+    assert!(rt; told);
     Ok(())
 }

@@ -1,9 +1,12 @@
 //! A body of `run` that always answers want of memory is refused here: no clause says when that
 //! comes, and where there is ample memory it doesn't.
+ghost use Rattle.std.specs.Thread.{IsSync};
 
-use super::engine::{ADD_ONE, AHEAD, ALL, Given, TRACE, run_with};
+use super::engine::{ADD_ONE, AHEAD, ALL, Given, Left, TRACE, leaves};
 use exec_engine::Status;
-use std::test::Fail;
+use std::alloc::Global;
+use std::sync::Wait;
+use std::thread::Threads;
 
 /// Of two children one makes one hop, and the other begins eight parts.
 const PLAN_G: &str = r#"{"version":1,"input":"int",
@@ -37,34 +40,51 @@ const SCHEDULE: &str = "exec 2 1 1 counting 1\nnode 1 plain\nnode - plain\n\
 const HUNDRED: &str =
     "records 100 values 100 errors 0 stopped 0 out-of-memory 0 bad 0 sum 9984100\n";
 
-#[test]
-fn each_command_ends_well_where_there_is_memory(rt: HostRuntime) -> Result<(), Fail> {
-    let alloc = rt.alloc();
-    let run: &[&str] = &["run", "plan.json"];
-    let rows: [(&[&str], &str, &str, &str); 8] = [
-        (run, ADD_ONE, "5\n-1\n", "1 value 6\n2 value 0\n"),
-        (run, PLAN_G, "5\n", "1 value 19\n"),
-        (run, ROWS, "[1,2]\n[]\n", "1 value [2,3]\n2 value []\n"),
-        (
-            run,
-            TEXTS,
-            "this\n",
-            "1 value \"this and more than is kept in place\"\n",
-        ),
-        (run, AHEAD, "5\n", "1 value 10 6\n"),
-        (&["gen", "plan.json", "100"], PLAN_G, "", HUNDRED),
-        (&["check", "plan.json"], TRACE, "", "ok 8\n"),
-        (&["replay", "plan.json"], SCHEDULE, "", TRACE),
-    ];
-    for (words, text, input, out) in rows {
+/// Whether each of these commands over such a file, with such an input, ends well with this in out.
+fn all_end_well<'x, R: Threads + Wait + Sync>(
+    rt: &R,
+    alloc: Global,
+    rows: &'x [(&'x [&'x str], &'x str, &'x str, &'x str)],
+) -> bool
+    requires { IsSync R.row }
+{
+    for row in rows {
         let given = Given {
-            input: input.as_bytes(),
+            text: row.1,
+            input: row.2.as_bytes(),
             ..ALL
         };
-        let ran = run_with(&rt, alloc, words, text, given)?;
-        assert!(rt; ran.called.status == Status::AllValues);
-        assert_eq!(rt; ran.out.bytes(), out.as_bytes());
-        assert_eq!(rt; ran.notes.bytes(), "".as_bytes());
+        let left = Left {
+            status: Status::AllValues,
+            out: row.3,
+            notes: "",
+        };
+        if !leaves(rt, alloc, row.0, given, left) {
+            return false;
+        }
     }
-    Ok(())
+    true
+}
+
+const RUN: &[&str] = &["run", "plan.json"];
+
+const ENDS: &[(&[&str], &str, &str, &str)] = &[
+    (RUN, ADD_ONE, "5\n-1\n", "1 value 6\n2 value 0\n"),
+    (RUN, PLAN_G, "5\n", "1 value 19\n"),
+    (RUN, ROWS, "[1,2]\n[]\n", "1 value [2,3]\n2 value []\n"),
+    (
+        RUN,
+        TEXTS,
+        "this\n",
+        "1 value \"this and more than is kept in place\"\n",
+    ),
+    (RUN, AHEAD, "5\n", "1 value 10 6\n"),
+    (&["gen", "plan.json", "100"], PLAN_G, "", HUNDRED),
+    (&["check", "plan.json"], TRACE, "", "ok 8\n"),
+    (&["replay", "plan.json"], SCHEDULE, "", TRACE),
+];
+
+#[test]
+fn each_command_ends_well_where_there_is_memory(rt: HostRuntime) {
+    assert!(rt; all_end_well(&rt, rt.alloc(), ENDS));
 }

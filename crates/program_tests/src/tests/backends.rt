@@ -1,10 +1,13 @@
 //! A call of `run`, past a gate, with backends that note what they are asked for.
+ghost use Rattle.std.specs.Prelude.{◌≡◌, IfOk, vec_len};
 ghost use Rattle.std.specs.Thread.{IsSync};
+ghost use Rattle.exec_words.specs.declared.number.TheConstants.{MOST_WORKERS};
 
 use exec_engine::{Backend, Status, System, Tally, run};
 use exec_io::{Shelf, Sink, Source};
 use exec_recv::Gate;
 use exec_words::MOST_WORKERS;
+use life_rules::ScopeState;
 use pool_backends::{Name, Order, RingBackend};
 use std::alloc::{AllocError, Global};
 use std::sync::atomic::{AtomicU64, Ordering};
@@ -55,11 +58,29 @@ impl Backend for Watched {
     }
 }
 
+/// How the table of a run was closed.
+#[derive(Clone, Copy)]
+pub struct Closed {
+    pub scope: ScopeState,
+    pub free: u32,
+    pub retired: u32,
+}
+
+/// What a tally tells.
+#[derive(Clone, Copy)]
+pub struct Told {
+    pub values: u64,
+    pub errors: u64,
+    pub stopped: u64,
+    pub no_memory: u64,
+    pub closed: Option<Closed>,
+}
+
 /// What a call of `run` came to.
-#[derive(Drop)]
+#[derive(Clone, Copy)]
 pub struct Called {
     pub status: Status,
-    pub tally: Tally,
+    pub tally: Told,
     /// How many backends were handed in, and how many of them weren't dropped.
     pub given: usize,
     pub left: usize,
@@ -69,7 +90,81 @@ pub struct Called {
     pub submitted: u64,
 }
 
-/// Calls `run` on this system, past this gate, with backends and a tally of its own.
+fn closed_of(tally: &Tally) -> Option<Closed> {
+    match tally.closing() {
+        Some(closing) => Some(Closed {
+            scope: closing.scope(),
+            free: closing.free(),
+            retired: closing.retired(),
+        }),
+        None => None,
+    }
+}
+
+fn told_by(tally: &Tally) -> Told {
+    Told {
+        values: tally.values(),
+        errors: tally.errors(),
+        stopped: tally.stopped(),
+        no_memory: tally.no_memory(),
+        closed: closed_of(tally),
+    }
+}
+
+/// A backend that notes there what it is asked for.
+fn noting(
+    alloc: Global,
+    asked: &Arc<Asked, Global>,
+) -> Result<Box<dyn Backend + Send>, AllocError> {
+    let asked = Arc::try_clone(asked)?;
+    let ring = RingBackend::new(alloc, ROOM)?;
+    let backend: Box<dyn Backend + Send> = Box::new(alloc, Watched { ring, asked })?;
+    Ok(backend)
+}
+
+/// One for each worker that there may be.
+fn all_watched(
+    alloc: Global,
+    asked: &Arc<Asked, Global>,
+) -> Result<Vec<Box<dyn Backend + Send>>, AllocError>
+    ensures { IfOk result (λ backends. vec_len backends ≡ MOST_WORKERS) }
+{
+    let mut backends: Vec<Box<dyn Backend + Send>> = Vec::new(alloc);
+    for made in 0..MOST_WORKERS {
+        backends.push(noting(alloc, asked)?)?;
+    }
+    Ok(backends)
+}
+
+fn none_asked(alloc: Global) -> Result<Arc<Asked, Global>, AllocError> {
+    let asked = Asked {
+        fifo: AtomicU64::new(0),
+        lifo: AtomicU64::new(0),
+        submitted: AtomicU64::new(0),
+    };
+    Ok(Arc::new(alloc, asked)?)
+}
+
+/// Calls `run` on this system, past this gate, with these backends and a tally of its own.
+fn call_with<G: Gate + Sync, R: Threads + Wait + Sync, F: Shelf, S: Source, K: Sink, N: Sink>(
+    rt: &R,
+    alloc: Global,
+    words: &[&str],
+    gate: &G,
+    system: &mut System<F, S, K, N>,
+    backends: Vec<Box<dyn Backend + Send>>,
+) -> (Status, Told)
+    requires sync { IsSync R.row }
+    requires all { vec_len backends ≡ MOST_WORKERS }
+{
+    let mut tally = Tally::new();
+    let status = run(rt, alloc, words, system, backends, gate, &mut tally);
+    let told = told_by(&tally);
+    drop(tally);
+    (status, told)
+}
+
+/// The same with backends of its own.
 pub fn call<G: Gate + Sync, R: Threads + Wait + Sync, F: Shelf, S: Source, K: Sink, N: Sink>(
     rt: &R,
     alloc: Global,
@@ -79,30 +174,26 @@ pub fn call<G: Gate + Sync, R: Threads + Wait + Sync, F: Shelf, S: Source, K: Si
 ) -> Result<Called, AllocError>
     requires { IsSync R.row }
 {
-    let asked = Arc::new(
-        alloc,
-        Asked {
-            fifo: AtomicU64::new(0),
-            lifo: AtomicU64::new(0),
-            submitted: AtomicU64::new(0),
-        },
-    )?;
-    let mut backends: Vec<Box<dyn Backend + Send>> = Vec::new(alloc);
-    for made in 0..MOST_WORKERS {
-        let ring = RingBackend::new(alloc, ROOM)?;
-        let asked = Arc::try_clone(&asked)?;
-        backends.push(Box::new(alloc, Watched { ring, asked })?)?;
+    let asked = none_asked(alloc)?;
+    match all_watched(alloc, &asked) {
+        Ok(backends) => {
+            let given = Arc::strong_count(&asked) - 1;
+            let (status, tally) = call_with(rt, alloc, words, gate, system, backends);
+            let called = Called {
+                status,
+                tally,
+                given,
+                left: Arc::strong_count(&asked) - 1,
+                fifo: asked.fifo.load(Ordering::SeqCst),
+                lifo: asked.lifo.load(Ordering::SeqCst),
+                submitted: asked.submitted.load(Ordering::SeqCst),
+            };
+            drop(asked);
+            Ok(called)
+        }
+        Err(fault) => {
+            drop(asked);
+            Err(fault)
+        }
     }
-    let given = Arc::strong_count(&asked) - 1;
-    let mut tally = Tally::new();
-    let status = run(rt, alloc, words, system, backends, gate, &mut tally);
-    Ok(Called {
-        status,
-        tally,
-        given,
-        left: Arc::strong_count(&asked) - 1,
-        fifo: asked.fifo.load(Ordering::SeqCst),
-        lifo: asked.lifo.load(Ordering::SeqCst),
-        submitted: asked.submitted.load(Ordering::SeqCst),
-    })
 }

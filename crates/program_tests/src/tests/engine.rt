@@ -1,15 +1,13 @@
-//! What only a shelf, a source and sinks in memory can show: faults at each call, and want of
-//! memory. The other worked examples are cases of the program (tests/cases/engine.json).
+//! What a run of these tests is given, and what it is to leave.
 ghost use Rattle.std.specs.Thread.{IsSync};
 
-use super::backends::call;
-use super::{Ran, shelf, sink};
+use super::backends::{Called, call};
+use super::{shelf, sink, source};
 use exec_engine::{Status, System};
-use exec_io::{MemSink, MemSource, NeverFails};
+use exec_io::{MemShelf, MemSink, MemSource};
 use exec_recv::{Gate, OpenGate};
 use std::alloc::{AllocError, Global};
 use std::sync::Wait;
-use std::test::Fail;
 use std::thread::Threads;
 
 /// A plan that adds one to each record.
@@ -27,10 +25,11 @@ pub const TRACE: &str = "exec 2 1 1 counting 1\nnode 1 plain\nnode - plain\n\
     0 claim 0\n0 begin 0.1\n0 await 0.1 0\n0 begin 0.0\n0 finish 0.0\n0 report 0.0\n\
     0 finish 0.1\n0 release 0\n";
 
-/// What a run is given: the bytes of its source, how many bytes out and notes take a write, and at
-/// which calls each of them fails.
+/// What a run is given: the text of the file `plan.json`, the bytes of its source, how many bytes
+/// out and notes take a write, and at which calls each of them fails.
 #[derive(Clone, Copy)]
 pub struct Given<'a> {
+    pub text: &'a str,
     pub input: &'a [u8],
     pub reads: &'a [u64],
     pub out: usize,
@@ -41,6 +40,7 @@ pub struct Given<'a> {
 
 /// What takes all.
 pub const ALL: Given<'_> = Given {
+    text: ADD_ONE,
     input: b"",
     reads: &[],
     out: 4096,
@@ -49,150 +49,119 @@ pub const ALL: Given<'_> = Given {
     told: &[],
 };
 
-/// A run with these words, where the shelf has this text under the name `plan.json`.
-pub fn run_with<R: Threads + Wait + Sync>(
-    rt: &R,
-    alloc: Global,
-    words: &[&str],
-    text: &str,
-    given: Given<'_>,
-) -> Result<Ran, AllocError>
-    requires { IsSync R.row }
-{
-    run_past(rt, alloc, words, text, given, &OpenGate)
+/// What a run is to leave: its status, and what out and notes hold.
+#[derive(Clone, Copy)]
+pub struct Left<'a> {
+    pub status: Status,
+    pub out: &'a str,
+    pub notes: &'a str,
 }
 
-/// The same run, past this gate.
+/// What a run of these tests runs on.
+pub type Memory = System<MemShelf, MemSource, MemSink, MemSink>;
+
+/// A shelf and a source of what is given.
+pub fn files_of(alloc: Global, given: Given<'_>) -> Result<(MemShelf, MemSource), AllocError> {
+    let shelf = shelf(alloc, "plan.json", given.text.as_bytes(), &[])?;
+    match source(alloc, given.input, given.reads) {
+        Ok(records) => Ok((shelf, records)),
+        Err(fault) => {
+            drop(shelf);
+            Err(fault)
+        }
+    }
+}
+
+/// Sinks of what is given.
+fn sinks_of(alloc: Global, given: Given<'_>) -> Result<(MemSink, MemSink), AllocError> {
+    let out = sink(alloc, given.out, given.writes)?;
+    match sink(alloc, given.notes, given.told) {
+        Ok(notes) => Ok((out, notes)),
+        Err(fault) => {
+            drop(out);
+            Err(fault)
+        }
+    }
+}
+
+/// What a run runs on where this is given.
+pub fn memory(alloc: Global, given: Given<'_>) -> Result<Memory, AllocError> {
+    let (shelf, records) = files_of(alloc, given)?;
+    match sinks_of(alloc, given) {
+        Ok((out, notes)) => Ok(System {
+            shelf,
+            records,
+            out,
+            notes,
+        }),
+        Err(fault) => {
+            drop(shelf);
+            drop(records);
+            Err(fault)
+        }
+    }
+}
+
+/// Whether a run left this, if it was to leave something.
+fn has_left(system: &Memory, status: Status, left: Option<Left<'_>>) -> bool {
+    match left {
+        Some(left) => {
+            status == left.status
+                && system.out.bytes() == left.out.as_bytes()
+                && system.notes.bytes() == left.notes.as_bytes()
+        }
+        None => true,
+    }
+}
+
+/// What a run with these words, past this gate, came to, where it left what it should.
 pub fn run_past<G: Gate + Sync, R: Threads + Wait + Sync>(
     rt: &R,
     alloc: Global,
     words: &[&str],
-    text: &str,
     given: Given<'_>,
     gate: &G,
-) -> Result<Ran, AllocError>
+    left: Option<Left<'_>>,
+) -> Option<Called>
     requires { IsSync R.row }
 {
-    let mut system = System {
-        shelf: shelf(alloc, "plan.json", text.as_bytes(), &[])?,
-        records: MemSource::new(given.input.to_vec(alloc)?, given.reads.to_vec(alloc)?),
-        out: sink(alloc, given.out, given.writes)?,
-        notes: sink(alloc, given.notes, given.told)?,
+    let Ok(mut system) = memory(alloc, given) else {
+        return None;
     };
-    let called = call(rt, alloc, words, gate, &mut system)?;
-    let System {
-        shelf,
-        records: _,
-        out,
-        notes,
-    } = system;
-    Ok(Ran {
-        called,
-        shelf,
-        out,
-        notes,
-    })
-}
-
-#[test]
-fn a_failed_write_leaves_what_was_written(rt: HostRuntime) -> Result<(), Fail> {
-    let alloc = rt.alloc();
-    let lines = "1 bad-record\n2 value 8\n";
-    // Out fails at its first write, at a later one, or at no call.
-    let rows: [(usize, u64, &str); 3] = [(1, 1, ""), (1, 9, "1 bad-re"), (4096, 99, lines)];
-    for (most, call, written) in rows {
-        let given = Given {
-            input: b"abc\n7\n",
-            out: most,
-            writes: &[call],
-            ..ALL
-        };
-        let ran = run_with(&rt, alloc, &["run", "plan.json"], ADD_ONE, given)?;
-        let lost = written.len() < lines.len();
-        assert_eq!(rt; ran.called.status == Status::WriteFault, lost);
-        assert_eq!(rt; ran.out.bytes(), written.as_bytes());
-        assert_eq!(rt; ran.notes.bytes().is_empty(), !lost);
+    match call(rt, alloc, words, gate, &mut system) {
+        Ok(called) => {
+            let told = has_left(&system, called.status, left);
+            drop(system);
+            if told { Some(called) } else { None }
+        }
+        Err(_) => {
+            drop(system);
+            None
+        }
     }
-    Ok(())
 }
 
-#[test]
-fn out_that_fails_is_a_write_fault_of_a_check(rt: HostRuntime) -> Result<(), Fail> {
-    let alloc = rt.alloc();
-    // Out takes one byte a write, and fails at the third.
-    let given = Given {
-        out: 1,
-        writes: &[3],
-        ..ALL
-    };
-    let ran = run_with(&rt, alloc, &["check", "plan.json"], TRACE, given)?;
-    assert!(rt; ran.called.status == Status::WriteFault);
-    assert_eq!(rt; ran.out.bytes(), "ok".as_bytes());
-    assert_eq!(rt; ran.notes.bytes(), "write fault\n".as_bytes());
-    Ok(())
+/// What a run came to past an open gate, whatever it left.
+pub fn called_with<R: Threads + Wait + Sync>(
+    rt: &R,
+    alloc: Global,
+    words: &[&str],
+    given: Given<'_>,
+) -> Option<Called>
+    requires { IsSync R.row }
+{
+    run_past(rt, alloc, words, given, &OpenGate, None)
 }
 
-#[test]
-fn a_write_fault_comes_before_a_read_fault(rt: HostRuntime) -> Result<(), Fail> {
-    let alloc = rt.alloc();
-    // The second read fails, and notes take five bytes a write and fail at the second, or at none.
-    let rows: [(u64, &str); 2] = [(99, "read fault\n"), (2, "read ")];
-    for (call, note) in rows {
-        let given = Given {
-            input: b"abc\n9",
-            reads: &[2],
-            notes: 5,
-            told: &[call],
-            ..ALL
-        };
-        let ran = run_with(&rt, alloc, &["run", "plan.json"], ADD_ONE, given)?;
-        let lost = call < 99;
-        assert_eq!(rt; ran.called.status == Status::WriteFault, lost);
-        assert_eq!(rt; ran.called.status == Status::ReadFault, !lost);
-        assert_eq!(rt; ran.notes.bytes(), note.as_bytes());
-    }
-    Ok(())
-}
-
-#[test]
-fn a_refusal_stands_where_notes_fail(rt: HostRuntime) -> Result<(), Fail> {
-    let alloc = rt.alloc();
-    let rows = [
-        ("run", "plan "),
-        ("check", "trace"),
-        ("replay", "trace"),
-        ("start", "usage"),
-    ];
-    for (command, told) in rows {
-        let given = Given {
-            input: b"5\n",
-            notes: 5,
-            told: &[2],
-            ..ALL
-        };
-        let ran = run_with(&rt, alloc, &[command, "plan.json"], "{", given)?;
-        let refused = command != "start";
-        assert_eq!(rt; ran.called.status == Status::PlanRefused, refused);
-        assert_eq!(rt; ran.called.status == Status::Usage, !refused);
-        assert_eq!(rt; ran.notes.bytes(), told.as_bytes());
-    }
-    Ok(())
-}
-
-#[test]
-fn want_of_memory_ends_the_run(rt: HostRuntime) -> Result<(), Fail> {
-    let alloc = rt.alloc();
-    let mut system = System {
-        shelf: shelf(alloc, "plan.json", ADD_ONE.as_bytes(), &[])?,
-        records: MemSource::new(b"5\n-1\n".to_vec(alloc)?, Vec::new(alloc)),
-        out: NeverFails::new(MemSink::new(alloc, 4096, Vec::new(alloc))),
-        notes: NeverFails::new(MemSink::new(alloc, 4096, Vec::new(alloc))),
-    };
-    let words = ["run", "plan.json"];
-    let called = call(&rt, alloc, &words, &OpenGate, &mut system)?;
-    if called.status != Status::NoMemory {
-        assert!(rt; called.status == Status::AllValues);
-        assert_eq!(rt; system.notes.inner().bytes(), "".as_bytes());
-    }
-    Ok(())
+/// Whether such a run leaves this.
+pub fn leaves<R: Threads + Wait + Sync>(
+    rt: &R,
+    alloc: Global,
+    words: &[&str],
+    given: Given<'_>,
+    left: Left<'_>,
+) -> bool
+    requires { IsSync R.row }
+{
+    run_past(rt, alloc, words, given, &OpenGate, Some(left)).is_some()
 }

@@ -1,40 +1,64 @@
 //! What is told of statuses, and their codes.
 use super::sink;
+use exec_io::MemSink;
 use exec_status::{Status, conclude, note_of, refuse, tell_numbered};
-use std::test::Fail;
+use std::alloc::Global;
 
-#[test]
-fn a_status_has_a_code(rt: HostRuntime) {
-    let codes = [
-        Status::AllValues.code(),
-        Status::NotAllValues.code(),
-        Status::Usage.code(),
-        Status::PlanRefused.code(),
-        Status::NoMemory.code(),
-        Status::ReadFault.code(),
-        Status::WriteFault.code(),
-        Status::Limit.code(),
-    ];
-    assert_eq!(rt; codes, [0, 1, 2, 3, 4, 5, 6, 7]);
+const CODES: &[(Status, u8)] = &[
+    (Status::AllValues, 0),
+    (Status::NotAllValues, 1),
+    (Status::Usage, 2),
+    (Status::PlanRefused, 3),
+    (Status::NoMemory, 4),
+    (Status::ReadFault, 5),
+    (Status::WriteFault, 6),
+    (Status::Limit, 7),
+];
+
+fn have_codes(rows: &[(Status, u8)]) -> bool {
+    for row in rows {
+        if row.0.code() != row.1 {
+            return false;
+        }
+    }
+    true
 }
 
 #[test]
-fn a_status_is_told_where_it_has_a_note(rt: HostRuntime) -> Result<(), Fail> {
-    let alloc = rt.alloc();
-    let told: [(Status, &str); 6] = [
-        (Status::AllValues, ""),
-        (Status::NotAllValues, ""),
-        (Status::NoMemory, "out of memory\n"),
-        (Status::ReadFault, "read fault\n"),
-        (Status::WriteFault, "write fault\n"),
-        (Status::Limit, "limit\n"),
-    ];
-    for (status, note) in told {
-        let mut notes = sink(alloc, 3, &[])?;
-        assert!(rt; conclude(status, &mut notes) == status);
-        assert_eq!(rt; notes.bytes(), note.as_bytes());
+fn a_status_has_a_code(rt: HostRuntime) {
+    assert!(rt; have_codes(CODES));
+}
+
+const NOTES: &[(Status, &str)] = &[
+    (Status::AllValues, ""),
+    (Status::NotAllValues, ""),
+    (Status::NoMemory, "out of memory\n"),
+    (Status::ReadFault, "read fault\n"),
+    (Status::WriteFault, "write fault\n"),
+    (Status::Limit, "limit\n"),
+];
+
+// Whether this status is concluded as that one, with this in notes, which are then dropped.
+fn concludes(mut notes: MemSink, status: Status, as_status: Status, told: &str) -> bool {
+    let concluded = conclude(status, &mut notes);
+    let has = notes.bytes() == told.as_bytes();
+    drop(notes);
+    concluded == as_status && has
+}
+
+fn all_are_told(alloc: Global, rows: &[(Status, &str)]) -> bool {
+    for row in rows {
+        let notes = MemSink::new(alloc, 3, Vec::new(alloc));
+        if !concludes(notes, row.0, row.0, row.1) {
+            return false;
+        }
     }
-    Ok(())
+    true
+}
+
+#[test]
+fn a_status_is_told_where_it_has_a_note(rt: HostRuntime) {
+    assert!(rt; all_are_told(rt.alloc(), NOTES));
 }
 
 #[test]
@@ -44,33 +68,56 @@ fn usage_has_four_lines(rt: HostRuntime) {
 usage: exec_run gen PLAN N [--workers N] [--window W] [--order fifo|lifo]\n\
 usage: exec_run replay FILE\n\
 usage: exec_run check FILE\n";
-    assert_eq!(rt; note_of(Status::Usage), lines.as_bytes());
+    assert!(rt; note_of(Status::Usage) == lines.as_bytes());
+}
+
+// Whether a refusal leaves a front of its text in notes, which are then dropped.
+fn refuses(mut notes: MemSink) -> bool {
+    refuse(b"refused\n", &mut notes);
+    let told = "refused\n".as_bytes().starts_with(notes.bytes());
+    drop(notes);
+    told
+}
+
+// Whether notes that take so many bytes a write, and fail at this one, make a write fault of a read
+// fault, with this in them; and have a front of what is refused.
+fn fail_so(alloc: Global, most: usize, call: u64, told: &str) -> bool {
+    let concluded = match sink(alloc, most, &[call]) {
+        Ok(notes) => concludes(notes, Status::ReadFault, Status::WriteFault, told),
+        Err(_) => false,
+    };
+    let refused = match sink(alloc, most, &[call]) {
+        Ok(notes) => refuses(notes),
+        Err(_) => false,
+    };
+    concluded && refused
 }
 
 #[test]
-fn notes_that_fail_make_a_write_fault_of_what_is_concluded(rt: HostRuntime) -> Result<(), Fail> {
-    let alloc = rt.alloc();
-    for (most, call, told) in [(5, 2, "read "), (64, 2, "read fault\n")] {
-        let mut notes = sink(alloc, most, &[call])?;
-        assert!(rt; conclude(Status::ReadFault, &mut notes) == Status::WriteFault);
-        assert_eq!(rt; notes.bytes(), told.as_bytes());
-        let mut notes = sink(alloc, most, &[call])?;
-        refuse(b"refused\n", &mut notes);
-        assert!(rt; "refused\n".as_bytes().starts_with(notes.bytes()));
+fn notes_that_fail_make_a_write_fault_of_what_is_concluded(rt: HostRuntime) {
+    let short = fail_so(rt.alloc(), 5, 2, "read ");
+    let long = fail_so(rt.alloc(), 64, 2, "read fault\n");
+    assert!(rt; short && long);
+}
+
+// Whether this number is told behind `line `, or not to the end, with this in the sink.
+fn tells(alloc: Global, most: usize, fails: &[u64], number: u32, told: (bool, &str)) -> bool {
+    match sink(alloc, most, fails) {
+        Ok(mut notes) => {
+            let whole = tell_numbered(b"line ", number, &mut notes).is_ok();
+            let has = notes.bytes() == told.1.as_bytes();
+            drop(notes);
+            whole == told.0 && has
+        }
+        Err(_) => false,
     }
-    Ok(())
 }
 
 #[test]
-fn a_number_stands_behind_its_text(rt: HostRuntime) -> Result<(), Fail> {
+fn a_number_stands_behind_its_text(rt: HostRuntime) {
     let alloc = rt.alloc();
-    for (number, line) in [(0, "line 0\n"), (4_294_967_295, "line 4294967295\n")] {
-        let mut told = sink(alloc, 2, &[])?;
-        assert!(rt; tell_numbered(b"line ", number, &mut told).is_ok());
-        assert_eq!(rt; told.bytes(), line.as_bytes());
-    }
-    let mut told = sink(alloc, 64, &[3])?;
-    assert!(rt; tell_numbered(b"line ", 7, &mut told).is_err());
-    assert_eq!(rt; told.bytes(), "line 7".as_bytes());
-    Ok(())
+    let least = tells(alloc, 2, &[], 0, (true, "line 0\n"));
+    let most = tells(alloc, 2, &[], 4_294_967_295, (true, "line 4294967295\n"));
+    let part = tells(alloc, 64, &[3], 7, (false, "line 7"));
+    assert!(rt; least && most && part);
 }

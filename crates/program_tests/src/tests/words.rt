@@ -14,15 +14,17 @@ const ALL_THREE: Options = Options {
     order: Order::Lifo,
 };
 
-/// The options of a run of the plan `p`, and whether it prints the summary.
-fn run_of(words: &[&str]) -> Option<(Options, bool)> {
-    match read_words(words)? {
-        Command::Run {
-            plan,
-            options,
-            summary,
-        } if plan == "p" => Some((options, summary)),
-        _ => None,
+/// Whether the words ask for a run of the plan `p` with these options, and the summary or not.
+fn is_run(words: &[&str], options: Options, summary: bool) -> bool {
+    match read_words(words) {
+        Some(
+            Command::Run {
+                plan,
+                options: read,
+                summary: printed,
+            },
+        ) => plan == "p" && read == options && printed == summary,
+        _ => false,
     }
 }
 
@@ -38,51 +40,49 @@ fn gen_of(words: &[&str]) -> Option<(u32, Options)> {
     }
 }
 
-#[test]
-fn a_run_has_a_plan_and_options_in_any_place(rt: HostRuntime) {
-    let lists: [(&[&str], Options, bool); 3] = [
-        (&["run", "p"], DEFAULTS, false),
-        (
-            &["run", "--summary", "p", "--order", "fifo"],
-            DEFAULTS,
-            true,
-        ),
-        (
-            &["run", "--workers=0", "p", "--window", "256", "--order=lifo"],
-            ALL_THREE,
-            false,
-        ),
-    ];
-    for (words, options, summary) in lists {
-        assert_eq!(rt; run_of(words), Some((options, summary)));
+/// Whether the words ask for such a run, of so many records and with these options.
+fn is_gen(words: &[&str], records: u32, options: Options) -> bool {
+    match gen_of(words) {
+        Some((read, found)) => read == records && found == options,
+        None => false,
     }
 }
 
 #[test]
+fn a_run_has_a_plan_and_options_in_any_place(rt: HostRuntime) {
+    let least = is_run(&["run", "p"], DEFAULTS, false);
+    let words = &["run", "--summary", "p", "--order", "fifo"];
+    let summary = is_run(words, DEFAULTS, true);
+    let words = &["run", "--workers=0", "p", "--window", "256", "--order=lifo"];
+    assert!(rt; least && summary && is_run(words, ALL_THREE, false));
+}
+
+#[test]
 fn generated_records_have_a_number(rt: HostRuntime) {
-    assert_eq!(rt;
-        gen_of(&["gen", "p", "1000000"]),
-        Some((1_000_000, DEFAULTS))
-    );
-    assert_eq!(rt;
-        gen_of(&[
-            "gen",
-            "--workers",
-            "0",
-            "p",
-            "--window=256",
-            "000000004",
-            "--order=lifo"
-        ]),
-        Some((4, ALL_THREE))
-    );
-    assert_eq!(rt; gen_of(&["gen", "p", "1000001"]), None);
+    let most = is_gen(&["gen", "p", "1000000"], 1_000_000, DEFAULTS);
+    let words = &[
+        "gen",
+        "--workers",
+        "0",
+        "p",
+        "--window=256",
+        "000000004",
+        "--order=lifo",
+    ];
+    let few = is_gen(words, 4, ALL_THREE);
+    assert!(rt; most && few && gen_of(&["gen", "p", "1000001"]).is_none());
 }
 
 #[test]
 fn a_check_and_a_replay_have_a_file(rt: HostRuntime) {
-    let (check, replay) = (read_words(&["check", "f"]), read_words(&["replay", "f"]));
-    assert!(rt; matches!(&check, Some(Command::Check { file: _ })));
-    assert!(rt; matches!(&replay, Some(Command::Replay { file: _ })));
-    assert!(rt; read_words(&["check", "f", "--summary"]).is_none());
+    let check = matches!(
+        read_words(&["check", "f"]),
+        Some(Command::Check { file: _ })
+    );
+    let replay = matches!(
+        read_words(&["replay", "f"]),
+        Some(Command::Replay { file: _ })
+    );
+    let none = read_words(&["check", "f", "--summary"]).is_none();
+    assert!(rt; check && replay && none);
 }

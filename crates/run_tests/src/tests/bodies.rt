@@ -1,13 +1,8 @@
 //! Which body of a let runs, as a gate sees it.
 
-use super::{is_left, nobody, plan_of};
-use exec_io::{MemSink, MemSource};
+use super::{Lines, gives};
 use exec_recv::{Gate, Point};
-use line_rules::may_run;
-use record_loop::Form;
 use std::sync::atomic::{AtomicU64, Ordering};
-use std::test::Fail;
-use whole_run::{Setup, run_lines};
 
 /// The node of the job in the third body.
 const THIRD: u32 = 4;
@@ -35,37 +30,22 @@ impl Gate for Counting {
 }
 
 #[test]
-fn picked_body(rt: HostRuntime) -> Result<(), Fail> {
-    let alloc = rt.alloc();
-    let root = r#"{"do":"let_value","child":{"do":"input"},"pick":{"job":"pass"},
-            "bodies":[{"do":"just","values":[10]},{"do":"just","values":[20]},
-                {"do":"then","child":{"do":"input"},"job":{"job":"mul","n":100}}]}"#;
-    let plan = plan_of(alloc, "", root)?;
-    assert!(rt; may_run(plan.settings()));
+fn picked_body(rt: HostRuntime) {
     let gate = Counting {
         first: AtomicU64::new(0),
         others: AtomicU64::new(0),
     };
-    let mut records = MemSource::new(b"7\n-1\n1\n".to_vec(alloc)?, Vec::new(alloc));
-    let mut out = MemSink::new(alloc, 4096, Vec::new(alloc));
-    let form = Form::Lines;
-    let crew = nobody(alloc);
-    let account = run_lines(
-        &rt,
-        alloc,
-        &plan,
-        Setup {
-            window: 3,
-            form,
-            crew,
-        },
-        &gate,
-        &mut records,
-        &mut out,
-    )?;
-    assert!(rt; out.bytes() == b"1 value 700\n2 value 10\n3 value 20\n".as_slice());
-    assert!(rt; is_left(&account, 3));
-    assert!(rt; gate.first.load(Ordering::SeqCst) == 1);
-    assert!(rt; gate.others.load(Ordering::SeqCst) == 0);
-    Ok(())
+    let case = Lines {
+        input: "int",
+        root: r#"{"do":"let_value","child":{"do":"input"},"pick":{"job":"pass"},
+            "bodies":[{"do":"just","values":[10]},{"do":"just","values":[20]},
+                {"do":"then","child":{"do":"input"},"job":{"job":"mul","n":100}}]}"#,
+        bytes: b"7\n-1\n1\n",
+        window: 3,
+        lines: b"1 value 700\n2 value 10\n3 value 20\n",
+    };
+    let given = gives(&rt, rt.alloc(), case, &gate);
+    let first = gate.first.load(Ordering::SeqCst);
+    let others = gate.others.load(Ordering::SeqCst);
+    assert!(rt; given && first == 1 && others == 0);
 }

@@ -1,11 +1,6 @@
 //! The delays of one operation wait, whatever becomes of another.
-use super::{is_left, nobody, plan_of};
-use exec_io::{MemSink, MemSource};
+use super::{Lines, gives};
 use exec_recv::OpenGate;
-use line_rules::may_run;
-use record_loop::Form;
-use std::test::Fail;
-use whole_run::{Setup, run_lines};
 
 /// The record `0` has one hop. Of the record `1` the shorter delay stops the longer one; if both
 /// were roused, the longer one would come first, and have its value.
@@ -17,28 +12,13 @@ const ROOT: &str = r#"{"do":"let_value","child":{"do":"input"},"pick":{"job":"pa
             "bodies":[{"do":"just_stopped"},{"do":"just","values":[8]}]}]}]}"#;
 
 #[test]
-fn the_end_of_an_operation_rouses_no_delay_of_another(rt: HostRuntime) -> Result<(), Fail> {
-    let alloc = rt.alloc();
-    let plan = plan_of(alloc, "", ROOT)?;
-    assert!(rt; may_run(plan.settings()));
-    let mut records = MemSource::new(b"0\n1\n".to_vec(alloc)?, Vec::new(alloc));
-    let mut out = MemSink::new(alloc, 4096, Vec::new(alloc));
-    let form = Form::Lines;
-    let crew = nobody(alloc);
-    let account = run_lines(
-        &rt,
-        alloc,
-        &plan,
-        Setup {
-            window: 2,
-            form,
-            crew,
-        },
-        &OpenGate,
-        &mut records,
-        &mut out,
-    )?;
-    assert!(rt; out.bytes() == b"1 value 7\n2 error roused\n".as_slice());
-    assert!(rt; is_left(&account, 2));
-    Ok(())
+fn the_end_of_an_operation_rouses_no_delay_of_another(rt: HostRuntime) {
+    let case = Lines {
+        input: "int",
+        root: ROOT,
+        bytes: b"0\n1\n",
+        window: 2,
+        lines: b"1 value 7\n2 error roused\n",
+    };
+    assert!(rt; gives(&rt, rt.alloc(), case, &OpenGate));
 }

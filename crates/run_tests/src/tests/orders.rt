@@ -1,12 +1,13 @@
 //! In which order a worker goes on with names of which it has several.
+ghost use Rattle.std.specs.Thread.{IsSync};
 
-use super::crews::{MOST_LOOKS, RUNS, Trial, crew_of, writes};
-use super::unlawful::Way;
+use super::crews::{MOST_LOOKS, ONE, RUNS, Team, Trial, writes};
 use exec_recv::{Gate, Point};
 use run_workers::Order;
+use std::alloc::Global;
+use std::sync::Wait;
 use std::sync::atomic::{AtomicU64, Ordering};
-use std::test::Fail;
-use std::thread::yield_now;
+use std::thread::{Threads, yield_now};
 
 /// A job of each record on the pool, and one on the loop.
 const TRIAL: Trial<'static> = Trial {
@@ -99,17 +100,24 @@ impl Gate for Ordered {
     }
 }
 
-#[test]
-fn a_worker_takes_names_in_the_order_of_its_backend(rt: HostRuntime) -> Result<(), Fail> {
+/// Whether a worker takes names in this order in each run: a record comes to the pool after a later
+/// one, or never.
+fn is_taken_in<R: Threads + Wait + Sync>(rt: &R, alloc: Global, order: Order, falls: bool) -> bool
+    requires { IsSync R.row }
+{
     let line = "records 8 values 8 errors 0 stopped 0 out-of-memory 0 bad 0 sum 24\n";
-    for (order, falls) in [(Order::Fifo, false), (Order::Lifo, true)] {
-        for _run in 0..RUNS {
-            let gate = Ordered::new();
-            let mut crew = crew_of(rt.alloc(), 1, Way::None)?;
-            crew.order = order;
-            let written = writes(&rt, rt.alloc(), TRIAL, crew, &gate, &[line])?;
-            assert!(rt; written && gate.saw(falls));
+    for _run in 0..RUNS {
+        let gate = Ordered::new();
+        let written = writes(rt, alloc, TRIAL, Team { order, ..ONE }, &gate, &[line]);
+        if !written || !gate.saw(falls) {
+            return false;
         }
     }
-    Ok(())
+    true
+}
+
+#[test]
+fn a_worker_takes_names_in_the_order_of_its_backend(rt: HostRuntime) {
+    assert!(rt; is_taken_in(&rt, rt.alloc(), Order::Fifo, false));
+    assert!(rt; is_taken_in(&rt, rt.alloc(), Order::Lifo, true));
 }

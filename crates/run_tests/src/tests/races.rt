@@ -1,14 +1,11 @@
 //! Races between a worker and hand 0 that a gate forces.
 ghost use Rattle.std.specs.Thread.{IsSync};
 
-use super::crews::{MOST_LOOKS, RUNS, Trial, comes, crew_of, writes};
-use super::unlawful::Way;
+use super::crews::{MOST_LOOKS, ONE, RUNS, Trial, comes, writes};
 use exec_recv::{Gate, Point};
 use std::alloc::Global;
-use std::process::Abort;
 use std::sync::Wait;
 use std::sync::atomic::{AtomicU64, Ordering};
-use std::test::Fail;
 use std::thread::Threads;
 
 /// A delay that isn't due in a run, one that is due in the turn in which it is seen, and a job that
@@ -111,43 +108,41 @@ impl Gate for Seen {
     }
 }
 
+/// One record of it.
+const TRIAL: Trial<'static> = Trial {
+    settings: "",
+    root: ROOT,
+    window: 1,
+    count: 1,
+};
+
 /// Whether the callbacks ran so often in each run, of which this one was held.
-fn is_forced<R: Threads + Wait + Abort + Sync>(
+fn is_forced<R: Threads + Wait + Sync>(
     rt: &R,
     alloc: Global,
     held: u32,
     late_runs: u64,
     due_runs: u64,
-) -> Result<bool, Fail>
+) -> bool
     requires { IsSync R.row }
 {
     let line = "records 1 values 0 errors 1 stopped 0 out-of-memory 0 bad 0 sum 0\n";
-    let trial = Trial {
-        settings: "",
-        root: ROOT,
-        window: 1,
-        count: 1,
-    };
-    let mut all = true;
     for _run in 0..RUNS {
         let gate = Seen::new(held);
-        let crew = crew_of(alloc, 1, Way::None)?;
-        let written = writes(rt, alloc, trial, crew, &gate, &[line])?;
-        all = all && written && gate.saw(late_runs, due_runs);
+        let written = writes(rt, alloc, TRIAL, ONE, &gate, &[line]);
+        if !written || !gate.saw(late_runs, due_runs) {
+            return false;
+        }
     }
-    Ok(all)
+    true
 }
 
 #[test]
-fn a_callback_that_runs_while_it_is_removed_ran_once(rt: HostRuntime) -> Result<(), Fail> {
-    assert!(rt; is_forced(&rt, rt.alloc(), DUE, 1, 1)?);
-    Ok(())
+fn a_callback_that_runs_while_it_is_removed_ran_once(rt: HostRuntime) {
+    assert!(rt; is_forced(&rt, rt.alloc(), DUE, 1, 1));
 }
 
 #[test]
-fn a_callback_that_is_removed_before_the_scan_comes_to_it_never_runs(
-    rt: HostRuntime,
-) -> Result<(), Fail> {
-    assert!(rt; is_forced(&rt, rt.alloc(), LATE, 1, 0)?);
-    Ok(())
+fn a_callback_that_is_removed_before_the_scan_comes_to_it_never_runs(rt: HostRuntime) {
+    assert!(rt; is_forced(&rt, rt.alloc(), LATE, 1, 0));
 }

@@ -5,9 +5,9 @@ use Rattle.node_tree.specs.declared.node.TreeNode.{TreeNode}
 use Rattle.node_tests.proofs.Ready.{fresh-first}
 use Rattle.node_tests.proofs.tests.opened.Goals as goal
 
-pub returns-clause-over : goal.returns-clause-over
-returns-clause-over c =
-    let opened = c.in_ok-table.ensures.opened in
+pub returns-in-Ok-clause-over : goal.returns-in-Ok-clause-over
+returns-in-Ok-clause-over c =
+    let opened = c.in-Ok.ensures.opened in
     record {
       over = opened.over_is;
       tree = opened.tree_is ∙ c.tree-tree.ensures;
@@ -16,10 +16,10 @@ returns-clause-over c =
       is_plan = c.size-size.ensures.plan;
     }
 
-pub returns-clause-hand : goal.returns-clause-hand
-returns-clause-hand c =
-    let fresh = c.in_ok-table.ensures.hands in
+pub returns-in-Ok-clause-hand : goal.returns-in-Ok-clause-hand
+returns-in-Ok-clause-hand c =
+    let fresh = c.in-Ok.ensures.hands in
     let one = fresh.length_is in
     let hand = c.swap_remove-hand.result in
-    fresh-first c.in_ok-table.table hand c.in_ok-table.hands.items fresh
-    (at_index c.in_ok-table.hands.items 0 hand (omega (arith, one)) c.swap_remove-hand.ensures.value)
+    fresh-first c.in-Ok.table hand c.in-Ok.hands.items fresh
+    (at_index c.in-Ok.hands.items 0 hand (omega (arith, one)) c.swap_remove-hand.ensures.value)

@@ -1,25 +1,16 @@
-use Rattle.std.proofs.Common.{true, sym, subst}
+use Rattle.std.proofs.Common.{sym, subst}
 use Rattle.exec_recv.specs.Over.{IsOver}
-use Rattle.plan_shape.specs.Blueprint.{Blueprint}
 use Rattle.exec_recv.proofs.Sites.{over-site}
-use Rattle.node_tests.proofs.Ready.{opens-ready, helps-ready}
 use Rattle.node_tests.proofs.tests.waited.Goals as goal
 
 pub of-site-requires : goal.of-site-requires
-of-site-requires g c =
-    record { over = subst (λ (plan : Blueprint). IsOver c.in_ok-table.table plan) (sym c.requires.stepper) c.in_ok-table.ensures.over }
+of-site-requires g c = record { over = subst (IsOver c.in-Some.table) (sym c.of-stepper.ensures) c.in-Some.ensures.over }
 
-pub started-requires : goal.started-requires
-started-requires g c =
-    record { site = rw c.of-site.ensures (over-site c.in_ok-table.table c.args.plan.now c.in_ok-table.ensures.over c.requires.kinds) }
-
-pub sync_wait-requires-clause-ready : goal.sync_wait-requires-clause-ready
-sync_wait-requires-clause-ready g c κs within =
+pub completion_of-done-requires-clause-ready : goal.completion_of-done-requires-clause-ready
+completion_of-done-requires-clause-ready g c κs within =
     rw c.of-site.ensures
-    (helps-ready c.in_ok-table.table c.in-Ok.looped c.help_pool.new.self true
-    (opens-ready c.in_ok-table.table c.in_ok-table.hand c.in_ok-table.ensures.hand c.in-Ok.looped c.in-Ok.ensures.opened)
-    c.help_pool.ensures)
+    c.in-Some.ensures.ready
 
-pub sync_wait-requires-clause-site : goal.sync_wait-requires-clause-site
-sync_wait-requires-clause-site g c κs within =
-    rw c.of-site.ensures (over-site c.in_ok-table.table c.args.plan.now c.in_ok-table.ensures.over c.requires.kinds)
+pub completion_of-done-requires-clause-site : goal.completion_of-done-requires-clause-site
+completion_of-done-requires-clause-site g c κs within =
+    rw c.of-site.ensures (over-site c.in-Some.table c.args.plan.now c.in-Some.ensures.over c.requires.kinds)

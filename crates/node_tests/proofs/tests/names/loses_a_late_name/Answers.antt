@@ -1,20 +1,16 @@
 use Rattle.std.proofs.Common.{sym, subst}
-use Rattle.std.specs.Prelude.{Option, IfSome}
-use Rattle.plan_kinds.specs.Runnable.{IsRunnable}
-use Rattle.plan_shape.specs.Blueprint.{Blueprint}
 use Rattle.exec_recv.specs.Over.{IsOver}
 use Rattle.exec_recv.proofs.Sites.{over-site}
-use Rattle.node_tests.proofs.Ready.{opens-ready}
 use Rattle.node_tests.proofs.tests.names.loses_a_late_name.Goals as goal
 
 pub of-site-requires : goal.of-site-requires
-of-site-requires g c = record { over = subst (IsOver c.in_ok-table.table) (sym c.of-stepper.ensures) c.in_ok-table.ensures.over }
+of-site-requires g c = record { over = subst (IsOver c.in-Some.table) (sym c.of-stepper.ensures) c.in-Some.ensures.over }
 
-pub is_lost-requires-clause-ready : goal.is_lost-requires-clause-ready
-is_lost-requires-clause-ready g c κs within =
+pub is_lost-lost-requires-clause-ready : goal.is_lost-lost-requires-clause-ready
+is_lost-lost-requires-clause-ready g c κs within =
     rw c.of-site.ensures
-    (opens-ready c.in_ok-table.table c.in_ok-table.hand c.in_ok-table.ensures.hand c.in-Ok.looped c.in-Ok.ensures.opened)
+    c.in-Some.ensures.ready
 
-pub is_lost-requires-clause-site : goal.is_lost-requires-clause-site
-is_lost-requires-clause-site g c κs within =
-    rw c.of-site.ensures (over-site c.in_ok-table.table c.in-Some.plan c.in_ok-table.ensures.over (subst (λ (found : Option Blueprint). IfSome found IsRunnable) c.in-Some.is c.in_ok-plan.ensures))
+pub is_lost-lost-requires-clause-site : goal.is_lost-lost-requires-clause-site
+is_lost-lost-requires-clause-site g c κs within =
+    rw c.of-site.ensures (over-site c.in-Some.table c.args.plan.now c.in-Some.ensures.over c.requires.kinds)
