@@ -1,6 +1,6 @@
 # `make try` runs the sample before any proof, in under a minute on four free cores.
 # `make run` proves exec_run and the libraries below it, side by side, and runs the sample; seconds later. On a new machine
-# with four free cores at 2.7 GHz it took at most 25 minutes by the clock and 62 of a processor (docs/GATE.md).
+# with four free cores at 2.7 GHz it took under 25 minutes by the clock and 62 of a processor (docs/GATE.md).
 # `make programs` proves exec_show and exec_join besides: all three took 28 minutes on another machine.
 # `make test` is the gate: everything is proved, and the proved program is tested.
 # `make stress` runs the proved program some thousand times with 1 to 16 workers, for at most half an hour.
