@@ -8,3 +8,6 @@ returns-then-word-ne0 c =
 
 pub loop-index-preserved : goal.loop-index-preserved
 loop-index-preserved c = none-further c.args.bits.now c.loop-index.index (search rules) c.loop-index.invariant
+
+pub returns : goal.returns
+returns c = search rules

@@ -1,4 +1,4 @@
-use Rattle.std.proofs.Common.{arith}
+use Rattle.std.proofs.Common.{arith, rules}
 use Rattle.run_loop.proofs.Looking.{delay-within, delay-few, place-within}
 use Rattle.run_loop.proofs.delaying.look_at.Goals as goal
 
@@ -21,3 +21,6 @@ saw_parked-requires-clause-place c =
 pub saw_parked-requires-clause-turns : goal.saw_parked-requires-clause-turns
 saw_parked-requires-clause-turns c =
     let few = delay-few c.args.table.now c.requires.over c.args.delay c.requires.delay in omega (arith, few)
+
+pub returns-clause-looks : goal.returns-clause-looks
+returns-clause-looks c = search rules

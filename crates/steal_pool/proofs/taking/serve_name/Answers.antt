@@ -1,4 +1,4 @@
-use Rattle.std.proofs.Common.{false, refl}
+use Rattle.std.proofs.Common.{false, refl, rules}
 use Rattle.std.proofs.lemmas.Bool.{both_ways}
 use Rattle.op_slot.proofs.Staying.{stays-here}
 use Rattle.exec_recv.proofs.Asiding.{aside-here}
@@ -16,3 +16,9 @@ returns-then-not-is_place g c =
       looks = λ _. looks-here c.args.hand.now.me;
       desk = desk-here c.args.offers.now.desk;
     }
+
+pub returns-clause-served : goal.returns-clause-served
+returns-clause-served g c = search rules
+
+pub returns-clause-looks : goal.returns-clause-looks
+returns-clause-looks g c = search rules

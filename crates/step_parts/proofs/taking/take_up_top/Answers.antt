@@ -1,3 +1,4 @@
+use Rattle.std.proofs.Common.{rules}
 use Rattle.op_slot.proofs.Loans.{if-there}
 use Rattle.step_parts.proofs.Opened.{own-home, takes-up}
 use Rattle.step_parts.proofs.taking.take_up_top.Goals as goal
@@ -18,3 +19,6 @@ item_mut-requires-clause-table g c κs = rw (← c.site.view_is) at c.requires.m
 
 pub item_mut-requires-clause-place : goal.item_mut-requires-clause-place
 item_mut-requires-clause-place g c κs = rw (← c.site.view_is) at c.requires.may.can.place
+
+pub returns-clause-child : goal.returns-clause-child
+returns-clause-child g c = search rules
